@@ -98,13 +98,13 @@ strode None set = None
 strode (Some stride) set = gathered (all_reached stride (members set.members)) empty_set
 
 -- the words to which some indices lead, one after the other
-abbrev pub words_behind : LaidOut → FactSet → (part : Option ℕ) → List Argument → Option WordSet → Option WordSet
-words_behind p facts None indices words = None
-words_behind p facts (Some written) [] words = words
-words_behind p facts (Some written) (index ∷ indices) None = None
-words_behind p facts (Some written) (index ∷ indices) (Some words) =
+abbrev pub words_after : LaidOut → FactSet → (part : Option ℕ) → List Argument → Option WordSet → Option WordSet
+words_after p facts None indices words = None
+words_after p facts (Some written) [] words = words
+words_after p facts (Some written) (index ∷ indices) None = None
+words_after p facts (Some written) (index ∷ indices) (Some words) =
     let step = step_of p written index in
-    words_behind p facts (step_part step) indices (strode (step_stride facts (kind_of p.of_module index.written) index step) words)
+    words_after p facts (step_part step) indices (strode (step_stride facts (kind_of p.of_module index.written) index step) words)
 
 -- a number is 0
 abbrev pub is_zero : Option ℕ → Bool
@@ -116,7 +116,7 @@ abbrev pub element_words : LaidOut → FactSet → (source : ℕ) → List Argum
 element_words p facts source [] start = None
 element_words p facts source (first ∷ []) start = None
 element_words p facts source (first ∷ index ∷ indices) start =
-    if is_zero (number_of first.operand) then words_behind p facts (Some source) (index ∷ indices) (Some start) else None
+    if is_zero (number_of first.operand) then words_after p facts (Some source) (index ∷ indices) (Some start) else None
 
 -- the words of an element, of which no more than 64 are counted
 abbrev pub counted_words : (size : Option ℕ) → ℕ

@@ -3,7 +3,7 @@ ghost use Rattle.std.specs.List.{list_all};
 ghost use Rattle.block_rules.specs.FirstFailing.{first_failing};
 ghost use Rattle.block_rules.specs.Operands.{is_available, number_of};
 ghost use Rattle.block_rules.specs.Rules.{element_conditions};
-ghost use Rattle.block_rules.specs.Elements.{constant_stride, places_below, bounded_stride, register_stride, operand_stride, array_stride, step_stride, step_part, members, reached, all_reached, gathered, empty_set, strode, words_behind, is_zero, element_words, counted_words, leads_into, part_led, part_reached, element_part, start_of, base_layout, lie_below, stays_in, stays_at_first, leads_from, may_lead, may_be_base, is_index, are_indices, define_element, define_words, after_element};
+ghost use Rattle.block_rules.specs.Elements.{constant_stride, places_below, bounded_stride, register_stride, operand_stride, array_stride, step_stride, step_part, members, reached, all_reached, gathered, empty_set, strode, words_after, is_zero, element_words, counted_words, leads_into, part_led, part_reached, element_part, start_of, base_layout, lie_below, stays_in, stays_at_first, leads_from, may_lead, may_be_base, is_index, are_indices, define_element, define_words, after_element};
 
 use crate::calls::no_slots;
 use crate::casts::{casts_operand, off_base};
@@ -152,14 +152,14 @@ fn strode(stride: &Stride, from: &WordSet) -> Option<WordSet>
     Some(words)
 }
 
-fn words_behind(
+fn words_after(
     program: &Program,
     facts: &Facts,
     source: TypeId,
     indices: &[Argument],
     start: &WordSet,
 ) -> Option<WordSet>
-    ensures { result ≡ words_behind program.now facts.now (Some source) indices.now (Some start.now) }
+    ensures { result ≡ words_after program.now facts.now (Some source) indices.now (Some start.now) }
 {
     let mut part = source;
     let mut words = *start;
@@ -192,7 +192,7 @@ fn element_words(
         [] | [_] => None,
         [first, rest @ ..] => {
             if is_zero(number_of(&first.operand)) {
-                words_behind(program, facts, source, rest, start)
+                words_after(program, facts, source, rest, start)
             } else {
                 None
             }

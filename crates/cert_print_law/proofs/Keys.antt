@@ -8,7 +8,7 @@ use Rattle.std.proofs.lemmas.Fmt.{decimal_by_steps, decimal_nonempty, digits_dec
 use Rattle.std.proofs.lemmas.Str.Parse.{IsNumeralModel, numerals_by_fold}
 use Rattle.ir_ast.specs.LocalKeys.{key_of_digits}
 use Rattle.ir_tokens.specs.Bytes.{Text, is_digit}
-use Rattle.name_text.specs.Numbers.{decimal_behind}
+use Rattle.name_text.specs.Numbers.{decimal_after}
 use Rattle.certificate.specs.Named.{IsNumberKey}
 
 -- ---- numbers
@@ -40,8 +40,8 @@ plain n less = decimal_by_steps IsPlain one more n less
         let front = longer digits (48 + n % 10) (h.1 (omega (arith, ge))) in
         (stays_by (digits ++ ((48 + n % 10) ∷ [])) front, λ some. front)
 
-digits : IsNumeralModel (λ (s : Text). list_all is_digit s ≡ true) (decimal_behind 0)
-digits = numerals_by_fold _ (search rules) decimal_behind (search rules)
+digits : IsNumeralModel (λ (s : Text). list_all is_digit s ≡ true) (decimal_after 0)
+digits = numerals_by_fold _ (search rules) decimal_after (search rules)
 
 -- a number is the key of a value or a block without a name
 pub number_key : (n : ℕ) → n < 2 ^ 32 → IsNumberKey (decimal n)

@@ -10,14 +10,14 @@ use Rattle.pools.specs.WordSets.{has_word}
 use Rattle.certificate.specs.Print.{word_if, listed_word, words_text}
 
 -- each word after a comma
-abbrev behind_commas : List ℕ → List ℕ
-behind_commas = flat_map (λ word. (44 ∷ []) ++ decimal word)
+abbrev after_commas : List ℕ → List ℕ
+after_commas = flat_map (λ word. (44 ∷ []) ++ decimal word)
 
-listed_by : (set : List Bool) (word : ℕ) (words : List ℕ) → flat_map (listed_word set) words ≡ behind_commas (filter (has_word set) words) → (stands : Bool) → word_if stands (44 ∷ decimal word) ++ flat_map (listed_word set) words ≡ behind_commas (cond stands (word ∷ filter (has_word set) words) (filter (has_word set) words))
+listed_by : (set : List Bool) (word : ℕ) (words : List ℕ) → flat_map (listed_word set) words ≡ after_commas (filter (has_word set) words) → (stands : Bool) → word_if stands (44 ∷ decimal word) ++ flat_map (listed_word set) words ≡ after_commas (cond stands (word ∷ filter (has_word set) words) (filter (has_word set) words))
 listed_by set word words rest true = ap (λ (text : List ℕ). 44 ∷ (decimal word ++ text)) rest
 listed_by set word words rest false = rest
 
-listed : (set : List Bool) (words : List ℕ) → flat_map (listed_word set) words ≡ behind_commas (filter (has_word set) words)
+listed : (set : List Bool) (words : List ℕ) → flat_map (listed_word set) words ≡ after_commas (filter (has_word set) words)
 listed set [] = refl
 listed set (word ∷ words) = listed_by set word words (listed set words) (has_word set word)
 

@@ -26,7 +26,7 @@ use Rattle.certificate.specs.Named.{IsNamed, IsNamedFunction}
 use Rattle.certificate.specs.Print.{word_if, value_text, local_text, fact_text, line_text, lines_text, block_text}
 use Rattle.name_text.specs.Seams.{word_on, blanks_on, lines_on, all_bytes}
 use Rattle.certificate.proofs.PrintedNames.{value_printed, block_printed}
-use Rattle.certificate.proofs.PrintedLines.{at, Behind, word_is, taken_on, expect_on, line_end_on, noting, lined, IsValue, IsNew, line_on, value_is}
+use Rattle.certificate.proofs.PrintedLines.{at, ComesAfter, word_is, taken_on, expect_on, line_end_on, noting, lined, IsValue, IsNew, line_on, value_is}
 use Rattle.certificate.proofs.Between.{turned, all_weaker, any_more, Between, Within, block_begins}
 use Rattle.certificate.proofs.ReadFits.{line_is}
 use Rattle.certificate.specs.declared.draft.SectionDraft.{SectionDraft}
@@ -235,20 +235,20 @@ module _ (m : Module) (f : Function) (named : IsNamed m) (own : IsNamedFunction 
   lines_on_from block all (l ∷ lines) i t fits_all listed fits ends once within named_all =
       let fit = and_first (line_fits m f l) (list_all (line_fits m f) lines) fits in
       let more_fit = and_second (line_fits m f l) (list_all (line_fits m f) lines) fits in
-      let behind = lines_text m f lines ++ t in
+      let afterwards = lines_text m f lines ++ t in
       let new = is_new block l i within fit (once_new i.read.draft.lines l lines once) in
       let value = named_value all (named_in l) fits_all (and_first (lists_named all (named_in l)) (list_all (λ line. lists_named all (named_in line)) lines) listed) in
-      let one = line_on m f named own i block l behind behind fit value new (lines_begin lines t more_fit ends.1) in
+      let one = line_on m f named own i block l afterwards afterwards fit value new (lines_begin lines t more_fit ends.1) in
       let next = lined block one.0 l i in
       let same = lined_same block one.0 l i in
-      let inside = line_is m f block (at i (line_text m f l ++ 10 ∷ behind)) tt (at next behind) one.1 within in
+      let inside = line_is m f block (at i (line_text m f l ++ 10 ∷ afterwards)) tt (at next afterwards) one.1 within in
       let once_more : lists_once (next.read.draft.lines ++ lines) ≡ true = ap lists_once (ap (λ (x : List Line). x ++ lines) same.1 ∙ append_assoc i.read.draft.lines (l ∷ []) lines) ∙ once in
       let more = lines_on_from block all lines next t fits_all (and_second (lists_named all (named_in l)) (list_all (λ line. lists_named all (named_in line)) lines) listed) more_fit ends once_more inside.0 (lined_named block one.0 l i named_all) in
       let whole = one_text m f l lines t in
       record {
         out = more.out;
         count = tt ∷ more.count;
-        read = subst (λ x. Listed text.past_lines (line m f block).says (at i x) (tt ∷ more.count) (at more.out t)) (sym whole) (goes_on i l behind fit, at next behind, one.1, more.read);
+        read = subst (λ x. Listed text.past_lines (line m f block).says (at i x) (tt ∷ more.count) (at more.out t)) (sym whole) (goes_on i l afterwards fit, at next afterwards, one.1, more.read);
         within = more.within;
         named_all = more.named_all;
         lines_are = more.lines_are ∙ ap (λ (x : List Line). x ++ lines) same.1 ∙ append_assoc i.read.draft.lines (l ∷ []) lines;
@@ -273,7 +273,7 @@ module _ (m : Module) (f : Function) (named : IsNamed m) (own : IsNamedFunction 
       let ls = lines_text m f lines ++ t in
       let a = 10 ∷ ls in
       let one : block_text m f b lines ++ t ≡ codes "block " ++ (w ++ a) = ap (λ (x : Text). codes "block " ++ x) (append_assoc w (10 ∷ lines_text m f lines) t) in
-      let first : Behind (32 ∷ (w ++ a)) (w ++ a) = (refl, blanks_on w a p.1) in
+      let first : ComesAfter (32 ∷ (w ++ a)) (w ++ a) = (refl, blanks_on w a p.1) in
       let name : (new_block f).says (at i (w ++ a)) number (at i a) =
       subst (λ x. (block_named x).says (at i (w ++ a)) number (at i a)) (sym (ap (block_of_word f) (word_is i w a a p.1 (refl, refl)) ∙ p.0))
       (subst (λ x. (block_by number x).says (at i (w ++ a)) number (at i a)) (sym new) (taken_on number i w a a p.1 (refl, refl))) in

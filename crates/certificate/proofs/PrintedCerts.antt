@@ -25,7 +25,7 @@ use Rattle.certs.specs.Fits.{lines_fit, promise_fits, promised_fits, parameter_f
 use Rattle.certificate.specs.Named.{IsNamed, IsNamedFunction}
 use Rattle.certificate.specs.Print.{local_text, global_text, lines_text, block_text, blocks_text, promise_text, parameter_text, parameters_text, result_text, mark_text, section_text, sections_text, cert_text}
 use Rattle.name_text.specs.Seams.{word_on, blanks_on}
-use Rattle.certificate.proofs.PrintedLines.{at, Behind, skip_on, word_is, taken_on, expect_on, line_end_on, as_on}
+use Rattle.certificate.proofs.PrintedLines.{at, ComesAfter, skip_on, word_is, taken_on, expect_on, line_end_on, as_on}
 use Rattle.certificate.proofs.PrintedNames.{function_printed}
 use Rattle.certificate.proofs.PrintedPromises.{parameter_on, result_on}
 use Rattle.certificate.proofs.PrintedBlocks.{EndsLines, block_on}
@@ -258,7 +258,7 @@ module _ (m : Module) (f : Function) (named : IsNamed m) (own : IsNamedFunction 
   -- a section that is the next text
   section_on : (n : ℕ) (section : Section) (i : Input) (t : Text) → slice_get m.functions n ≡ Some f → slice_get i.read.sections n ≡ Some None → section_fits m f section ≡ true → past_lines false t ≡ t
       → (o : Input) × (text.section m).says (at i (section_text m f section ++ t)) tt (at o t) × (o.read.sections ≡ slice_set i.read.sections n (whole_kept section))
-  unfolding text.section text.section_behind text.section_of text.body text.parameters text.blocks begin begun new_function marked with_section
+  unfolding text.section text.section_after text.section_of text.body text.parameters text.blocks begin begun new_function marked with_section
   section_on n section i t is new fits start =
       let two = and_first (parameters_fit m f section.parameters && promised_fits m (family_of_type m f.returned) section.result) (blocks_fit m f section.blocks) fits in
       let params_fit = and_first (parameters_fit m f section.parameters) (promised_fits m (family_of_type m f.returned) section.result) two in
@@ -298,12 +298,12 @@ module _ (m : Module) (f : Function) (named : IsNamed m) (own : IsNamedFunction 
       let h : Text = codes "function " ++ g ++ mk ++ 10 ∷ [] in
       let whole : section_text m f section ++ t ≡ codes "function " ++ (g ++ a) =
       append_assoc (h ++ p ++ r ++ b) e t ∙ append_assoc (h ++ p ++ r) b x1 ∙ append_assoc (h ++ p) r x2 ∙ append_assoc h p x3 ∙ head_text in
-      let first : Behind (32 ∷ (g ++ a)) (g ++ a) = (refl, blanks_on g a printed.1) in
-      let behind_name : Behind a (mark_word section.mark ++ 10 ∷ x4) = (mark_here.0, mark_here.1) in
+      let first : ComesAfter (32 ∷ (g ++ a)) (g ++ a) = (refl, blanks_on g a printed.1) in
+      let after_name : ComesAfter a (mark_word section.mark ++ 10 ∷ x4) = (mark_here.0, mark_here.1) in
       let w = mark_word section.mark in
       let name : (new_function m).says (at i (g ++ a)) n (at i (w ++ 10 ∷ x4)) =
-      subst (λ x. (function_named x).says (at i (g ++ a)) n (at i (w ++ 10 ∷ x4))) (sym (ap (function_of_word m) (word_is i g a (w ++ 10 ∷ x4) printed.1 behind_name) ∙ printed.0))
-      (subst (λ x. (function_by n x).says (at i (g ++ a)) n (at i (w ++ 10 ∷ x4))) (sym new) (taken_on n i g a (w ++ 10 ∷ x4) printed.1 behind_name)) in
+      subst (λ x. (function_named x).says (at i (g ++ a)) n (at i (w ++ 10 ∷ x4))) (sym (ap (function_of_word m) (word_is i g a (w ++ 10 ∷ x4) printed.1 after_name) ∙ printed.0))
+      (subst (λ x. (function_by n x).says (at i (g ++ a)) n (at i (w ++ 10 ∷ x4))) (sym new) (taken_on n i g a (w ++ 10 ∷ x4) printed.1 after_name)) in
       let body : (text.body m f).says (at i x4) section.result (at out x1) = (
         tt,
         at s0 x4,
@@ -412,7 +412,7 @@ module _ (m : Module) (named : IsNamed m) where
       let i : Input = start_of m (cert_text ss m) in
       let read = sections_on_from m.functions ss 0 i [] (λ k. (let z : 0 + k ≡ k = omega arith in ap (slice_get m.functions) z)) len each refl refl in
       let o = read.0 in
-      let behind : Behind (32 ∷ (codes "1" ++ 10 ∷ rest)) (codes "1" ++ 10 ∷ rest) = (refl, refl) in
+      let afterwards : ComesAfter (32 ∷ (codes "1" ++ 10 ∷ rest)) (codes "1" ++ 10 ∷ rest) = (refl, refl) in
       let one = word_is i (codes "1") (10 ∷ rest) (10 ∷ rest) refl (refl, refl) in
       let gap : text.first_gap 0 o.read.sections ≡ None = ap (text.first_gap 0) read.3 ∙ no_gap 0 ss in
       let out = noted emptied (at o []) in
@@ -421,7 +421,7 @@ module _ (m : Module) (named : IsNamed m) where
         (
           tt,
           at i (codes "1" ++ 10 ∷ rest),
-          expect_on i (codes "cert") (32 ∷ (codes "1" ++ 10 ∷ rest)) (codes "1" ++ 10 ∷ rest) refl behind,
+          expect_on i (codes "cert") (32 ∷ (codes "1" ++ 10 ∷ rest)) (codes "1" ++ 10 ∷ rest) refl afterwards,
           (
             tt,
             at i (10 ∷ rest),

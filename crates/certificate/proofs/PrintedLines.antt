@@ -24,7 +24,7 @@ use Rattle.certificate.specs.Input.{Input, wants, with_line, with_slot_line}
 use Rattle.name_text.specs.Reader.{noted, left, word, begins, after, next_line}
 use Rattle.certificate.specs.Forms.{taken_if, flag, flag_by, count, word_set, age, age_by, age_of_word, free_by, new_value, new_value_named, new_slot, root_by, slot_named, want, listed_by, listed_name, layout_by, layout_name, put_value, put_slot}
 use Rattle.name_text.specs.Forms.{skip, taken, taken_as, expect, line_end}
-use Rattle.certificate.specs.Lines.{number_head, head_by, below_by, below, listed_if, listed_behind, number, reference, words_of_cell, global_by, global_address, address_by, address, fact_by, fact_of, fact_end, slot_end, value_line, slot_line, line_by, line}
+use Rattle.certificate.specs.Lines.{number_head, head_by, below_by, below, listed_if, listed_after, number, reference, words_of_cell, global_by, global_address, address_by, address, fact_by, fact_of, fact_end, slot_end, value_line, slot_line, line_by, line}
 use Rattle.certs.specs.Fits.{is_count, below_fits, stands_for, layout_fits, words_fit, fact_fits, is_value_sort, is_value, line_fits, named_in_fact, named_in}
 use Rattle.certificate.specs.Named.{IsNamed, IsNamedFunction}
 use Rattle.certificate.specs.Print.{word_if, below_text, value_text, age_text, words_text, fact_text, line_text, local_text, global_text, layout_text}
@@ -51,20 +51,20 @@ abbrev pub at : Input → Text → Input
 at i text = record i { rest = text }
 
 -- after a word comes this
-abbrev pub Behind : (t u : Text) → Type 0
-Behind t u = (stops t ≡ true) × (past_blanks t ≡ u)
+abbrev pub ComesAfter : (t u : Text) → Type 0
+ComesAfter t u = (stops t ≡ true) × (past_blanks t ≡ u)
 
-pub skip_on : (i : Input) (w t u : Text) → is_word w ≡ true → Behind t u → (skip {M = Mistake}).says (at i (w ++ t)) tt (at i u)
+pub skip_on : (i : Input) (w t u : Text) → is_word w ≡ true → ComesAfter t u → (skip {M = Mistake}).says (at i (w ++ t)) tt (at i u)
 unfolding skip after
 skip_on i w t u e b = (refl, ap (λ x. at i (past_blanks x)) (past_word_on false w t (all_bytes w e) b.0) ∙ ap (at i) b.1)
 
-pub word_is : (i : Input) (w t u : Text) → is_word w ≡ true → Behind t u → word (at i (w ++ t)) ≡ w
+pub word_is : (i : Input) (w t u : Text) → is_word w ≡ true → ComesAfter t u → word (at i (w ++ t)) ≡ w
 word_is i w t u e b = word_on w t (all_bytes w e) b.0
 
-pub taken_on : {A : Type 0} (x : A) (i : Input) (w t u : Text) → is_word w ≡ true → Behind t u → (taken {M = Mistake} x).says (at i (w ++ t)) x (at i u)
+pub taken_on : {A : Type 0} (x : A) (i : Input) (w t u : Text) → is_word w ≡ true → ComesAfter t u → (taken {M = Mistake} x).says (at i (w ++ t)) x (at i u)
 taken_on x i w t u e b = (tt, at i u, skip_on i w t u e b, (refl, refl))
 
-pub expect_on : (i : Input) (w t u : Text) → is_word w ≡ true → Behind t u → (expect {M = Mistake} w).says (at i (w ++ t)) tt (at i u)
+pub expect_on : (i : Input) (w t u : Text) → is_word w ≡ true → ComesAfter t u → (expect {M = Mistake} w).says (at i (w ++ t)) tt (at i u)
 unfolding expect
 expect_on i w t u e b = (tt, at i (w ++ t), (ap (λ x. bytes_eq x w) (word_is i w t u e b) ∙ same_bytes w, refl), skip_on i w t u e b)
 
@@ -72,18 +72,18 @@ pub line_end_on : (i : Input) (t u : Text) → past_lines false t ≡ u → (lin
 unfolding line_end next_line
 line_end_on i t u e = (tt, at i (10 ∷ t), (refl, refl), (refl, ap (at i) e))
 
-pub as_on : {A : Type 0} (f : Text → Option A) (a : A) (i : Input) (w t u : Text) → is_word w ≡ true → Behind t u → f w ≡ Some a → (taken_as {M = Mistake} (f (word (at i (w ++ t))))).says (at i (w ++ t)) a (at i u)
+pub as_on : {A : Type 0} (f : Text → Option A) (a : A) (i : Input) (w t u : Text) → is_word w ≡ true → ComesAfter t u → f w ≡ Some a → (taken_as {M = Mistake} (f (word (at i (w ++ t))))).says (at i (w ++ t)) a (at i u)
 as_on f a i w t u e b is = subst (λ x. (taken_as {M = Mistake} x).says (at i (w ++ t)) a (at i u)) (sym (ap f (word_is i w t u e b) ∙ is)) (taken_on a i w t u e b)
 
-pub count_on : (i : Input) (n : ℕ) (t u : Text) → is_count n ≡ true → Behind t u → count.says (at i (decimal n ++ t)) n (at i u)
+pub count_on : (i : Input) (n : ℕ) (t u : Text) → is_count n ≡ true → ComesAfter t u → count.says (at i (decimal n ++ t)) n (at i u)
 unfolding count
 count_on i n t u e b = let r = count_read n e in as_on count_of_word n i (decimal n) t u r.1 b r.0
 
-word_set_on : (i : Input) (set : List Bool) (t u : Text) → words_fit set ≡ true → Behind t u → word_set.says (at i (words_text set ++ t)) (record { members = set }) (at i u)
+word_set_on : (i : Input) (set : List Bool) (t u : Text) → words_fit set ≡ true → ComesAfter t u → word_set.says (at i (words_text set ++ t)) (record { members = set }) (at i u)
 unfolding word_set
 word_set_on i set t u e b = let r = words_read set e in as_on words_of_word (record { members = set }) i (words_text set) t u r.1 b r.0
 
-pub flag_yes : (i : Input) (w t u : Text) → is_word w ≡ true → Behind t u → (flag w).says (at i (w ++ t)) true (at i u)
+pub flag_yes : (i : Input) (w t u : Text) → is_word w ≡ true → ComesAfter t u → (flag w).says (at i (w ++ t)) true (at i u)
 unfolding flag
 flag_yes i w t u e b = subst (λ x. (flag_by x).says (at i (w ++ t)) true (at i u)) (sym (ap (λ x. bytes_eq x w) (word_is i w t u e b) ∙ same_bytes w)) (taken_on true i w t u e b)
 
@@ -101,10 +101,10 @@ below_on : (i : Input) (n : Option ℕ) (t : Text) → below_fits n ≡ true →
 unfolding below
 below_on i None t e = subst (λ x. (below_by x).says (at i (10 ∷ t)) None (at i (10 ∷ t))) (sym (ap (λ x. bytes_eq x (codes "below")) (no_word t))) (refl, refl)
 below_on i (Some n) t e =
-    let behind : Behind (32 ∷ (decimal n ++ 10 ∷ t)) (decimal n ++ 10 ∷ t) = (refl, blanks_on (decimal n) (10 ∷ t) (count_read n e).1) in
+    let afterwards : ComesAfter (32 ∷ (decimal n ++ 10 ∷ t)) (decimal n ++ 10 ∷ t) = (refl, blanks_on (decimal n) (10 ∷ t) (count_read n e).1) in
     subst (λ x. (below_by x).says (at i (codes "below" ++ 32 ∷ (decimal n ++ 10 ∷ t))) (Some n) (at i (10 ∷ t)))
-    (sym (ap (λ x. bytes_eq x (codes "below")) (word_is i (codes "below") (32 ∷ (decimal n ++ 10 ∷ t)) (decimal n ++ 10 ∷ t) refl behind)))
-    (n, at i (10 ∷ t), (tt, at i (decimal n ++ 10 ∷ t), skip_on i (codes "below") (32 ∷ (decimal n ++ 10 ∷ t)) (decimal n ++ 10 ∷ t) refl behind, count_on i n (10 ∷ t) (10 ∷ t) e (refl, refl)), (refl, refl))
+    (sym (ap (λ x. bytes_eq x (codes "below")) (word_is i (codes "below") (32 ∷ (decimal n ++ 10 ∷ t)) (decimal n ++ 10 ∷ t) refl afterwards)))
+    (n, at i (10 ∷ t), (tt, at i (decimal n ++ 10 ∷ t), skip_on i (codes "below") (32 ∷ (decimal n ++ 10 ∷ t)) (decimal n ++ 10 ∷ t) refl afterwards, count_on i n (10 ∷ t) (10 ∷ t) e (refl, refl)), (refl, refl))
 
 -- with a value that the block has to list, if there is one
 abbrev pub noting : Option ℕ → (left : ℕ) → Input → Input
@@ -127,7 +127,7 @@ IsNew block (line.Value value fact) i = is_in block (slice_get i.read.draft.valu
 IsNew block (line.Slot slot nonnull holds) i = (unwrap_or (slice_get i.read.draft.roots slot) false ≡ true) × (is_in block (slice_get i.read.draft.slots slot) ≡ false)
 
 module _ (m : Module) (f : Function) (named : IsNamed m) (own : IsNamedFunction f) where
-  listed_on : (i : Input) (value : ℕ) (t u : Text) → is_value f value ≡ true → Behind t u → (listed_name f).says (at i (local_text f value ++ t)) value (at (noting (Some value) (length (local_text f value ++ t)) i) u)
+  listed_on : (i : Input) (value : ℕ) (t u : Text) → is_value f value ≡ true → ComesAfter t u → (listed_name f).says (at i (local_text f value ++ t)) value (at (noting (Some value) (length (local_text f value ++ t)) i) u)
   unfolding listed_name want wants
   listed_on i value t u e b =
       let p = value_printed f value own e in
@@ -139,24 +139,24 @@ module _ (m : Module) (f : Function) (named : IsNamed m) (own : IsNamedFunction 
 
   -- a word with a value after it, where there is one, and the line's end
   optional_on : (i : Input) (wanted : Text) (value : Option ℕ) (t : Text) → is_word wanted ≡ true → bytes_eq [] wanted ≡ false → IsValue f value
-      → (n : ℕ) × (listed_behind f wanted).says (at i (past_blanks (value_text f (32 ∷ (wanted ++ 32 ∷ [])) value ++ 10 ∷ t))) value (at (noting value n i) (10 ∷ t))
-  unfolding listed_behind
+      → (n : ℕ) × (listed_after f wanted).says (at i (past_blanks (value_text f (32 ∷ (wanted ++ 32 ∷ [])) value ++ 10 ∷ t))) value (at (noting value n i) (10 ∷ t))
+  unfolding listed_after
   optional_on i wanted None t e differ is = (0, subst (λ x. (listed_if f x).says (at i (10 ∷ t)) None (at i (10 ∷ t))) (sym (ap (λ x. bytes_eq x wanted) (no_word t) ∙ differ)) (refl, refl))
   optional_on i wanted (Some value) t e differ is =
       let p = value_printed f value own is in
       let name = local_text f value in
       let end = name ++ 10 ∷ t in
-      let behind : Behind (32 ∷ end) end = (refl, blanks_on name (10 ∷ t) p.1) in
+      let afterwards : ComesAfter (32 ∷ end) end = (refl, blanks_on name (10 ∷ t) p.1) in
       let text : past_blanks ((32 ∷ (wanted ++ 32 ∷ [])) ++ (name ++ 10 ∷ t)) ≡ wanted ++ 32 ∷ end =
       ap past_blanks (ap (λ (x : Text). 32 ∷ x) (append_assoc wanted (32 ∷ []) end)) ∙ blanks_on wanted (32 ∷ end) e in
       let joined : past_blanks (((32 ∷ (wanted ++ 32 ∷ [])) ++ name) ++ 10 ∷ t) ≡ wanted ++ 32 ∷ end = ap past_blanks (append_assoc (32 ∷ (wanted ++ 32 ∷ [])) name (10 ∷ t)) ∙ text in (
         length end,
-        subst (λ x. (listed_behind f wanted).says (at i x) (Some value) (at (noting (Some value) (length end) i) (10 ∷ t))) (sym joined)
-            (subst (λ x. (listed_if f x).says (at i (wanted ++ 32 ∷ end)) (Some value) (at (noting (Some value) (length end) i) (10 ∷ t))) (sym (ap (λ x. bytes_eq x wanted) (word_is i wanted (32 ∷ end) end e behind) ∙ same_bytes wanted))
-            (value, at (noting (Some value) (length end) i) (10 ∷ t), (tt, at i end, skip_on i wanted (32 ∷ end) end e behind, listed_on i value (10 ∷ t) (10 ∷ t) is (refl, refl)), (refl, refl))),
+        subst (λ x. (listed_after f wanted).says (at i x) (Some value) (at (noting (Some value) (length end) i) (10 ∷ t))) (sym joined)
+            (subst (λ x. (listed_if f x).says (at i (wanted ++ 32 ∷ end)) (Some value) (at (noting (Some value) (length end) i) (10 ∷ t))) (sym (ap (λ x. bytes_eq x wanted) (word_is i wanted (32 ∷ end) end e afterwards) ∙ same_bytes wanted))
+            (value, at (noting (Some value) (length end) i) (10 ∷ t), (tt, at i end, skip_on i wanted (32 ∷ end) end e afterwards, listed_on i value (10 ∷ t) (10 ∷ t) is (refl, refl)), (refl, refl))),
       )
 
-  pub layout_on : (i : Input) (family : Family) (layout : ℕ) (t u : Text) → layout_fits m family layout ≡ true → Behind t u → (layout_name m family).says (at i (layout_text m layout ++ t)) layout (at i u)
+  pub layout_on : (i : Input) (family : Family) (layout : ℕ) (t u : Text) → layout_fits m family layout ≡ true → ComesAfter t u → (layout_name m family).says (at i (layout_text m layout ++ t)) layout (at i u)
   unfolding layout_name
   layout_on i family layout t u e b =
       let p = layout_printed m layout named (and_second (refers_to layout family) (list_any (stands_for layout) m.struct_of) e) in
@@ -259,15 +259,15 @@ module _ (m : Module) (f : Function) (named : IsNamed m) (own : IsNamedFunction 
       let r = bits_read bits h.0 in
       let w = 105 ∷ decimal bits in
       let end = below_text n ++ 10 ∷ t in
-      let behind : Behind end (past_blanks end) = (below_stops n, refl) in
+      let afterwards : ComesAfter end (past_blanks end) = (below_stops n, refl) in
       let text : past_blanks (fact_text m f (fact.Number bits n) ++ 10 ∷ t) ≡ w ++ end = ap (λ (x : Text). 105 ∷ x) (append_assoc (decimal bits) (below_text n) (10 ∷ t)) in
-      let is : word (at i (w ++ end)) ≡ w = word_is i w end (past_blanks end) r.1 behind in
+      let is : word (at i (w ++ end)) ≡ w = word_is i w end (past_blanks end) r.1 afterwards in
       let kind : head_by family (word (at i (w ++ end))) ≡ head.Number bits = ap (head_by family) is ∙ ap (λ x. number_head (same_bits family x)) r.0 ∙ h.1 in (
         refl,
         0,
         subst (λ x. (fact_of m f family).says (at i x) (fact.Number bits n) (at i (10 ∷ t))) (sym text)
             (subst (λ x. (fact_by m f family x).says (at i (w ++ end)) (fact.Number bits n) (at i (10 ∷ t))) (sym kind)
-            (tt, at i (past_blanks end), skip_on i w end (past_blanks end) r.1 behind, (n, at i (10 ∷ t), below_on i n t low, (refl, refl)))),
+            (tt, at i (past_blanks end), skip_on i w end (past_blanks end) r.1 afterwards, (n, at i (10 ∷ t), below_on i n t low, (refl, refl)))),
       )
     where
       below_stops : (n : Option ℕ) → stops (below_text n ++ 10 ∷ t) ≡ true
@@ -293,7 +293,7 @@ module _ (m : Module) (f : Function) (named : IsNamed m) (own : IsNamedFunction 
       (append_assoc (w ++ word_if nonnull (codes " nonnull") ++ age_text how) (value_text f (codes " same ") same) (10 ∷ t)
       ∙ append_assoc (w ++ word_if nonnull (codes " nonnull")) (age_text how) (same_end same t)
       ∙ append_assoc w (word_if nonnull (codes " nonnull")) (age_end how same t)) in
-      let first : Behind (32 ∷ (w ++ a)) (w ++ a) = (refl, blanks_on w a p.1) in
+      let first : ComesAfter (32 ∷ (w ++ a)) (w ++ a) = (refl, blanks_on w a p.1) in
       let kind : head_by family (word (at i (codes "ref" ++ 32 ∷ (w ++ a)))) ≡ head.Reference =
       ap (head_by family) (word_is i (codes "ref") (32 ∷ (w ++ a)) (w ++ a) refl first) ∙ ap (λ (x : Bool). if x then head.Reference else head.Other) refers in
       let last = optional_on i (codes "same") same t refl refl is in
@@ -336,12 +336,12 @@ module _ (m : Module) (f : Function) (named : IsNamed m) (own : IsNamedFunction 
       let a = 32 ∷ b in
       let one : fact_text m f (fact.Address base words) ++ 10 ∷ t ≡ codes " addr " ++ (w ++ a) =
       ap (λ (x : Text). codes " addr " ++ x) (append_assoc w (32 ∷ set) (10 ∷ t)) in
-      let first : Behind (32 ∷ (w ++ a)) (w ++ a) = (refl, blanks_on w a p.1) in
+      let first : ComesAfter (32 ∷ (w ++ a)) (w ++ a) = (refl, blanks_on w a p.1) in
       let kind : head_by family (word (at i (codes "addr" ++ 32 ∷ (w ++ a)))) ≡ head.Address =
       ap (head_by family) (word_is i (codes "addr") (32 ∷ (w ++ a)) (w ++ a) refl first) ∙ ap (λ (x : Bool). if x then head.Address else head.Other) (and_first (is_address family) (words_fit words.members) e) in
       let n = length (w ++ a) in
-      let behind : Behind a b = (refl, blanks_on set (10 ∷ t) r.1) in
-      let other : begins_with 64 (word (at i (w ++ a))) ≡ false = ap (begins_with 64) (word_is i w a b p.1 behind) in
+      let afterwards : ComesAfter a b = (refl, blanks_on set (10 ∷ t) r.1) in
+      let other : begins_with 64 (word (at i (w ++ a))) ≡ false = ap (begins_with 64) (word_is i w a b p.1 afterwards) in
       let now = noting (Some base) n i in
       let out = at now (10 ∷ t) in (
         refl,
@@ -354,7 +354,7 @@ module _ (m : Module) (f : Function) (named : IsNamed m) (own : IsNamedFunction 
               subst (λ x. (address_by m f x).says (at i (w ++ a)) (fact.Address base words) out) (sym other) (
                 base,
                 at now b,
-                listed_on i base a b is behind,
+                listed_on i base a b is afterwards,
                 (words, out, word_set_on now words.members (10 ∷ t) (10 ∷ t) fits (refl, refl), (refl, refl)),
               ),
             )),
@@ -366,7 +366,7 @@ module _ (m : Module) (f : Function) (named : IsNamed m) (own : IsNamedFunction 
       let w = global_text m symbol in
       let a = 10 ∷ t in
       let p = global_printed m symbol named (and_second (is_address family) (is_some (global_named m symbol)) e) in
-      let first : Behind (32 ∷ (w ++ a)) (w ++ a) = (refl, blanks_on w a p.1) in
+      let first : ComesAfter (32 ∷ (w ++ a)) (w ++ a) = (refl, blanks_on w a p.1) in
       let kind : head_by family (word (at i (codes "addr" ++ 32 ∷ (w ++ a)))) ≡ head.Address =
       ap (head_by family) (word_is i (codes "addr") (32 ∷ (w ++ a)) (w ++ a) refl first) ∙ ap (λ (x : Bool). if x then head.Address else head.Other) (and_first (is_address family) (is_some (global_named m symbol)) e) in
       let is = word_is i w a a p.1 (refl, refl) in (
@@ -389,7 +389,7 @@ module _ (m : Module) (f : Function) (named : IsNamed m) (own : IsNamedFunction 
 
   -- ---- lines
 
-  new_value_on : (i : Input) (block value : ℕ) (t u : Text) → is_value f value ≡ true → is_in block (slice_get i.read.draft.values value) ≡ false → Behind t u → (new_value f block).says (at i (local_text f value ++ t)) value (at i u)
+  new_value_on : (i : Input) (block value : ℕ) (t u : Text) → is_value f value ≡ true → is_in block (slice_get i.read.draft.values value) ≡ false → ComesAfter t u → (new_value f block).says (at i (local_text f value ++ t)) value (at i u)
   unfolding new_value
   new_value_on i block value t u is new b =
       let p = value_printed f value own is in
@@ -397,7 +397,7 @@ module _ (m : Module) (f : Function) (named : IsNamed m) (own : IsNamedFunction 
       subst (λ x. (new_value_named block x).says (at i (w ++ t)) value (at i u)) (sym (ap (value_of_word f) (word_is i w t u p.1 b) ∙ p.0))
       (subst (λ x. (free_by value x).says (at i (w ++ t)) value (at i u)) (sym new) (taken_on value i w t u p.1 b))
 
-  new_slot_on : (i : Input) (block slot : ℕ) (t u : Text) → is_value f slot ≡ true → unwrap_or (slice_get i.read.draft.roots slot) false ≡ true → is_in block (slice_get i.read.draft.slots slot) ≡ false → Behind t u → (new_slot f block).says (at i (local_text f slot ++ t)) slot (at i u)
+  new_slot_on : (i : Input) (block slot : ℕ) (t u : Text) → is_value f slot ≡ true → unwrap_or (slice_get i.read.draft.roots slot) false ≡ true → is_in block (slice_get i.read.draft.slots slot) ≡ false → ComesAfter t u → (new_slot f block).says (at i (local_text f slot ++ t)) slot (at i u)
   unfolding new_slot
   new_slot_on i block slot t u is root new b =
       let p = value_printed f slot own is in
@@ -425,7 +425,7 @@ module _ (m : Module) (f : Function) (named : IsNamed m) (own : IsNamedFunction 
       let n = said.1 in
       let now = noting (named_in_fact fact) n i in
       let one : line_text m f (line.Value value fact) ++ 10 ∷ t ≡ w ++ a = append_assoc w (fact_text m f fact) (10 ∷ t) in
-      let b : Behind a (past_blanks a) = (said.0, refl) in
+      let b : ComesAfter a (past_blanks a) = (said.0, refl) in
       let kind : begins (codes "slot") (at i (w ++ a)) ≡ false = ap (λ x. bytes_eq x (codes "slot")) (word_is i w a (past_blanks a) p.1 b) in
       let out = at (lined block n (line.Value value fact) i) u in (
         n,
@@ -468,9 +468,9 @@ module _ (m : Module) (f : Function) (named : IsNamed m) (own : IsNamedFunction 
       let one : line_text m f (line.Slot slot nonnull holds) ++ 10 ∷ t ≡ codes "slot " ++ (w ++ a) =
       ap (λ (x : Text). codes "slot " ++ x) (append_assoc (w ++ word_if nonnull (codes " nonnull")) (value_text f (codes " holds ") holds) (10 ∷ t)
       ∙ append_assoc w (word_if nonnull (codes " nonnull")) (holds_end holds t)) in
-      let first : Behind (32 ∷ (w ++ a)) (w ++ a) = (refl, blanks_on w a p.1) in
+      let first : ComesAfter (32 ∷ (w ++ a)) (w ++ a) = (refl, blanks_on w a p.1) in
       let kind : begins (codes "slot") (at i (codes "slot" ++ 32 ∷ (w ++ a))) ≡ true = ap (λ x. bytes_eq x (codes "slot")) (word_is i (codes "slot") (32 ∷ (w ++ a)) (w ++ a) refl first) in
-      let b : Behind a (past_blanks a) = (null_stop nonnull, refl) in
+      let b : ComesAfter a (past_blanks a) = (null_stop nonnull, refl) in
       let last = optional_on i (codes "holds") holds t refl refl names in
       let n = last.0 in
       let now = noting holds n i in

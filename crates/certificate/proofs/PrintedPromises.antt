@@ -26,7 +26,7 @@ use Rattle.certificate.specs.Print.{local_text, layout_text, promise_text, param
 use Rattle.name_text.specs.Seams.{blanks_on}
 use Rattle.certificate.proofs.PrintedWords.{count_read}
 use Rattle.certificate.proofs.PrintedNames.{value_printed, layout_printed}
-use Rattle.certificate.proofs.PrintedLines.{at, Behind, skip_on, word_is, taken_on, expect_on, line_end_on, count_on, layout_on}
+use Rattle.certificate.proofs.PrintedLines.{at, ComesAfter, skip_on, word_is, taken_on, expect_on, line_end_on, count_on, layout_on}
 use Rattle.certs.specs.declared.family.Family.{Family}
 use Rattle.certs.specs.declared.family.Family.TheVariants as fam
 use Rattle.certificate.specs.declared.promises.Promised.TheVariants as promised
@@ -50,18 +50,18 @@ module _ (m : Module) (f : Function) (named : IsNamed m) (own : IsNamedFunction 
       subst (λ x. (promise_by m family p x).says (at i (codes "nonnull" ++ 10 ∷ t)) q (at i (10 ∷ t))) (sym kind) (taken_on q i (codes "nonnull") (10 ∷ t) (10 ∷ t) refl (refl, refl))
 
   -- a layout, with which the line begins
-  layout_fact : (i : Input) (family : Family) (layout : ℕ) (t u : Text) → is_reference family ≡ true → layout_fits m family layout ≡ true → Behind t u
+  layout_fact : (i : Input) (family : Family) (layout : ℕ) (t u : Text) → is_reference family ≡ true → layout_fits m family layout ≡ true → ComesAfter t u
       → (promised_fact m family no_promise).says (at i (codes "ref" ++ 32 ∷ (layout_text m layout ++ t))) (record { layout = Some layout; nonnull = false; below = None }) (at i u)
   unfolding promised_fact
   layout_fact i family layout t u refers fits b =
       let w = layout_text m layout in
       let p = layout_printed m layout named (and_second (refers_to layout family) (list_any (stands_for layout) m.struct_of) fits) in
       let q : Promise = record { layout = Some layout; nonnull = false; below = None } in
-      let behind : Behind (32 ∷ (w ++ t)) (w ++ t) = (refl, blanks_on w t p.1) in
-      let is = word_is i (codes "ref") (32 ∷ (w ++ t)) (w ++ t) refl behind in
+      let afterwards : ComesAfter (32 ∷ (w ++ t)) (w ++ t) = (refl, blanks_on w t p.1) in
+      let is = word_is i (codes "ref") (32 ∷ (w ++ t)) (w ++ t) refl afterwards in
       let kind : promised_by family no_promise (word (at i (codes "ref" ++ 32 ∷ (w ++ t)))) ≡ promised.Layout = ap (promised_by family no_promise) is ∙ ap (λ (x : Bool). if x then promised.Layout else promised.Other) refers in
       subst (λ x. (promise_by m family no_promise x).says (at i (codes "ref" ++ 32 ∷ (w ++ t))) q (at i u)) (sym kind)
-      (layout, at i u, (tt, at i (w ++ t), skip_on i (codes "ref") (32 ∷ (w ++ t)) (w ++ t) refl behind, layout_on m f named own i family layout t u fits b), (refl, refl))
+      (layout, at i u, (tt, at i (w ++ t), skip_on i (codes "ref") (32 ∷ (w ++ t)) (w ++ t) refl afterwards, layout_on m f named own i family layout t u fits b), (refl, refl))
 
   -- a bound, with which the line begins
   below_fact : (i : Input) (family : Family) (n : ℕ) (t : Text) → is_integer family ≡ true → is_count n ≡ true
@@ -70,11 +70,11 @@ module _ (m : Module) (f : Function) (named : IsNamed m) (own : IsNamedFunction 
   below_fact i family n t integer fits =
       let q : Promise = record { layout = None; nonnull = false; below = Some n } in
       let end = decimal n ++ 10 ∷ t in
-      let behind : Behind (32 ∷ end) end = (refl, blanks_on (decimal n) (10 ∷ t) (count_read n fits).1) in
-      let is = word_is i (codes "below") (32 ∷ end) end refl behind in
+      let afterwards : ComesAfter (32 ∷ end) end = (refl, blanks_on (decimal n) (10 ∷ t) (count_read n fits).1) in
+      let is = word_is i (codes "below") (32 ∷ end) end refl afterwards in
       let kind : promised_by family no_promise (word (at i (codes "below" ++ 32 ∷ end))) ≡ promised.Below = ap (promised_by family no_promise) is ∙ ap (λ (x : Bool). if x then promised.Below else promised.Other) integer in
       subst (λ x. (promise_by m family no_promise x).says (at i (codes "below" ++ 32 ∷ end)) q (at i (10 ∷ t))) (sym kind)
-      (n, at i (10 ∷ t), (tt, at i end, skip_on i (codes "below") (32 ∷ end) end refl behind, count_on i n (10 ∷ t) (10 ∷ t) fits (refl, refl)), (refl, refl))
+      (n, at i (10 ∷ t), (tt, at i end, skip_on i (codes "below") (32 ∷ end) end refl afterwards, count_on i n (10 ∷ t) (10 ∷ t) fits (refl, refl)), (refl, refl))
 
   -- the word is `nonnull`, so that the line goes on
   null_more : (i : Input) (family : Family) (layout : Option ℕ) (t : Text) → is_reference family ≡ true
@@ -215,8 +215,8 @@ module _ (m : Module) (f : Function) (named : IsNamed m) (own : IsNamedFunction 
       let printed = value_printed f value own (value_is value p fits) in
       let said = promise_on i (family_of_value m f value) p t u fits e in
       let one : parameter_text m f parameter (Some p) ++ t ≡ codes "param " ++ (w ++ a) = ap (λ (x : Text). codes "param " ++ x) (append_assoc w (promise_text m p) t) in
-      let first : Behind (32 ∷ (w ++ a)) (w ++ a) = (refl, blanks_on w a printed.1) in
-      let b : Behind a (past_blanks a) = (said.0, refl) in
+      let first : ComesAfter (32 ∷ (w ++ a)) (w ++ a) = (refl, blanks_on w a printed.1) in
+      let b : ComesAfter a (past_blanks a) = (said.0, refl) in
       let is_one : is_parameter f value ≡ true = ap (λ x. is_parameter f x) same ∙ ap (is_named place) is ∙ eq-eqb parameter.value place same in
       let still_free : slice_get i.read.draft.parameters value ≡ Some None = ap (slice_get i.read.draft.parameters) same ∙ free in
       let name : (new_parameter f).says (at i (w ++ a)) value (at i (past_blanks a)) =
@@ -239,7 +239,7 @@ module _ (m : Module) (f : Function) (named : IsNamed m) (own : IsNamedFunction 
   result_on i (Some p) t u fits e start other same =
       let a = promise_text m p ++ t in
       let said = promise_on i (family_of_type m f.returned) p t u fits e in
-      let b : Behind a (past_blanks a) = (said.0, refl) in
+      let b : ComesAfter a (past_blanks a) = (said.0, refl) in
       let is = word_is i (codes "result") a (past_blanks a) refl b in
       subst (λ x. (text.result_by m f x).says (at i (codes "result" ++ a)) (Some p) (at i u)) (sym (ap (λ x. bytes_eq x (codes "result")) is))
       (p, at i u, (tt, at i (past_blanks a), skip_on i (codes "result") a (past_blanks a) refl b, said.1), (refl, refl))

@@ -9,7 +9,7 @@ use Rattle.lemmas.specs.Bools.{and_second, and_first}
 use Rattle.ir_tokens.specs.Bytes.{Text, is_digit}
 use Rattle.pools.specs.WordSets.{no_words, has_word, adds_word}
 use Rattle.pools.specs.declared.word_set.WordSet.{WordSet}
-use Rattle.certificate.specs.Numbers.{with_digit, words_behind, words_of_word}
+use Rattle.certificate.specs.Numbers.{with_digit, words_after, words_of_word}
 use Rattle.certificate.specs.Print.{words_of, words_text}
 use Rattle.certs.specs.Fits.{add_words, own_words, same_words, words_fit}
 use Rattle.name_text.specs.Words.{is_word}
@@ -27,15 +27,15 @@ are_same (true ∷ xs) (false ∷ ys) e = absurd cc
 are_same (false ∷ xs) (true ∷ ys) e = absurd cc
 are_same (false ∷ xs) (false ∷ ys) e = ap (λ (l : List Bool). false ∷ l) (are_same xs ys e)
 
-digit_on : (set : WordSet) (number : Option ℕ) (d n : ℕ) (rest : Text) → is_digit d ≡ true → with_digit number d ≡ n → n < 64 → words_behind set number (d ∷ rest) ≡ words_behind set (Some n) rest
+digit_on : (set : WordSet) (number : Option ℕ) (d n : ℕ) (rest : Text) → is_digit d ≡ true → with_digit number d ≡ n → n < 64 → words_after set number (d ∷ rest) ≡ words_after set (Some n) rest
 digit_on set number d n rest e w lt = rw (e, w, lt-ltb n 64 lt) refl
 
 -- the bytes are read as this number
 abbrev Reads : ℕ → Text → Type 0
-Reads n ds = n < 64 → (set : WordSet) (rest : Text) → words_behind set None (ds ++ rest) ≡ words_behind set (Some n) rest
+Reads n ds = n < 64 → (set : WordSet) (rest : Text) → words_after set None (ds ++ rest) ≡ words_after set (Some n) rest
 
-number_behind : (n : ℕ) → n < 64 → (set : WordSet) (rest : Text) → words_behind set None (decimal n ++ rest) ≡ words_behind set (Some n) rest
-number_behind n small = decimal_by_steps Reads one more n (omega (arith, small)) small
+number_after : (n : ℕ) → n < 64 → (set : WordSet) (rest : Text) → words_after set None (decimal n ++ rest) ≡ words_after set (Some n) rest
+number_after n small = decimal_by_steps Reads one more n (omega (arith, small)) small
   where
     one : (n : ℕ) → n < 10 → Reads n ((48 + n) ∷ [])
     one n lt small set rest = let is : 48 + n - 48 ≡ n = omega arith in digit_on set None (48 + n) n rest (digit_is n lt) is small
@@ -45,7 +45,7 @@ number_behind n small = decimal_by_steps Reads one more n (omega (arith, small))
         let low : n % 10 < 10 = omega arith in
         let fewer : n / 10 < 64 = omega (arith, small) in
         let value : 10 * (n / 10) + (48 + n % 10 - 48) ≡ n = omega arith in
-        ap (words_behind set None) (append_assoc ds ((48 + n % 10) ∷ []) rest) ∙ h fewer set ((48 + n % 10) ∷ rest) ∙ digit_on set (Some (n / 10)) (48 + n % 10) n rest (digit_is (n % 10) low) value small
+        ap (words_after set None) (append_assoc ds ((48 + n % 10) ∷ []) rest) ∙ h fewer set ((48 + n % 10) ∷ rest) ∙ digit_on set (Some (n / 10)) (48 + n % 10) n rest (digit_is (n % 10) low) value small
 
 -- these words are added
 abbrev added : List ℕ → List Bool → List Bool
@@ -55,23 +55,23 @@ added (word ∷ words) own = added words (adds_word own word)
 abbrev are_small : List ℕ → Bool
 are_small words = list_all (λ word. nat_lt word 64) words
 
-abbrev behind_commas : List ℕ → Text
-behind_commas words = flat_map (λ word. (44 ∷ []) ++ decimal word) words
+abbrev after_commas : List ℕ → Text
+after_commas words = flat_map (λ word. (44 ∷ []) ++ decimal word) words
 
 first_small : (word : ℕ) (words : List ℕ) → are_small (word ∷ words) ≡ true → word < 64
 first_small word words small = ltb-true word 64 (and_first (nat_lt word 64) (are_small words) small)
 
-commas_read : (words : List ℕ) (set : WordSet) (n : ℕ) → are_small words ≡ true → words_behind set (Some n) (behind_commas words) ≡ Some (record { members = added words (adds_word set.members n) })
+commas_read : (words : List ℕ) (set : WordSet) (n : ℕ) → are_small words ≡ true → words_after set (Some n) (after_commas words) ≡ Some (record { members = added words (adds_word set.members n) })
 commas_read [] set n small = refl
 commas_read (word ∷ words) set n small =
     let next : WordSet = record { members = adds_word set.members n } in
-    number_behind word (first_small word words small) next (behind_commas words) ∙ commas_read words next word (and_second (nat_lt word 64) (are_small words) small)
+    number_after word (first_small word words small) next (after_commas words) ∙ commas_read words next word (and_second (nat_lt word 64) (are_small words) small)
 
 joined_read : (words : List ℕ) → are_small words ≡ true → (words ≡ [] → ⊥) → words_of_word (join_by decimal (44 ∷ []) words) ≡ Some (record { members = added words no_words })
 joined_read [] small some = absurd (some refl)
 joined_read (word ∷ words) small some =
     let none : WordSet = record { members = no_words } in
-    number_behind word (first_small word words small) none (behind_commas words) ∙ commas_read words none word (and_second (nat_lt word 64) (are_small words) small)
+    number_after word (first_small word words small) none (after_commas words) ∙ commas_read words none word (and_second (nat_lt word 64) (are_small words) small)
 
 -- ---- the words of a set
 
@@ -105,11 +105,11 @@ all_joined : (a b : Text) → list_all is_word_byte a ≡ true → list_all is_w
 all_joined [] b e f = f
 all_joined (x ∷ a) b e f = rw (and_first (is_word_byte x) (list_all is_word_byte a) e) (all_joined a b (and_second (is_word_byte x) (list_all is_word_byte a) e) f)
 
-commas_word : (words : List ℕ) → are_small words ≡ true → list_all is_word_byte (behind_commas words) ≡ true
+commas_word : (words : List ℕ) → are_small words ≡ true → list_all is_word_byte (after_commas words) ≡ true
 commas_word [] small = refl
 commas_word (word ∷ words) small =
     let lt = first_small word words small in
-    all_joined (decimal word) (behind_commas words) (number_is_inner word (omega (arith, lt))) (commas_word words (and_second (nat_lt word 64) (are_small words) small))
+    all_joined (decimal word) (after_commas words) (number_is_inner word (omega (arith, lt))) (commas_word words (and_second (nat_lt word 64) (are_small words) small))
 
 word_joined : (a b : Text) → is_word a ≡ true → list_all is_word_byte a ≡ true → list_all is_word_byte b ≡ true → is_word (a ++ b) ≡ true
 word_joined [] b is e f = absurd cc
@@ -119,7 +119,7 @@ joined_word : (words : List ℕ) → are_small words ≡ true → (words ≡ [] 
 joined_word [] small some = absurd (some refl)
 joined_word (word ∷ words) small some =
     let lt = first_small word words small in
-    word_joined (decimal word) (behind_commas words) (number_is_word word (omega (arith, lt))) (number_is_inner word (omega (arith, lt))) (commas_word words (and_second (nat_lt word 64) (are_small words) small))
+    word_joined (decimal word) (after_commas words) (number_is_word word (omega (arith, lt))) (number_is_inner word (omega (arith, lt))) (commas_word words (and_second (nat_lt word 64) (are_small words) small))
 
 abbrev words_set : List Bool → Option WordSet
 words_set members = Some (record { members = members })

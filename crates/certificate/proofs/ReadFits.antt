@@ -21,7 +21,7 @@ use Rattle.certificate.specs.Drafts.{wanting, listing, listing_slot, block_ended
 use Rattle.certificate.specs.Input.{Input, start_of, begun, with_promise, wants, with_line, with_slot_line, with_block, with_section, kept}
 use Rattle.name_text.specs.Reader.{noted, left, ended, word, begins, line_ends}
 use Rattle.certificate.specs.Forms.{free_by, new_function, function_named, function_by, new_parameter, is_parameter, unpromised, parameter_by, parameter_named, new_block, block_by, block_named, new_value, new_value_named, new_slot, root_by, slot_named, want, listed_by, listed_name, begin, put_value, put_slot}
-use Rattle.certificate.specs.Lines.{no_promise, fact_if, promised_by, promise_by, promised_fact, more_by, more_facts, promise, number_head, head_by, below_by, below, listed_if, listed_behind, number, reference, words_of_cell, global_by, global_address, address_by, address, fact_by, fact_of, fact_end, slot_end, value_line, slot_line, line_by, line}
+use Rattle.certificate.specs.Lines.{no_promise, fact_if, promised_by, promise_by, promised_fact, more_by, more_facts, promise, number_head, head_by, below_by, below, listed_if, listed_after, number, reference, words_of_cell, global_by, global_address, address_by, address, fact_by, fact_of, fact_end, slot_end, value_line, slot_line, line_by, line}
 use Rattle.certificate.specs.Text as text
 use Rattle.certificate.specs.Text.{IsCert, file, first_gap, gap_in, gap_or, sections_in, finished_by}
 use Rattle.certs.specs.Fits.{below_fits, says_something, promised_layout_fits, promised_below_fits, promise_fits, promised_fits, fact_fits, is_value, named_in_fact, section_fits, fits}
@@ -150,18 +150,18 @@ asks_before : (v : Option ℕ) (i j o : Input) → still i ≡ still j → Asks 
 asks_before None i j o e h = e ∙ h
 asks_before (Some v) i j o e h = (h.0, ap (λ (x : Input). noted (λ p. record p { draft = wanting v h.0 p.draft }) x) e ∙ h.1)
 
-asks_behind : (v : Option ℕ) (i j o : Input) → Asks v i j → still j ≡ still o → Asks v i o
-asks_behind None i j o h e = h ∙ e
-asks_behind (Some v) i j o h e = (h.0, h.1 ∙ e)
+asks_after : (v : Option ℕ) (i j o : Input) → Asks v i j → still j ≡ still o → Asks v i o
+asks_after None i j o h e = h ∙ e
+asks_after (Some v) i j o h e = (h.0, h.1 ∙ e)
 
-listed_behind_is : (f : Function) (wanted : Bytes) (i : Input) (v : Option ℕ) (o : Input) → (listed_behind f wanted).says i v o → Asks v i o
-unfolding listed_behind
-listed_behind_is f wanted i v o h = by (begins wanted i) h
+listed_after_is : (f : Function) (wanted : Bytes) (i : Input) (v : Option ℕ) (o : Input) → (listed_after f wanted).says i v o → Asks v i o
+unfolding listed_after
+listed_after_is f wanted i v o h = by (begins wanted i) h
   where
     by : (b : Bool) → (listed_if f b).says i v o → Asks v i o
     by true h =
         let asks = listed_name_is f h.2.1 h.0 h.1 h.2.3 in
-        subst (λ x. Asks x i o) h.3.0 (asks_behind (Some h.0) i h.1 o (asks_before (Some h.0) i h.2.1 h.1 (still_skip i h.2.0 h.2.1 h.2.2) asks) (ap still h.3.1))
+        subst (λ x. Asks x i o) h.3.0 (asks_after (Some h.0) i h.1 o (asks_before (Some h.0) i h.2.1 h.1 (still_skip i h.2.0 h.2.1 h.2.2) asks) (ap still h.3.1))
     by false h = subst (λ x. Asks x i o) h.0 (ap still h.1)
 
 below_is : (i : Input) (n : Option ℕ) (o : Input) → below.says i n o → (below_fits n ≡ true) × (still i ≡ still o)
@@ -194,8 +194,8 @@ reference_fact m f family i fact o h =
     let c = b.3 in
     let how = still_age b.1 c.0 c.1 c.2 in
     let d = c.3 in
-    let same = listed_behind_is f (codes "same") c.1 d.0 d.1 d.2 in
-    subst (λ x. FactIs m family i x o) d.3.0 (l.0, asks_behind d.0 i d.1 o (asks_before d.0 i c.1 d.1 (skipped ∙ l.1 ∙ nonnull ∙ how) same) (ap still d.3.1))
+    let same = listed_after_is f (codes "same") c.1 d.0 d.1 d.2 in
+    subst (λ x. FactIs m family i x o) d.3.0 (l.0, asks_after d.0 i d.1 o (asks_before d.0 i c.1 d.1 (skipped ∙ l.1 ∙ nonnull ∙ how) same) (ap still d.3.1))
 
 cell_fact : (m : Module) (f : Function) (family : Family) (i : Input) (fact : Fact) (o : Input) → is_address family ≡ true → (words_of_cell f).says i fact o → FactIs m family i fact o
 unfolding words_of_cell
@@ -203,7 +203,7 @@ cell_fact m f family i fact o fits h =
     let base = listed_name_is f i h.0 h.1 h.2 in
     let b = h.3 in
     let set = word_set_is h.1 b.0 b.1 b.2 in
-    subst (λ x. FactIs m family i x o) b.3.0 (rw (fits, set.0) refl, asks_behind (Some h.0) i h.1 o base (set.1 ∙ ap still b.3.1))
+    subst (λ x. FactIs m family i x o) b.3.0 (rw (fits, set.0) refl, asks_after (Some h.0) i h.1 o base (set.1 ∙ ap still b.3.1))
 
 global_fact : (m : Module) (family : Family) (i : Input) (fact : Fact) (o : Input) → is_address family ≡ true → (global_address m).says i fact o → FactIs m family i fact o
 unfolding global_address
@@ -357,7 +357,7 @@ value_line_is m f block i u o h within =
     let fact = b.0 in
     let said = fact_is m f (family_of_value m f v) h.1 fact b.1 b.2 in
     let end = still_fact_end fact b.1 b.3.0 b.3.1 b.3.2 in
-    let asks = asks_behind (named_in_fact fact) i b.1 b.3.1 (asks_before (named_in_fact fact) i h.1 b.1 new.2 said.1) end in
+    let asks = asks_after (named_in_fact fact) i b.1 b.3.1 (asks_before (named_in_fact fact) i h.1 b.1 new.2 said.1) end in
     let at = asked m f block (named_in_fact fact) i b.3.1 asks within in
     let free : is_in block (slice_get b.3.1.read.draft.values v) ≡ false = ap (λ x. is_in block (slice_get x v)) (sym at.4) ∙ new.1 in
     let put : Within m f block (listing block v (line.Value v fact) b.3.1.read.draft) = with_value m f block v fact b.3.1.read.draft new.0 free said.0 at.1 at.0 in
@@ -373,10 +373,10 @@ slot_line_is m f block i u o h within =
     let c = b.3 in
     let nonnull = still_flag (codes "nonnull") b.1 c.0 c.1 c.2 in
     let d = c.3 in
-    let holds = listed_behind_is f (codes "holds") c.1 d.0 d.1 d.2 in
+    let holds = listed_after_is f (codes "holds") c.1 d.0 d.1 d.2 in
     let e = d.3 in
     let end = still_slot_end c.0 d.0 d.1 e.0 e.1 e.2 in
-    let asks = asks_behind d.0 i d.1 e.1 (asks_before d.0 i c.1 d.1 (word ∙ new.4 ∙ nonnull) holds) end in
+    let asks = asks_after d.0 i d.1 e.1 (asks_before d.0 i c.1 d.1 (word ∙ new.4 ∙ nonnull) holds) end in
     let at = asked m f block d.0 i e.1 asks within in
     let rooted : unwrap_or (slice_get (root_names m f) s) false ≡ true = ap (λ (x : List Bool). unwrap_or (slice_get x s) false) (sym within.0.roots ∙ ap (λ (x : Input). x.read.draft.roots) word) ∙ new.2 in
     let free : is_in block (slice_get e.1.read.draft.slots s) ≡ false = ap (λ x. is_in block (slice_get x s)) (sym at.5 ∙ ap (λ (x : Input). x.read.draft.slots) word) ∙ new.3 in
@@ -440,15 +440,15 @@ block_is m f i u o h between =
     let given : slice_get c.1.read.draft.given block ≡ Some false = sym (ap (λ (x : Input). slice_get x.read.draft.given block) (new.1 ∙ end)) ∙ new.0 in
     let begun : Within m f block c.1.read.draft = block_begins m f block c.1.read.draft given (subst (λ (x : Input). Between m f x.read.draft) same between) in
     let read = lines_are m f block c.1 d.2.0 d.2.1 d.2.2 begun in
-    let behind : d.2.1 ≡ d.1 = d.2.3.1 in
+    let afterwards : d.2.1 ≡ d.1 = d.2.3.1 in
     let e = d.3 in
     let listed = all_listed_is block d.1 e.0 e.1 e.2 in
-    let here : Within m f block d.1.read.draft = subst (λ (x : Input). Within m f block x.read.draft) behind read.0 in
-    let given_here : slice_get d.1.read.draft.given block ≡ Some false = sym (ap (λ x. slice_get x block) (read.2 ∙ ap (λ (x : Input). x.read.draft.given) behind)) ∙ given in
+    let here : Within m f block d.1.read.draft = subst (λ (x : Input). Within m f block x.read.draft) afterwards read.0 in
+    let given_here : slice_get d.1.read.draft.given block ≡ Some false = sym (ap (λ x. slice_get x block) (read.2 ∙ ap (λ (x : Input). x.read.draft.given) afterwards)) ∙ given in
     let ended : Between m f (block_ended block d.1.read.draft) = block_ends m f block d.1.read.draft given_here listed.0 here in
     let out : noted (with_block block) d.1 ≡ o = ap (noted (with_block block)) listed.1 ∙ e.3.1 in (
       subst (λ (x : Input). Between m f x.read.draft) out ended,
-      ap (λ (x : Input). x.read.sections) same ∙ read.1 ∙ ap (λ (x : Input). x.read.sections) behind ∙ ap (λ (x : Input). x.read.sections) out,
+      ap (λ (x : Input). x.read.sections) same ∙ read.1 ∙ ap (λ (x : Input). x.read.sections) afterwards ∙ ap (λ (x : Input). x.read.sections) out,
     )
 
 blocks_are : (m : Module) (f : Function) (i : Input) (xs : List (Unit {0})) (o : Input) → Listed text.past_blocks (text.block m f).says i xs o → InSection m f i o
@@ -585,7 +585,7 @@ still_new_function m i a o h = by (names.function_of_word m (word i)) h
     by (naming.Named k) h = by_kept k (slice_get i.read.sections k) h
 
 section_is : (m : Module) (i : Input) (u : Unit {0}) (o : Input) → (text.section m).says i u o → Fine m i → Fine m o
-unfolding text.section text.section_behind
+unfolding text.section text.section_after
 section_is m i u o h fine =
     let word = still_expect (codes "function") i h.0 h.1 h.2 in
     let b = h.3 in

@@ -7,7 +7,7 @@ use Rattle.std.proofs.lemmas.List.{length-set, get_or-set_same, get_or-set_other
 use Rattle.ir_tokens.specs.Bytes.{Text, is_digit}
 use Rattle.pools.specs.WordSets.{no_words, has_word, adds_word}
 use Rattle.pools.specs.declared.word_set.WordSet.{WordSet}
-use Rattle.certificate.specs.Numbers.{with_digit, closed, words_behind, words_of_word}
+use Rattle.certificate.specs.Numbers.{with_digit, closed, words_after, words_of_word}
 use Rattle.certs.specs.Fits.{add_words, own_words, same_words, words_fit}
 
 same_self : (xs : List Bool) → same_words xs xs ≡ true
@@ -162,22 +162,22 @@ closed_len set (Some n) more len e =
     len_of None = 0
     len_of (Some w) = length w.members
 
-behind_fits : (set : WordSet) (number : Option ℕ) (word : Text) (found : WordSet) → length set.members ≡ 64 → Small number → words_behind set number word ≡ Some found → words_fit found.members ≡ true
-behind_fits set number [] found len small e = closed_fits set number found len small e
-behind_fits set number (byte ∷ bytes) found len small e =
+after_fits : (set : WordSet) (number : Option ℕ) (word : Text) (found : WordSet) → length set.members ≡ 64 → Small number → words_after set number word ≡ Some found → words_fit found.members ≡ true
+after_fits set number [] found len small e = closed_fits set number found len small e
+after_fits set number (byte ∷ bytes) found len small e =
     by (is_digit byte) (nat_lt (with_digit number byte) 64) (byte == 44) refl e
-    (λ below. behind_fits set (Some (with_digit number byte)) bytes found len below)
-    (λ more longer. behind_fits more None bytes found longer tt)
+    (λ below. after_fits set (Some (with_digit number byte)) bytes found len below)
+    (λ more longer. after_fits more None bytes found longer tt)
   where
-    on_closed : (c : Option WordSet) → closed set number ≡ c → option_and_then (λ more. words_behind more None bytes) c ≡ Some found
-        → ((more : WordSet) → length more.members ≡ 64 → words_behind more None bytes ≡ Some found → words_fit found.members ≡ true) → words_fit found.members ≡ true
+    on_closed : (c : Option WordSet) → closed set number ≡ c → option_and_then (λ more. words_after more None bytes) c ≡ Some found
+        → ((more : WordSet) → length more.members ≡ 64 → words_after more None bytes ≡ Some found → words_fit found.members ≡ true) → words_fit found.members ≡ true
     on_closed None is e more = absurd cc
     on_closed (Some set') is e more = more set' (closed_len set number set' len is) e
 
     by : (digit low comma : Bool) → nat_lt (with_digit number byte) 64 ≡ low
-        → (if digit then (if low then words_behind set (Some (with_digit number byte)) bytes else None) else (if comma then option_and_then (λ more. words_behind more None bytes) (closed set number) else None)) ≡ Some found
-        → (with_digit number byte < 64 → words_behind set (Some (with_digit number byte)) bytes ≡ Some found → words_fit found.members ≡ true)
-        → ((more : WordSet) → length more.members ≡ 64 → words_behind more None bytes ≡ Some found → words_fit found.members ≡ true) → words_fit found.members ≡ true
+        → (if digit then (if low then words_after set (Some (with_digit number byte)) bytes else None) else (if comma then option_and_then (λ more. words_after more None bytes) (closed set number) else None)) ≡ Some found
+        → (with_digit number byte < 64 → words_after set (Some (with_digit number byte)) bytes ≡ Some found → words_fit found.members ≡ true)
+        → ((more : WordSet) → length more.members ≡ 64 → words_after more None bytes ≡ Some found → words_fit found.members ≡ true) → words_fit found.members ≡ true
     by true true comma low e digits commas = digits (ltb-true (with_digit number byte) 64 low) e
     by true false comma low e digits commas = absurd cc
     by false low true is e digits commas = on_closed (closed set number) refl e commas
@@ -185,4 +185,4 @@ behind_fits set number (byte ∷ bytes) found len small e =
 
 -- a set of words that is read fits
 pub read_words_fit : (word : Text) (found : WordSet) → words_of_word word ≡ Some found → words_fit found.members ≡ true
-read_words_fit word found e = behind_fits (record { members = no_words }) None word found refl tt e
+read_words_fit word found e = after_fits (record { members = no_words }) None word found refl tt e

@@ -12,7 +12,7 @@ use Rattle.name_text.specs.Reader.{word, begins}
 use Rattle.name_text.specs.Forms.{expect, expect_takes, taken_takes}
 use Rattle.certificate.specs.Input.{Progress}
 use Rattle.certificate.specs.Forms.{free_by, new_value, new_value_named}
-use Rattle.certificate.specs.Lines.{line, line_by, slot_line, slot_behind, value_line, value_behind}
+use Rattle.certificate.specs.Lines.{line, line_by, slot_line, slot_after, value_line, value_after}
 use Rattle.certificate.specs.declared.naming.Naming.{Naming}
 use Rattle.certificate.specs.declared.naming.Naming.TheVariants.{NoName, Unknown, Named}
 use Rattle.certificate.specs.declared.mistake.Mistake.{Mistake}
@@ -41,12 +41,12 @@ new_value_takes f block = look_takes (λ i. value_of_word f (word i)) (new_value
 -- the line of a slot takes bytes
 slot_line_takes : (f : Function) (block : ℕ) → Takes (slot_line f block)
 unfolding slot_line
-slot_line_takes f block = first_takes (expect (codes "slot")) (λ _. slot_behind f block) (expect_takes Progress Mistake (codes "slot") (lit< tt))
+slot_line_takes f block = first_takes (expect (codes "slot")) (λ _. slot_after f block) (expect_takes Progress Mistake (codes "slot") (lit< tt))
 
 -- the line of a value takes bytes
 value_line_takes : (m : Module) (f : Function) (block : ℕ) → Takes (value_line m f block)
 unfolding value_line
-value_line_takes m f block = first_takes (new_value f block) (λ value. value_behind m f block value) (new_value_takes f block)
+value_line_takes m f block = first_takes (new_value f block) (λ value. value_after m f block value) (new_value_takes f block)
 
 -- a line of a block takes bytes
 pub line_takes : (m : Module) (f : Function) (block : ℕ) → Takes (line m f block)

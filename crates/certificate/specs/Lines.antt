@@ -104,8 +104,8 @@ listed_if f true = skip >> listed_name f >>= λ value. pure (Some value)
 listed_if f false = pure None
 
 -- this word and a value that the block has to list, or nothing
-unfoldable pub listed_behind : Function → (wanted : Bytes) → Form (Option ℕ)
-listed_behind f wanted = look (begins wanted) (listed_if f)
+unfoldable pub listed_after : Function → (wanted : Bytes) → Form (Option ℕ)
+listed_after f wanted = look (begins wanted) (listed_if f)
 
 -- a fact of a number
 unfoldable pub number : (bits : ℕ) → Form Fact
@@ -121,7 +121,7 @@ reference m f family = do
   layout ← layout_name m family
   nonnull ← flag (codes "nonnull")
   how ← age
-  same ← listed_behind f (codes "same")
+  same ← listed_after f (codes "same")
   pure (fact.Reference layout nonnull how same)
 
 -- a value that the block has to list, and words of its cell
@@ -196,28 +196,28 @@ slot_end nonnull holds = checked (λ i. line_ends i || not (slot_has_word nonnul
 -- ---- lines
 
 -- a line of a value after the value's name
-abbrev pub value_behind : Module → Function → (block value : ℕ) → Form (Unit {0})
-value_behind m f block value = do
+abbrev pub value_after : Module → Function → (block value : ℕ) → Form (Unit {0})
+value_after m f block value = do
   fact ← fact_of m f (family_of_value m f value)
   fact_end fact
   put_value block value fact
 
 -- a line of a value
 unfoldable pub value_line : Module → Function → (block : ℕ) → Form (Unit {0})
-value_line m f block = new_value f block >>= λ value. value_behind m f block value
+value_line m f block = new_value f block >>= λ value. value_after m f block value
 
 -- a line of a slot after its first word
-abbrev pub slot_behind : Function → (block : ℕ) → Form (Unit {0})
-slot_behind f block = do
+abbrev pub slot_after : Function → (block : ℕ) → Form (Unit {0})
+slot_after f block = do
   slot ← new_slot f block
   nonnull ← flag (codes "nonnull")
-  holds ← listed_behind f (codes "holds")
+  holds ← listed_after f (codes "holds")
   slot_end nonnull holds
   put_slot block slot nonnull holds
 
 -- a line of a slot
 unfoldable pub slot_line : Function → (block : ℕ) → Form (Unit {0})
-slot_line f block = expect (codes "slot") >> slot_behind f block
+slot_line f block = expect (codes "slot") >> slot_after f block
 
 -- a line of a slot, or else of a value
 abbrev pub line_by : Module → Function → (block : ℕ) → Bool → Form (Unit {0})

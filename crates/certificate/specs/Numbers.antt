@@ -26,12 +26,12 @@ closed set None = None
 closed set (Some n) = Some (record { members = adds_word set.members n })
 
 -- a comma comes after each number but the last
-abbrev pub words_behind : WordSet → (number : Option ℕ) → Text → Option WordSet
-words_behind set number [] = closed set number
-words_behind set number (byte ∷ bytes) =
-    if is_digit byte then (if nat_lt (with_digit number byte) 64 then words_behind set (Some (with_digit number byte)) bytes else None)
-    else (if byte == 44 then option_and_then (λ more. words_behind more None bytes) (closed set number) else None)
+abbrev pub words_after : WordSet → (number : Option ℕ) → Text → Option WordSet
+words_after set number [] = closed set number
+words_after set number (byte ∷ bytes) =
+    if is_digit byte then (if nat_lt (with_digit number byte) 64 then words_after set (Some (with_digit number byte)) bytes else None)
+    else (if byte == 44 then option_and_then (λ more. words_after more None bytes) (closed set number) else None)
 
 -- the words of a cell, from 0 to 63, that a word of the text lists with commas between
 abbrev pub words_of_word : Text → Option WordSet
-words_of_word word = words_behind (record { members = no_words }) None word
+words_of_word word = words_after (record { members = no_words }) None word

@@ -38,15 +38,15 @@ version = do
 -- ---- parameters and the result
 
 -- what is promised of a parameter, after its first word
-abbrev pub parameter_behind : Module → Function → Form (Unit {0})
-parameter_behind m f = do
+abbrev pub parameter_after : Module → Function → Form (Unit {0})
+parameter_after m f = do
   place ← new_parameter f
   promise ← promise m (family_of_value m f place)
   note (with_promise place promise)
 
 -- what is promised of a parameter
 unfoldable pub parameter : Module → Function → Form (Unit {0})
-parameter m f = expect (codes "param") >> parameter_behind m f
+parameter m f = expect (codes "param") >> parameter_after m f
 
 -- no parameter comes here
 abbrev pub past_parameters : Input → Bool
@@ -55,7 +55,7 @@ past_parameters i = not (begins (codes "param") i)
 -- what is promised of a parameter takes bytes
 pub parameter_takes : (m : Module) (f : Function) → Takes (parameter m f)
 unfolding parameter
-parameter_takes m f = first_takes (expect (codes "param")) (λ _. parameter_behind m f) (expect_takes Progress Mistake (codes "param") (lit< tt))
+parameter_takes m f = first_takes (expect (codes "param")) (λ _. parameter_after m f) (expect_takes Progress Mistake (codes "param") (lit< tt))
 
 -- what is promised of parameters
 unfoldable pub parameters : Module → Function → Form (Unit {0})
@@ -90,8 +90,8 @@ unfoldable pub all_listed : (block : ℕ) → Form (Unit {0})
 all_listed block = look (λ i. first_unlisted block i.read.draft.values i.read.draft.wanted) listed_by
 
 -- a block after its first word
-abbrev pub block_behind : Module → Function → Form (Unit {0})
-block_behind m f = do
+abbrev pub block_after : Module → Function → Form (Unit {0})
+block_after m f = do
   block ← new_block f
   line_end
   lines m f block
@@ -100,7 +100,7 @@ block_behind m f = do
 
 -- a block and its lines
 unfoldable pub block : Module → Function → Form (Unit {0})
-block m f = expect (codes "block") >> block_behind m f
+block m f = expect (codes "block") >> block_after m f
 
 -- no block comes here
 abbrev pub past_blocks : Input → Bool
@@ -109,7 +109,7 @@ past_blocks i = not (begins (codes "block") i)
 -- a block takes bytes
 pub block_takes : (m : Module) (f : Function) → Takes (block m f)
 unfolding block
-block_takes m f = first_takes (expect (codes "block")) (λ _. block_behind m f) (expect_takes Progress Mistake (codes "block") (lit< tt))
+block_takes m f = first_takes (expect (codes "block")) (λ _. block_after m f) (expect_takes Progress Mistake (codes "block") (lit< tt))
 
 -- the blocks of a section
 unfoldable pub blocks : Module → Function → Form (Unit {0})
@@ -142,17 +142,17 @@ section_by m function None = unknown
 section_by m function (Some f) = section_of m function f
 
 -- a section after its first word
-unfoldable pub section_behind : Module → Form (Unit {0})
-section_behind m = new_function m >>= λ function. section_by m function (slice_get m.functions function)
+unfoldable pub section_after : Module → Form (Unit {0})
+section_after m = new_function m >>= λ function. section_by m function (slice_get m.functions function)
 
 -- a section
 unfoldable pub section : Module → Form (Unit {0})
-section m = expect (codes "function") >> section_behind m
+section m = expect (codes "function") >> section_after m
 
 -- a section takes bytes
 pub section_takes : (m : Module) → Takes (section m)
 unfolding section
-section_takes m = first_takes (expect (codes "function")) (λ _. section_behind m) (expect_takes Progress Mistake (codes "function") (lit< tt))
+section_takes m = first_takes (expect (codes "function")) (λ _. section_after m) (expect_takes Progress Mistake (codes "function") (lit< tt))
 
 -- ---- the whole
 

@@ -60,14 +60,14 @@ fn below(input: &mut Input<'_>) -> Result<Option<u64>, Found>
 }
 
 /// This word and a value that the block has to list, or nothing.
-#[tactic(auto, unfolding(crate::specs::Lines::listed_behind, name_text::specs::Forms::skip))]
-fn listed_behind(
+#[tactic(auto, unfolding(crate::specs::Lines::listed_after, name_text::specs::Forms::skip))]
+fn listed_after(
     alloc: Global,
     input: &mut Input<'_>,
     function: &Function,
     wanted: &[u8],
 ) -> Result<Option<ValueId>, Found>
-    ensures { Reads ((form.listed_behind function.now wanted.now).read input.old) result input.new }
+    ensures { Reads ((form.listed_after function.now wanted.now).read input.old) result input.new }
 {
     if !input.begins(wanted) {
         return Ok(None);
@@ -100,7 +100,7 @@ fn reference(
     let layout = layout_name(alloc, input, module, *family)?;
     let nonnull = flag(input, b"nonnull")?;
     let age = age(input)?;
-    let same = listed_behind(alloc, input, function, b"same")?;
+    let same = listed_after(alloc, input, function, b"same")?;
     Ok(Fact::Reference {
         layout,
         nonnull,
@@ -290,7 +290,7 @@ fn slot_line(
     input.expect(b"slot")?;
     let slot = new_slot(alloc, input, function, block)?;
     let nonnull = flag(input, b"nonnull")?;
-    let holds = listed_behind(alloc, input, function, b"holds")?;
+    let holds = listed_after(alloc, input, function, b"holds")?;
     slot_end(input, nonnull, holds)?;
     let line = slot_said(slot, nonnull, &holds);
     input.read.put_slot(block, slot, &line)?;

@@ -274,9 +274,9 @@ pub fn section_of(
 }
 
 /// A section after its first word.
-#[tactic(auto, unfolding(crate::specs::Text::section_behind))]
-fn section_behind(alloc: Global, input: &mut Input<'_>, module: &Module) -> Result<(), Found>
-    ensures { Reads ((text.section_behind «module».now).read input.old) result input.new }
+#[tactic(auto, unfolding(crate::specs::Text::section_after))]
+fn section_after(alloc: Global, input: &mut Input<'_>, module: &Module) -> Result<(), Found>
+    ensures { Reads ((text.section_after «module».now).read input.old) result input.new }
 {
     let number = new_function(alloc, input, module)?;
     match module.functions.get(number.number() as usize) {
@@ -290,7 +290,7 @@ fn section(alloc: Global, input: &mut Input<'_>, module: &Module) -> Result<(), 
     ensures { Reads ((text.section «module».now).read input.old) result input.new }
 {
     input.expect(b"function")?;
-    section_behind(alloc, input, module)
+    section_after(alloc, input, module)
 }
 
 /// The sections up to the text's end.

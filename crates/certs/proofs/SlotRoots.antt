@@ -26,7 +26,7 @@ use Rattle.shadow_stack.specs.Hops.{hops_nowhere, hops_slot}
 use Rattle.shadow_stack.specs.Slots.{slots_of, is_among, put, origin_of, noted_op, noted, noted_blocks, draft_of, origin_at, hop, hops, slot_at, names_of, is_reference_held, operand_slot, first_slot, slot_rooted, slot_rooted_by, with_root, with_roots, with_roots_of}
 use Rattle.types.specs.RuntimeCall.{runtime_called}
 use Rattle.certs.specs.RootNames.{is_among_roots, is_root, root_noted, roots_noted, roots_of_blocks, root_names}
-use Rattle.certs.specs.Roots.{nowhere, source_of_operand, source_noted, source_behind, source_behind_blocks, source_of, allocated_at, allocated_by, allocated_within, allocated, is_alloca_of, leads_to, first_leads_to, roots_by, roots, some_roots, is_rooted, is_alloca, some_alloca, has_alloca, is_root_alloca, is_root_found}
+use Rattle.certs.specs.Roots.{nowhere, source_of_operand, source_noted, source_after, source_after_blocks, source_of, allocated_at, allocated_by, allocated_within, allocated, is_alloca_of, leads_to, first_leads_to, roots_by, roots, some_roots, is_rooted, is_alloca, some_alloca, has_alloca, is_root_alloca, is_root_found}
 use Rattle.certs.specs.declared.roots.Source.{Source}
 use Rattle.certs.specs.declared.roots.Source.TheVariants.{Nowhere, Held, Same}
 use Rattle.certs.specs.declared.roots.SlotName.{SlotName}
@@ -99,20 +99,20 @@ noted_agrees value (Some name) (Cast x) d s within h =
     set_agrees value name d.held d.origins (source_of_operand x.operand) s (origin_of x.operand) within (operand_agrees d.held x.operand) h
 noted_agrees value name _ d s within h = h
 
-behind_agrees : (value : ℕ) (instrs : List Instr) (d : Draft) (s : Source) → value < length d.origins → Agrees d.held s (origin_at d.origins value)
-    → (length (noted instrs d).origins ≡ length d.origins) × Agrees (noted instrs d).held (source_behind value instrs s) (origin_at (noted instrs d).origins value)
-behind_agrees value [] d s within h = (refl, h)
-behind_agrees value (instr ∷ instrs) d s within h =
+after_agrees : (value : ℕ) (instrs : List Instr) (d : Draft) (s : Source) → value < length d.origins → Agrees d.held s (origin_at d.origins value)
+    → (length (noted instrs d).origins ≡ length d.origins) × Agrees (noted instrs d).held (source_after value instrs s) (origin_at (noted instrs d).origins value)
+after_agrees value [] d s within h = (refl, h)
+after_agrees value (instr ∷ instrs) d s within h =
     let len = noted_length instr.result instr.op d in
-    let r = behind_agrees value instrs (noted_op instr.result instr.op d) (source_noted value instr.result instr.op s) (omega (arith, len)) (noted_agrees value instr.result instr.op d s within h) in
+    let r = after_agrees value instrs (noted_op instr.result instr.op d) (source_noted value instr.result instr.op s) (omega (arith, len)) (noted_agrees value instr.result instr.op d s within h) in
     (r.0 ∙ len, r.1)
 
 blocks_agree : (value : ℕ) (blocks : List Block) (d : Draft) (s : Source) → value < length d.origins → Agrees d.held s (origin_at d.origins value)
-    → Agrees (noted_blocks blocks d).held (source_behind_blocks value blocks s) (origin_at (noted_blocks blocks d).origins value)
+    → Agrees (noted_blocks blocks d).held (source_after_blocks value blocks s) (origin_at (noted_blocks blocks d).origins value)
 blocks_agree value [] d s within h = h
 blocks_agree value (block ∷ blocks) d s within h =
-    let r = behind_agrees value block.body d s within h in
-    blocks_agree value blocks (noted block.body d) (source_behind value block.body s) (omega (arith, r.0)) r.1
+    let r = after_agrees value block.body d s within h in
+    blocks_agree value blocks (noted block.body d) (source_after value block.body s) (omega (arith, r.0)) r.1
 
 -- ---- no two names are of one slot
 
@@ -200,13 +200,13 @@ noted_apart None (Cast x) d h = h
 noted_apart (Some name) (Cast x) d h = other_apart d.origins d.held name (origin_of x.operand) (no_slot x.operand) h
 noted_apart name _ d h = h
 
-behind_apart : (instrs : List Instr) (d : Draft) → Apart d → Apart (noted instrs d)
-behind_apart [] d h = h
-behind_apart (instr ∷ instrs) d h = behind_apart instrs (noted_op instr.result instr.op d) (noted_apart instr.result instr.op d h)
+after_apart : (instrs : List Instr) (d : Draft) → Apart d → Apart (noted instrs d)
+after_apart [] d h = h
+after_apart (instr ∷ instrs) d h = after_apart instrs (noted_op instr.result instr.op d) (noted_apart instr.result instr.op d h)
 
 blocks_apart : (blocks : List Block) (d : Draft) → Apart d → Apart (noted_blocks blocks d)
 blocks_apart [] d h = h
-blocks_apart (block ∷ blocks) d h = blocks_apart blocks (noted block.body d) (behind_apart block.body d h)
+blocks_apart (block ∷ blocks) d h = blocks_apart blocks (noted block.body d) (after_apart block.body d h)
 
 nowhere_at : (n i : ℕ) → origin_at (replicate n origin.Nowhere) i ≡ origin.Nowhere
 nowhere_at zero i = refl
@@ -219,13 +219,13 @@ none_apart n = (λ i j slot e g. absurd (none i slot e), λ i slot e. absurd (no
     none : (i slot : ℕ) → origin_at (replicate n origin.Nowhere) i ≡ origin.Slot slot → ⊥
     none i slot e = let z = nowhere_at n i in cc
 
-behind_length : (instrs : List Instr) (d : Draft) → length (noted instrs d).origins ≡ length d.origins
-behind_length [] d = refl
-behind_length (instr ∷ instrs) d = behind_length instrs (noted_op instr.result instr.op d) ∙ noted_length instr.result instr.op d
+after_length : (instrs : List Instr) (d : Draft) → length (noted instrs d).origins ≡ length d.origins
+after_length [] d = refl
+after_length (instr ∷ instrs) d = after_length instrs (noted_op instr.result instr.op d) ∙ noted_length instr.result instr.op d
 
 blocks_length : (blocks : List Block) (d : Draft) → length (noted_blocks blocks d).origins ≡ length d.origins
 blocks_length [] d = refl
-blocks_length (block ∷ blocks) d = blocks_length blocks (noted block.body d) ∙ behind_length block.body d
+blocks_length (block ∷ blocks) d = blocks_length blocks (noted block.body d) ∙ after_length block.body d
 
 past_end : (os : List Origin) (i : ℕ) → length os ≤ i → origin_at os i ≡ origin.Nowhere
 past_end [] i le = refl
@@ -254,7 +254,7 @@ module _ (m : Module) (f : Function) where
   agrees_at : (value : ℕ) → Agrees held (source_of f value) (origin_at os value)
   agrees_at value = pick (nat_lt value (length f.locals)) refl
     where
-      pick : (b : Bool) → nat_lt value (length f.locals) ≡ b → Agrees held (cond b (source_behind_blocks value f.blocks nowhere) nowhere) (origin_at os value)
+      pick : (b : Bool) → nat_lt value (length f.locals) ≡ b → Agrees held (cond b (source_after_blocks value f.blocks nowhere) nowhere) (origin_at os value)
       pick true e =
           let within : value < length start.origins = grind (arith, e, length_replicate (length f.locals) origin.Nowhere) in
           let first : Agrees start.held nowhere (origin_at start.origins value) = rw (nowhere_at (length f.locals) value) tt in

@@ -17,14 +17,14 @@ family_of_struct (Some layout) = Reference layout
 family_of_struct None = Address
 
 -- what a pointer to such a part is
-abbrev pub family_behind : Module → Option IrType → Family
-family_behind m (Some (ty.Integer bits)) = if bits == 8 then AnyReference else Address
-family_behind m (Some (ty.Named name)) = family_of_struct (struct_named m name)
-family_behind m _ = Address
+abbrev pub family_after : Module → Option IrType → Family
+family_after m (Some (ty.Integer bits)) = if bits == 8 then AnyReference else Address
+family_after m (Some (ty.Named name)) = family_of_struct (struct_named m name)
+family_after m _ = Address
 
 -- what a pointer to this part is
 abbrev pub family_of_pointer : Module → (part : ℕ) → Family
-family_of_pointer m part = family_behind m (slice_get m.types part)
+family_of_pointer m part = family_after m (slice_get m.types part)
 
 -- what a value of the type with this text is, if there is one
 abbrev pub family_in : Module → Option IrType → Family

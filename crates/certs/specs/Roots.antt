@@ -40,18 +40,18 @@ source_noted value name (Cast x) source = if is_name value name then source_of_o
 source_noted value name _ source = source
 
 -- what a name is after instructions
-abbrev pub source_behind : (value : ℕ) → List Instr → Source → Source
-source_behind value [] source = source
-source_behind value (instr ∷ instrs) source = source_behind value instrs (source_noted value instr.result instr.op source)
+abbrev pub source_after : (value : ℕ) → List Instr → Source → Source
+source_after value [] source = source
+source_after value (instr ∷ instrs) source = source_after value instrs (source_noted value instr.result instr.op source)
 
 -- what a name is after blocks
-abbrev pub source_behind_blocks : (value : ℕ) → List Block → Source → Source
-source_behind_blocks value [] source = source
-source_behind_blocks value (block ∷ blocks) source = source_behind_blocks value blocks (source_behind value block.body source)
+abbrev pub source_after_blocks : (value : ℕ) → List Block → Source → Source
+source_after_blocks value [] source = source
+source_after_blocks value (block ∷ blocks) source = source_after_blocks value blocks (source_after value block.body source)
 
 -- what a local name was defined as last
 abbrev pub source_of : Function → (value : ℕ) → Source
-source_of f value = if nat_lt value (length f.locals) then source_behind_blocks value f.blocks nowhere else nowhere
+source_of f value = if nat_lt value (length f.locals) then source_after_blocks value f.blocks nowhere else nowhere
 
 -- the alloca to which a name leads at once
 abbrev pub allocated_at : (value : ℕ) → Source → Option SlotName
@@ -60,8 +60,8 @@ allocated_at value _ = None
 
 -- the alloca to which a name leads, by way of another name where it is a bitcast
 abbrev pub allocated_by : (value : ℕ) → Source → (ℕ → Option SlotName) → Option SlotName
-allocated_by value (Same other) behind = behind other
-allocated_by value source behind = allocated_at value source
+allocated_by value (Same other) afterwards = afterwards other
+allocated_by value source afterwards = allocated_at value source
 
 -- the alloca to which a name leads, with at most this number of bitcasts
 unfoldable pub allocated_within : Function → ℕ → (value : ℕ) → Option SlotName

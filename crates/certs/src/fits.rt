@@ -228,11 +228,11 @@ fn lists_once(lines: &[Line]) -> bool
     ensures { result ≡ spec.lists_once lines.now }
 {
     let mut rest = lines;
-    while let [line, behind @ ..] = rest {
-        if is_listed(behind, line) {
+    while let [line, afterwards @ ..] = rest {
+        if is_listed(afterwards, line) {
             return false;
         }
-        rest = behind;
+        rest = afterwards;
     }
     true
 }

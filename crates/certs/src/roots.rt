@@ -66,8 +66,8 @@ fn source_noted(value: ValueId, instr: &Instr, source: Source) -> Source
     }
 }
 
-fn source_behind(value: ValueId, body: &[Instr], before: Source) -> Source
-    ensures { result ≡ spec.source_behind value body.now before }
+fn source_after(value: ValueId, body: &[Instr], before: Source) -> Source
+    ensures { result ≡ spec.source_after value body.now before }
 {
     let mut source = before;
     for instr in body {
@@ -76,12 +76,12 @@ fn source_behind(value: ValueId, body: &[Instr], before: Source) -> Source
     source
 }
 
-fn source_behind_blocks(value: ValueId, blocks: &[Block]) -> Source
-    ensures { result ≡ spec.source_behind_blocks value blocks.now spec.nowhere }
+fn source_after_blocks(value: ValueId, blocks: &[Block]) -> Source
+    ensures { result ≡ spec.source_after_blocks value blocks.now spec.nowhere }
 {
     let mut source = Source::Nowhere;
     for block in blocks {
-        source = source_behind(value, block.body.as_slice(), source);
+        source = source_after(value, block.body.as_slice(), source);
     }
     source
 }
@@ -91,7 +91,7 @@ fn source_of(function: &Function, value: ValueId) -> Source
     ensures { result ≡ spec.source_of function.now value }
 {
     if (value.number() as usize) < function.locals.count() {
-        source_behind_blocks(value, function.blocks.as_slice())
+        source_after_blocks(value, function.blocks.as_slice())
     } else {
         Source::Nowhere
     }

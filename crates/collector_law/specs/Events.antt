@@ -4,7 +4,7 @@ use Rattle.std.proofs.lemmas.Bool.{cases_eq}
 use Rattle.std.proofs.lemmas.Bool.Decides.{nat_tests}
 use Rattle.lemmas.specs.Numbers.{test_true, test_yes, test_false, test_no}
 use Rattle.pools.specs.Heap.{Setup}
-use Rattle.colours.specs.Steps.{Step, ReadWord, ReadOldValue, Mark, StoreBehindBarrier, StorePlain, Claim, ReadPosted, StoreStage, ReadPostedFirst, EnterStage, ReadPostedAgain}
+use Rattle.colours.specs.Steps.{Step, ReadWord, ReadOldValue, Mark, StoreAfterBarrier, StorePlain, Claim, ReadPosted, StoreStage, ReadPostedFirst, EnterStage, ReadPostedAgain}
 use Rattle.colours.specs.Mutator.{Phase, Ready, MarkingOld, MarkingNew, Trying, Answering, Absent, Arriving, Entering, Leaving, HasBegun, MayFollow, stage_of, phase_of, phase_after, Held, Fresh, gains, Keeps, wins, stores, is_answer}
 use Rattle.collector_law.specs.Match.{seen, seen_begun}
 use Rattle.colours.specs.Runs.{Event, ByThread, ByCollector, log_of, births_after, given, IsRun}
@@ -73,7 +73,7 @@ plain_after s stage (MarkingOld x i old) (Mark c) e = tt
 plain_after s stage (MarkingNew x i old) (Mark c) e = tt
 plain_after s stage (Answering next marked) (Mark c) e = tt
 plain_after s stage _ (Mark c) e = tt
-plain_after s stage phase (StoreBehindBarrier cell word value) e = tt
+plain_after s stage phase (StoreAfterBarrier cell word value) e = tt
 plain_after s stage phase (StorePlain cell word value) e = tt
 plain_after s stage phase (Claim cell true) e = tt
 plain_after s stage (Trying tried) (Claim cell false) e = go _ _

@@ -20,12 +20,12 @@ use Rattle.collector_law.specs.Root.{rooted, marks_root}
 use Rattle.collector_law.specs.Match.{IsSync, IsInvariant, IsAt, Shows, Safe}
 use Rattle.collector_law.specs.Numbers.{async_three}
 use Rattle.collector_law.specs.Storing.{low_cycle}
-use Rattle.collector_law.specs.Moves.{behind, IsBehind, turn_shows, IsLook, look_shows, moves, cycle_in, IsWait, waits}
+use Rattle.collector_law.specs.Moves.{afterwards, IsAfter, turn_shows, IsLook, look_shows, moves, cycle_in, IsWait, waits}
 
 -- a post changes the posted word alone
-post_behind : (s : Setup) (run : List Event) (S : law.State) → Shows s run S → (to : ℕ) → to ≡ suc (posted_of (turns_of run)) → IsBehind s run S (PostStage to) (suc S.posted) S.colour S.word
+post_after : (s : Setup) (run : List Event) (S : law.State) → Shows s run S → (to : ℕ) → to ≡ suc (posted_of (turns_of run)) → IsAfter s run S (PostStage to) (suc S.posted) S.colour S.word
 unfolding word_after
-post_behind s run S h to e = record {
+post_after s run S h to e = record {
   posted = ap suc h.posted ∙ sym e;
   colour = λ c. h.colour c;
   word = λ c i r. h.word c i r;
@@ -46,8 +46,8 @@ post_safe s run to r e f = go f.at
     next : to ≡ suc S.posted
     next = e ∙ ap suc (sym f.shows.posted)
 
-    shows : (p : law.Part) (k : ℕ) → Shows s (ByCollector (PostStage to) ∷ run) (behind S p k (suc S.posted) S.colour S.word)
-    shows p k = turn_shows s run S (PostStage to) p k (suc S.posted) S.colour S.word (post_behind s run S f.shows to e) f.shows
+    shows : (p : law.Part) (k : ℕ) → Shows s (ByCollector (PostStage to) ∷ run) (afterwards S p k (suc S.posted) S.colour S.word)
+    shows p k = turn_shows s run S (PostStage to) p k (suc S.posted) S.colour S.word (post_after s run S f.shows to e) f.shows
 
     async : (st : ℕ) → st ≡ 3 * S.cycle → (cycle_of st ≡ S.cycle) × (IsSync st → ⊥)
     async st z = (omega (arith, z), λ sync. let y = async_three S.cycle st z in absurd cc)

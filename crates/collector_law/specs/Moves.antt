@@ -18,11 +18,11 @@ use Rattle.collector_law.specs.Match.{IsSync, IsInvariant, Shows, Safe}
 use Rattle.collector_law.specs.Numbers.{cycle_is}
 
 -- the state after a step of the collector
-abbrev pub behind : law.State → law.Part → (cycle posted : ℕ) → (ℕ → ℕ) → (ℕ → ℕ → ℕ) → law.State
-behind S p k posted colour word = record S { part = p; cycle = k; posted = posted; colour = colour; word = word }
+abbrev pub afterwards : law.State → law.Part → (cycle posted : ℕ) → (ℕ → ℕ) → (ℕ → ℕ → ℕ) → law.State
+afterwards S p k posted colour word = record S { part = p; cycle = k; posted = posted; colour = colour; word = word }
 
 -- the posted stage, the colours and the words are those after the step
-pub record IsBehind (s : Setup) (run : List Event) (S : law.State) (turn : Turn) (q : ℕ) (f : ℕ → ℕ) (g : ℕ → ℕ → ℕ) : Type 0 where
+pub record IsAfter (s : Setup) (run : List Event) (S : law.State) (turn : Turn) (q : ℕ) (f : ℕ → ℕ) (g : ℕ → ℕ → ℕ) : Type 0 where
   pub posted : q ≡ posted_of (turns_of (ByCollector turn ∷ run))
   pub colour : (c : ℕ) → f c ≡ word_after s (ByCollector turn ∷ run) (Colour c)
   pub word : (c i : ℕ) → is_reference_kind (kind_of s c i) ≡ true → g c i ≡ word_after s (ByCollector turn ∷ run) (Word c i)
@@ -31,7 +31,7 @@ pub record IsBehind (s : Setup) (run : List Event) (S : law.State) (turn : Turn)
 
 -- a state with what the step changed shows the longer run
 pub turn_shows : (s : Setup) (run : List Event) (S : law.State) (turn : Turn) (p : law.Part) (k posted : ℕ) (colour : ℕ → ℕ) (word : ℕ → ℕ → ℕ)
-    → IsBehind s run S turn posted colour word → Shows s run S → Shows s (ByCollector turn ∷ run) (behind S p k posted colour word)
+    → IsAfter s run S turn posted colour word → Shows s run S → Shows s (ByCollector turn ∷ run) (afterwards S p k posted colour word)
 unfolding births_after
 turn_shows s run S turn p k posted colour word w h = record {
   threads = h.threads;

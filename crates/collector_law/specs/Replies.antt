@@ -92,7 +92,7 @@ poll_safe s run c t p r m f = go (p == stage_of (log_of t run)) refl
           | inr n ↦ subst (λ q. law.OldIsNot q y) (sym (put-other S.phase t (law.Answering p []) u n)) o
         ];
         answers = λ u q marked lu z. elim (cases_eq u t) [
-          | inl is ↦ let same : law.Answering p [] ≡ law.Answering q marked = sym (put-here S.phase t (law.Answering p []) u is) ∙ z in let one : p ≡ q = cc in (sym one ∙ behind.0 ∙ sym f.shows.posted, ap (λ v. suc (S.stage v)) is ∙ ap suc (stage_in s run S f.shows t (plain_begun s (stage_of (log_of t run)) (phase_of s t (log_of t run)) (ReadPosted p) refl m.1)) ∙ behind.1 ∙ sym f.shows.posted)
+          | inl is ↦ let same : law.Answering p [] ≡ law.Answering q marked = sym (put-here S.phase t (law.Answering p []) u is) ∙ z in let one : p ≡ q = cc in (sym one ∙ afterwards.0 ∙ sym f.shows.posted, ap (λ v. suc (S.stage v)) is ∙ ap suc (stage_in s run S f.shows t (plain_begun s (stage_of (log_of t run)) (phase_of s t (log_of t run)) (ReadPosted p) refl m.1)) ∙ afterwards.1 ∙ sym f.shows.posted)
           | inr n ↦ f.inv.stages.answers u q marked lu (sym (put-other S.phase t (law.Answering p []) u n) ∙ z)
         ];
         ready = λ u lu z. elim (cases_eq u t) [
@@ -115,8 +115,8 @@ poll_safe s run c t p r m f = go (p == stage_of (log_of t run)) refl
       at = f.at;
     }
       where
-        behind : (p ≡ posted_of (turns_of run)) × (suc (stage_of (log_of t run)) ≡ posted_of (turns_of run))
-        behind =
+        afterwards : (p ≡ posted_of (turns_of run)) × (suc (stage_of (log_of t run)) ≡ posted_of (turns_of run))
+        afterwards =
             let now = (handshake s (ByThread t (ReadPosted p) ∷ run) (r, m)).answering t m.0 p [] (ap (λ (l : List Step). phase_of s t l) (log_here t (ReadPosted p) run t refl) ∙ rw e refl) in
             (now.0, ap (λ (l : List Step). suc (stage_of l)) (sym (log_here t (ReadPosted p) run t refl)) ∙ now.1)
 

@@ -8,7 +8,7 @@ use Rattle.pools.specs.declared.word_kind.WordKind.{WordKind}
 use Rattle.pools.specs.declared.word_kind.WordKind.TheVariants.{Integer, Reference}
 use Rattle.pools.specs.Layouts.{is_reference_kind}
 use Rattle.colours.specs.Colours.{done, cycle_of, claim_at, is_async, black}
-use Rattle.colours.specs.Steps.{Step, ReadWord, ReadOldValue, Mark, StoreBehindBarrier, StorePlain, Claim, ReadPosted, StoreStage, ReadPostedFirst, EnterStage, ReadPostedAgain}
+use Rattle.colours.specs.Steps.{Step, ReadWord, ReadOldValue, Mark, StoreAfterBarrier, StorePlain, Claim, ReadPosted, StoreStage, ReadPostedFirst, EnterStage, ReadPostedAgain}
 use Rattle.colours.specs.Mutator.{stage_of, phase_of, MayUse, MayFind, IsPossible, IsDisciplined, Fresh, wins}
 use Rattle.colours.specs.Collector.{Collection, Posting, Sweeping, Clearing, posted_of}
 use Rattle.colours.specs.Runs.{Event, ByThread, ByCollector, log_of, turns_of, word_after, births_after, MayHappen, IsRun, IsHeapRun, Kept, globals, held, further, IsAlive, birth_used, TouchesAlive}
@@ -82,7 +82,7 @@ touches_alive s run t step h = go step h.discipline.1
     go (ReadWord cell word value) d = use_alive s run h0 t cell d.0
     go (ReadOldValue cell word value) d = use_alive s run h0 t cell d.0
     go (Mark cell) d = use_alive s run h0 t cell (inr d)
-    go (StoreBehindBarrier cell word value) d = use_alive s run h0 t cell d.0
+    go (StoreAfterBarrier cell word value) d = use_alive s run h0 t cell d.0
     go (StorePlain cell word value) d = use_alive s run h0 t cell d.0
     go (Claim cell won) d = tt
     go (ReadPosted stage) d = tt

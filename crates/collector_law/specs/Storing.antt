@@ -7,7 +7,7 @@ use Rattle.pools.specs.declared.word_kind.WordKind.{WordKind}
 use Rattle.pools.specs.declared.word_kind.WordKind.TheVariants.{Integer, Reference}
 use Rattle.pools.specs.Layouts.{is_reference_kind}
 use Rattle.colours.specs.Colours.{done, cycle_of, claim_at, is_async}
-use Rattle.colours.specs.Steps.{Step, StoreBehindBarrier, StorePlain}
+use Rattle.colours.specs.Steps.{Step, StoreAfterBarrier, StorePlain}
 use Rattle.colours.specs.Mutator.{Phase, Ready, MarkingNew, Writing, stage_of, phase_of, MayFollow, MayStore, Held, IsDisciplined}
 use Rattle.colours.specs.Collector.{Collection, posted_of}
 use Rattle.colours.specs.Runs.{Event, ByThread, log_of, turns_of, word_after, births_after, MayHappen, IsRun}
@@ -90,21 +90,21 @@ null_or_held s log (Some (Reference layout)) v e (inr x) = inr x.0
 
 -- the state after a barriered store shows the run
 write_shows : (s : Setup) (run : List Event) (S : law.State) → IsInvariant S → Shows s run S → (t x i v : ℕ) → t < S.threads → is_reference_kind (kind_of s x i) ≡ true → ((v ≡ 0) ⊎ Held s (log_of t run) v)
-    → MayFollow s (stage_of (log_of t run)) (phase_of s t (log_of t run)) (StoreBehindBarrier x i v) → Shows s (ByThread t (StoreBehindBarrier x i v) ∷ run) (after_store S t x i v)
+    → MayFollow s (stage_of (log_of t run)) (phase_of s t (log_of t run)) (StoreAfterBarrier x i v) → Shows s (ByThread t (StoreAfterBarrier x i v) ∷ run) (after_store S t x i v)
 unfolding word_after births_after
 write_shows s run S inv h t x i v lt ref held f = record {
   threads = h.threads;
   cells = h.cells;
   posted = h.posted;
-  stage = λ u. h.stage u ∙ sym (stage_stays s t (StoreBehindBarrier x i v) run refl f u);
-  phase = phase_put s run S h t (StoreBehindBarrier x i v) law.Ready refl;
+  stage = λ u. h.stage u ∙ sym (stage_stays s t (StoreAfterBarrier x i v) run refl f u);
+  phase = phase_put s run S h t (StoreAfterBarrier x i v) law.Ready refl;
   colour = λ c. h.colour c;
   word = λ c j r. word_put s run S h x i v c j r;
   no_word = λ c j n. no_word_put s run S h x i v c j ref n;
   tag = λ c j r n. tag_put s run S inv h t lt x i v c j held r n;
   birth = λ c. h.birth c;
-  held = held_kept s run S t (StoreBehindBarrier x i v) (λ c. refl) h;
-  fresh = λ u c y. elim (fresh_by s t (StoreBehindBarrier x i v) run u c y) [
+  held = held_kept s run S t (StoreAfterBarrier x i v) (λ c. refl) h;
+  fresh = λ u c y. elim (fresh_by s t (StoreAfterBarrier x i v) run u c y) [
     | inl z ↦ absurd (cc (z.1))
     | inr z ↦ (h.fresh u c z.1, λ is e. off (c == v) (is_reference_kind (kind_of s x i)) ref (z.0 is).1 (test_yes c v (sym e)))
   ];
@@ -116,15 +116,15 @@ write_shows s run S inv h t x i v lt ref held f = record {
     off false r e f g = cc
 
 -- a barriered store leads to a state that satisfies the invariant
-pub write_safe : (s : Setup) (run : List Event) (c : Collection) (t x i v : ℕ) → IsRun s run → MayHappen s run (ByThread t (StoreBehindBarrier x i v))
-    → IsDisciplined s (log_of t run) (StoreBehindBarrier x i v) → Safe s run c → Safe s (ByThread t (StoreBehindBarrier x i v) ∷ run) c
+pub write_safe : (s : Setup) (run : List Event) (c : Collection) (t x i v : ℕ) → IsRun s run → MayHappen s run (ByThread t (StoreAfterBarrier x i v))
+    → IsDisciplined s (log_of t run) (StoreAfterBarrier x i v) → Safe s run c → Safe s (ByThread t (StoreAfterBarrier x i v) ∷ run) c
 write_safe s run c t x i v r m d f = go (phase_of s t (log_of t run)) refl m.1
   where
     S : law.State
     S = f.state
 
     lt : t < S.threads
-    lt = in_range s run S f.shows t (StoreBehindBarrier x i v) m
+    lt = in_range s run S f.shows t (StoreAfterBarrier x i v) m
 
     low : 3 * S.cycle + 6 < done
     low = low_cycle s run S f.inv f.shows r
@@ -135,7 +135,7 @@ write_safe s run c t x i v r m d f = go (phase_of s t (log_of t run)) refl m.1
     value : law.IsBase S t v
     value = value_in s run S f.inv f.shows t lt (kind_of s x i) v d.1 d.2
 
-    build : (old : ℕ) → IsStoring cycle_of IsSync S t x i old v → Safe s (ByThread t (StoreBehindBarrier x i v) ∷ run) c
+    build : (old : ℕ) → IsStoring cycle_of IsSync S t x i old v → Safe s (ByThread t (StoreAfterBarrier x i v) ∷ run) c
     build old w = record {
       state = after_store S t x i v;
       inv = written done cycle_of claim_at IsSync S t x i old v (are_stages S.cycle (omega (arith, low))) lt w f.inv;
@@ -143,13 +143,13 @@ write_safe s run c t x i v r m d f = go (phase_of s t (log_of t run)) refl m.1
       at = f.at;
     }
 
-    go : (p : Phase) → phase_of s t (log_of t run) ≡ p → MayFollow s (stage_of (log_of t run)) p (StoreBehindBarrier x i v) → Safe s (ByThread t (StoreBehindBarrier x i v) ∷ run) c
+    go : (p : Phase) → phase_of s t (log_of t run) ≡ p → MayFollow s (stage_of (log_of t run)) p (StoreAfterBarrier x i v) → Safe s (ByThread t (StoreAfterBarrier x i v) ∷ run) c
     go (MarkingNew cell word old) e n = build old (record {
       base = base;
       replaced = stood.2;
       differs = λ o. subst (λ p. law.Differs p x i (S.word x i)) (sym is) (sym n.0, sym n.1, o);
       value = value;
-      barrier = λ sync. inl (n.2 (ap is_async (sym (stage_in s run S f.shows t (plain_begun s (stage_of (log_of t run)) (phase_of s t (log_of t run)) (StoreBehindBarrier x i v) refl m.1))) ∙ sync));
+      barrier = λ sync. inl (n.2 (ap is_async (sym (stage_in s run S f.shows t (plain_begun s (stage_of (log_of t run)) (phase_of s t (log_of t run)) (StoreAfterBarrier x i v) refl m.1))) ∙ sync));
       own = λ y h. absurd (subst (λ p. law.HasMarked p y) is h);
       busy = λ z. differ (sym z ∙ is);
     })

@@ -6,7 +6,7 @@ use Rattle.colours.specs.declared.place.Place.TheVariants.{Word}
 use Rattle.pools.specs.Heap.{Setup, IsSetup, IsStartOf, kind_of}
 use Rattle.pools.specs.declared.word_kind.WordKind.{WordKind}
 use Rattle.pools.specs.declared.word_kind.WordKind.TheVariants.{Integer, Reference}
-use Rattle.colours.specs.Steps.{Step, StoreBehindBarrier, StorePlain}
+use Rattle.colours.specs.Steps.{Step, StoreAfterBarrier, StorePlain}
 use Rattle.colours.specs.declared.turn.Turn.{Turn}
 use Rattle.colours.specs.declared.turn.Turn.TheVariants.{ClearWord}
 use Rattle.colours.specs.Mutator.{MayStore, IsDisciplined}
@@ -35,7 +35,7 @@ stored_fits s log (Some (Reference layout)) v (inr h) = inr h.1
 
 -- what a step puts into a word fits it
 put_fits : (s : Setup) (log : List Step) (step : Step) (c i : ℕ) → IsDisciplined s log step → puts step c i ≡ true → FitsKind s (kind_of s c i) (value_put step)
-put_fits s log (StoreBehindBarrier cell word value) c i d p =
+put_fits s log (StoreAfterBarrier cell word value) c i d p =
     let q = and_parts (cell == c) (word == i) p in
     rw (← test_true cell c q.0, ← test_true word i q.1) (stored_fits s log (kind_of s cell word) value d.2)
 put_fits s log (StorePlain cell word value) c i d p =

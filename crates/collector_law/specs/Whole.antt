@@ -6,7 +6,7 @@ use Rattle.pools.specs.declared.word_kind.WordKind.{WordKind}
 use Rattle.pools.specs.declared.word_kind.WordKind.TheVariants.{Integer, Reference}
 use Rattle.pools.specs.Layouts.{is_reference_kind}
 use Rattle.colours.specs.Colours.{done, cycle_of, claim_at}
-use Rattle.colours.specs.Steps.{Step, ReadWord, ReadOldValue, Mark, StoreBehindBarrier, StorePlain, Claim, ReadPosted, StoreStage, ReadPostedFirst, EnterStage, ReadPostedAgain, FoundBy, place_of}
+use Rattle.colours.specs.Steps.{Step, ReadWord, ReadOldValue, Mark, StoreAfterBarrier, StorePlain, Claim, ReadPosted, StoreStage, ReadPostedFirst, EnterStage, ReadPostedAgain, FoundBy, place_of}
 use Rattle.colours.specs.declared.turn.Turn.{Turn}
 use Rattle.colours.specs.declared.turn.Turn.TheVariants.{PostStage, ReadStage, MarkFound, ReadColour, ScanWord, Blacken, ClearWord, Free}
 use Rattle.collector_law.specs.Match.{flat, seen}
@@ -30,7 +30,7 @@ thread_safe : (s : Setup) (run : List Event) (c : Collection) (t : ℕ) (step : 
 thread_safe s run c t (ReadWord cell word value) r m d f = read_safe s run c t cell word value r m d f
 thread_safe s run c t (ReadOldValue cell word value) r m d f = read_old_safe s run c t cell word value r m d f
 thread_safe s run c t (Mark cell) r m d f = mark_safe s run c t cell r m d f
-thread_safe s run c t (StoreBehindBarrier cell word value) r m d f = write_safe s run c t cell word value r m d f
+thread_safe s run c t (StoreAfterBarrier cell word value) r m d f = write_safe s run c t cell word value r m d f
 thread_safe s run c t (StorePlain cell word value) r m d f = plain_safe s run c t cell word value r m d f
 thread_safe s run c t (Claim cell won) r m d f = claim_safe s run c t cell won r m f
 thread_safe s run c t (ReadPosted posted) r m d f = poll_safe s run c t posted r m f

@@ -6,7 +6,7 @@ use Rattle.colours.specs.declared.ask.Ask.{Ask}
 use Rattle.colours.specs.declared.ask.Ask.TheVariants.{Load, Store, CompareExchange}
 use Rattle.colours.specs.Colours.{is_async, claim_at, done}
 use Rattle.pools.specs.Heap.{Setup, IsOfLayout}
-use Rattle.colours.specs.Steps.{Step, ReadWord, ReadOldValue, Mark, StoreBehindBarrier, StorePlain, Claim, ReadPosted, StoreStage, ReadPostedFirst, EnterStage, ReadPostedAgain, ask_of, Found}
+use Rattle.colours.specs.Steps.{Step, ReadWord, ReadOldValue, Mark, StoreAfterBarrier, StorePlain, Claim, ReadPosted, StoreStage, ReadPostedFirst, EnterStage, ReadPostedAgain, ask_of, Found}
 use Rattle.colours.specs.Mutator.{Phase, Ready, Absent, IsAmong, is_between, MayFollow, phase_after}
 
 -- ---- what is to be done
@@ -27,7 +27,7 @@ marks_of_new stage new = if is_async stage then [] else marks new
 
 -- what comes after the read of the old value
 abbrev pub barrier : (stage cell word old new : ℕ) → List Step
-barrier stage cell word old new = marks old ++ (marks_of_new stage new ++ StoreBehindBarrier cell word new ∷ [])
+barrier stage cell word old new = marks old ++ (marks_of_new stage new ++ StoreAfterBarrier cell word new ∷ [])
 
 -- at an async stage the roots are marked before it is answered
 abbrev pub marks_of_roots : (posted : ℕ) → List ℕ → List Step
@@ -166,7 +166,7 @@ IsStoreOfStage step = (stage : ℕ) × (roots : List ℕ) × (step ≡ StoreStag
 -- the value that the list stores
 abbrev pub Puts : ℕ → List Step → Type 0
 Puts new [] = ⊥
-Puts new (StoreBehindBarrier cell word value ∷ steps) = value ≡ new
+Puts new (StoreAfterBarrier cell word value ∷ steps) = value ≡ new
 Puts new (_ ∷ steps) = Puts new steps
 
 -- the roots that the list names

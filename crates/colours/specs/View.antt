@@ -5,7 +5,7 @@ use Rattle.colours.specs.declared.op.Next.{Next}
 use Rattle.colours.specs.declared.op.Next.TheVariants.{Read, StorePlain as PutPlain, ReadOld, MarkOld, MarkNew, StoreNew, Try, ReadPosted, Enter, Check, StoreDone, Nothing}
 use Rattle.colours.specs.declared.op.Op.TheInside.{Inside}
 use Rattle.colours.specs.Colours.{done}
-use Rattle.colours.specs.Steps.{Mark, StoreBehindBarrier, StorePlain, StoreStage}
+use Rattle.colours.specs.Steps.{Mark, StoreAfterBarrier, StorePlain, StoreStage}
 use Rattle.colours.specs.Calls.{Todo, Reading, Replacing, Trying, Beginning, Arriving, Checking, Steps, Call, marks_of_new, cells_up}
 
 -- the cells that are left to try, in their order
@@ -17,9 +17,9 @@ abbrev pub todo_at : Next → (stage : ℕ) → Todo
 todo_at (Read cell word) stage = Reading cell word
 todo_at (PutPlain cell word value) stage = Steps (StorePlain cell word value ∷ [])
 todo_at (ReadOld to) stage = Replacing to.cell to.word to.new
-todo_at (MarkOld old to) stage = Steps (Mark old ∷ (marks_of_new stage to.new ++ StoreBehindBarrier to.cell to.word to.new ∷ []))
-todo_at (MarkNew to) stage = Steps (Mark to.new ∷ StoreBehindBarrier to.cell to.word to.new ∷ [])
-todo_at (StoreNew to) stage = Steps (StoreBehindBarrier to.cell to.word to.new ∷ [])
+todo_at (MarkOld old to) stage = Steps (Mark old ∷ (marks_of_new stage to.new ++ StoreAfterBarrier to.cell to.word to.new ∷ []))
+todo_at (MarkNew to) stage = Steps (Mark to.new ∷ StoreAfterBarrier to.cell to.word to.new ∷ [])
+todo_at (StoreNew to) stage = Steps (StoreAfterBarrier to.cell to.word to.new ∷ [])
 todo_at (Try cell cells) stage = Trying cell (cells_left cells)
 todo_at ReadPosted stage = Beginning
 todo_at (Enter entered) stage = Arriving entered

@@ -7,7 +7,7 @@ use Rattle.grammar.specs.Outcome as outcome
 use Rattle.grammar.specs.Outcome.{Outcome}
 use Rattle.grammar.specs.Takes.{Takes, checked_takes, step_takes}
 use Rattle.ir_tokens.specs.Bytes.{Text}
-use Rattle.name_text.specs.Falls.{behind_word, behind_word_falls, wanted_takes, past_lines_len}
+use Rattle.name_text.specs.Falls.{after_word, after_word_falls, wanted_takes, past_lines_len}
 use Rattle.name_text.specs.Naming.{name_in}
 use Rattle.name_text.specs.Numbers.{is_nil}
 use Rattle.name_text.specs.Words.{word_at, past_lines}
@@ -38,7 +38,7 @@ here bytes = Syntax (left bytes)
 
 -- the next word, whatever it is
 unfoldable pub skip : Form (Unit {0})
-skip = step (λ _. tt) behind_word behind_word_falls
+skip = step (λ _. tt) after_word after_word_falls
 
 -- the next word, if it means some value
 abbrev pub taken_as : {A : Type 0} → Option A → Form A
@@ -54,7 +54,7 @@ pub expect_takes : (wanted : Text) → 0 < length wanted → Takes (expect wante
 unfolding expect skip
 expect_takes wanted some =
     checked_takes (λ bytes. bytes_eq (word_at bytes) wanted) here skip
-    (step_takes FrameFault (λ bytes. bytes_eq (word_at bytes) wanted ≡ true) (λ _. tt) behind_word behind_word_falls (wanted_takes wanted some))
+    (step_takes FrameFault (λ bytes. bytes_eq (word_at bytes) wanted ≡ true) (λ _. tt) after_word after_word_falls (wanted_takes wanted some))
 
 -- the part that a word is
 abbrev pub part_of_word : (word : Text) → Option Part

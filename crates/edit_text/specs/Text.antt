@@ -24,8 +24,8 @@ edit_of Cert named = text >>= λ section. pure (kinds.Cert named section)
 edit_of Both named = text >>= λ code. text >>= λ section. pure (kinds.Both named code section)
 
 -- an edit after its first word, and what may stand between it and the next one
-abbrev pub edit_behind : Form Edit
-edit_behind = do
+abbrev pub edit_after : Form Edit
+edit_after = do
   replaced ← part
   named ← name
   line_end
@@ -35,12 +35,12 @@ edit_behind = do
 
 -- an edit
 unfoldable pub edit : Form Edit
-edit = expect (codes "edit") >> edit_behind
+edit = expect (codes "edit") >> edit_after
 
 -- an edit takes bytes
 pub edit_takes : Takes edit
 unfolding edit
-edit_takes = first_takes (expect (codes "edit")) (λ _. edit_behind) (expect_takes (codes "edit") (lit< tt))
+edit_takes = first_takes (expect (codes "edit")) (λ _. edit_after) (expect_takes (codes "edit") (lit< tt))
 
 -- the edits up to the text's end
 unfoldable pub edits : Form (List Edit)

@@ -71,7 +71,7 @@ impl<'a> EditInput<'a> {
 
     /// Goes on after the next word.
     pub fn skip(&mut self)
-        ensures { self.new ≡ falls.behind_word self.old }
+        ensures { self.new ≡ falls.after_word self.old }
     {
         self.rest = past_blanks(past_word(self.rest));
     }

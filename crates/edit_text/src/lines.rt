@@ -26,8 +26,8 @@ pub fn past_line(bytes: &[u8]) -> &[u8]
     ensures { result.now ≡ spec.past_line bytes.now }
 {
     let mut rest = bytes;
-    while let [byte, behind @ ..] = rest {
-        rest = behind;
+    while let [byte, afterwards @ ..] = rest {
+        rest = afterwards;
         if *byte == b'\n' {
             return rest;
         }

@@ -8,7 +8,7 @@ use Rattle.pools.specs.declared.word_kind.WordKind.{WordKind}
 use Rattle.pools.specs.declared.word_kind.WordKind.TheVariants.{Integer, Reference}
 use Rattle.pools.specs.Layouts.{is_reference_kind}
 use Rattle.colours.specs.Colours.{claim_at, is_async}
-use Rattle.colours.specs.Steps.{Step, ReadWord, ReadOldValue, Mark, StoreBehindBarrier, StorePlain, Claim, ReadPosted, StoreStage, ReadPostedFirst, EnterStage, ReadPostedAgain}
+use Rattle.colours.specs.Steps.{Step, ReadWord, ReadOldValue, Mark, StoreAfterBarrier, StorePlain, Claim, ReadPosted, StoreStage, ReadPostedFirst, EnterStage, ReadPostedAgain}
 use Rattle.colours.specs.Mutator.{Phase, Ready, MarkingOld, MarkingNew, Writing, Trying, Answering, Ended, Absent, Arriving, Entering, Leaving, stage_of, phase_of, MayFollow, Held, Fresh, gains, Keeps, wins, stores, is_answer, IsDisciplined, MayUse, MayStore, IsPossible, MayFind}
 use Rattle.colours.specs.Runs.{Event, ByThread, ByCollector, log_of, word_after, births_after, given, puts, value_put, IsAlive, MayHappen, IsRun, KeepsDiscipline, IsHeapRun, HasNoTurn, Kept, globals, held, further, birth_used, TouchesAlive}
 use Rattle.colours.specs.Frames.{word_left, won_blue, alive_stays}
@@ -163,7 +163,7 @@ sound_stays s run t step m (Some (Reference layout)) v b (inr h) = inr (h.0, ali
 
 -- what a disciplined step puts may be stored
 puts_storable : (s : Setup) (log : List Step) (step : Step) (c i : ℕ) → IsDisciplined s log step → puts step c i ≡ true → MayStore s log (kind_of s c i) (value_put step)
-puts_storable s log (StoreBehindBarrier cell word value) c i d p =
+puts_storable s log (StoreAfterBarrier cell word value) c i d p =
     let q = and_parts (cell == c) (word == i) p in
     rw (← test_true cell c q.0, ← test_true word i q.1) d.2
 puts_storable s log (StorePlain cell word value) c i d p =
@@ -201,7 +201,7 @@ wins_no_put (Claim cell won) c d i w = refl
 wins_no_put _ c d i w = absurd cc
 
 put_stores : (s : Setup) (step : Step) (c d i : ℕ) → puts step d i ≡ true → is_reference_kind (kind_of s d i) ≡ true → value_put step ≡ c → stores s step c ≡ true
-put_stores s (StoreBehindBarrier cell word value) c d i p r v =
+put_stores s (StoreAfterBarrier cell word value) c d i p r v =
     let q = and_parts (cell == d) (word == i) p in
     rw (test_true cell d q.0, test_true word i q.1, r, test_yes c value (sym v)) refl
 put_stores s (StorePlain cell word value) c d i p r v =
@@ -322,7 +322,7 @@ touches_alive s run t step h n = go step h.discipline.1
     go (ReadWord cell word value) d = use_alive s run inv t cell d.0
     go (ReadOldValue cell word value) d = use_alive s run inv t cell d.0
     go (Mark cell) d = use_alive s run inv t cell (inr d)
-    go (StoreBehindBarrier cell word value) d = use_alive s run inv t cell d.0
+    go (StoreAfterBarrier cell word value) d = use_alive s run inv t cell d.0
     go (StorePlain cell word value) d = use_alive s run inv t cell d.0
     go (Claim cell won) d = tt
     go (ReadPosted stage) d = tt

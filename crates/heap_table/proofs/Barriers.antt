@@ -8,7 +8,7 @@ use Rattle.pools.specs.Layouts.{is_reference_kind}
 use Rattle.colours.specs.declared.place.Place.TheVariants.{Colour, Word}
 use Rattle.colours.specs.declared.ask.Ask.TheVariants.{Load, Store, FetchMax}
 use Rattle.colours.specs.Colours.{done, mark_at}
-use Rattle.colours.specs.Steps.{Step, ReadOldValue, Mark, StoreBehindBarrier}
+use Rattle.colours.specs.Steps.{Step, ReadOldValue, Mark, StoreAfterBarrier}
 use Rattle.colours.specs.Mutator.{Phase, Ready, stage_of, phase_of, MayFollow, MayUse, MayStore, MayFind, IsPossible, Held}
 use Rattle.heap_table.specs.declared.mutator.Mutator.TheInside.{Inside}
 use Rattle.heap_table.specs.Holders.{Holder}
@@ -32,8 +32,8 @@ read_old_next s t log c i ready may kind = record {
   stays = λ n. refl;
 }
 
-pub put_next : (s : Setup) (t : ℕ) (log : List Step) (c i v : ℕ) → MayFollow s (stage_of log) (phase_of s t log) (StoreBehindBarrier c i v) → MayUse s log c → IsTrue (is_reference_kind (kind_of s c i)) → MayStore s log (kind_of s c i) v
-    → IsNext s t log (λ _. StoreBehindBarrier c i v) (Store (Word c i) v)
+pub put_next : (s : Setup) (t : ℕ) (log : List Step) (c i v : ℕ) → MayFollow s (stage_of log) (phase_of s t log) (StoreAfterBarrier c i v) → MayUse s log c → IsTrue (is_reference_kind (kind_of s c i)) → MayStore s log (kind_of s c i) v
+    → IsNext s t log (λ _. StoreAfterBarrier c i v) (Store (Word c i) v)
 put_next s t log c i v may use_it kind store = record {
   there = λ k. (used s log c k use_it, word_there s c i (is_there (kind_of s c i) kind));
   operation = λ n. refl;

@@ -12,7 +12,7 @@ use Rattle.colours.specs.Runs.{Event, ByCollector, turns_of, word_after, IsHeapR
 use Rattle.lemmas.specs.Bools.{yes_or_no}
 use Rattle.trace_sweep.specs.Turns.{turn_in, is_at_limit}
 use Rattle.trace_sweep.specs.Collecting as machine
-use Rattle.trace_sweep.specs.Stands.{StandsBehind, ExtendsLogs}
+use Rattle.trace_sweep.specs.Stands.{StandsAfter, ExtendsLogs}
 use Rattle.trace_sweep.specs.Order.{turn_of-turn_in, moved-stands, asked-some}
 use Rattle.heap_rule.specs.View.{Share, OfCollector, grown}
 use Rattle.heap_rule.specs.Rule.{HasPlace, told, Happens, IsStepBy, IsShareIn}
@@ -74,14 +74,14 @@ scan_below : (s : Setup) (run : List Event) (stage : ℕ) (b : Collection) (d w 
 scan_below s run stage (Scanning cell word p) d w n c r t found = scanned s run cell word w n r t.1 t.2 (subst (λ (x : ℕ). word_after s run (Word x w) ≡ n) t.0 found)
 scan_below s run stage _ d w n c r t found = absurd t
 
-module _ (s : Setup) (log : List Turn) (col : machine.Collecting) (ask : Ask) (stands : StandsBehind s log col) (placed : (c : Collection) → Collects s log c → IsInRange s c) (asked : machine.ask_of col ≡ Some ask) where
+module _ (s : Setup) (log : List Turn) (col : machine.Collecting) (ask : Ask) (stands : StandsAfter s log col) (placed : (c : Collection) → Collects s log c → IsInRange s c) (asked : machine.ask_of col ≡ Some ask) where
   more : is_at_limit col.posted col.at ≡ false
   more = (asked-some col ask asked).0
 
   ask_is : ask ≡ turn_of (cycle_of col.posted) (turn_in col.heap col.posted col.listed col.at 0)
   ask_is = (asked-some col ask asked).1
 
-  after_turn : (n : ℕ) → StandsBehind s (machine.turn_of col n ∷ log) (machine.moved col n)
+  after_turn : (n : ℕ) → StandsAfter s (machine.turn_of col n ∷ log) (machine.moved col n)
   after_turn n = moved-stands s log col n stands more
 
   pub place_there : HasPlace s (place_of ask)
@@ -107,11 +107,11 @@ fits_next s log share col n is heap h e =
 
 -- what the sweeper keeps is true after the step
 pub sweeper_next : (s : Setup) (log : List Turn) (share : Share) (token after : words.Holding) (col new : machine.Collecting) (turn : Turn) → token.setup ≡ s → share ≡ OfCollector log
-    → StandsBehind s log col → after ≡ record { table = token.table; setup = token.setup; share = grown (ByCollector turn) share } → Happens s share (ByCollector turn) → ExtendsLogs col turn new
-    → (after.share ≡ OfCollector (turns_in after.share)) × StandsBehind after.setup (turns_in after.share) new × ((c : Collection) → Collects after.setup (turns_in after.share) c → IsInRange after.setup c)
+    → StandsAfter s log col → after ≡ record { table = token.table; setup = token.setup; share = grown (ByCollector turn) share } → Happens s share (ByCollector turn) → ExtendsLogs col turn new
+    → (after.share ≡ OfCollector (turns_in after.share)) × StandsAfter after.setup (turns_in after.share) new × ((c : Collection) → Collects after.setup (turns_in after.share) c → IsInRange after.setup c)
 sweeper_next s log share token after col new turn set is stands now h extends = (
   share_is ∙ ap OfCollector (sym log_is),
-  subst (λ (x : Setup). StandsBehind x (turns_in after.share) new) (sym setup_is) (subst (λ (l : List Turn). StandsBehind s l new) (sym log_is) (extends s log stands)),
+  subst (λ (x : Setup). StandsAfter x (turns_in after.share) new) (sym setup_is) (subst (λ (l : List Turn). StandsAfter s l new) (sym log_is) (extends s log stands)),
   subst (λ (x : Setup). (c : Collection) → Collects x (turns_in after.share) c → IsInRange x c) (sym setup_is) (subst (λ (l : List Turn). (c : Collection) → Collects s l c → IsInRange s c) (sym log_is) range),
 )
   where

@@ -3,7 +3,7 @@ use Rattle.std.specs.Prelude.{◌≡◌, List, []}
 use Rattle.colours.specs.declared.turn.Turn.{Turn}
 use Rattle.colours.specs.Collector.{Collection, Collects}
 use Rattle.heap_rule.specs.View.{Share, OfThread, OfCollector}
-use Rattle.trace_sweep.specs.Stands.{StandsBehind}
+use Rattle.trace_sweep.specs.Stands.{StandsAfter}
 use Rattle.heap_table.specs.declared.sweeper.Sweeper.TheInside.{Inside}
 use Rattle.heap_table.specs.Sweepers.{SweeperLog, IsInRange}
 
@@ -19,5 +19,5 @@ sweeper_log w = record { table = w.token.table; setup = w.token.setup; log = tur
 -- the token is the collector's; the collector is where its log leads, and that place names threads and cells of the heap
 pub record IsSweeper (w : Inside) : Type 0 where
   pub own : w.token.share ≡ OfCollector (turns_in w.token.share)
-  pub stands : StandsBehind w.token.setup (turns_in w.token.share) w.collector
+  pub stands : StandsAfter w.token.setup (turns_in w.token.share) w.collector
   pub placed : (c : Collection) → Collects w.token.setup (turns_in w.token.share) c → IsInRange w.token.setup c

@@ -2,7 +2,7 @@ ghost use Rattle.std.specs.Prelude.{◌≡◌, ◌≢◌, ◌==◌, ◌∷◌, �
 ghost use Rattle.pools.specs.Heap.{kind_of};
 ghost use Rattle.pools.specs.Layouts.{is_reference_kind};
 ghost use Rattle.colours.specs.Colours.{done, is_async};
-ghost use Rattle.colours.specs.Steps.{ReadOldValue, Mark, StoreBehindBarrier};
+ghost use Rattle.colours.specs.Steps.{ReadOldValue, Mark, StoreAfterBarrier};
 ghost use Rattle.colours.specs.Calls.{marks, marks_of_new};
 ghost use Rattle.colours.specs.Mutator.{stage_of, phase_of, MayFollow, MayUse, MayStore, Held, IsPossibleLog, MarkingOld, MarkingNew};
 ghost use Rattle.heap_table.specs.Writes.{Writes};
@@ -92,11 +92,11 @@ impl<'a> Heap<'a> {
     /// The store after the barrier.
     fn put(&self, me: &mut Mutator, cell: u32, word: u32, new: u32)
         requires token { IsOf self.now me.old }
-        requires may { MayFollow me.old.setup (stage_of me.old.log) (phase_of me.old.setup me.old.thread me.old.log) (StoreBehindBarrier cell word new) }
+        requires may { MayFollow me.old.setup (stage_of me.old.log) (phase_of me.old.setup me.old.thread me.old.log) (StoreAfterBarrier cell word new) }
         requires cell { MayUse me.old.setup me.old.log cell }
         requires word { IsTrue (is_reference_kind (kind_of me.old.setup cell word)) }
         requires new { MayStore me.old.setup me.old.log (kind_of me.old.setup cell word) new }
-        ensures log { IsNow me.old (StoreBehindBarrier cell word new ∷ me.old.log) me.new }
+        ensures log { IsNow me.old (StoreAfterBarrier cell word new ∷ me.old.log) me.new }
         ensures run { IsOfRun me.new }
     {
         let ask = Ask::Store(Place::Word(cell, word), u64::from(new));

@@ -28,8 +28,8 @@ unfoldable pub called : Form ℕ
 called = look (λ i. kind i.cursor) called_by
 
 -- `@f(T V, ..)`
-unfoldable pub call_behind : ℕ → Form Call
-call_behind returned = do
+unfoldable pub call_after : ℕ → Form Call
+call_after returned = do
   f ← called
   expect k.OpenRound
   xs ← arguments
@@ -41,7 +41,7 @@ call_behind returned = do
 abbrev pub typed_call : ℕ → Form Call
 typed_call value = do
   returned ← scalar
-  x ← call_behind returned.id
+  x ← call_after returned.id
   set_type value returned.id
   pure x
 
@@ -64,7 +64,7 @@ unnamed op = trailed op >>= λ x. pure (record { result = None; op = x })
 
 -- `void @f(T V, ..)` after the word
 unfoldable pub void_call : Form Call
-void_call = skip >> intern type.Void >>= call_behind
+void_call = skip >> intern type.Void >>= call_after
 
 -- a call whose result is this value
 abbrev pub valued_call : ℕ → Form Instr
@@ -80,12 +80,12 @@ call_by k.Void = as_op op.Call void_call >>= unnamed
 call_by _ = numbered_call
 
 -- what follows `call`, with what decorates the result
-abbrev pub call_statement_behind : Form Instr
-call_statement_behind = decorations spot.Result >> look (λ i. kind i.cursor) call_by
+abbrev pub call_statement_after : Form Instr
+call_statement_after = decorations spot.Result >> look (λ i. kind i.cursor) call_by
 
 -- `call T @f(T V, ..)`, where T may be `void`
 unfoldable pub call_statement : Form Instr
-call_statement = skip >> call_statement_behind
+call_statement = skip >> call_statement_after
 
 -- ---- words before a call
 

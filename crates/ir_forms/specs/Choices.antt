@@ -9,7 +9,7 @@ use Rattle.ir_ast.specs.declared.choices.Choice.{Choice}
 use Rattle.ir_ast.specs.declared.choices.Incoming.{Incoming}
 use Rattle.ir_ast.specs.declared.choices.Phi.{Phi}
 use Rattle.ir_forms.specs.declared.input.Input.{Input}
-use Rattle.ir_forms.specs.Cursor.{kind, kind_behind, kind_third, same_kind}
+use Rattle.ir_forms.specs.Cursor.{kind, kind_after, kind_third, same_kind}
 use Rattle.ir_forms.specs.Input.{Form, unexpected, skip, expect, expect_takes, IsKind}
 use Rattle.ir_forms.specs.Names.{incoming_label, set_type, new_value, new_value_takes, numbered_value, numbered_value_takes}
 use Rattle.ir_forms.specs.Written.{scalar, again, bits_of}
@@ -52,8 +52,8 @@ separated true = expect k.Comma
 separated false = pure tt
 
 -- an entry of a phi after its bracket
-abbrev pub incoming_behind : Option ℕ → Form Incoming
-incoming_behind bits = do
+abbrev pub incoming_after : Option ℕ → Form Incoming
+incoming_after bits = do
   x ← operand bits
   expect k.Comma
   b ← incoming_label
@@ -62,11 +62,11 @@ incoming_behind bits = do
 
 -- `[ V, %b ]`
 unfoldable pub incoming : Option ℕ → Form Incoming
-incoming bits = expect k.OpenSquare >> incoming_behind bits
+incoming bits = expect k.OpenSquare >> incoming_after bits
 
 incoming_takes : (bits : Option ℕ) → Takes (incoming bits)
 unfolding incoming
-incoming_takes bits = first_takes (expect k.OpenSquare) (λ _. incoming_behind bits) (expect_takes k.OpenSquare (λ x. cc))
+incoming_takes bits = first_takes (expect k.OpenSquare) (λ _. incoming_after bits) (expect_takes k.OpenSquare (λ x. cc))
 
 -- an entry, the first or a further one
 unfoldable pub entry : Entries → Form Incoming
@@ -81,12 +81,12 @@ abbrev pub ends_entries : Entries → Input → Bool
 ends_entries e i = e.is_further && at_no_comma i
 
 -- the list of entries has one now
-abbrev pub behind_entry : Entries → Incoming → Entries
-behind_entry e x = record e { is_further = true }
+abbrev pub after_entry : Entries → Incoming → Entries
+after_entry e x = record e { is_further = true }
 
 -- the entries of a phi, of which there is one at least
 unfoldable pub all_entries : Option ℕ → Form (List Incoming)
-all_entries bits = many_with ends_entries entry entry_takes behind_entry (record { bits = bits; is_further = false })
+all_entries bits = many_with ends_entries entry entry_takes after_entry (record { bits = bits; is_further = false })
 
 -- ---- phi
 
@@ -98,7 +98,7 @@ is_local _ = false
 
 -- `%v = phi` begins here
 abbrev pub begins_phi : Input → Bool
-begins_phi i = is_local (kind i.cursor) && (same_kind (kind_behind i.cursor) k.Equals && same_kind (kind_third i.cursor) k.Phi)
+begins_phi i = is_local (kind i.cursor) && (same_kind (kind_after i.cursor) k.Equals && same_kind (kind_third i.cursor) k.Phi)
 
 -- no further phi is here
 abbrev pub at_no_phi : Input → Bool
@@ -115,8 +115,8 @@ unfoldable pub phi_value : Form ℕ
 phi_value = look (λ i. kind i.cursor) phi_value_by
 
 -- `= phi T [ V, %b ], [ W, %c ]`
-abbrev pub phi_behind : ℕ → Form Phi
-phi_behind value = do
+abbrev pub phi_after : ℕ → Form Phi
+phi_after value = do
   expect k.Equals
   expect k.Phi
   w ← scalar
@@ -127,7 +127,7 @@ phi_behind value = do
 
 -- `%v = phi T [ V, %b ], [ W, %c ]`
 unfoldable pub phi : Form Phi
-phi = phi_value >>= phi_behind
+phi = phi_value >>= phi_after
 
 phi_value_takes_by : (x : Kind) → TakesWhere (IsKind x) (phi_value_by x)
 phi_value_takes_by k.LocalName = new_value_takes
@@ -140,7 +140,7 @@ phi_value_takes = look_takes (λ i. kind i.cursor) phi_value_by phi_value_takes_
 
 pub phi_takes : Takes phi
 unfolding phi
-phi_takes = first_takes phi_value phi_behind phi_value_takes
+phi_takes = first_takes phi_value phi_after phi_value_takes
 
 -- the phis of a block
 unfoldable pub phis : Form (List Phi)

@@ -30,8 +30,8 @@ unfoldable pub kind : Place → Kind
 kind c = kind_first c.rest
 
 -- what the token after the next one is
-unfoldable pub kind_behind : Place → Kind
-kind_behind c = kind_first (rest_of c.rest)
+unfoldable pub kind_after : Place → Kind
+kind_after c = kind_first (rest_of c.rest)
 
 -- what the third token is
 unfoldable pub kind_third : Place → Kind

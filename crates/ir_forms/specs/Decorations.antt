@@ -8,7 +8,7 @@ use Rattle.ir_tokens.specs.declared.token.Kind.TheVariants as k
 use Rattle.ir_ast.specs.declared.memory.MemoryOp.TheVariants as memory
 use Rattle.ir_ast.specs.declared.op.Op.{Op}
 use Rattle.ir_ast.specs.declared.op.Op.TheVariants as op
-use Rattle.ir_forms.specs.Cursor.{kind, kind_behind, same_kind, sees, begins_line}
+use Rattle.ir_forms.specs.Cursor.{kind, kind_after, same_kind, sees, begins_line}
 use Rattle.ir_forms.specs.declared.input.Input.{Input}
 use Rattle.ir_forms.specs.Input.{Form, limit, unexpected, unread, skip, expect, expect_takes, IsKind, skip_takes}
 use Rattle.ir_forms.specs.declared.decorating.Brackets.{Brackets}
@@ -60,14 +60,14 @@ pub in_brackets_takes : (b : Brackets) → Takes (in_brackets b)
 in_brackets_takes b = second_takes (has_room b) (λ _. any_token) (λ _. any_token_takes)
 
 -- the brackets after a token, which may open or close one
-abbrev pub behind_bracket : Brackets → Kind → Brackets
-behind_bracket b k.OpenRound = record b { depth = b.depth + 1 }
-behind_bracket b k.CloseRound = record b { depth = b.depth - 1 }
-behind_bracket b _ = b
+abbrev pub after_bracket : Brackets → Kind → Brackets
+after_bracket b k.OpenRound = record b { depth = b.depth + 1 }
+after_bracket b k.CloseRound = record b { depth = b.depth - 1 }
+after_bracket b _ = b
 
 -- the tokens after a round bracket, up to the one that closes it
 unfoldable pub bracketed : Form (List Kind)
-bracketed = many_with are_closed in_brackets in_brackets_takes behind_bracket (record { depth = 1 })
+bracketed = many_with are_closed in_brackets in_brackets_takes after_bracket (record { depth = 1 })
 
 -- a part in brackets, up to the one that closes it
 unfoldable pub past_brackets : Form (Unit {0})
@@ -86,7 +86,7 @@ ends_operand _ = false
 
 -- in an argument a number that ends the argument is its operand
 abbrev pub is_operand : Spot → Input → Bool
-is_operand s i = is_argument s && ends_operand (kind_behind i.cursor)
+is_operand s i = is_argument s && ends_operand (kind_after i.cursor)
 
 -- what belongs to a decorating word: a part in brackets, a quoted text or a number after it
 abbrev pub word_end_by : Spot → Kind → Form (Unit {0})
@@ -271,16 +271,16 @@ trail_by t k.LowercaseWord = placed (is_global t)
 trail_by t _ = refuse (unread (begins_count t))
 
 -- what follows a comma at an instruction's end
-abbrev pub trail_behind : Trail → Form (Unit {0})
-trail_behind t = look (λ i. kind i.cursor) (trail_by t)
+abbrev pub trail_after : Trail → Form (Unit {0})
+trail_after t = look (λ i. kind i.cursor) (trail_by t)
 
 -- `, align n`, `, !name !n`, or `, comdat` and the like after a global
 unfoldable pub comma_trail : Trail → Form (Unit {0})
-comma_trail t = expect k.Comma >> trail_behind t
+comma_trail t = expect k.Comma >> trail_after t
 
 pub comma_trail_takes : (t : Trail) → Takes (comma_trail t)
 unfolding comma_trail
-comma_trail_takes t = first_takes (expect k.Comma) (λ _. trail_behind t) (expect_takes k.Comma (λ x. cc))
+comma_trail_takes t = first_takes (expect k.Comma) (λ _. trail_after t) (expect_takes k.Comma (λ x. cc))
 
 -- no comma follows an instruction
 abbrev pub at_no_trail : Trail → Input → Bool

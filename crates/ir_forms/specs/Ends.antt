@@ -42,12 +42,12 @@ branch = do
   pure (end.Branch x.written x.operand taken other)
 
 -- what follows `br`: a jump, or a branch on a value
-abbrev pub br_behind : Form End
-br_behind = look (λ i. sees k.Label i.cursor) (either jump branch)
+abbrev pub br_after : Form End
+br_after = look (λ i. sees k.Label i.cursor) (either jump branch)
 
 -- `br label %b`, or a branch
 unfoldable pub br : Form End
-br = skip >> br_behind
+br = skip >> br_after
 
 -- ---- switch
 
@@ -64,34 +64,34 @@ abbrev pub case_of : Constant → Form Case
 case_of x = expect k.Comma >> case_target x
 
 -- a case after its type: a constant that no case before it has, and the block
-abbrev pub case_behind : Cases → Form Case
-case_behind c = case_constant (bits_of c.written) c.seen >>= case_of
+abbrev pub case_after : Cases → Form Case
+case_after c = case_constant (bits_of c.written) c.seen >>= case_of
 
 -- `T c, label %b`
 unfoldable pub case : Cases → Form Case
-case c = again c.written >> case_behind c
+case c = again c.written >> case_after c
 
 case_of_takes : (x : Constant) → Takes (case_of x)
 case_of_takes x = first_takes (expect k.Comma) (λ _. case_target x) (expect_takes k.Comma (λ x. cc))
 
-case_behind_takes : (c : Cases) → Takes (case_behind c)
-case_behind_takes c = second_takes (case_constant (bits_of c.written) c.seen) case_of case_of_takes
+case_after_takes : (c : Cases) → Takes (case_after c)
+case_after_takes c = second_takes (case_constant (bits_of c.written) c.seen) case_of case_of_takes
 
 pub case_takes : (c : Cases) → Takes (case c)
 unfolding case
-case_takes c = second_takes (again c.written) (λ _. case_behind c) (λ _. case_behind_takes c)
+case_takes c = second_takes (again c.written) (λ _. case_after c) (λ _. case_after_takes c)
 
 -- the list of cases ends here
 abbrev pub at_square : Cases → Input → Bool
 at_square c i = sees k.CloseSquare i.cursor
 
 -- the list of cases with this one after it
-abbrev pub behind_case : Cases → Case → Cases
-behind_case c x = record c { seen = with_value (value_of x.constant) c.seen }
+abbrev pub after_case : Cases → Case → Cases
+after_case c x = record c { seen = with_value (value_of x.constant) c.seen }
 
 -- the cases of a switch of this type
 unfoldable pub all_cases : WrittenType → Form (List Case)
-all_cases w = many_with at_square case case_takes behind_case (record { written = w; seen = [] })
+all_cases w = many_with at_square case case_takes after_case (record { written = w; seen = [] })
 
 -- `[ T c, label %b .. ]`
 unfoldable pub bracketed_cases : WrittenType → Form (List Case)
@@ -102,8 +102,8 @@ bracketed_cases w = do
   pure xs
 
 -- what follows `switch`
-abbrev pub switch_behind : Form End
-switch_behind = do
+abbrev pub switch_after : Form End
+switch_after = do
   w ← scalar
   x ← operand (bits_of w)
   expect k.Comma
@@ -113,7 +113,7 @@ switch_behind = do
 
 -- `switch T V, label %d [ T c, label %b .. ]`
 unfoldable pub switch : Form End
-switch = skip >> switch_behind
+switch = skip >> switch_after
 
 -- ---- ret
 
@@ -122,12 +122,12 @@ abbrev pub returned_value : Form End
 returned_value = typed >>= λ x. pure (end.Return x)
 
 -- what follows `ret`
-abbrev pub ret_behind : Form End
-ret_behind = look (λ i. sees k.Void i.cursor) (either (skip >> pure end.ReturnVoid) returned_value)
+abbrev pub ret_after : Form End
+ret_after = look (λ i. sees k.Void i.cursor) (either (skip >> pure end.ReturnVoid) returned_value)
 
 -- `ret void` or `ret T V`
 unfoldable pub ret : Form End
-ret = skip >> ret_behind
+ret = skip >> ret_after
 
 -- ---- by the word
 
@@ -145,15 +145,15 @@ terminator = look (λ i. kind i.cursor) terminator_by
 
 ret_takes : TakesWhere (IsKind k.Ret) ret
 unfolding ret
-ret_takes = first_takes_where (IsKind k.Ret) skip (λ _. ret_behind) (skip_takes k.Ret (λ x. cc))
+ret_takes = first_takes_where (IsKind k.Ret) skip (λ _. ret_after) (skip_takes k.Ret (λ x. cc))
 
 br_takes : TakesWhere (IsKind k.Br) br
 unfolding br
-br_takes = first_takes_where (IsKind k.Br) skip (λ _. br_behind) (skip_takes k.Br (λ x. cc))
+br_takes = first_takes_where (IsKind k.Br) skip (λ _. br_after) (skip_takes k.Br (λ x. cc))
 
 switch_takes : TakesWhere (IsKind k.Switch) switch
 unfolding switch
-switch_takes = first_takes_where (IsKind k.Switch) skip (λ _. switch_behind) (skip_takes k.Switch (λ x. cc))
+switch_takes = first_takes_where (IsKind k.Switch) skip (λ _. switch_after) (skip_takes k.Switch (λ x. cc))
 
 terminator_takes_by : (x : Kind) → TakesWhere (IsKind x) (terminator_by x)
 terminator_takes_by k.Ret = ret_takes

@@ -13,7 +13,7 @@ use Rattle.ir_forms.specs.Input.{Form, limit, unexpected, skip, expect, sees_a, 
 use Rattle.ir_forms.specs.Names.{new_value, new_value_takes, numbered_value, numbered_value_takes}
 use Rattle.ir_forms.specs.declared.site.Site.{Site}
 use Rattle.ir_forms.specs.Ends.{ends_block}
-use Rattle.ir_forms.specs.Calls.{call, tail_call, valued, unnamed, call_statement, call_statement_behind, tail_call_statement, sees_call}
+use Rattle.ir_forms.specs.Calls.{call, tail_call, valued, unnamed, call_statement, call_statement_after, tail_call_statement, sees_call}
 use Rattle.ir_forms.specs.Casts.{bitcast}
 use Rattle.ir_forms.specs.Choices.{select}
 use Rattle.ir_forms.specs.Elements.{element}
@@ -21,7 +21,7 @@ use Rattle.ir_forms.specs.ManyWith.{many_with}
 use Rattle.ir_forms.specs.Memory.{alloca, load, store, stored_here}
 use Rattle.ir_forms.specs.Numbers.{compare, integer_op}
 use Rattle.ir_forms.specs.Ops.{as_op}
-use Rattle.ir_forms.specs.Sites.{first_of, behind}
+use Rattle.ir_forms.specs.Sites.{first_of, afterwards}
 
 -- an instruction that gives a value, by the word with which it begins after `=`
 abbrev pub named_op_by : Site → ℕ → Kind → Form Op
@@ -41,16 +41,16 @@ unfoldable pub named_op : Site → ℕ → Form Op
 named_op site value = look (λ i. kind i.cursor) (named_op_by site value)
 
 -- what follows the name of a result
-abbrev pub named_behind : Site → ℕ → Form Instr
-named_behind site value = do
+abbrev pub named_after : Site → ℕ → Form Instr
+named_after site value = do
   expect k.Equals
   x ← named_op site value
   valued value x
 
 -- an instruction of a body, by the token with which it begins
 abbrev pub instruction_by : Site → Kind → Form Instr
-instruction_by site k.LocalName = new_value >>= named_behind site
-instruction_by site k.LocalNumber = numbered_value >>= named_behind site
+instruction_by site k.LocalName = new_value >>= named_after site
+instruction_by site k.LocalNumber = numbered_value >>= named_after site
 instruction_by site k.Call = call_statement
 instruction_by site k.Tail = tail_call_statement
 instruction_by site k.Notail = tail_call_statement
@@ -71,7 +71,7 @@ placed site = has_place site >> instruction site
 
 call_takes : TakesWhere (IsKind k.Call) call_statement
 unfolding call_statement
-call_takes = first_takes_where (IsKind k.Call) skip (λ _. call_statement_behind) (skip_takes k.Call (λ x. cc))
+call_takes = first_takes_where (IsKind k.Call) skip (λ _. call_statement_after) (skip_takes k.Call (λ x. cc))
 
 store_takes : TakesWhere (IsKind k.Store) store
 unfolding store
@@ -85,8 +85,8 @@ unfolding tail_call_statement
 tail_call_takes word ne = first_takes_where (IsKind word) sees_call (λ _. call_statement) (sees_call_takes word ne)
 
 instruction_takes_by : (site : Site) (x : Kind) → TakesWhere (IsKind x) (instruction_by site x)
-instruction_takes_by site k.LocalName = first_takes_where (IsKind k.LocalName) new_value (named_behind site) new_value_takes
-instruction_takes_by site k.LocalNumber = first_takes_where (IsKind k.LocalNumber) numbered_value (named_behind site) numbered_value_takes
+instruction_takes_by site k.LocalName = first_takes_where (IsKind k.LocalName) new_value (named_after site) new_value_takes
+instruction_takes_by site k.LocalNumber = first_takes_where (IsKind k.LocalNumber) numbered_value (named_after site) numbered_value_takes
 instruction_takes_by site k.Call = call_takes
 instruction_takes_by site k.Tail = tail_call_takes k.Tail (λ x. cc)
 instruction_takes_by site k.Notail = tail_call_takes k.Notail (λ x. cc)
@@ -106,4 +106,4 @@ at_terminator site i = ends_block (kind i.cursor)
 
 -- the instructions of the body of the block with this number
 unfoldable pub body : ℕ → Form (List Instr)
-body block = many_with at_terminator placed placed_takes behind (first_of block)
+body block = many_with at_terminator placed placed_takes afterwards (first_of block)

@@ -8,7 +8,7 @@ use Rattle.ir_tokens.specs.declared.token.Kind.TheVariants as k
 use Rattle.ir_ast.specs.declared.argument.Argument.{Argument}
 use Rattle.ir_forms.specs.declared.input.Input.{Input}
 use Rattle.ir_forms.specs.declared.written.WrittenType.{WrittenType}
-use Rattle.ir_forms.specs.Cursor.{kind_behind, sees}
+use Rattle.ir_forms.specs.Cursor.{kind_after, sees}
 use Rattle.ir_forms.specs.Input.{Form, unexpected, expect, expect_takes}
 use Rattle.ir_forms.specs.Written.{scalar, bits_of, scalar_takes}
 use Rattle.ir_forms.specs.Operand.{operand}
@@ -81,16 +81,16 @@ index_takes s = first_takes (expect k.Comma) (λ _. typed) (expect_takes k.Comma
 
 -- no further part of the list is here; metadata is none
 abbrev pub at_no_comma : Input → Bool
-at_no_comma i = not (sees k.Comma i.cursor) || is_metadata (kind_behind i.cursor)
+at_no_comma i = not (sees k.Comma i.cursor) || is_metadata (kind_after i.cursor)
 
 -- the list of indices ends here
 abbrev pub ends_indices : IndexList → Input → Bool
 ends_indices s i = s.is_further && at_no_comma i
 
 -- the list of indices has one now
-abbrev pub behind_index : IndexList → Argument → IndexList
-behind_index s x = record s { is_further = true }
+abbrev pub after_index : IndexList → Argument → IndexList
+after_index s x = record s { is_further = true }
 
 -- the indices of a getelementptr, of which there is one at least
 unfoldable pub indices : Form (List Argument)
-indices = many_with ends_indices any_index index_takes behind_index (record { is_further = false })
+indices = many_with ends_indices any_index index_takes after_index (record { is_further = false })

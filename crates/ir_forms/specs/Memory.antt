@@ -39,8 +39,8 @@ load value = do
   pure (memory.Load loaded.id place.written place.operand)
 
 -- what follows `store`
-abbrev pub stored_behind : Form MemoryOp
-stored_behind = do
+abbrev pub stored_afterwards : Form MemoryOp
+stored_afterwards = do
   stored ← scalar
   value ← operand (bits_of stored)
   expect k.Comma
@@ -49,7 +49,7 @@ stored_behind = do
 
 -- a store, which may be `volatile`
 abbrev pub stored_here : Form MemoryOp
-stored_here = optional k.Volatile >> stored_behind
+stored_here = optional k.Volatile >> stored_afterwards
 
 -- `store T V, T* W`
 unfoldable pub store : Form MemoryOp

@@ -1,6 +1,6 @@
 -- Numbers as they are written.
 use Rattle.std.specs.Prelude.{ℕ, ◌-◌, ◌*◌, ◌^◌, ◌==◌, nat_lt, nat_le, if◌then◌else◌, List, [], ◌∷◌, Option, Some, None, min, option_and_then}
-pub use Rattle.name_text.specs.Numbers.{decimal, decimal_behind, small}
+pub use Rattle.name_text.specs.Numbers.{decimal, decimal_after, small}
 
 -- the negative of a number, if it is not below 0
 abbrev pub not_below_zero : ℕ → Option ℕ

@@ -100,8 +100,8 @@ cast_to from global = do
   pure (o.CastGlobal from.id global to.id)
 
 -- what follows the word of a constant bitcast
-abbrev pub cast_behind : Form Operand
-cast_behind = do
+abbrev pub cast_after : Form Operand
+cast_after = do
   expect k.OpenRound
   from ← pointer_type
   global ← cast_operand
@@ -109,7 +109,7 @@ cast_behind = do
 
 -- `bitcast (T* @g to U*)`
 unfoldable pub cast : Form Operand
-cast = skip >> cast_behind
+cast = skip >> cast_after
 
 -- an operand, by the token with which it begins
 abbrev pub operand_by : Option ℕ → Kind → Form Operand

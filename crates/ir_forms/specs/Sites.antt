@@ -8,5 +8,5 @@ abbrev pub first_of : ℕ → Site
 first_of block = record { block = block; place = 0 }
 
 -- after a further instruction
-abbrev pub behind : Site → Instr → Site
-behind site x = record site { place = site.place + 1 }
+abbrev pub afterwards : Site → Instr → Site
+afterwards site x = record site { place = site.place + 1 }

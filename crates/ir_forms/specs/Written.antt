@@ -16,7 +16,7 @@ use Rattle.ir_forms.specs.declared.input.Input.{Input}
 use Rattle.ir_forms.specs.declared.written.Base.{Base}
 use Rattle.ir_forms.specs.declared.written.Base.TheVariants.{Integer, Named, Aggregate}
 use Rattle.ir_forms.specs.declared.written.WrittenType.{WrittenType}
-use Rattle.ir_forms.specs.Cursor.{kind, kind_behind, sees, start, name, spelled, spelling, left_out, refused}
+use Rattle.ir_forms.specs.Cursor.{kind, kind_after, sees, start, name, spelled, spelling, left_out, refused}
 use Rattle.ir_forms.specs.Number.{decimal, natural}
 use Rattle.ir_forms.specs.Input.{Form, left, limit, unexpected, unread, advanced, advanced_falls, advanced_left, advance_takes, skip, skip_takes, sees_a, expect, IsKind}
 use Rattle.ir_forms.specs.Starts.{makes_level}
@@ -97,8 +97,8 @@ unfoldable pub array_length : Form ℕ
 array_length = sees_a k.Number >> has_length >> step (λ i. unwrap_or (length_at i) 0) advanced advanced_falls
 
 -- what follows the bracket of an array type
-abbrev pub array_behind : Firm → Form WrittenType
-array_behind inner = do
+abbrev pub array_after : Firm → Form WrittenType
+array_after inner = do
   n ← array_length
   expect k.X
   part ← inner.form
@@ -107,7 +107,7 @@ array_behind inner = do
 
 -- `[n x T]`
 abbrev pub array : Firm → Form WrittenType
-array inner = skip >> array_behind inner
+array inner = skip >> array_after inner
 
 -- the list of fields ends here
 abbrev pub at_brace : Input → Bool
@@ -119,12 +119,12 @@ comma_or true = pure tt
 comma_or false = expect k.Comma >> checked (λ i. not (at_brace i)) unexpected
 
 -- nothing before the brace that closes, or else a comma with a further field after it
-unfoldable pub behind_field : Form (Unit {0})
-behind_field = look at_brace comma_or
+unfoldable pub after_field : Form (Unit {0})
+after_field = look at_brace comma_or
 
 -- a field with what follows it
 abbrev pub field_of : WrittenType → Form WrittenType
-field_of p = behind_field >> pure p
+field_of p = after_field >> pure p
 
 -- a field of a struct
 abbrev pub field : Firm → Form WrittenType
@@ -151,12 +151,12 @@ abbrev pub close_struct : ℕ → List WrittenType → Form WrittenType
 close_struct room fields = expect k.CloseBrace >> struct_of room fields
 
 -- the fields of a struct type, up to its brace
-abbrev pub fields_behind : ℕ → Firm → Form WrittenType
-fields_behind room inner = many at_brace (field inner) (field_takes inner) >>= close_struct room
+abbrev pub fields_afterwards : ℕ → Firm → Form WrittenType
+fields_afterwards room inner = many at_brace (field inner) (field_takes inner) >>= close_struct room
 
 -- `{ T, .. }`
 abbrev pub braced : ℕ → Firm → Form WrittenType
-braced room inner = skip >> fields_behind room inner
+braced room inner = skip >> fields_afterwards room inner
 
 -- a round bracket, as after the result of a function type
 abbrev pub is_round : Kind → Bool
@@ -165,7 +165,7 @@ is_round _ = false
 
 -- `void` begins no type but a function type, which is left out
 abbrev pub no_void : Form WrittenType
-no_void = refuse (λ i. refused (is_round (kind_behind i.cursor)) i.cursor)
+no_void = refuse (λ i. refused (is_round (kind_after i.cursor)) i.cursor)
 
 -- a type without the stars after it, by the token with which it begins
 abbrev pub base_by : ℕ → Firm → Kind → Form WrittenType
@@ -232,8 +232,8 @@ integer_takes = stays_takes (IsKind k.IntegerType) has_bits (step bits_at advanc
 pub base_takes_by : (room : ℕ) (inner : Firm) (x : Kind) → TakesWhere (IsKind x) (base_by room inner x)
 base_takes_by room inner k.IntegerType = first_takes_where (IsKind k.IntegerType) integer (λ bits. interned (Integer bits) room (type.Integer bits)) integer_takes
 base_takes_by room inner k.LocalName = first_takes_where (IsKind k.LocalName) struct_name (λ name. interned Named room (type.Named name)) struct_name_takes
-base_takes_by room inner k.OpenSquare = first_takes_where (IsKind k.OpenSquare) skip (λ _. array_behind inner) (skip_takes k.OpenSquare (λ x. cc))
-base_takes_by room inner k.OpenBrace = first_takes_where (IsKind k.OpenBrace) skip (λ _. fields_behind room inner) (skip_takes k.OpenBrace (λ x. cc))
+base_takes_by room inner k.OpenSquare = first_takes_where (IsKind k.OpenSquare) skip (λ _. array_after inner) (skip_takes k.OpenSquare (λ x. cc))
+base_takes_by room inner k.OpenBrace = first_takes_where (IsKind k.OpenBrace) skip (λ _. fields_afterwards room inner) (skip_takes k.OpenBrace (λ x. cc))
 base_takes_by room inner _ = λ i a o e h. absurd h
 
 pub over_takes : (room : ℕ) (inner : Firm) → Takes (over room inner)

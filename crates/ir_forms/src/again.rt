@@ -147,12 +147,12 @@ impl<'a> Input<'a> {
                 Some(
                     IrType::Struct {
                         first,
-                        rest: behind,
+                        rest: afterwards,
                     },
                 ) => {
                     self.expect(Kind::Comma)?;
                     self.again_within(alloc, levels, *first)?;
-                    rest = *behind;
+                    rest = *afterwards;
                 }
                 _ => return self.expect(Kind::CloseBrace),
             }

@@ -39,7 +39,7 @@ fn named_op(alloc: Global, input: &mut Input<'_>, site: Site, value: ValueId) ->
 
 /// What follows the name of a value.
 fn named(alloc: Global, input: &mut Input<'_>, site: Site, value: ValueId) -> Result<Instr, Fault>
-    ensures { Reads ((form.named_behind site value).read input.old) result input.new }
+    ensures { Reads ((form.named_after site value).read input.old) result input.new }
 {
     input.expect(Kind::Equals)?;
     let op = named_op(alloc, input, site, value)?;
@@ -72,7 +72,7 @@ fn instruction(alloc: Global, input: &mut Input<'_>, site: Site) -> Result<Instr
 
 impl Following for Site {
     ghost use Rattle.ir_forms.specs.Instructions.{placed, at_terminator};
-    ghost use Rattle.ir_forms.specs.Sites.{behind};
+    ghost use Rattle.ir_forms.specs.Sites.{afterwards};
 
     type Item = Instr;
 
@@ -80,7 +80,7 @@ impl Following for Site {
 
     ghost ends = { at_terminator };
 
-    ghost next = { behind };
+    ghost next = { afterwards };
 
     fn ends(&self, input: &Input<'_>) -> bool {
         ends_block(input.kind())

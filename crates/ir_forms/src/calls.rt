@@ -25,9 +25,9 @@ fn called(alloc: Global, input: &mut Input<'_>) -> Result<SymbolId, Fault>
 }
 
 /// A call after the type of its result.
-#[tactic(auto, unfolding(crate::specs::Calls::call_behind, crate::specs::Lists::arguments))]
-fn call_behind(alloc: Global, input: &mut Input<'_>, returned: TypeId) -> Result<Call, Fault>
-    ensures { Reads ((form.call_behind returned).read input.old) result input.new }
+#[tactic(auto, unfolding(crate::specs::Calls::call_after, crate::specs::Lists::arguments))]
+fn call_after(alloc: Global, input: &mut Input<'_>, returned: TypeId) -> Result<Call, Fault>
+    ensures { Reads ((form.call_after returned).read input.old) result input.new }
 {
     let callee = called(alloc, input)?;
     input.expect(Kind::OpenRound)?;
@@ -46,7 +46,7 @@ fn typed_call(alloc: Global, input: &mut Input<'_>, value: ValueId) -> Result<Ca
     ensures { Reads ((form.typed_call value).read input.old) result input.new }
 {
     let returned = input.scalar(alloc)?.id;
-    let call = call_behind(alloc, input, returned)?;
+    let call = call_after(alloc, input, returned)?;
     input.set_type(value, returned);
     Ok(call)
 }
@@ -87,7 +87,7 @@ fn void_call(alloc: Global, input: &mut Input<'_>) -> Result<Call, Fault>
 {
     input.skip();
     let returned = input.intern(IrType::Void)?;
-    call_behind(alloc, input, returned)
+    call_after(alloc, input, returned)
 }
 
 /// A call whose value takes the next number.

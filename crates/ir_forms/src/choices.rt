@@ -95,7 +95,7 @@ fn entry(alloc: Global, input: &mut Input<'_>, entries: Entries) -> Result<Incom
 }
 
 impl Following for Entries {
-    ghost use Rattle.ir_forms.specs.Choices.{entry, ends_entries, behind_entry};
+    ghost use Rattle.ir_forms.specs.Choices.{entry, ends_entries, after_entry};
 
     type Item = Incoming;
 
@@ -103,7 +103,7 @@ impl Following for Entries {
 
     ghost ends = { ends_entries };
 
-    ghost next = { behind_entry };
+    ghost next = { after_entry };
 
     fn ends(&self, input: &Input<'_>) -> bool {
         self.is_further && at_no_comma(input)
@@ -144,7 +144,7 @@ fn begins_phi(input: &Input<'_>) -> bool
     ensures { result ≡ form.begins_phi input.now }
 {
     is_local(input.kind())
-        && (same_kind(input.cursor.kind_behind(), Kind::Equals)
+        && (same_kind(input.cursor.kind_after(), Kind::Equals)
             && same_kind(input.cursor.kind_third(), Kind::Phi))
 }
 

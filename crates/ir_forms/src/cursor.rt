@@ -39,7 +39,7 @@ pub fn same_kind(a: Kind, b: Kind) -> bool
 }
 
 /// The bytes after the first `count`.
-fn behind(bytes: &[u8], count: usize) -> &[u8]
+fn afterwards(bytes: &[u8], count: usize) -> &[u8]
     ensures { result.now ≡ drop count bytes.now }
 {
     if count < bytes.len() {
@@ -94,9 +94,9 @@ impl<'a> Cursor<'a> {
     }
 
     /// What the token after the next one is.
-    #[tactic(auto, unfolding(crate::specs::Cursor::kind_behind))]
-    pub fn kind_behind(&self) -> Kind
-        ensures { result ≡ spec.kind_behind self.now }
+    #[tactic(auto, unfolding(crate::specs::Cursor::kind_after))]
+    pub fn kind_after(&self) -> Kind
+        ensures { result ≡ spec.kind_after self.now }
     {
         match self.rest {
             [_, token, ..] => token.kind,
@@ -161,7 +161,7 @@ impl<'a> Cursor<'a> {
         ensures { result.now ≡ spec.spelling self.now }
     {
         front(
-            behind(self.text, self.start() as usize),
+            afterwards(self.text, self.start() as usize),
             self.size() as usize,
         )
     }
@@ -233,7 +233,7 @@ impl<'a> Cursor<'a> {
     pub fn name(&self) -> &[u8]
         ensures { result.now ≡ spec.name self.now }
     {
-        behind(self.spelling(), 1)
+        afterwards(self.spelling(), 1)
     }
 
     /// What the next token spells, without its sign and its quotes, where it has no escapes.

@@ -34,7 +34,7 @@ pub struct Brackets {
 }
 
 impl Following for Brackets {
-    ghost use Rattle.ir_forms.specs.Decorations.{in_brackets, are_closed, behind_bracket};
+    ghost use Rattle.ir_forms.specs.Decorations.{in_brackets, are_closed, after_bracket};
 
     type Item = Kind;
 
@@ -42,7 +42,7 @@ impl Following for Brackets {
 
     ghost ends = { are_closed };
 
-    ghost next = { behind_bracket };
+    ghost next = { after_bracket };
 
     fn ends(&self, _input: &Input<'_>) -> bool {
         self.depth == 0
@@ -104,7 +104,7 @@ fn ends_operand(kind: Kind) -> bool
 fn is_operand(input: &Input<'_>, spot: Spot) -> bool
     ensures { result ≡ form.is_operand spot input.now }
 {
-    matches!(spot, Spot::Argument) && ends_operand(input.cursor.kind_behind())
+    matches!(spot, Spot::Argument) && ends_operand(input.cursor.kind_after())
 }
 
 /// Round brackets, a quoted text or a number after a word, or nothing.

@@ -82,7 +82,7 @@ fn case(alloc: Global, input: &mut Input<'_>, cases: &Cases) -> Result<Case, Fau
 }
 
 impl Following for Cases {
-    ghost use Rattle.ir_forms.specs.Ends.{case, at_square, behind_case};
+    ghost use Rattle.ir_forms.specs.Ends.{case, at_square, after_case};
 
     type Item = Case;
 
@@ -90,7 +90,7 @@ impl Following for Cases {
 
     ghost ends = { at_square };
 
-    ghost next = { behind_case };
+    ghost next = { after_case };
 
     fn ends(&self, input: &Input<'_>) -> bool {
         input.sees(Kind::CloseSquare)

@@ -69,7 +69,7 @@ impl Listed for Arguments {
 pub fn at_no_comma(input: &Input<'_>) -> bool
     ensures { result ≡ form.at_no_comma input.now }
 {
-    !input.sees(Kind::Comma) || matches!(input.cursor.kind_behind(), Kind::MetadataName)
+    !input.sees(Kind::Comma) || matches!(input.cursor.kind_after(), Kind::MetadataName)
 }
 
 /// A value with its type.
@@ -102,7 +102,7 @@ pub struct IndexList {
 }
 
 impl Following for IndexList {
-    ghost use Rattle.ir_forms.specs.Lists.{any_index, ends_indices, behind_index};
+    ghost use Rattle.ir_forms.specs.Lists.{any_index, ends_indices, after_index};
 
     type Item = Argument;
 
@@ -110,7 +110,7 @@ impl Following for IndexList {
 
     ghost ends = { ends_indices };
 
-    ghost next = { behind_index };
+    ghost next = { after_index };
 
     fn ends(&self, input: &Input<'_>) -> bool {
         self.is_further && at_no_comma(input)

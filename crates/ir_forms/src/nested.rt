@@ -84,9 +84,9 @@ impl<'a> Input<'a> {
     }
 
     /// A comma before a further field, or nothing before the brace that closes.
-    #[tactic(auto, unfolding(crate::specs::Written::behind_field))]
-    fn behind_field(&mut self) -> Result<(), Fault>
-        ensures { Reads (form.behind_field.read self.old) result self.new }
+    #[tactic(auto, unfolding(crate::specs::Written::after_field))]
+    fn after_field(&mut self) -> Result<(), Fault>
+        ensures { Reads (form.after_field.read self.old) result self.new }
     {
         if self.sees(Kind::CloseBrace) {
             return Ok(());
@@ -115,7 +115,7 @@ impl<'a> Input<'a> {
     fn no_void(&self) -> Fault
         ensures { form.no_void.read self.now ≡ Err result }
     {
-        self.refuse(matches!(self.cursor.kind_behind(), Kind::OpenRound))
+        self.refuse(matches!(self.cursor.kind_after(), Kind::OpenRound))
     }
 
     /// The struct that has this field before those of another struct.
@@ -223,7 +223,7 @@ impl<'a> Input<'a> {
         ensures { Reads ((form.field (form.firm levels)).read self.old) result self.new }
     {
         let part = self.part(alloc, levels)?;
-        self.behind_field()?;
+        self.after_field()?;
         Ok(part)
     }
 

@@ -9,8 +9,8 @@ use Rattle.ir_print.specs.Names.{struct_text}
 
 -- a further field of a struct, and those after it
 abbrev pub further_field : (ℕ → Text) → (ℕ → Text) → Option IrType → Text
-further_field shown behind (Some (Struct first rest)) = codes ", " ++ shown first ++ behind rest
-further_field shown behind _ = []
+further_field shown afterwards (Some (Struct first rest)) = codes ", " ++ shown first ++ afterwards rest
+further_field shown afterwards _ = []
 
 -- at most n fields of a struct, each after a comma; a field is shown by the first function
 unfoldable pub fields_text : (ℕ → Text) → Module → ℕ → (fields : ℕ) → Text

@@ -178,11 +178,11 @@ module _ {m : Module} {f : Function} (v : Invariant m f) where
   fields_claim first others claim more zero room number i rest s own is has le less ready = absurd (omega (arith, less))
   fields_claim first others claim more (suc fuel) room number i rest s own is has le less ready =
       let inner = w.again_within room in
-      let behind = shown true others ++ (codes " }" ++ rest) in
+      let afterwards = shown true others ++ (codes " }" ++ rest) in
       let ready : Ready v s i (44 ∷ 32 ∷ (shown false first ++ (shown true others ++ (codes " }" ++ rest)))) = simp append_assoc at ready in
-      let a = sign_reads v 44 k.Comma i [] (32 ∷ (shown false first ++ behind)) s s refl refl refl (omega arith) ready in
+      let a = sign_reads v 44 k.Comma i [] (32 ∷ (shown false first ++ afterwards)) s s refl refl refl (omega arith) ready in
       let first_there = shape_stays i.types a.1.types i.struct_names.names a.1.struct_names.names first has.0 a.4.types a.4.structs has.4 in
-      let b = claim room has.0 a.1 (32 ∷ []) behind s own.1 first_there (omega (arith, le)) refl (field_ends others rest own.0) a.3 in
+      let b = claim room has.0 a.1 (32 ∷ []) afterwards s own.1 first_there (omega (arith, le)) refl (field_ends others rest own.0) a.3 in
       let g = grows_further i a.1 b.1 a.4 b.4 in
       let others_there = shape_stays i.types b.1.types i.struct_names.names b.1.struct_names.names others has.1 g.types g.structs has.5 in
       let d = more fuel room has.1 b.1 rest s own.2 own.0 others_there (omega (arith, le)) (omega (arith, less)) b.3 in
@@ -207,11 +207,11 @@ module _ {m : Module} {f : Function} (v : Invariant m f) where
   unfolding class_of
   struct_claim first others claim more zero number i gap rest s own has le blanks ends ready = absurd (no_level (Struct first others) le)
   struct_claim first others claim more (suc room) number i gap rest s own has le blanks ends ready =
-      let behind = shown true others ++ (codes " }" ++ rest) in
+      let afterwards = shown true others ++ (codes " }" ++ rest) in
       let ready : Ready v s i (gap ++ 123 ∷ 32 ∷ (shown false first ++ (shown true others ++ (codes " }" ++ rest)))) = simp append_assoc at ready in
-      let a = see_skip 123 k.OpenBrace i gap (32 ∷ (shown false first ++ behind)) s blanks refl refl ready in
+      let a = see_skip 123 k.OpenBrace i gap (32 ∷ (shown false first ++ afterwards)) s blanks refl refl ready in
       let first_there = shape_stays i.types a.1.types i.struct_names.names a.1.struct_names.names first has.0 a.4.types a.4.structs has.4 in
-      let b = claim room has.0 a.1 (32 ∷ []) behind s own.1 first_there (omega (arith, le)) refl (field_ends others rest own.0) a.3 in
+      let b = claim room has.0 a.1 (32 ∷ []) afterwards s own.1 first_there (omega (arith, le)) refl (field_ends others rest own.0) a.3 in
       let g = grows_further i a.1 b.1 a.4 b.4 in
       let others_there = shape_stays i.types b.1.types i.struct_names.names b.1.struct_names.names others has.1 g.types g.structs has.5 in
       let try = more (suc (field_count others)) room has.1 b.1 rest s own.2 own.0 others_there (omega (arith, le)) (omega arith) b.3 in

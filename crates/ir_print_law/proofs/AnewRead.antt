@@ -36,7 +36,7 @@ use Rattle.ir_print_law.proofs.Forms.{Keeps}
 use Rattle.ir_print_law.proofs.FunctionsRead.{function_keeps}
 use Rattle.ir_print_law.proofs.ItemTypes.{defined_result_keeps}
 use Rattle.ir_print_law.proofs.LongerTypes.{with_types}
-use Rattle.ir_print_law.proofs.ModuleRead.{neither, read_function, behind_function}
+use Rattle.ir_print_law.proofs.ModuleRead.{neither, read_function, after_function}
 use Rattle.ir_print_law.proofs.ModuleState.{Kept, kept_of, Made, made_of, between, next_bytes, next_spells, symbol_begins}
 use Rattle.ir_print_law.proofs.NumberTokens.{lexed_spell}
 use Rattle.ir_print_law.proofs.Passes.{skip_passes, check_passes}
@@ -187,7 +187,7 @@ module _ (m : Module) (names : HasModuleNames m) where
 
       -- ---- the end of the function
 
-      arrives_function : (symbol returned : ℕ) (ps : List Parameter) (c : Option Text) (bs : List Block) (i : Input) → Arrives m types (behind_function symbol returned ps c bs i)
+      arrives_function : (symbol returned : ℕ) (ps : List Parameter) (c : Option Text) (bs : List Block) (i : Input) → Arrives m types (after_function symbol returned ps c bs i)
           → (first_missing i.locals i.local_uses ≡ None) × Arrives m types i
       unfolding with_function
       arrives_function symbol returned ps c bs i b =
@@ -203,7 +203,7 @@ module _ (m : Module) (names : HasModuleNames m) where
             },
           )
 
-    anew_function : (symbol returned : ℕ) (ps : List Parameter) (c : Option Text) (bs : List Block) (i : Input) → Anew m i → Anew m (behind_function symbol returned ps c bs i)
+    anew_function : (symbol returned : ℕ) (ps : List Parameter) (c : Option Text) (bs : List Block) (i : Input) → Anew m i → Anew m (after_function symbol returned ps c bs i)
     unfolding with_function
     anew_function symbol returned ps c bs i h = record {
       bytes = h.bytes;
@@ -215,7 +215,7 @@ module _ (m : Module) (names : HasModuleNames m) where
     }
 
     only_function : (symbol returned : ℕ) (ps : List Parameter) (c : Option Text) (bs : List Block) (i : Input) → made_of (kept_of i) ≡ nothing_made
-        → (behind_function symbol returned ps c bs i).functions ≡ read_function symbol returned ps c bs i ∷ []
+        → (after_function symbol returned ps c bs i).functions ≡ read_function symbol returned ps c bs i ∷ []
     unfolding with_function
     only_function symbol returned ps c bs i e = ap (λ (x : Made). x.functions ++ read_function symbol returned ps c bs i ∷ []) e
 
@@ -247,7 +247,7 @@ module _ (m : Module) (names : HasModuleNames m) where
         let u3 = u2.3 in
         let opened = subst (λ (j : Input). open_body.says j u1.0 u1.1) (sym s7.3.1) u1.2 in
         let last : said.1 ≡ o = said.3.2.1 ∙ said.3.3.1 in
-        let end : behind_function s3.0 s1.0 s5.0 s7.0 u2.0 u3.1 ≡ o = ap (λ x. with_function x u2.0 u3.1) s7.3.0 ∙ u3.3.1 ∙ last in
+        let end : after_function s3.0 s1.0 s5.0 s7.0 u2.0 u3.1 ≡ o = ap (λ x. with_function x u2.0 u3.1) s7.3.0 ∙ u3.3.1 ∙ last in
         let f = read_function s3.0 s1.0 s5.0 s7.0 u2.0 u3.1 in
         let r = anew_reading m types names (λ (x : Kept). x ≡ between nothing_made) in
         let b0 = check_passes r (λ j. sees k.Define j.cursor) unexpected i s0.0 s0.1 s0.2 (first, refl) in

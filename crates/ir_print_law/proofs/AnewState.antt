@@ -25,7 +25,7 @@ use Rattle.ir_print.specs.Names.{name_at}
 use Rattle.ir_print_law.specs.Definitions.{defined_structs, declared_functions, defined_functions}
 use Rattle.ir_print_law.specs.ModuleNames.{HasModuleNames}
 use Rattle.ir_print_law.specs.Shapes.{IsIn}
-use Rattle.ir_print_law.proofs.Known.{in_behind}
+use Rattle.ir_print_law.proofs.Known.{in_after}
 use Rattle.ir_print_law.proofs.LocalNames.{in_longer, in_at_end}
 use Rattle.ir_print_law.proofs.LongerTypes.{with_types}
 use Rattle.ir_print_law.proofs.ModuleState.{Kept, kept_of, Made, made_of, next_bytes, next_spells, number_spells, struct_name_begins, symbol_begins}
@@ -244,7 +244,7 @@ module _ (m : Module) where
         by false (Some (symbol.Defined f)) same is = absurd cc
         by true (Some (symbol.Defined f)) same is =
             let x = names.named_functions (symbol_number i) f same in
-            in_behind (declared_functions m) (defined_functions m) name (named (λ (f : Function). name_at m.symbols f.symbol) m.functions f x.0 name x.1 (its x.0.symbol x.2))
+            in_after (declared_functions m) (defined_functions m) name (named (λ (f : Function). name_at m.symbols f.symbol) m.functions f x.0 name x.1 (its x.0.symbol x.2))
 
       -- The reading of the function, where `P` holds of what no form changes that reads a type or an operand.
       abbrev pub anew_reading : (P : Kept → Type 0) → Reading (with_types m types m.functions)

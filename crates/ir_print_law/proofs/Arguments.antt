@@ -11,7 +11,7 @@ use Rattle.ir_forms.specs.declared.input.Input.{Input}
 use Rattle.ir_forms.specs.declared.written.WrittenType.{WrittenType}
 use Rattle.ir_forms.specs.Written.{is_scalar, bits_of}
 use Rattle.ir_forms.specs.ManyWith.{Follows}
-use Rattle.ir_forms.specs.Lists.{argument, argument_takes, arguments, at_round, typed, index, any_index, indices, ends_indices, behind_index}
+use Rattle.ir_forms.specs.Lists.{argument, argument_takes, arguments, at_round, typed, index, any_index, indices, ends_indices, after_index}
 use Rattle.ir_forms.specs.Choices.{typed_pair}
 use Rattle.ir_forms.specs.Numbers.{pair, condition, bit_type}
 use Rattle.ir_forms.specs.Memory.{place_of}
@@ -179,7 +179,7 @@ module _ {m : Module} {f : Function} (v : Within m f) where
       let b = typed_keeps h.1 x o h.3 a.0 in
       (b.0, λ back. let bb = b.1 back in ((a.1 bb.0).0, bb.1))
 
-  some_index : (i : Input) (xs : List Argument) (o : Input) → Follows ends_indices (λ c. (any_index c).says) behind_index (record { is_further = false }) i xs o → 0 < length xs
+  some_index : (i : Input) (xs : List Argument) (o : Input) → Follows ends_indices (λ c. (any_index c).says) after_index (record { is_further = false }) i xs o → 0 < length xs
   some_index i [] o h = absurd (let e = h.0 in cc)
   some_index i (x ∷ xs) o h = omega arith
 
@@ -187,6 +187,6 @@ module _ {m : Module} {f : Function} (v : Within m f) where
   unfolding indices
   indices_keep i xs o h fore =
       let r = v.reading in
-      let x = each_with r.Back (λ _. r.Fore) (λ c xs. AllByRecursion (IsArgument m f) xs) ends_indices any_index behind_index (λ c. tt)
+      let x = each_with r.Back (λ _. r.Fore) (λ c xs. AllByRecursion (IsArgument m f) xs) ends_indices any_index after_index (λ c. tt)
       (λ c j a p said fore. let y = index_keeps c j a p said fore in (y.0, λ b. let z = y.1 b in (z.0, λ xs rest. (z.1, rest)))) (record { is_further = false }) i xs o h fore in
       (x.0.1, λ b. let c = x.1 b in (c.0, (some_index i xs o h, c.1)))

@@ -135,51 +135,51 @@ module _ {m : Module} {f : Function} (v : Invariant m f) where
   seam_further (x ∷ xs) rest = refl
 
   -- the parts of an argument, and what follows it
-  argument_front : (x : Argument) (behind : Text) → IsArgument m f x → (own : IsArgument m f x)
-      → argument_text m f.locals x ++ behind ≡ shown false own.0 ++ (32 ∷ (operand_text m f.locals x.written x.operand ++ behind))
-  argument_front x behind a own = ap (λ (y : Text). (y ++ 32 ∷ operand_text m f.locals x.written x.operand) ++ behind) (type_shown m own.0 x.written own.1.0.0 own.1.0.1)
-      ∙ append_assoc (shown false own.0) (32 ∷ operand_text m f.locals x.written x.operand) behind
+  argument_front : (x : Argument) (afterwards : Text) → IsArgument m f x → (own : IsArgument m f x)
+      → argument_text m f.locals x ++ afterwards ≡ shown false own.0 ++ (32 ∷ (operand_text m f.locals x.written x.operand ++ afterwards))
+  argument_front x afterwards a own = ap (λ (y : Text). (y ++ 32 ∷ operand_text m f.locals x.written x.operand) ++ afterwards) (type_shown m own.0 x.written own.1.0.0 own.1.0.1)
+      ∙ append_assoc (shown false own.0) (32 ∷ operand_text m f.locals x.written x.operand) afterwards
 
   -- an argument begins with a type
-  argument_begins : (x : Argument) (i : Input) (gap behind : Text) (s : ℕ) → IsArgument m f x → AreBlanks gap → IsSeam behind → Ready v s i (gap ++ (argument_text m f.locals x ++ behind)) → w.begins_type (kind i.cursor) ≡ true
+  argument_begins : (x : Argument) (i : Input) (gap afterwards : Text) (s : ℕ) → IsArgument m f x → AreBlanks gap → IsSeam afterwards → Ready v s i (gap ++ (argument_text m f.locals x ++ afterwards)) → w.begins_type (kind i.cursor) ≡ true
   unfolding class_of
-  argument_begins x i gap behind s own blanks seam ready =
-      type_begins v own.0 i gap (32 ∷ (operand_text m f.locals x.written x.operand ++ behind)) own.1.0.2 blanks refl (subst (λ (y : Text). Stands i.cursor (gap ++ y)) (argument_front x behind own own) ready.stands)
+  argument_begins x i gap afterwards s own blanks seam ready =
+      type_begins v own.0 i gap (32 ∷ (operand_text m f.locals x.written x.operand ++ afterwards)) own.1.0.2 blanks refl (subst (λ (y : Text). Stands i.cursor (gap ++ y)) (argument_front x afterwards own own) ready.stands)
 
   -- the text after the comma before further arguments, or the end of the list
-  abbrev behind_comma : List Argument → Text → Text
-  behind_comma [] rest = 41 ∷ rest
-  behind_comma (x ∷ xs) rest = 32 ∷ (argument_text m f.locals x ++ (further xs ++ 41 ∷ rest))
+  abbrev after_comma : List Argument → Text → Text
+  after_comma [] rest = 41 ∷ rest
+  after_comma (x ∷ xs) rest = 32 ∷ (argument_text m f.locals x ++ (further xs ++ 41 ∷ rest))
 
   -- what follows an argument: the end of the list, or a comma and a further argument
   separator_reads : (xs : List Argument) (i : Input) (rest : Text) (s : ℕ) → AllByRecursion (IsArgument m f) xs → Ready v s i (further xs ++ 41 ∷ rest)
-      → Reads v s (lists.separator k.CloseRound) i (behind_comma xs rest) Any
+      → Reads v s (lists.separator k.CloseRound) i (after_comma xs rest) Any
   unfolding lists.separator class_of
   separator_reads [] i rest s own ready =
       looked v (λ i. sees k.CloseRound i.cursor) (either (pure tt) (lists.comma k.CloseRound)) i (41 ∷ rest) s Any true (seen k.CloseRound i (sign_kind v 41 k.CloseRound i [] rest s refl refl refl ready))
       (given v tt i (41 ∷ rest) s Any ready tt)
   separator_reads (x ∷ xs) i rest s own ready =
-      let behind = argument_text m f.locals x ++ (further xs ++ 41 ∷ rest) in
+      let afterwards = argument_text m f.locals x ++ (further xs ++ 41 ∷ rest) in
       let ready = subst (λ (y : Text). Ready v s i y) (append_assoc (codes ", " ++ argument_text m f.locals x) (further xs) (41 ∷ rest) ∙ append_assoc (codes ", ") (argument_text m f.locals x) (further xs ++ 41 ∷ rest)) ready in
-      looked v (λ i. sees k.CloseRound i.cursor) (either (pure tt) (lists.comma k.CloseRound)) i (32 ∷ behind) s Any false
-      (unlike k.CloseRound no_close i refl (ap no_close (sign_kind v 44 k.Comma i [] (32 ∷ behind) s refl refl refl ready)))
-      (on v v (expect k.Comma) (λ _. lists.sees_no k.CloseRound) i (32 ∷ behind) (32 ∷ behind) s s (λ _ o. advanced i ≡ o) Any
-      (sign_reads v 44 k.Comma i [] (32 ∷ behind) s s refl refl refl (omega arith) ready)
-      (λ _ o ready g e. so v (lists.sees_no k.CloseRound) o (32 ∷ behind) s (λ _ p. o ≡ p) Any
-      (test_reads v (λ i. not (sees k.CloseRound i.cursor)) unexpected o (32 ∷ behind) s
+      looked v (λ i. sees k.CloseRound i.cursor) (either (pure tt) (lists.comma k.CloseRound)) i (32 ∷ afterwards) s Any false
+      (unlike k.CloseRound no_close i refl (ap no_close (sign_kind v 44 k.Comma i [] (32 ∷ afterwards) s refl refl refl ready)))
+      (on v v (expect k.Comma) (λ _. lists.sees_no k.CloseRound) i (32 ∷ afterwards) (32 ∷ afterwards) s s (λ _ o. advanced i ≡ o) Any
+      (sign_reads v 44 k.Comma i [] (32 ∷ afterwards) s s refl refl refl (omega arith) ready)
+      (λ _ o ready g e. so v (lists.sees_no k.CloseRound) o (32 ∷ afterwards) s (λ _ p. o ≡ p) Any
+      (test_reads v (λ i. not (sees k.CloseRound i.cursor)) unexpected o (32 ∷ afterwards) s
       (ap not (unlike k.CloseRound w.begins_type o refl (argument_begins x o (32 ∷ []) (further xs ++ 41 ∷ rest) s own.0 refl (seam_further xs rest) ready))) ready)
       (λ _ p g e. tt)))
 
   -- an argument is read, up to the one after it
   argument_reads : (x : Argument) (xs : List Argument) (i : Input) (gap rest : Text) (s : ℕ) → IsArgument m f x → AllByRecursion (IsArgument m f) xs → AreBlanks gap
-      → Ready v s i (gap ++ (argument_text m f.locals x ++ (further xs ++ 41 ∷ rest))) → Reads v s lists.argument i (behind_comma xs rest) (ArgumentAgain m f.locals x)
+      → Ready v s i (gap ++ (argument_text m f.locals x ++ (further xs ++ 41 ∷ rest))) → Reads v s lists.argument i (after_comma xs rest) (ArgumentAgain m f.locals x)
   unfolding lists.argument class_of
   argument_reads x xs i gap rest s own more blanks ready =
       let shape = own.0 in
       let scalar = own.1 in
       let type_is = type_shown m shape x.written scalar.0.0 scalar.0.1 in
       let good = ArgumentAgain m f.locals x in
-      let end = behind_comma xs rest in
+      let end = after_comma xs rest in
       let t2 = further xs ++ 41 ∷ rest in
       let text = operand_text m f.locals x.written x.operand in
       let ready = subst (λ (y : Text). Ready v s i (gap ++ y)) (argument_front x (further xs ++ 41 ∷ rest) own own) ready in
@@ -205,15 +205,15 @@ module _ {m : Module} {f : Function} (v : Invariant m f) where
       operand_form p = form.operand (w.bits_of p) >>= separator_form p
 
   -- the arguments after a comma, up to the end of the list
-  arguments_behind : (xs : List Argument) (i : Input) (rest : Text) (s : ℕ) → AllByRecursion (IsArgument m f) xs → Ready v s i (behind_comma xs rest)
+  arguments_after : (xs : List Argument) (i : Input) (rest : Text) (s : ℕ) → AllByRecursion (IsArgument m f) xs → Ready v s i (after_comma xs rest)
       → Reads v s lists.arguments i (41 ∷ rest) (AllArgumentsAgain m f.locals xs)
   unfolding lists.arguments class_of
-  arguments_behind [] i rest s own ready =
+  arguments_after [] i rest s own ready =
       ([], i, (seen k.CloseRound i (sign_kind v 41 k.CloseRound i [] rest s refl refl refl ready), refl), ready, grows_itself i, λ n others later. tt)
-  arguments_behind (x ∷ xs) i rest s own ready =
+  arguments_after (x ∷ xs) i rest s own ready =
       let opens = unlike k.CloseRound w.begins_type i refl (argument_begins x i (32 ∷ []) (further xs ++ 41 ∷ rest) s own.0 refl (seam_further xs rest) ready) in
       let a = argument_reads x xs i (32 ∷ []) rest s own.0 own.1 refl ready in
-      let b = arguments_behind xs a.1 rest s own.1 a.3 in (
+      let b = arguments_after xs a.1 rest s own.1 a.3 in (
         a.0 ∷ b.0,
         b.1,
         (opens, a.1, a.2, b.2),
@@ -232,7 +232,7 @@ module _ {m : Module} {f : Function} (v : Invariant m f) where
       let ready = subst (λ (y : Text). Ready v s i y) (append_assoc (argument_text m f.locals x) (further xs) (41 ∷ rest)) ready in
       let opens = unlike k.CloseRound w.begins_type i refl (argument_begins x i [] (further xs ++ 41 ∷ rest) s own.0 refl (seam_further xs rest) ready) in
       let a = argument_reads x xs i [] rest s own.0 own.1 refl ready in
-      let b = arguments_behind xs a.1 rest s own.1 a.3 in (
+      let b = arguments_after xs a.1 rest s own.1 a.3 in (
         a.0 ∷ b.0,
         b.1,
         (opens, a.1, a.2, b.2),

@@ -12,7 +12,7 @@ use Rattle.ir_tokens.specs.Bytes.{Text, class_of}
 use Rattle.ir_forms.specs.Cursor.{kind, sees}
 use Rattle.ir_forms.specs.declared.input.Input.{Input}
 use Rattle.ir_forms.specs.ManyWith.{Follows}
-use Rattle.ir_text.specs.Blocks.{further, at_close, behind_block}
+use Rattle.ir_text.specs.Blocks.{further, at_close, after_block}
 use Rattle.ir_print.specs.Blocks.{block_text}
 use Rattle.ir_print.specs.Names.{name_at}
 use Rattle.ir_print.specs.Standing.{Stands}
@@ -79,7 +79,7 @@ module _ (m : Module) (f : Function) (named : AreNamed m f) (ops : OpsRead m f n
 
   abbrev pub BlocksGo : List Block → (more : List Text) → Far → (count : ℕ) → Input → (rest : Text) → Type 0
   BlocksGo bs more far count i rest =
-      (ys : List Block) × (o : Input) × (now : Far) × Follows at_close (λ b. (further b).says) behind_block (record { count = count }) i ys o
+      (ys : List Block) × (o : Input) × (now : Far) × Follows at_close (λ b. (further b).says) after_block (record { count = count }) i ys o
       × Ready (known m f named now) 0 o (10 ∷ 125 ∷ 10 ∷ rest) × Widens i o
       × Onward far now (flat_map (value_keys_of f.locals) bs) (map (λ (b : Block). name_at f.locals b.label) bs) more
       × ((n : Module) (others : List Text) → IsLater o n others → AreAlike (IsBlockAgain m n f.locals others) bs ys)
@@ -93,13 +93,13 @@ module _ (m : Module) (f : Function) (named : AreNamed m f) (ops : OpsRead m f n
       let counted = some_blocks (length far.labels) (omega (arith, some)) in
       ([], i, far, (always (nat_lt 0 (length far.labels)) (sees k.CloseBrace i.cursor) counted close, refl), ready, widens_itself i, onward_itself far more steady, λ n others later. tt)
   blocks_go (b ∷ bs) more far i rest are keys steady room few some ready =
-      let behind = text_of_blocks bs ++ 125 ∷ 10 ∷ rest in
+      let afterwards = text_of_blocks bs ++ 125 ∷ 10 ∷ rest in
       let here = subst (λ (t : Text). Ready (known m f named far) 0 i (10 ∷ t)) (append_assoc (block_text m f.locals b) (text_of_blocks bs) (125 ∷ 10 ∷ rest)) ready in
       let own_keys = block_keys f.locals b in
       let other_keys = flat_map (block_keys f.locals) bs in
       let size = length-append (value_keys_of f.locals b) (flat_map (value_keys_of f.locals) bs) in
-      let not_closed = unlike k.CloseBrace is_label i refl (block_label_comes b i behind keys.0 here.stands) in
-      let one = block_goes m f named ops b (other_keys ++ more) far i behind are.0 keys.0.1
+      let not_closed = unlike k.CloseBrace is_label i refl (block_label_comes b i afterwards keys.0 here.stands) in
+      let one = block_goes m f named ops b (other_keys ++ more) far i afterwards are.0 keys.0.1
       (subst (λ (l : List Text). Steady far l) (append_assoc own_keys other_keys more) steady) (omega (arith, room, size)) (omega (arith, few)) (blocks_end bs rest keys.1) here in
       let y = one.0 in
       let p = one.1 in
@@ -108,7 +108,7 @@ module _ (m : Module) (f : Function) (named : AreNamed m f) (ops : OpsRead m f n
       let value_count : length one.2.values ≡ length far.values + length (value_keys_of f.locals b) = ap length on.values_are ∙ length-append far.values (value_keys_of f.locals b) in
       let label_count : length one.2.labels ≡ length far.labels + 1 = ap length on.labels_are ∙ length-append far.labels (name_at f.locals b.label ∷ []) in
       let next = blocks_go bs more one.2 one.1 rest are.1 keys.1 on.steady (omega (arith, room, size, value_count)) (omega (arith, few, label_count)) (omega (arith, label_count)) one.4 in
-      let follows = subst (λ (n : ℕ). Follows at_close (λ b. (further b).says) behind_block (record { count = n }) one.1 next.0 next.1) label_count next.3 in (
+      let follows = subst (λ (n : ℕ). Follows at_close (λ b. (further b).says) after_block (record { count = n }) one.1 next.0 next.1) label_count next.3 in (
         one.0 ∷ next.0,
         next.1,
         next.2,

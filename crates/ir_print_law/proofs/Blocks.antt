@@ -18,7 +18,7 @@ use Rattle.ir_forms.specs.ManyWith.{Follows}
 use Rattle.ir_forms.specs.Written.{is_passed}
 use Rattle.ir_forms.specs.declared.decorating.Spot.TheVariants as spot
 use Rattle.ir_forms.specs.declared.input.Input.{Input}
-use Rattle.ir_text.specs.Blocks.{label_by, block_label, block, further, at_close, behind_block, blocks}
+use Rattle.ir_text.specs.Blocks.{label_by, block_label, block, further, at_close, after_block, blocks}
 use Rattle.ir_text.specs.Parameters.{parameter_type_by, parameter_type, parameter_name_by, parameter_name, parameter, parameters}
 use Rattle.ir_text.specs.declared.blocks.Blocks.{Blocks}
 use Rattle.ir_print_law.specs.Printable.{IsBlock, IsParameter}
@@ -92,7 +92,7 @@ module _ {m : Module} {f : Function} {Back : Input → Type 0} {Fore : Progress 
   one_label : (g : Progress) (x : Block) → length (with_block g x).labels ≡ length g.labels + 1
   one_label g x = ap length (block_labels g x) ∙ length-append g.labels (x.label ∷ [])
 
-  blocks_from : (c : Blocks) (g : Progress) (i : Input) (xs : List Block) (o : Input) → c.count ≡ length g.labels → Follows at_close (λ c. (further c).says) behind_block c i xs o → Fore g i
+  blocks_from : (c : Blocks) (g : Progress) (i : Input) (xs : List Block) (o : Input) → c.count ≡ length g.labels → Follows at_close (λ c. (further c).says) after_block c i xs o → Fore g i
       → Fore (with_blocks g xs) o × (Back o → Back i × AllByRecursion (IsBlock m f) xs × (c.count ≤ 65535 → c.count + length xs ≤ 65535))
   blocks_from c g i [] o e h fore = (subst (Fore g) h.1 fore, λ back. (subst Back (sym h.1) back, tt, λ le. omega (arith, le)))
   blocks_from c g i (x ∷ xs) o e h fore =
@@ -100,7 +100,7 @@ module _ {m : Module} {f : Function} {Back : Input → Type 0} {Fore : Progress 
       let a = block_keeps g i x h.1 said fore in
       let more = one_label g x in
       let count : c.count + 1 ≡ length (with_block g x).labels = omega (arith, e, more) in
-      let d = blocks_from (behind_block c x) (with_block g x) h.1 xs o count h.3 a.0 in (
+      let d = blocks_from (after_block c x) (with_block g x) h.1 xs o count h.3 a.0 in (
         d.0,
         λ back.
             let db = d.1 back in
@@ -111,7 +111,7 @@ module _ {m : Module} {f : Function} {Back : Input → Type 0} {Fore : Progress 
             (ab.0, (ab.1.0, db.1), λ le. omega (arith, rest)),
       )
 
-  some_block : (i : Input) (xs : List Block) (o : Input) → Follows at_close (λ c. (further c).says) behind_block (record { count = 0 }) i xs o → 0 < length xs
+  some_block : (i : Input) (xs : List Block) (o : Input) → Follows at_close (λ c. (further c).says) after_block (record { count = 0 }) i xs o → 0 < length xs
   some_block i [] o h = absurd (let e = h.0 in cc)
   some_block i (x ∷ xs) o h = omega arith
 

@@ -11,14 +11,14 @@ use Rattle.ir_ast.specs.declared.op.Op.{Op}
 use Rattle.ir_tokens.specs.declared.token.Kind.{Kind}
 use Rattle.ir_tokens.specs.declared.token.Kind.TheVariants as k
 use Rattle.ir_tokens.specs.Bytes.{Text, class_of}
-use Rattle.ir_forms.specs.Cursor.{kind, kind_behind, kind_third, next}
+use Rattle.ir_forms.specs.Cursor.{kind, kind_after, kind_third, next}
 use Rattle.ir_forms.specs.declared.input.Input.{Input}
 use Rattle.ir_forms.specs.declared.site.Site.{Site}
 use Rattle.ir_forms.specs.Choices.{is_local, begins_phi}
 use Rattle.ir_forms.specs.Ends as ends
 use Rattle.ir_forms.specs.Instructions.{placed, at_terminator}
 use Rattle.ir_forms.specs.ManyWith.{Follows}
-use Rattle.ir_forms.specs.Sites.{behind}
+use Rattle.ir_forms.specs.Sites.{afterwards}
 use Rattle.ir_print.specs.Instructions.{op_text, instruction_line}
 use Rattle.ir_print.specs.Ends.{end_text, end_line}
 use Rattle.ir_print.specs.Names.{name_at}
@@ -77,7 +77,7 @@ module _ (m : Module) (f : Function) (named : AreNamed m f) (ops : OpsRead m f n
   -- which token an instruction's line begins with, and that no phi begins there
   line_kind_by : (result : Option ℕ) (x : Op) (i : Input) (rest : Text) → IsInstr m f (record { result = result; op = x }) → AllByRecursion IsKey (result_keys f.locals (record { result = result; op = x }))
       → Stands i.cursor (10 ∷ (instruction_line m f.locals (record { result = result; op = x }) ++ rest)) → IsInnerKind (kind i.cursor) × (begins_phi i ≡ false)
-  unfolding class_of kind kind_behind kind_third next
+  unfolding class_of kind kind_after kind_third next
   line_kind_by None x i rest own keys at =
       let e = plain_inner_kind (kind i.cursor) (plain_kind m f.locals x i.cursor (10 ∷ rest) (sym own.1) (subst (λ (t : Text). Stands i.cursor (10 ∷ t)) (plain_line m f.locals x rest) at)) in
       (e.0, no_local i e.1)
@@ -86,7 +86,7 @@ module _ (m : Module) (f : Function) (named : AreNamed m f) (ops : OpsRead m f n
       let a = local_passed i.cursor (10 ∷ 32 ∷ 32 ∷ []) (name_at f.locals value) (codes " = " ++ (op_text m f.locals x ++ 10 ∷ rest)) keys.0 refl refl at in
       let b = sign_comes (next i.cursor) (32 ∷ []) 61 (32 ∷ (op_text m f.locals x ++ 10 ∷ rest)) k.Equals refl refl refl a.1 in
       let c = value_word m f.locals x (next (next i.cursor)) rest (sym own.1) b.3 in
-      (inner_kind (kind i.cursor) a.0, other_word (kind i.cursor) (kind_behind i.cursor) (kind_third i.cursor) c)
+      (inner_kind (kind i.cursor) a.0, other_word (kind i.cursor) (kind_after i.cursor) (kind_third i.cursor) c)
 
   pub line_kind : (x : Instr) (i : Input) (rest : Text) → IsInstr m f x → AllByRecursion IsKey (result_keys f.locals x)
       → Stands i.cursor (10 ∷ (instruction_line m f.locals x ++ rest)) → IsInnerKind (kind i.cursor) × (begins_phi i ≡ false)
@@ -170,7 +170,7 @@ module _ (m : Module) (f : Function) (named : AreNamed m f) (ops : OpsRead m f n
 
   abbrev pub Lines : List Instr → (more : List Text) → Far → Site → Input → (rest : Text) → Type 0
   Lines xs more far site i rest =
-      (ys : List Instr) × (o : Input) × (now : Far) × Follows at_terminator (λ (s : Site). (placed s).says) behind site i ys o × Ready (known m f named now) 0 o (10 ∷ rest) × Widens i o
+      (ys : List Instr) × (o : Input) × (now : Far) × Follows at_terminator (λ (s : Site). (placed s).says) afterwards site i ys o × Ready (known m f named now) 0 o (10 ∷ rest) × Widens i o
       × Onward far now (keys_of xs) [] more × IsLaterAgain (λ n others. AreAlike (IsInstrAgain m n f.locals others)) xs ys o
 
   pub lines_go : (xs : List Instr) (more : List Text) (far : Far) (site : Site) (i : Input) (last : End) (rest : Text) → AllByRecursion (IsInstr m f) xs → AllByRecursion IsKey (keys_of xs)
@@ -194,7 +194,7 @@ module _ (m : Module) (f : Function) (named : AreNamed m f) (ops : OpsRead m f n
       let labels = on.labels_are in
       let value_count = ap length values ∙ length-append far.values (result_keys f.locals x) in
       let label_count : length one.2.labels ≡ length far.labels = ap length labels ∙ ap length (append-nil far.labels) in
-      let further = lines_go xs more one.2 (behind site one.0) one.1 last rest own.1 others on.steady (omega (arith, room, size, value_count)) (omega (arith, blocks, label_count)) (omega (arith, less)) one.4 in (
+      let further = lines_go xs more one.2 (afterwards site one.0) one.1 last rest own.1 others on.steady (omega (arith, room, size, value_count)) (omega (arith, blocks, label_count)) (omega (arith, less)) one.4 in (
         one.0 ∷ further.0,
         further.1,
         further.2,

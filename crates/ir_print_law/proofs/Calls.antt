@@ -10,7 +10,7 @@ use Rattle.ir_ast.specs.declared.op.Op.TheVariants as op
 use Rattle.ir_tokens.specs.Bytes.{Text}
 use Rattle.ir_tokens.specs.declared.token.Kind.{Kind}
 use Rattle.ir_tokens.specs.declared.token.Kind.TheVariants as k
-use Rattle.ir_forms.specs.Calls.{called_by, called, call_behind, typed_call, call, void_call, tail_call}
+use Rattle.ir_forms.specs.Calls.{called_by, called, call_after, typed_call, call, void_call, tail_call}
 use Rattle.ir_forms.specs.Cursor.{kind}
 use Rattle.ir_forms.specs.declared.decorating.Spot.TheVariants as spot
 use Rattle.ir_forms.specs.declared.input.Input.{Input}
@@ -55,9 +55,9 @@ module _ {m : Module} {f : Function} (v : Within m f) where
   abbrev IsReturning : ℕ → Call → Type 0
   IsReturning returned x = (IsReturned m returned → IsCall m f x) × (x.returned ≡ returned)
 
-  pub call_behind_keeps : (returned : ℕ) (i : Input) → Keeps v.reading.Fore (Same v.reading.Fore) v.reading.Back (call_behind returned) (IsReturning returned) i
-  unfolding call_behind
-  call_behind_keeps returned i x o h fore =
+  pub call_after_keeps : (returned : ℕ) (i : Input) → Keeps v.reading.Fore (Same v.reading.Fore) v.reading.Back (call_after returned) (IsReturning returned) i
+  unfolding call_after
+  call_after_keeps returned i x o h fore =
       let r = v.reading in
       let t = h.3 in
       let u = t.3 in
@@ -86,7 +86,7 @@ module _ {m : Module} {f : Function} (v : Within m f) where
       let t = h.2 in
       let a = skip_passes r i t.0 t.1 t.2 fore in
       let b = intern_goes r type.Void t.1 tt h.0 h.1 t.3 a.0 in
-      let c = call_behind_keeps h.0 h.1 x o h.3 b.0 in (
+      let c = call_after_keeps h.0 h.1 x o h.3 b.0 in (
         c.0,
         λ back.
             let cb = c.1 back in
@@ -102,7 +102,7 @@ module _ {m : Module} {f : Function} {value : ℕ} (n : Naming m f value) where
       let t = h.3 in
       let u = t.3 in
       let a = scalar_keeps r i h.0 h.1 h.2 fore in
-      let b = call_behind_keeps n.within h.0.id h.1 t.0 t.1 t.2 a.0 in
+      let b = call_after_keeps n.within h.0.id h.1 t.0 t.1 t.2 a.0 in
       let c = sort_keeps n (local.Value h.0.id) tt t.1 u.0 u.1 u.2 b.0 in (
         subst n.After u.3.1 c.0,
         λ back.

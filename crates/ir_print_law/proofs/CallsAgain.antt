@@ -83,11 +83,11 @@ CallAgain m locals = IsLaterAgain (λ n others. IsCallAgain m n locals others)
 
 module _ {m : Module} {f : Function} (v : Invariant m f) where
   -- `@f(T V, ..)`
-  pub call_behind_reads : (x : Call) (number : ℕ) (i : Input) (rest : Text) (s : ℕ) → IsIn (functions_of m) (name_at m.symbols x.callee) → AllByRecursion (IsArgument m f) x.arguments
+  pub call_after_reads : (x : Call) (number : ℕ) (i : Input) (rest : Text) (s : ℕ) → IsIn (functions_of m) (name_at m.symbols x.callee) → AllByRecursion (IsArgument m f) x.arguments
       → ((n : Module) (others : List Text) → IsLater i n others → IsResultAgain m n x.returned number) → EndsLine rest
-      → Ready v s i (32 ∷ (global_text m x.callee ++ (40 ∷ (listed (argument_text m f.locals) x.arguments ++ 41 ∷ rest)))) → Reads v s (calls.call_behind number) i rest (CallAgain m f.locals x)
-  unfolding calls.call_behind calls.called class_of
-  call_behind_reads x number i rest s there own again ends ready =
+      → Ready v s i (32 ∷ (global_text m x.callee ++ (40 ∷ (listed (argument_text m f.locals) x.arguments ++ 41 ∷ rest)))) → Reads v s (calls.call_after number) i rest (CallAgain m f.locals x)
+  unfolding calls.call_after calls.called class_of
+  call_after_reads x number i rest s there own again ends ready =
       let name = name_at m.symbols x.callee in
       let good = CallAgain m f.locals x in
       let t2 = listed (argument_text m f.locals) x.arguments ++ 41 ∷ rest in
@@ -144,7 +144,7 @@ module _ {m : Module} {f : Function} (v : Invariant m f) where
       let t1 = codes "void" ++ t2 in
       let ready = subst (λ (y : Text). Ready v s i (gap ++ y)) (call_front (type_text m x.returned) (global_text m x.callee) (listed (argument_text m f.locals) x.arguments) rest) ready in
       let ready = subst (λ (y : Text). Ready v s i (gap ++ (codes "call" ++ (32 ∷ (y ++ t2))))) (void_shown m x.returned is_void) ready in
-      on v v skip (λ _. calls.call_statement_behind) i (32 ∷ t1) rest s s (λ _ o. advanced i ≡ o) good
+      on v v skip (λ _. calls.call_statement_after) i (32 ∷ t1) rest s s (λ _ o. advanced i ≡ o) good
       (word_skipped v (codes "call") i gap (32 ∷ t1) s s blanks refl refl (omega arith) ready)
       (λ _ o ready g e.
       let is = word_seen v (codes "void") o (32 ∷ []) t2 s refl refl refl ready in
@@ -152,11 +152,11 @@ module _ {m : Module} {f : Function} (v : Invariant m f) where
       (looked v (λ i. kind i.cursor) calls.call_by o rest s good k.Void is
       (on v v (as_op op.Call calls.void_call) calls.unnamed o rest rest s s (OpAgain m f.locals (op.Call x)) good
       (on v v calls.void_call (λ y. pure (op.Call y)) o rest rest s s (CallAgain m f.locals x) (OpAgain m f.locals (op.Call x))
-      (on v v (skip >> w.intern type.Void) calls.call_behind o t2 rest s s (λ n q. slice_get q.types n ≡ Some type.Void) (CallAgain m f.locals x)
+      (on v v (skip >> w.intern type.Void) calls.call_after o t2 rest s s (λ n q. slice_get q.types n ≡ Some type.Void) (CallAgain m f.locals x)
       (on v v skip (λ _. w.intern type.Void) o t2 t2 (s + 1) s (λ _ q. advanced o ≡ q) (λ n q. slice_get q.types n ≡ Some type.Void)
       (word_skipped v (codes "void") o (32 ∷ []) t2 s (s + 1) refl refl refl (omega arith) ready)
       (λ _ q ready h e. intern_reads v type.Void q t2 s tt ready))
-      (λ n q ready h is_there. call_behind_reads x n q rest s there own
+      (λ n q ready h is_there. call_after_reads x n q rest s there own
       (λ later_module others later. inl (is_void, stays q.types later_module.types n type.Void later.types is_there)) ends ready))
       (λ y q ready h again. given v (op.Call y) q rest s (OpAgain m f.locals (op.Call x)) ready again))
       (λ y q ready h again. unnamed_reads v (op.Call x) y q rest s ends again ready))))
@@ -191,15 +191,15 @@ module _ {m : Module} {f : Function} (v u : Invariant m f) where
       (on v u w.scalar call_form o t2 rest s s (IsTypeRead shape 64) good
       (scalar_reads v shape o (32 ∷ []) t2 s scalar.0.2 scalar.0.1 scalar.1 refl (ends_global (name_at m.symbols x.callee) (40 ∷ (listed (argument_text m f.locals) x.arguments ++ 41 ∷ rest)) is.0 refl) ready)
       (λ p q ready h read.
-      on v u (calls.call_behind p.id) (set_form p) q rest rest s s (CallAgain m f.locals x) good
-      (call_behind_reads v x p.id q rest s there own (λ n others later. inr (read_again m shape x.returned p.id q n others scalar.0.0 read.has_shape later)) ends ready)
+      on v u (calls.call_after p.id) (set_form p) q rest rest s s (CallAgain m f.locals x) good
+      (call_after_reads v x p.id q rest s there own (λ n others later. inr (read_again m shape x.returned p.id q n others scalar.0.0 read.has_shape later)) ends ready)
       (λ y r ready hh again. set_reads v u (λ n others. IsCallAgain m n f.locals others) value (local.Value p.id) x y r rest s sets refl ready again))))
     where
       set_form : WrittenType → Call → Form Call
       set_form p x = set_type value p.id >> pure x
 
       call_form : WrittenType → Form Call
-      call_form p = calls.call_behind p.id >>= set_form p
+      call_form p = calls.call_after p.id >>= set_form p
 
       typed_form : Form Call
       typed_form = decorations spot.Result >> calls.typed_call value

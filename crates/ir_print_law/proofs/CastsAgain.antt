@@ -47,9 +47,9 @@ module _ {m : Module} {f : Function} (v u : Invariant m f) where
   unfolding bitcast class_of
   bitcast_reads value x i gap rest s own sets blanks ends ready =
       let good = CastAgain m f.locals x in
-      let behind = 32 ∷ (converted_text m f.locals (typed x.from x.operand) x.to ++ rest) in
-      on v u skip (λ _. lists.typed >>= λ from. expect k.To >> (w.scalar >>= λ to. set_type value to.id >> pure (made from to.id))) i behind rest s s (λ _ o. advanced i ≡ o) good
-      (word_skipped v (codes "bitcast") i gap behind s s blanks refl refl (omega arith) ready)
+      let afterwards = 32 ∷ (converted_text m f.locals (typed x.from x.operand) x.to ++ rest) in
+      on v u skip (λ _. lists.typed >>= λ from. expect k.To >> (w.scalar >>= λ to. set_type value to.id >> pure (made from to.id))) i afterwards rest s s (λ _ o. advanced i ≡ o) good
+      (word_skipped v (codes "bitcast") i gap afterwards s s blanks refl refl (omega arith) ready)
       (λ _ o ready g e. converted_reads v u (λ n others. IsCastAgain m n f.locals others) made x value x.from x.operand x.to o (32 ∷ []) rest s
       (λ n others b k argument type. (argument.0, argument.1, type)) own sets refl ends ready)
     where

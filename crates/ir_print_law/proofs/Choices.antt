@@ -8,7 +8,7 @@ use Rattle.ir_ast.specs.declared.function.LocalSort.TheVariants as local
 use Rattle.ir_ast.specs.declared.module.Module.{Module}
 use Rattle.ir_tokens.specs.declared.token.Kind.{Kind}
 use Rattle.ir_tokens.specs.declared.token.Kind.TheVariants as k
-use Rattle.ir_forms.specs.Choices.{select, separated, incoming, entry, ends_entries, behind_entry, all_entries, phi_value_by, phi_value, phi_behind, phi, at_no_phi, phis}
+use Rattle.ir_forms.specs.Choices.{select, separated, incoming, entry, ends_entries, after_entry, all_entries, phi_value_by, phi_value, phi_after, phi, at_no_phi, phis}
 use Rattle.ir_forms.specs.Cursor.{kind}
 use Rattle.ir_forms.specs.ManyWith.{Follows}
 use Rattle.ir_forms.specs.Written.{is_scalar, bits_of}
@@ -108,7 +108,7 @@ module _ {m : Module} {f : Function} (v : Within m f) where
       let b = incoming_keeps e.bits h.1 x o h.3 a.0 in
       (b.0, λ back. let bb = b.1 back in ((a.1 bb.0).0, bb.1))
 
-  some_entry : (bits : Option ℕ) (i : Input) (xs : List Incoming) (o : Input) → Follows ends_entries (λ c. (entry c).says) behind_entry (record { bits = bits; is_further = false }) i xs o → 0 < length xs
+  some_entry : (bits : Option ℕ) (i : Input) (xs : List Incoming) (o : Input) → Follows ends_entries (λ c. (entry c).says) after_entry (record { bits = bits; is_further = false }) i xs o → 0 < length xs
   some_entry bits i [] o h = absurd (let e = h.0 in cc)
   some_entry bits i (x ∷ xs) o h = omega arith
 
@@ -117,7 +117,7 @@ module _ {m : Module} {f : Function} (v : Within m f) where
   unfolding all_entries
   entries_keep bits i xs o h fore =
       let r = v.reading in
-      let x = each_with r.Back (λ _. r.Fore) (λ (c : Entries) xs. AreBits c.bits → AllByRecursion (IsIncoming m f c.bits) xs) ends_entries entry behind_entry (λ c fit. tt)
+      let x = each_with r.Back (λ _. r.Fore) (λ (c : Entries) xs. AreBits c.bits → AllByRecursion (IsIncoming m f c.bits) xs) ends_entries entry after_entry (λ c fit. tt)
       (λ c j a p said fore. let y = entry_keeps c j a p said fore in (y.0, λ b. let z = y.1 b in (z.0, λ xs rest fit. (z.1 fit, rest fit)))) (record { bits = bits; is_further = false }) i xs o h fore in
       (x.0.1, λ b. let c = x.1 b in (c.0, (some_entry bits i xs o h, c.1)))
 
@@ -132,9 +132,9 @@ module _ {m : Module} {f : Function} {Back : Input → Type 0} {Fore : Progress 
   phi_value_keeps g i = phi_value_by_keeps g (kind i.cursor) i refl
 
   -- what follows the name of the value of a phi
-  phi_behind_keeps : (g : Progress) (n : ℕ) (i : Input) (x : Phi) (o : Input) → (phi_behind n).says i x o → Open g n i
+  phi_after_keeps : (g : Progress) (n : ℕ) (i : Input) (x : Phi) (o : Input) → (phi_after n).says i x o → Open g n i
       → Fore (with_named_value g x.value) o × (Back o → Back i × IsPhi m f x)
-  phi_behind_keeps g n i x o h fore =
+  phi_after_keeps g n i x o h fore =
       let naming = naming_of b g n in
       let r = naming.within.reading in
       let t = h.3 in
@@ -162,7 +162,7 @@ module _ {m : Module} {f : Function} {Back : Input → Type 0} {Fore : Progress 
   unfolding phi
   phi_keeps g i x o h fore =
       let a = phi_value_keeps g i h.0 h.1 h.2 fore in
-      let c = phi_behind_keeps g h.0 h.1 x o h.3 a.0 in
+      let c = phi_after_keeps g h.0 h.1 x o h.3 a.0 in
       (c.0, λ back. let cb = c.1 back in ((a.1 cb.0).0, cb.1))
 
   -- the phis of a block

@@ -36,8 +36,8 @@ use Rattle.ir_print_law.proofs.Words.{word_comes, number_comes}
 
 -- ---- numbers
 
-model : IsNumeralModel (λ (ds : Text). list_all is_digit ds ≡ true) (numbers.decimal_behind 0)
-model = numerals_by_fold _ (search rules) numbers.decimal_behind (search rules)
+model : IsNumeralModel (λ (ds : Text). list_all is_digit ds ≡ true) (numbers.decimal_after 0)
+model = numerals_by_fold _ (search rules) numbers.decimal_after (search rules)
 
 pub are_digits : (n : ℕ) → n < 2 ^ 64 → AreDigits (text.decimal n)
 are_digits n less = (decimal_nonempty n less, digits_decimal model n less)

@@ -46,13 +46,13 @@ use Rattle.ir_print_law.proofs.Results.{declared_result_reads, declared_end_read
 pub below_most : (n : ℕ) → n < 65535 → nat_lt n 65535 ≡ true
 below_most n less = grind (arith, nat_tests)
 
-abbrev behind_open : Module → Declare → (rest : Text) → Text
-behind_open m d rest = listed (type_text m) d.parameters ++ 41 ∷ 10 ∷ rest
+abbrev after_open : Module → Declare → (rest : Text) → Text
+after_open m d rest = listed (type_text m) d.parameters ++ 41 ∷ 10 ∷ rest
 
-abbrev behind_result : Module → Declare → (rest : Text) → Text
-behind_result m d rest = 32 ∷ 64 ∷ (name_text blank.Kept (name_at m.symbols d.symbol) ++ 40 ∷ behind_open m d rest)
+abbrev after_result : Module → Declare → (rest : Text) → Text
+after_result m d rest = 32 ∷ 64 ∷ (name_text blank.Kept (name_at m.symbols d.symbol) ++ 40 ∷ after_open m d rest)
 
-line_is : (m : Module) (d : Declare) (rest : Text) → declare_line m d ++ rest ≡ codes "declare " ++ (type_text m d.returned ++ behind_result m d rest)
+line_is : (m : Module) (d : Declare) (rest : Text) → declare_line m d ++ rest ≡ codes "declare " ++ (type_text m d.returned ++ after_result m d rest)
 line_is m d rest =
     let a = codes "declare " in
     let t = type_text m d.returned in
@@ -100,21 +100,21 @@ module _ (m : Module) (f : Function) (named : AreNamed m f) (types : TypesRead m
   unfolding item declaration declared_parameters class_of word_kind keywords
   declare_goes d i gap rest is own allowed none apart never few few_parameters comes blanks ready =
       let name = name_at m.symbols d.symbol in
-      let behind = type_text m d.returned ++ behind_result m d rest in
+      let afterwards = type_text m d.returned ++ after_result m d rest in
       let v = known m f named far in
       let w = known m f named (far_named name) in
       let here = subst (λ (t : Text). Ready (known m f named far) 0 i (gap ++ t)) (line_is m d rest) ready in
-      let kind_is = word_seen v (codes "declare") i gap (32 ∷ behind) 0 blanks refl refl here in
-      let a = word_skipped v (codes "declare") i gap (32 ∷ behind) 0 0 blanks refl refl (omega arith) here in
+      let kind_is = word_seen v (codes "declare") i gap (32 ∷ afterwards) 0 blanks refl refl here in
+      let a = word_skipped v (codes "declare") i gap (32 ∷ afterwards) 0 0 blanks refl refl (omega arith) here in
       let p = a.1 in
-      let b = declared_result_reads m f v types d.returned p (32 ∷ []) name (40 ∷ behind_open m d rest) is.0 own refl refl a.3 in
+      let b = declared_result_reads m f v types d.returned p (32 ∷ []) name (40 ∷ after_open m d rest) is.0 own refl refl a.3 in
       let q = b.1 in
       let spelled_is : spelled q.cursor ≡ name_at m.symbols d.symbol =
-      (global_comes q.cursor (32 ∷ []) name (40 ∷ behind_open m d rest) refl own refl b.3.stands).2 ∙ name_spelled blank.Kept name own in
+      (global_comes q.cursor (32 ∷ []) name (40 ∷ after_open m d rest) refl own refl b.3.stands).2 ∙ name_spelled blank.Kept name own in
       let number = length i.declares in
-      let c = name_reads (length i.declares) q name (behind_open m d rest) own allowed none apart never b.3 in
+      let c = name_reads (length i.declares) q name (after_open m d rest) own allowed none apart never b.3 in
       let r = c.1 in
-      let g = sign_reads w 40 k.OpenRound r [] (behind_open m d rest) 0 0 refl refl refl (omega arith) c.3 in
+      let g = sign_reads w 40 k.OpenRound r [] (after_open m d rest) 0 0 refl refl refl (omega arith) c.3 in
       let s = g.1 in
       let e = declared_go m f named types d.parameters (far_named name) s (10 ∷ rest) is.1 few_parameters g.3 in
       let t = e.1 in

@@ -131,14 +131,14 @@ module _ (m : Module) (is : IsPrintable m) (named : AreNamed m nobody) where
       )
   declares_go (d ∷ ds) fs far i gap blanks past past_line are functions symbols new globals never few few_functions out ready =
       let name = name_at m.symbols d.symbol in
-      let behind = flat_map (declare_line m) ds ++ flat_map (function_text m) fs in
+      let afterwards = flat_map (declare_line m) ds ++ flat_map (function_text m) fs in
       let here = subst (λ (t : Text). Ready (known m nobody named far) 0 i (gap ++ t)) (append_assoc (declare_line m d) (flat_map (declare_line m) ds) (flat_map (function_text m) fs)) ready in
       let unnamed : 0 ≡ far.unnamed = ap (λ (x : Far). x.unnamed) out in
       let room = here.room.types in
-      let a = length-append gap (declare_line m d ++ behind) in
-      let b = length-append (declare_line m d) behind in
+      let a = length-append gap (declare_line m d ++ afterwards) in
+      let b = length-append (declare_line m d) afterwards in
       let c = line_long m d in
-      let one = declare_goes m nobody named (types_given m) far d i gap behind are.0 symbols.0.0 symbols.0.1 new.0 (λ g. new.0 (globals name g)) (never name (inl refl)) (omega (arith, few))
+      let one = declare_goes m nobody named (types_given m) far d i gap afterwards are.0 symbols.0.0 symbols.0.1 new.0 (λ g. new.0 (globals name g)) (never name (inl refl)) (omega (arith, few))
       (omega (arith, unnamed, room, a, b, c)) (declares_begin m ds fs past_line) blanks here in
       let p = one.0 in
       let x = one.1 in
@@ -150,7 +150,7 @@ module _ (m : Module) (is : IsPrintable m) (named : AreNamed m nobody) where
       let o = next.1 in
       let now = next.2 in
       let w = next.10 in
-      let goes = unlike k.End is_declare i refl (ap is_declare (declare_comes m d i gap behind blanks here.stands)) in (
+      let goes = unlike k.End is_declare i refl (ap is_declare (declare_comes m d i gap afterwards blanks here.stands)) in (
         tt ∷ next.0,
         next.1,
         next.2,

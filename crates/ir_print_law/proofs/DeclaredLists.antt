@@ -72,11 +72,11 @@ module _ (m : Module) (f : Function) (named : AreNamed m f) (types : TypesRead m
   abbrev IsDeclaredRead : Far → ℕ → ℕ → Far → Input → Type 0
   IsDeclaredRead far x y now o = (now ≡ far_numbered far (far.unnamed + 1)) × ((n : Module) (others : List Text) → IsLater o n others → IsTypeAgain m n x y)
 
-  declared_goes : (x : ℕ) (far : Far) (i : Input) (gap sep behind : Text) → IsAnyType m x → far.unnamed < 4294967295 → AreBlanks gap → SeparatorComes sep
-      → ((now : Far) → Separates m f named types now sep behind) → Ready (known m f named far) 0 i (gap ++ (type_text m x ++ sep))
-      → Leads m f named 0 declared_parameter i behind (IsDeclaredRead far x)
+  declared_goes : (x : ℕ) (far : Far) (i : Input) (gap sep afterwards : Text) → IsAnyType m x → far.unnamed < 4294967295 → AreBlanks gap → SeparatorComes sep
+      → ((now : Far) → Separates m f named types now sep afterwards) → Ready (known m f named far) 0 i (gap ++ (type_text m x ++ sep))
+      → Leads m f named 0 declared_parameter i afterwards (IsDeclaredRead far x)
   unfolding declared_parameter declared_name
-  declared_goes x far i gap sep behind is_any few blanks comes separates ready =
+  declared_goes x far i gap sep afterwards is_any few blanks comes separates ready =
       let shape = is_any.0 in
       let is_type = is_any.1 in
       let ends : EndsType sep = (comes.0, λ j at. separator_ends (kind j.cursor) (comes.1 j at)) in
@@ -128,14 +128,14 @@ module _ (m : Module) (f : Function) (named : AreNamed m f) (types : TypesRead m
 
   -- ---- all of them
 
-  abbrev behind_first : List ℕ → (rest : Text) → Text
-  behind_first ps rest = flat_map (λ (p : ℕ). codes ", " ++ type_text m p) ps ++ 41 ∷ rest
+  abbrev afterwards_first : List ℕ → (rest : Text) → Text
+  afterwards_first ps rest = flat_map (λ (p : ℕ). codes ", " ++ type_text m p) ps ++ 41 ∷ rest
 
-  more_behind : (p : ℕ) (ps : List ℕ) (rest : Text) → behind_first (p ∷ ps) rest ≡ 44 ∷ 32 ∷ (type_text m p ++ behind_first ps rest)
-  more_behind p ps rest =
-      append_assoc (codes ", " ++ type_text m p) (flat_map (λ (p : ℕ). codes ", " ++ type_text m p) ps) (41 ∷ rest) ∙ append_assoc (codes ", ") (type_text m p) (behind_first ps rest)
+  more_after : (p : ℕ) (ps : List ℕ) (rest : Text) → afterwards_first (p ∷ ps) rest ≡ 44 ∷ 32 ∷ (type_text m p ++ afterwards_first ps rest)
+  more_after p ps rest =
+      append_assoc (codes ", " ++ type_text m p) (flat_map (λ (p : ℕ). codes ", " ++ type_text m p) ps) (41 ∷ rest) ∙ append_assoc (codes ", ") (type_text m p) (afterwards_first ps rest)
 
-  first_seam : (ps : List ℕ) (rest : Text) → IsSeam (behind_first ps rest)
+  first_seam : (ps : List ℕ) (rest : Text) → IsSeam (afterwards_first ps rest)
   unfolding class_of
   first_seam [] rest = refl
   first_seam (p ∷ ps) rest = refl
@@ -152,7 +152,7 @@ module _ (m : Module) (f : Function) (named : AreNamed m f) (types : TypesRead m
   not_close x i gap sep is seam blanks at = unlike k.CloseRound begins_type i refl (types.type_comes is.0 x i.cursor gap sep is.1 blanks seam at)
 
   further_go : (x : ℕ) (ps : List ℕ) (far : Far) (i : Input) (gap rest : Text) → AllByRecursion (IsAnyType m) (x ∷ ps) → far.unnamed + length (x ∷ ps) < 4294967295 → AreBlanks gap
-      → Ready (known m f named far) 0 i (gap ++ (type_text m x ++ behind_first ps rest)) → DeclaredGo (x ∷ ps) far i rest
+      → Ready (known m f named far) 0 i (gap ++ (type_text m x ++ afterwards_first ps rest)) → DeclaredGo (x ∷ ps) far i rest
   further_go x [] far i gap rest are few blanks ready =
       let one = declared_goes x far i gap (41 ∷ rest) (41 ∷ rest) are.0 (omega (arith, few)) blanks (close_comes rest) (λ now. close_separates m f named types now rest) ready in (
         one.0 ∷ [],
@@ -164,17 +164,17 @@ module _ (m : Module) (f : Function) (named : AreNamed m f) (types : TypesRead m
         λ n others later. (one.6.1 n others later, tt),
       )
   further_go x (p ∷ ps) far i gap rest are few blanks ready =
-      let behind = type_text m p ++ behind_first ps rest in
-      let here = subst (λ (t : Text). Ready (known m f named far) 0 i (gap ++ (type_text m x ++ t))) (more_behind p ps rest) ready in
-      let one = declared_goes x far i gap (44 ∷ 32 ∷ behind) (32 ∷ behind) are.0 (omega (arith, few)) blanks (comma_next (32 ∷ behind))
-      (λ now. comma_separates m f named types now are.1.0.0 p (behind_first ps rest) are.1.0.1 (first_seam ps rest)) here in
+      let afterwards = type_text m p ++ afterwards_first ps rest in
+      let here = subst (λ (t : Text). Ready (known m f named far) 0 i (gap ++ (type_text m x ++ t))) (more_after p ps rest) ready in
+      let one = declared_goes x far i gap (44 ∷ 32 ∷ afterwards) (32 ∷ afterwards) are.0 (omega (arith, few)) blanks (comma_next (32 ∷ afterwards))
+      (λ now. comma_separates m f named types now are.1.0.0 p (afterwards_first ps rest) are.1.0.1 (first_seam ps rest)) here in
       let q = one.1 in
-      let ready_q = subst (λ (now : Far). Ready (known m f named now) 0 one.1 (32 ∷ behind)) one.6.0 one.4 in
+      let ready_q = subst (λ (now : Far). Ready (known m f named now) 0 one.1 (32 ∷ afterwards)) one.6.0 one.4 in
       let next = further_go p ps (far_numbered far (far.unnamed + 1)) one.1 (32 ∷ []) rest are.1 (omega (arith, few)) refl ready_q in (
         one.0 ∷ next.0,
         next.1,
         next.2,
-        (not_close x i gap (44 ∷ 32 ∷ behind) are.0 (comma_next (32 ∷ behind)).0 blanks here.stands, q, one.3, next.3),
+        (not_close x i gap (44 ∷ 32 ∷ afterwards) are.0 (comma_next (32 ∷ afterwards)).0 blanks here.stands, q, one.3, next.3),
         next.4,
         widens_further i q next.1 one.5 next.5,
         λ n others later. (one.6.1 n others (later_widened q next.1 n others next.5 later), next.6 n others later),

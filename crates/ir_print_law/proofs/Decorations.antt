@@ -11,7 +11,7 @@ use Rattle.ir_forms.specs.Cursor.{kind, sees}
 use Rattle.ir_forms.specs.declared.input.Input.{Input}
 use Rattle.ir_forms.specs.Input.{skip, expect, unexpected, unread, limit}
 use Rattle.ir_forms.specs.ManyWith.{many_with}
-use Rattle.ir_forms.specs.Decorations.{either, any_token, in_brackets, in_brackets_takes, has_room, are_closed, behind_bracket, bracketed, past_brackets, is_operand, word_end_by, word_end, word, metadata, decoration_by, decoration, decoration_takes, at_no_decoration, same_spot, decorations, optional, flag_by, flag, flag_takes, at_no_flag, flags, aligned, may_align, is_global, placed, trail_by, trail_behind, comma_trail, comma_trail_takes, at_no_trail, same_trail, trailing, trail_of, trailed, begins_count}
+use Rattle.ir_forms.specs.Decorations.{either, any_token, in_brackets, in_brackets_takes, has_room, are_closed, after_bracket, bracketed, past_brackets, is_operand, word_end_by, word_end, word, metadata, decoration_by, decoration, decoration_takes, at_no_decoration, same_spot, decorations, optional, flag_by, flag, flag_takes, at_no_flag, flags, aligned, may_align, is_global, placed, trail_by, trail_after, comma_trail, comma_trail_takes, at_no_trail, same_trail, trailing, trail_of, trailed, begins_count}
 use Rattle.ir_forms.specs.declared.decorating.Brackets.{Brackets}
 use Rattle.ir_forms.specs.declared.decorating.Spot.{Spot}
 use Rattle.ir_forms.specs.declared.decorating.Spot.TheVariants as spot
@@ -41,7 +41,7 @@ module _ {m : Module} (r : Reading m) where
   past_brackets_passes : Passes r past_brackets
   unfolding past_brackets bracketed
   past_brackets_passes =
-      past r bracketed (pure tt) (all_with_pass r are_closed in_brackets in_brackets_takes behind_bracket (record { depth = 1 }) in_brackets_passes) (pure_passes r tt)
+      past r bracketed (pure tt) (all_with_pass r are_closed in_brackets in_brackets_takes after_bracket (record { depth = 1 }) in_brackets_passes) (pure_passes r tt)
 
   word_end_by_passes : (s : Spot) (x : Kind) → Passes r (word_end_by s x)
   word_end_by_passes s k.OpenRound = past r skip past_brackets (skip_passes r) past_brackets_passes
@@ -111,7 +111,7 @@ module _ {m : Module} (r : Reading m) where
 
   comma_trail_passes : (t : Trail) → Passes r (comma_trail t)
   unfolding comma_trail
-  comma_trail_passes t = past r (expect k.Comma) (trail_behind t) (expect_passes r k.Comma) (look_passes r (λ i. kind i.cursor) (trail_by t) (trail_by_passes t))
+  comma_trail_passes t = past r (expect k.Comma) (trail_after t) (expect_passes r k.Comma) (look_passes r (λ i. kind i.cursor) (trail_by t) (trail_by_passes t))
 
   pub trailing_passes : (t : Trail) → Passes r (trailing t)
   unfolding trailing

@@ -74,17 +74,17 @@ module _ {m : Module} {f : Function} (v : Invariant m f) where
       → (lists.ends_indices (record { is_further = is_further }) i ≡ false) × Reads v s lists.index i (flat_map (index_text m f.locals) xs ++ rest) (ArgumentAgain m f.locals x)
   unfolding lists.index class_of
   index_reads x xs is_further i rest s own ends ready =
-      let behind = flat_map (index_text m f.locals) xs ++ rest in
+      let afterwards = flat_map (index_text m f.locals) xs ++ rest in
       let good = ArgumentAgain m f.locals x in
-      let comma = sign_kind v 44 k.Comma i [] (32 ∷ (argument_text m f.locals x ++ behind)) s refl refl refl ready in
+      let comma = sign_kind v 44 k.Comma i [] (32 ∷ (argument_text m f.locals x ++ afterwards)) s refl refl refl ready in
       let a = sign_reads v 44 k.Comma i [] (32 ∷ (argument_text m f.locals x ++ (flat_map (index_text m f.locals) xs ++ rest))) s s refl refl refl (omega arith) ready in
-      let front = ap (λ (y : Text). (y ++ 32 ∷ operand_text m f.locals x.written x.operand) ++ behind) (type_shown m own.0 x.written own.1.0.0 own.1.0.1)
-      ∙ append_assoc (shown false own.0) (32 ∷ operand_text m f.locals x.written x.operand) behind in
-      let begins = type_begins v own.0 a.1 (32 ∷ []) (32 ∷ (operand_text m f.locals x.written x.operand ++ behind)) own.1.0.2 refl refl (subst (λ (y : Text). Stands a.1.cursor (32 ∷ y)) front a.3.stands) in
+      let front = ap (λ (y : Text). (y ++ 32 ∷ operand_text m f.locals x.written x.operand) ++ afterwards) (type_shown m own.0 x.written own.1.0.0 own.1.0.1)
+      ∙ append_assoc (shown false own.0) (32 ∷ operand_text m f.locals x.written x.operand) afterwards in
+      let begins = type_begins v own.0 a.1 (32 ∷ []) (32 ∷ (operand_text m f.locals x.written x.operand ++ afterwards)) own.1.0.2 refl refl (subst (λ (y : Text). Stands a.1.cursor (32 ∷ y)) front a.3.stands) in
       let metadata = ap (λ (j : Input). lists.is_metadata (kind j.cursor)) a.5 ∙ no_metadata (kind a.1.cursor) begins in (
         stops is_further (list_goes_on i comma metadata),
-        on v v (expect k.Comma) (λ _. lists.typed) i (32 ∷ (argument_text m f.locals x ++ (flat_map (index_text m f.locals) xs ++ rest))) behind s s (λ _ o. advanced i ≡ o) good a
-            (λ _ o ready g e. typed_reads v x.written x.operand o (32 ∷ []) behind s own refl (seam_indices xs rest ends.0) ready),
+        on v v (expect k.Comma) (λ _. lists.typed) i (32 ∷ (argument_text m f.locals x ++ (flat_map (index_text m f.locals) xs ++ rest))) afterwards s s (λ _ o. advanced i ≡ o) good a
+            (λ _ o ready g e. typed_reads v x.written x.operand o (32 ∷ []) afterwards s own refl (seam_indices xs rest ends.0) ready),
       )
     where
       stops : (b : Bool) → lists.at_no_comma i ≡ false → (b && lists.at_no_comma i) ≡ false
@@ -92,14 +92,14 @@ module _ {m : Module} {f : Function} (v : Invariant m f) where
       stops false e = refl
 
   -- further indices are read
-  indices_behind : (xs : List Argument) (i : Input) (rest : Text) (s : ℕ) → AllByRecursion (IsArgument m f) xs → EndsLine rest → Ready v s i (flat_map (index_text m f.locals) xs ++ rest)
-      → (ys : List Argument) × (o : Input) × Follows lists.ends_indices (λ c. (lists.any_index c).says) lists.behind_index (record { is_further = true }) i ys o × Ready v s o rest × Grows i o × AllArgumentsAgain m f.locals xs ys o
-  indices_behind [] i rest s own ends ready = ([], i, (list_ends i (ends.1 i ready.stands), refl), ready, grows_itself i, λ n others later. tt)
-  indices_behind (x ∷ xs) i rest s own ends ready =
+  indices_after : (xs : List Argument) (i : Input) (rest : Text) (s : ℕ) → AllByRecursion (IsArgument m f) xs → EndsLine rest → Ready v s i (flat_map (index_text m f.locals) xs ++ rest)
+      → (ys : List Argument) × (o : Input) × Follows lists.ends_indices (λ c. (lists.any_index c).says) lists.after_index (record { is_further = true }) i ys o × Ready v s o rest × Grows i o × AllArgumentsAgain m f.locals xs ys o
+  indices_after [] i rest s own ends ready = ([], i, (list_ends i (ends.1 i ready.stands), refl), ready, grows_itself i, λ n others later. tt)
+  indices_after (x ∷ xs) i rest s own ends ready =
       let ready = subst (λ (y : Text). Ready v s i y) (append_assoc (codes ", " ++ argument_text m f.locals x) (flat_map (index_text m f.locals) xs) rest ∙ append_assoc (codes ", ") (argument_text m f.locals x) (flat_map (index_text m f.locals) xs ++ rest)) ready in
       let h = index_reads x xs true i rest s own.0 ends ready in
       let a = h.1 in
-      let b = indices_behind xs a.1 rest s own.1 ends a.3 in (
+      let b = indices_after xs a.1 rest s own.1 ends a.3 in (
         a.0 ∷ b.0,
         b.1,
         (h.0, a.1, a.2, b.2),
@@ -117,7 +117,7 @@ module _ {m : Module} {f : Function} (v : Invariant m f) where
       let ready = subst (λ (y : Text). Ready v s i y) (append_assoc (codes ", " ++ argument_text m f.locals x) (flat_map (index_text m f.locals) xs) rest ∙ append_assoc (codes ", ") (argument_text m f.locals x) (flat_map (index_text m f.locals) xs ++ rest)) ready in
       let h = index_reads x xs false i rest s own.0 ends ready in
       let a = h.1 in
-      let b = indices_behind xs a.1 rest s own.1 ends a.3 in (
+      let b = indices_after xs a.1 rest s own.1 ends a.3 in (
         a.0 ∷ b.0,
         b.1,
         (h.0, a.1, a.2, b.2),

@@ -20,7 +20,7 @@ use Rattle.ir_print_law.proofs.Passes.{skip_passes, expect_passes}
 use Rattle.ir_print_law.proofs.Reading.{Within}
 use Rattle.ir_ast.specs.declared.operand.Constant.{Constant}
 use Rattle.ir_forms.specs.Written.{bits_of}
-use Rattle.ir_forms.specs.Ends.{jump, branch, br, case_constant, case, at_square, behind_case, all_cases, bracketed_cases, switch, returned_value, ret, terminator_by, terminator, block_end}
+use Rattle.ir_forms.specs.Ends.{jump, branch, br, case_constant, case, at_square, after_case, all_cases, bracketed_cases, switch, returned_value, ret, terminator_by, terminator, block_end}
 use Rattle.ir_forms.specs.CaseValues.{value_of, is_among}
 use Rattle.ir_forms.specs.Decorations.{either}
 use Rattle.ir_forms.specs.declared.decorating.Trail.TheVariants as trail
@@ -114,7 +114,7 @@ module _ {m : Module} {f : Function} (v : Within m f) where
   unfolding all_cases
   cases_keep w i xs o h fore =
       let r = v.reading in
-      let x = each_with r.Back (λ _. r.Fore) (λ (c : Cases) xs. AreBits (bits_of c.written) → AreCases f (bits_of c.written) c.seen xs) at_square case behind_case (λ c fit. tt)
+      let x = each_with r.Back (λ _. r.Fore) (λ (c : Cases) xs. AreBits (bits_of c.written) → AreCases f (bits_of c.written) c.seen xs) at_square case after_case (λ c fit. tt)
       (λ c j a p said fore. let y = case_keeps c j a p said fore in (y.0, λ b. let z = y.1 b in (z.0, λ xs rest fit. let g = z.1 fit in (g.0, g.1, g.2, rest fit)))) (record { written = w; seen = [] }) i xs o h fore in
       (x.0.1, x.1)
 

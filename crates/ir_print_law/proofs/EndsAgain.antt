@@ -126,7 +126,7 @@ module _ {m : Module} {f : Function} (v : Invariant m f) where
   -- the cases of a switch are read
   cases_read : (shape : Shape) (t : ℕ) (xs : List Case) (p : WrittenType) (seen_values : List CaseValue) (i : Input) (rest : Text) (s : ℕ) → IsType m shape t → IsTypeRead shape 64 p i → AreCases f (bits_of_shape shape) seen_values xs
       → Ready v s i (flat_map (case_text m f.locals t) xs ++ (codes " ]" ++ rest))
-      → (ys : List Case) × (o : Input) × Follows ends.at_square (λ c. (ends.case c).says) ends.behind_case (record { written = p; seen = seen_values }) i ys o × Ready v s o (codes " ]" ++ rest) × Grows i o × AllCasesAgain xs ys o
+      → (ys : List Case) × (o : Input) × Follows ends.at_square (λ c. (ends.case c).says) ends.after_case (record { written = p; seen = seen_values }) i ys o × Ready v s o (codes " ]" ++ rest) × Grows i o × AllCasesAgain xs ys o
   unfolding class_of
   cases_read shape t [] p seen_values i rest s own read cases ready =
       ([], i, (seen k.CloseSquare i (sign_kind v 93 k.CloseSquare i (32 ∷ []) rest s refl refl refl ready), refl), ready, grows_itself i, λ n others later. tt)
@@ -160,7 +160,7 @@ module _ {m : Module} {f : Function} (v : Invariant m f) where
       let t1 = shown false shape ++ (32 ∷ (operand_text m f.locals t x ++ t2)) in
       let ready = subst (λ (y : Text). Ready v s i (gap ++ y)) (front (type_text m t) (operand_text m f.locals t x) (target_text f.locals otherwise) (flat_map (case_text m f.locals t) xs)) ready in
       let ready = subst (λ (y : Text). Ready v s i (gap ++ (codes "switch" ++ (32 ∷ (y ++ (32 ∷ (operand_text m f.locals t x ++ t2))))))) type_is ready in
-      on v v skip (λ _. ends.switch_behind) i (32 ∷ t1) rest s s (λ _ o. advanced i ≡ o) good
+      on v v skip (λ _. ends.switch_after) i (32 ∷ t1) rest s s (λ _ o. advanced i ≡ o) good
       (word_skipped v (codes "switch") i gap (32 ∷ t1) s s blanks refl refl (omega arith) ready)
       (λ _ o ready g e.
       on v v w.scalar operand_form o (32 ∷ (operand_text m f.locals t x ++ t2)) rest s s (IsTypeRead shape 64) good
@@ -214,7 +214,7 @@ module _ {m : Module} {f : Function} (v : Invariant m f) where
   jump_reads label i gap rest s there blanks seam ready =
       let good = EndAgain m f.locals (end.Jump label) in
       let t1 = target_text f.locals label ++ rest in
-      on v v skip (λ _. ends.br_behind) i (32 ∷ t1) rest s s (λ _ o. advanced i ≡ o) good
+      on v v skip (λ _. ends.br_after) i (32 ∷ t1) rest s s (λ _ o. advanced i ≡ o) good
       (word_skipped v (codes "br") i gap (32 ∷ t1) s s blanks refl refl (omega arith) ready)
       (λ _ o ready g e.
       looked v (λ i. sees k.Label i.cursor) (either ends.jump ends.branch) o rest s good true (seen k.Label o (word_seen v (codes "label") o (32 ∷ []) (32 ∷ (local_text f.locals label ++ rest)) s refl refl refl ready))
@@ -235,7 +235,7 @@ module _ {m : Module} {f : Function} (v : Invariant m f) where
       let t1 = typed_text m f.locals ct c ++ t2 in
       let type_is = type_shown m (Integer 1) ct own.0 (omega arith) in
       let ready = subst (λ (y : Text). Ready v s i (gap ++ y)) (front (typed_text m f.locals ct c) (target_text f.locals taken) (target_text f.locals other)) ready in
-      on v v skip (λ _. ends.br_behind) i (32 ∷ t1) rest (s + 1) s (λ _ o. advanced i ≡ o) good
+      on v v skip (λ _. ends.br_after) i (32 ∷ t1) rest (s + 1) s (λ _ o. advanced i ≡ o) good
       (word_skipped v (codes "br") i gap (32 ∷ t1) s (s + 1) blanks refl refl (omega arith) ready)
       (λ _ o ready g e.
       let starts = ap (λ (y : Text). (y ++ 32 ∷ operand_text m f.locals ct c) ++ t2) type_is ∙ append_assoc (shown false (Integer 1)) (32 ∷ operand_text m f.locals ct c) t2 in
@@ -287,7 +287,7 @@ module _ {m : Module} {f : Function} (v : Invariant m f) where
       let good = EndAgain m f.locals (end.Return x) in
       let t1 = argument_text m f.locals x ++ rest in
       let type_is = type_shown m own.0 x.written own.1.0.0 own.1.0.1 in
-      on v v skip (λ _. ends.ret_behind) i (32 ∷ t1) rest s s (λ _ o. advanced i ≡ o) good
+      on v v skip (λ _. ends.ret_after) i (32 ∷ t1) rest s s (λ _ o. advanced i ≡ o) good
       (word_skipped v (codes "ret") i gap (32 ∷ t1) s s blanks refl refl (omega arith) ready)
       (λ _ o ready g e.
       let starts = ap (λ (y : Text). (y ++ 32 ∷ operand_text m f.locals x.written x.operand) ++ rest) type_is ∙ append_assoc (shown false own.0) (32 ∷ operand_text m f.locals x.written x.operand) rest in
@@ -323,7 +323,7 @@ module _ {m : Module} {f : Function} (v : Invariant m f) where
   terminator_reads end.ReturnVoid i gap rest s own blanks seam ready =
       let good = EndAgain m f.locals end.ReturnVoid in
       looked v (λ i. kind i.cursor) ends.terminator_by i rest s good k.Ret (word_seen v (codes "ret") i gap (32 ∷ (codes "void" ++ rest)) s blanks refl refl ready)
-      (on v v skip (λ _. ends.ret_behind) i (32 ∷ (codes "void" ++ rest)) rest s s (λ _ o. advanced i ≡ o) good
+      (on v v skip (λ _. ends.ret_after) i (32 ∷ (codes "void" ++ rest)) rest s s (λ _ o. advanced i ≡ o) good
       (word_skipped v (codes "ret") i gap (32 ∷ (codes "void" ++ rest)) s s blanks refl refl (omega arith) ready)
       (λ _ o ready g e.
       looked v (λ i. sees k.Void i.cursor) (either (skip >> pure end.ReturnVoid) ends.returned_value) o rest s good true (seen k.Void o (word_seen v (codes "void") o (32 ∷ []) rest s refl refl seam ready))

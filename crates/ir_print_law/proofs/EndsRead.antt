@@ -12,7 +12,7 @@ use Rattle.ir_forms.specs.declared.input.Input.{Input}
 use Rattle.ir_forms.specs.Input.{advanced, skip}
 use Rattle.ir_forms.specs.Names.{target}
 use Rattle.grammar.specs.Grammar.{pure, ◌>>◌}
-use Rattle.ir_forms.specs.Ends.{terminator, terminator_by, br, br_behind, jump, branch, ret, ret_behind, returned_value}
+use Rattle.ir_forms.specs.Ends.{terminator, terminator_by, br, br_after, jump, branch, ret, ret_after, returned_value}
 use Rattle.ir_forms.specs.Decorations.{either}
 use Rattle.ir_print_law.specs.Ends.{JumpsAreRead, EmptyReturnsAreRead, UnreachablesAreRead}
 use Rattle.ir_print.specs.Names.{local_text}
@@ -25,12 +25,12 @@ by_word : (x : Kind) (i o : Input) (end : End) → kind i.cursor ≡ x → (term
 unfolding terminator
 by_word x i o end e h = subst (λ (y : Kind). (terminator_by y).says i end o) (sym e) h
 
-jump_behind : (i o : Input) (n : ℕ) → kind i.cursor ≡ k.Label → target.says i n o → br_behind.says i (Jump n) o
-jump_behind i o n e h = subst (λ (t : Bool). (either jump branch t).says i (Jump n) o) (sym (seen k.Label i e)) (n, o, h, (refl, refl))
+jump_after : (i o : Input) (n : ℕ) → kind i.cursor ≡ k.Label → target.says i n o → br_after.says i (Jump n) o
+jump_after i o n e h = subst (λ (t : Bool). (either jump branch t).says i (Jump n) o) (sym (seen k.Label i e)) (n, o, h, (refl, refl))
 
-label_kind : (i : Input) (behind : Text) → Stands i.cursor ((32 ∷ []) ++ (codes "label" ++ 32 ∷ behind)) → kind i.cursor ≡ k.Label
+label_kind : (i : Input) (afterwards : Text) → Stands i.cursor ((32 ∷ []) ++ (codes "label" ++ 32 ∷ afterwards)) → kind i.cursor ≡ k.Label
 unfolding word_kind keywords class_of
-label_kind i behind at = (word_comes i.cursor (32 ∷ []) (codes "label") (32 ∷ behind) refl refl refl at).0
+label_kind i afterwards at = (word_comes i.cursor (32 ∷ []) (codes "label") (32 ∷ afterwards) refl refl refl at).0
 
 pub jumps_are_read : JumpsAreRead
 unfolding br word_kind keywords class_of
@@ -38,7 +38,7 @@ jumps_are_read m locals label i gap rest is less blanks seam at =
     let w = word_comes i.cursor gap (codes "br") (32 ∷ (codes "label" ++ 32 ∷ (local_text locals label ++ rest))) blanks refl refl at in
     let t = targets_are_read locals label (advanced i) (32 ∷ []) rest is less refl seam w.3 in
     let e = label_kind (advanced i) (local_text locals label ++ rest) w.3 in
-    (by_word k.Br i _ _ w.0 (tt, advanced i, (refl, refl), jump_behind (advanced i) _ _ e t.0), t.2)
+    (by_word k.Br i _ _ w.0 (tt, advanced i, (refl, refl), jump_after (advanced i) _ _ e t.0), t.2)
 
 pub empty_returns_are_read : EmptyReturnsAreRead
 unfolding ret word_kind keywords class_of
@@ -46,9 +46,9 @@ empty_returns_are_read m locals i gap rest blanks seam at =
     let w = word_comes i.cursor gap (codes "ret") (32 ∷ (codes "void" ++ rest)) blanks refl refl at in
     let v = word_comes (advanced i).cursor (32 ∷ []) (codes "void") rest refl refl seam w.3 in
     let o = advanced (advanced i) in
-    let behind : ret_behind.says (advanced i) ReturnVoid (advanced (advanced i)) =
+    let afterwards : ret_after.says (advanced i) ReturnVoid (advanced (advanced i)) =
     subst (λ (t : Bool). (either (skip >> pure ReturnVoid) returned_value t).says (advanced i) ReturnVoid (advanced (advanced i))) (sym (seen k.Void (advanced i) v.0)) (tt, o, (refl, refl), (refl, refl)) in
-    (by_word k.Ret i o ReturnVoid w.0 (tt, advanced i, (refl, refl), behind), v.3)
+    (by_word k.Ret i o ReturnVoid w.0 (tt, advanced i, (refl, refl), afterwards), v.3)
 
 pub unreachables_are_read : UnreachablesAreRead
 unfolding word_kind keywords

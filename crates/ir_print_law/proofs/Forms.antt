@@ -62,9 +62,9 @@ module _ (Back : Input → Type 0) where
   -- more is known before the form, and less after it
   pub so : {A : Type 0} (F K : Input → Type 0) (G H : A → Input → Type 0) (P Q : A → Type 0) (g : Form A) (i : Input)
       → (K i → F i) → ((a : A) (o : Input) → G a o → H a o) → ((a : A) → P a → Q a) → Keeps F G Back g P i → Keeps K H Back g Q i
-  so F K G H P Q g i before behind good h a o said fore =
+  so F K G H P Q g i before afterwards good h a o said fore =
       let r = h a o said (before fore) in
-      (behind a o r.0, λ k. let l = r.1 k in (l.0, good a l.1))
+      (afterwards a o r.0, λ k. let l = r.1 k in (l.0, good a l.1))
 
   -- ---- lists
 

@@ -50,16 +50,16 @@ use Rattle.ir_print_law.proofs.Results.{defined_result_reads, head_end_reads}
 use Rattle.ir_print_law.proofs.Steady.{Steady, outside}
 
 -- the head of a function after its parameters
-abbrev behind_close : Function → (rest : Text) → Text
-behind_close f rest = collector_text f.collector ++ 32 ∷ 123 ∷ 10 ∷ rest
+abbrev after_close : Function → (rest : Text) → Text
+after_close f rest = collector_text f.collector ++ 32 ∷ 123 ∷ 10 ∷ rest
 
-abbrev behind_open : Module → Function → (rest : Text) → Text
-behind_open m f rest = listed (parameter_text m f.locals) f.parameters ++ 41 ∷ behind_close f rest
+abbrev after_open : Module → Function → (rest : Text) → Text
+after_open m f rest = listed (parameter_text m f.locals) f.parameters ++ 41 ∷ after_close f rest
 
-abbrev behind_result : Module → Function → (rest : Text) → Text
-behind_result m f rest = 32 ∷ 64 ∷ (name_text blank.Kept (name_at m.symbols f.symbol) ++ 40 ∷ behind_open m f rest)
+abbrev after_result : Module → Function → (rest : Text) → Text
+after_result m f rest = 32 ∷ 64 ∷ (name_text blank.Kept (name_at m.symbols f.symbol) ++ 40 ∷ after_open m f rest)
 
-head_is : (m : Module) (f : Function) (rest : Text) → head_line m f ++ rest ≡ codes "define " ++ (type_text m f.returned ++ behind_result m f rest)
+head_is : (m : Module) (f : Function) (rest : Text) → head_line m f ++ rest ≡ codes "define " ++ (type_text m f.returned ++ after_result m f rest)
 head_is m f rest =
     let a = codes "define " in
     let t = type_text m f.returned in
@@ -140,30 +140,30 @@ module _ (m : Module) (f : Function) (named : AreNamed m f) (nobody_named : AreN
   definition_goes i gap rest is keys block_keys_are own allowed none apart never few blanks ready =
       let name = name_at m.symbols f.symbol in
       let bytes = flat_map (block_text m f.locals) f.blocks ++ 125 ∷ 10 ∷ rest in
-      let behind = type_text m f.returned ++ behind_result m f bytes in
+      let afterwards = type_text m f.returned ++ after_result m f bytes in
       let v = known m f named (outside far) in
       let w = known m f named (far_named name) in
       let here = subst (λ (t : Text). Ready (known m nobody nobody_named (outside far)) 0 i (gap ++ t)) (function_is m f rest ∙ head_is m f bytes) ready in
-      let entered = ready_as (known m nobody nobody_named (outside far)) (known m f named (outside far)) i (gap ++ (codes "define " ++ behind)) 0 (λ h. (h.0, h.1, locals_enter f i.locals i.local_uses h.2, h.3)) here in
-      let kind_is = word_seen v (codes "define") i gap (32 ∷ behind) 0 blanks refl refl entered in
-      let a = word_skipped v (codes "define") i gap (32 ∷ behind) 0 0 blanks refl refl (omega arith) entered in
+      let entered = ready_as (known m nobody nobody_named (outside far)) (known m f named (outside far)) i (gap ++ (codes "define " ++ afterwards)) 0 (λ h. (h.0, h.1, locals_enter f i.locals i.local_uses h.2, h.3)) here in
+      let kind_is = word_seen v (codes "define") i gap (32 ∷ afterwards) 0 blanks refl refl entered in
+      let a = word_skipped v (codes "define") i gap (32 ∷ afterwards) 0 0 blanks refl refl (omega arith) entered in
       let p = a.1 in
-      let b = defined_result_reads m f v types f.returned p (32 ∷ []) name (40 ∷ behind_open m f bytes) is.returned own refl refl a.3 in
+      let b = defined_result_reads m f v types f.returned p (32 ∷ []) name (40 ∷ after_open m f bytes) is.returned own refl refl a.3 in
       let q = b.1 in
       let number = length i.functions in
-      let c = name_reads (length i.functions) q name (behind_open m f bytes) own allowed none apart never b.3 in
+      let c = name_reads (length i.functions) q name (after_open m f bytes) own allowed none apart never b.3 in
       let r = c.1 in
-      let d = sign_reads w 40 k.OpenRound r [] (behind_open m f bytes) 0 0 refl refl refl (omega arith) c.3 in
+      let d = sign_reads w 40 k.OpenRound r [] (after_open m f bytes) 0 0 refl refl refl (omega arith) c.3 in
       let s = d.1 in
       let value_size = length-append (parameter_keys f) (flat_map (value_keys_of f.locals) f.blocks) in
       let parameter_size = map_size f.parameters in
       let values = is.values in
-      let e = parameters_go m f named types f.parameters (flat_map (block_keys f.locals) f.blocks) (far_named name) s (behind_close f bytes) is.parameters keys (first_steady name is.definitions)
+      let e = parameters_go m f named types f.parameters (flat_map (block_keys f.locals) f.blocks) (far_named name) s (after_close f bytes) is.parameters keys (first_steady name is.definitions)
       (omega (arith, values, value_size, parameter_size)) (omega arith) d.3 in
       let t = e.1 in
       let now = e.2 in
       let on = e.6 in
-      let g = sign_reads (known m f named now) 41 k.CloseRound t [] (behind_close f bytes) 0 0 refl refl refl (omega arith) e.4 in
+      let g = sign_reads (known m f named now) 41 k.CloseRound t [] (after_close f bytes) 0 0 refl refl refl (omega arith) e.4 in
       let u = g.1 in
       let h = head_end_reads m f (known m f named now) types f.collector u (10 ∷ bytes) is.collector g.3 in
       let x = h.1 in

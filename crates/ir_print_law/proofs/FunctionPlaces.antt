@@ -159,9 +159,9 @@ value_places g t uses key h fresh =
 
 -- the table in which a name means this
 sorted_as : (n : ℕ) (sort : LocalSort) (t : Table LocalSort) (P : List LocalSort → Type 0) → P t.sorts → P (slice_set t.sorts n sort) → P (defined n sort t).sorts
-sorted_as n sort t P before behind = by (nat_lt n (length t.sorts)) where
+sorted_as n sort t P before afterwards = by (nat_lt n (length t.sorts)) where
   by : (b : Bool) → P (if b then slice_set t.sorts n sort else t.sorts)
-  by true = behind
+  by true = afterwards
   by false = before
 
 -- the value that is pending has a type from now on

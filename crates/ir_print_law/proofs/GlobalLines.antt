@@ -111,10 +111,10 @@ unfolding class_of
 word_seam true rest = refl
 word_seam false rest = refl
 
-abbrev pub behind_word : Module → Global → (rest : Text) → Text
-behind_word m g rest = type_text m g.held ++ 32 ∷ (constant_text m g.held g.initial ++ 10 ∷ rest)
+abbrev pub after_word : Module → Global → (rest : Text) → Text
+after_word m g rest = type_text m g.held ++ 32 ∷ (constant_text m g.held g.initial ++ 10 ∷ rest)
 
-pub line_is : (m : Module) (g : Global) (rest : Text) → global_line m g ++ rest ≡ 64 ∷ (name_text blank.Kept (name_at m.symbols g.symbol) ++ (global_word g.is_constant ++ behind_word m g rest))
+pub line_is : (m : Module) (g : Global) (rest : Text) → global_line m g ++ rest ≡ 64 ∷ (name_text blank.Kept (name_at m.symbols g.symbol) ++ (global_word g.is_constant ++ after_word m g rest))
 line_is m g rest =
     let a = global_text m g.symbol in
     let w = global_word g.is_constant in
@@ -172,13 +172,13 @@ module _ (m : Module) (f : Function) (named : AreNamed m f) (types : TypesRead m
       let bits = bits_of_shape shape in
       let w = known m f named (far_named name) in
       let here = subst (λ (t : Text). Ready (known m f named far) 0 i (gap ++ t)) (line_is m g rest) ready in
-      let behind = global_word g.is_constant ++ behind_word m g rest in
-      let seam = word_seam g.is_constant (behind_word m g rest) in
+      let afterwards = global_word g.is_constant ++ after_word m g rest in
+      let seam = word_seam g.is_constant (after_word m g rest) in
       let number = length i.globals in
-      let kind_is = (global_comes i.cursor gap name behind blanks own seam here.stands).0 in
-      let a = new_symbol_goes m f named far (far.globals ++ name ∷ []) far.functions (symbol.Global (length i.globals)) name i gap behind 0 own allowed none (name_step name (length i.globals) i apart) blanks seam here in
+      let kind_is = (global_comes i.cursor gap name afterwards blanks own seam here.stands).0 in
+      let a = new_symbol_goes m f named far (far.globals ++ name ∷ []) far.functions (symbol.Global (length i.globals)) name i gap afterwards 0 own allowed none (name_step name (length i.globals) i apart) blanks seam here in
       let p = a.1 in
-      let b = word_reads w g.is_constant p (behind_word m g rest) a.3 in
+      let b = word_reads w g.is_constant p (after_word m g rest) a.3 in
       let q = b.1 in
       let shown = text_shown m shape g.held g.initial is_type.0 is.3 in
       let constant_bytes = 32 ∷ (constant_shown bits g.initial ++ 10 ∷ rest) in

@@ -15,7 +15,7 @@ use Rattle.ir_text.specs.ItemsOfText.{item, at_end_of_text}
 use Rattle.name_text.specs.Readings.{AreBytes}
 use Rattle.ir_print.specs.Items.{function_text, declare_line, global_line, global_word}
 use Rattle.ir_ast.specs.declared.items_of_module.Global.{Global}
-use Rattle.ir_print_law.proofs.GlobalLines.{global_goes, line_is, behind_word}
+use Rattle.ir_print_law.proofs.GlobalLines.{global_goes, line_is, after_word}
 use Rattle.ir_print_law.proofs.DeclareLists.{declared_names, declares_begin, declares_go, later_than}
 use Rattle.ir_print_law.proofs.Words.{global_comes}
 use Rattle.ir_ast.specs.declared.items_of_module.Declare.{Declare}
@@ -50,7 +50,7 @@ word_seam false rest = refl
 
 global_kind : (m : Module) (y : Global) (i : Input) (gap rest : Text) → AreBytes (name_at m.symbols y.symbol) → AreBlanks gap → Stands i.cursor (gap ++ (global_line m y ++ rest)) → kind i.cursor ≡ k.GlobalName
 global_kind m y i gap rest own blanks at =
-    (global_comes i.cursor gap (name_at m.symbols y.symbol) (global_word y.is_constant ++ behind_word m y rest) blanks own (word_seam y.is_constant (behind_word m y rest))
+    (global_comes i.cursor gap (name_at m.symbols y.symbol) (global_word y.is_constant ++ after_word m y rest) blanks own (word_seam y.is_constant (after_word m y rest))
     (subst (λ (t : Text). Stands i.cursor (gap ++ t)) (line_is m y rest) at)).0
 
 -- the lines of declared functions and the defined functions
@@ -120,9 +120,9 @@ module _ (m : Module) (is : IsPrintable m) (named : AreNamed m nobody) (ds : Lis
       )
   globals_go (y ∷ ys) far i gap blanks past past_line are declares functions own symbols new globals none never few few_declares few_functions out ready =
       let name = name_at m.symbols y.symbol in
-      let behind = flat_map (global_line m) ys ++ functions_text m ds fs in
+      let afterwards = flat_map (global_line m) ys ++ functions_text m ds fs in
       let here = subst (λ (t : Text). Ready (known m nobody named far) 0 i (gap ++ t)) (append_assoc (global_line m y) (flat_map (global_line m) ys) (functions_text m ds fs)) ready in
-      let one = global_goes m nobody named (types_given m) far y i gap behind are.0 own.0.0 own.0.1 new.0 (λ g. subst (λ (l : List Text). IsIn l name) none g) (omega (arith, few))
+      let one = global_goes m nobody named (types_given m) far y i gap afterwards are.0 own.0.0 own.0.1 new.0 (λ g. subst (λ (l : List Text). IsIn l name) none g) (omega (arith, few))
       (globals_begin m ys ds fs own.1 past_line) blanks here in
       let p = one.0 in
       let x = one.1 in
@@ -133,7 +133,7 @@ module _ (m : Module) (is : IsPrintable m) (named : AreNamed m nobody) (ds : Lis
       (omega (arith, few, size)) few_declares few_functions out_mid one.3 in
       let o = next.1 in
       let w = next.11 in
-      let goes = unlike k.End is_global_kind i refl (ap is_global_kind (global_kind m y i gap behind own.0.0 blanks here.stands)) in (
+      let goes = unlike k.End is_global_kind i refl (ap is_global_kind (global_kind m y i gap afterwards own.0.0 blanks here.stands)) in (
         tt ∷ next.0,
         next.1,
         next.2,

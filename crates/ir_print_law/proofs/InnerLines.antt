@@ -12,7 +12,7 @@ use Rattle.ir_tokens.specs.Bytes.{Text, class_of}
 use Rattle.ir_forms.specs.Cursor.{kind, sees}
 use Rattle.ir_forms.specs.declared.input.Input.{Input}
 use Rattle.ir_forms.specs.declared.site.Site.{Site}
-use Rattle.ir_forms.specs.Instructions.{named_behind, instruction, instruction_by, placed}
+use Rattle.ir_forms.specs.Instructions.{named_after, instruction, instruction_by, placed}
 use Rattle.ir_print.specs.Instructions.{op_text, instruction_line}
 use Rattle.ir_print.specs.Names.{name_at, key_text, local_text}
 use Rattle.ir_print.specs.Standing.{Stands}
@@ -72,10 +72,10 @@ module _ (m : Module) (f : Function) (named : AreNamed m f) (ops : OpsRead m f n
   -- ---- an instruction with a value
 
   value_says : (site : Site) (key : Text) (is : IsNext far.unnamed key) (i p o : Input) (n : ℕ) (y : Op)
-      → kind i.cursor ≡ kind_then k.LocalNumber k.LocalName far.unnamed key is → (value_by m f named far key is).says i n p → (named_behind site n).says p (record { result = Some n; op = y }) o
+      → kind i.cursor ≡ kind_then k.LocalNumber k.LocalName far.unnamed key is → (value_by m f named far key is).says i n p → (named_after site n).says p (record { result = Some n; op = y }) o
       → (instruction site).says i (record { result = Some n; op = y }) o
-  value_says site key (inl e) i p o n y is said behind = by_kind site k.LocalNumber i o (record { result = Some n; op = y }) is (n, p, said, behind)
-  value_says site key (inr e) i p o n y is said behind = by_kind site k.LocalName i o (record { result = Some n; op = y }) is (n, p, said, behind)
+  value_says site key (inl e) i p o n y is said afterwards = by_kind site k.LocalNumber i o (record { result = Some n; op = y }) is (n, p, said, afterwards)
+  value_says site key (inr e) i p o n y is said afterwards = by_kind site k.LocalName i o (record { result = Some n; op = y }) is (n, p, said, afterwards)
 
   pub value_goes_on : (x : Op) (value : ℕ) (site : Site) (i : Input) (rest : Text) (is : IsNext far.unnamed (name_at f.locals value)) → IsOp m f x → gives_value m x ≡ true → site.place < 4294967295 → (IsIn far.seen (name_at f.locals value) → ⊥) → (IsIn far.labels (name_at f.locals value) → ⊥)
       → far.count < 1000000 → far.unnamed < 4294967295 → far.pending ≡ [] → EndsOp (10 ∷ rest)
@@ -99,13 +99,13 @@ module _ (m : Module) (f : Function) (named : AreNamed m f) (ops : OpsRead m f n
       let y = r.0 in
       let o = r.1 in
       let trail = not_trailed r.0 r.1 (comma_free (10 ∷ rest) r.1 ends r.3.stands) in
-      let behind : (named_behind site n).says p (record { result = Some n; op = y }) o = (tt, q, equals.2, (r.0, r.1, r.2, (r.0, r.1, trail, (refl, refl)))) in
+      let afterwards : (named_after site n).says p (record { result = Some n; op = y }) o = (tt, q, equals.2, (r.0, r.1, r.2, (r.0, r.1, trail, (refl, refl)))) in
       let wide = widens_further i p o w.1.4 (widens_further p q o (grows_widens p q equals.4) (grows_widens q o r.4)) in
       let wide_p = widens_further p q o (grows_widens p q equals.4) (grows_widens q o r.4) in (
         record { result = Some w.1.0; op = r.0 },
         r.1,
         far_result key unnamed,
-        placed_is site i o (record { result = Some n; op = y }) less (value_says site key is i p o n y w.0 w.1.2 behind),
+        placed_is site i o (record { result = Some n; op = y }) less (value_says site key is i p o n y w.0 w.1.2 afterwards),
         r.3,
         wide,
         (

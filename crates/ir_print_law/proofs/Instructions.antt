@@ -15,12 +15,12 @@ use Rattle.ir_forms.specs.Choices.{select}
 use Rattle.ir_forms.specs.Cursor.{kind}
 use Rattle.ir_forms.specs.Elements.{element}
 use Rattle.ir_forms.specs.Input.{Form}
-use Rattle.ir_forms.specs.Instructions.{named_op_by, named_op, named_behind, instruction_by, instruction, placed, at_terminator, body}
+use Rattle.ir_forms.specs.Instructions.{named_op_by, named_op, named_after, instruction_by, instruction, placed, at_terminator, body}
 use Rattle.ir_forms.specs.ManyWith.{Follows}
 use Rattle.ir_forms.specs.Memory.{alloca, load, store}
 use Rattle.ir_forms.specs.Numbers.{compare, integer_op}
 use Rattle.ir_forms.specs.Ops.{as_op}
-use Rattle.ir_forms.specs.Sites.{first_of, behind}
+use Rattle.ir_forms.specs.Sites.{first_of, afterwards}
 use Rattle.ir_forms.specs.declared.decorating.Spot.TheVariants as spot
 use Rattle.ir_forms.specs.declared.input.Input.{Input}
 use Rattle.ir_forms.specs.declared.site.Site.{Site}
@@ -113,9 +113,9 @@ module _ {m : Module} {f : Function} {Back : Input → Type 0} {Fore : Progress 
       let d = unnamed_keeps g h.0 h.1 y o h.3 a.0 in
       (d.0, λ back. let db = d.1 back in let ab = a.1 db.0 in (ab.0, db.1 ab.1))
 
-  named_behind_keeps : (g : Progress) (n : ℕ) (site : Site) (i : Input) (y : Instr) (o : Input) → (named_behind site n).says i y o → Open g n i
+  named_after_keeps : (g : Progress) (n : ℕ) (site : Site) (i : Input) (y : Instr) (o : Input) → (named_after site n).says i y o → Open g n i
       → Fore (with_result g y.result) o × (Back o → Back i × IsInstr m f y)
-  named_behind_keeps g n site i y o h fore =
+  named_after_keeps g n site i y o h fore =
       let t = h.3 in
       let a = expect_passes (within_of (b.open_kit g n)).reading k.Equals i h.0 h.1 h.2 fore in
       let c = named_op_keeps g n site h.1 t.0 t.1 t.2 a.0 in
@@ -168,11 +168,11 @@ module _ {m : Module} {f : Function} {Back : Input → Type 0} {Fore : Progress 
   instruction_by_keeps : (g : Progress) (site : Site) (x : Kind) (i : Input) → kind i.cursor ≡ x → Instructs g (instruction_by site x) i
   instruction_by_keeps g site k.LocalName i is = λ y o h fore.
       let a = b.named g i is h.0 h.1 h.2 fore in
-      let d = named_behind_keeps g h.0 site h.1 y o h.3 a.0 in
+      let d = named_after_keeps g h.0 site h.1 y o h.3 a.0 in
       (d.0, λ back. let db = d.1 back in ((a.1 db.0).0, db.1))
   instruction_by_keeps g site k.LocalNumber i is = λ y o h fore.
       let a = b.numbered g i is h.0 h.1 h.2 fore in
-      let d = named_behind_keeps g h.0 site h.1 y o h.3 a.0 in
+      let d = named_after_keeps g h.0 site h.1 y o h.3 a.0 in
       (d.0, λ back. let db = d.1 back in ((a.1 db.0).0, db.1))
   instruction_by_keeps g site k.Call i is = call_statement_keeps g i
   instruction_by_keeps g site k.Tail i is = tail_statement_keeps g i
@@ -189,12 +189,12 @@ module _ {m : Module} {f : Function} {Back : Input → Type 0} {Fore : Progress 
 
   -- ---- the body of a block
 
-  instructions_from : (g : Progress) (site : Site) (i : Input) (xs : List Instr) (o : Input) → Follows at_terminator (λ c. (placed c).says) behind site i xs o → Fore g i
+  instructions_from : (g : Progress) (site : Site) (i : Input) (xs : List Instr) (o : Input) → Follows at_terminator (λ c. (placed c).says) afterwards site i xs o → Fore g i
       → Fore (with_results g xs) o × (Back o → Back i × AllByRecursion (IsInstr m f) xs)
   instructions_from g site i [] o h fore = (subst (Fore g) h.1 fore, λ back. (subst Back (sym h.1) back, tt))
   instructions_from g site i (x ∷ xs) o h fore =
       let a = placed_keeps g site i x h.1 h.2 fore in
-      let c = instructions_from (with_result g x.result) (behind site x) h.1 xs o h.3 a.0 in
+      let c = instructions_from (with_result g x.result) (afterwards site x) h.1 xs o h.3 a.0 in
       (c.0, λ back. let cb = c.1 back in let ab = a.1 cb.0 in (ab.0, (ab.1, cb.1)))
 
   pub body_keeps : (number : ℕ) (g : Progress) (i : Input) → Keeps (Fore g) (λ xs. Fore (with_results g xs)) Back (body number) (AllByRecursion (IsInstr m f)) i

@@ -43,9 +43,9 @@ in_front [] ys y h = absurd h
 in_front (x ∷ xs) ys y (inl e) = inl e
 in_front (x ∷ xs) ys y (inr h) = inr (in_front xs ys y h)
 
-pub in_behind : {A : Type 0} (xs ys : List A) (y : A) → IsIn ys y → IsIn (xs ++ ys) y
-in_behind [] ys y h = h
-in_behind (x ∷ xs) ys y h = inr (in_behind xs ys y h)
+pub in_after : {A : Type 0} (xs ys : List A) (y : A) → IsIn ys y → IsIn (xs ++ ys) y
+in_after [] ys y h = h
+in_after (x ∷ xs) ys y h = inr (in_after xs ys y h)
 
 pub in_parts : {A : Type 0} (xs ys : List A) (y : A) → IsIn (xs ++ ys) y → IsIn xs y ⊎ IsIn ys y
 in_parts [] ys y h = inr h
@@ -66,11 +66,11 @@ in_last xs x y h = elim (in_parts xs (x ∷ []) y h) [
 ]
 
 pub is_last : {A : Type 0} (xs : List A) (x : A) → IsIn (xs ++ x ∷ []) x
-is_last xs x = in_behind xs (x ∷ []) x (inl refl)
+is_last xs x = in_after xs (x ∷ []) x (inl refl)
 
-pub all_behind : {A : Type 0} (P : A → Type 0) (xs : List A) (x : A) → AllByRecursion P xs → P x → AllByRecursion P (xs ++ x ∷ [])
-all_behind P [] x h p = (p, tt)
-all_behind P (y ∷ xs) x h p = (h.0, all_behind P xs x h.1 p)
+pub all_afterwards : {A : Type 0} (P : A → Type 0) (xs : List A) (x : A) → AllByRecursion P xs → P x → AllByRecursion P (xs ++ x ∷ [])
+all_afterwards P [] x h p = (p, tt)
+all_afterwards P (y ∷ xs) x h p = (h.0, all_afterwards P xs x h.1 p)
 
 pub all_so : {A : Type 0} (P Q : A → Type 0) (xs : List A) → ((x : A) → P x → Q x) → AllByRecursion P xs → AllByRecursion Q xs
 all_so P Q [] f h = tt
@@ -202,7 +202,7 @@ struct_used m structs t uses k start is_in h =
       even = g.even;
       known = g.known;
       new = g.new;
-      uses_so = all_behind (IsStructUse m (numbered k t.names)) uses (record { name = number_of k t.names; start = start }) g.uses_so (k, is_in, place_numbered k t.names);
+      uses_so = all_afterwards (IsStructUse m (numbered k t.names)) uses (record { name = number_of k t.names; start = start }) g.uses_so (k, is_in, place_numbered k t.names);
     }
 
 pub symbols_mentioned : (m : Module) (symbols globals functions : List Text) (t : Table SymbolSort) (uses : List SymbolUse) (k : Text) → SymbolsKnown m symbols globals functions t uses
@@ -227,7 +227,7 @@ symbol_used m symbols globals functions t uses k is_call start size is_in h =
       are_functions = g.are_functions;
       new = g.new;
       no_function = g.no_function;
-      uses_so = all_behind (IsSymbolUse m (numbered k t.names)) uses (record { symbol = number_of k t.names; is_call = is_call; start = start; length = size }) g.uses_so (k, is_in, place_numbered k t.names);
+      uses_so = all_afterwards (IsSymbolUse m (numbered k t.names)) uses (record { symbol = number_of k t.names; is_call = is_call; start = start; length = size }) g.uses_so (k, is_in, place_numbered k t.names);
     }
 
 unknown_same : (wanted : Wanted) → is_wanted wanted None ≡ is_wanted wanted (Some local.Unknown)
@@ -253,7 +253,7 @@ local_used f seen values labels pending t uses k wanted start is_in h =
       known = g.known;
       new = g.new;
       waits = g.waits;
-      uses_so = all_behind (IsLocalUse f (numbered k t.names)) uses (record { value = number_of k t.names; wanted = wanted; start = start }) g.uses_so (k, is_in, place_numbered k t.names);
+      uses_so = all_afterwards (IsLocalUse f (numbered k t.names)) uses (record { value = number_of k t.names; wanted = wanted; start = start }) g.uses_so (k, is_in, place_numbered k t.names);
     }
 
 -- ---- no type, operand or operation breaks it

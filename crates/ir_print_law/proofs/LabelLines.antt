@@ -56,10 +56,10 @@ module _ (m : Module) (f : Function) (named : AreNamed m f) (far : Far) where
       (n : ℕ) × (o : Input) × (block_label block).says i n o × Ready (known m f named (far_label key unnamed)) 0 o rest × Widens i o × (slice_get o.locals.names n ≡ Some key)
 
   -- the state after a label, which the form leaves
-  behind_label : (key : Text) (i o : Input) (unnamed : ℕ) (rest : Text) → Ready (known m f named far) 0 i (10 ∷ (key_text key ++ 58 ∷ rest)) → (IsIn far.values key → ⊥) → far.pending ≡ []
+  afterwards_label : (key : Text) (i o : Input) (unnamed : ℕ) (rest : Text) → Ready (known m f named far) 0 i (10 ∷ (key_text key ++ 58 ∷ rest)) → (IsIn far.values key → ⊥) → far.pending ≡ []
       → local_key i.cursor ≡ key → Stands o.cursor rest → o ≡ names.with_label (length far.labels) (record i { unnamed = o.unnamed }) → o.unnamed ≡ unnamed
       → Ready (known m f named (far_label key unnamed)) 0 o rest × Widens i o × (slice_get o.locals.names (number_of key i.locals.names) ≡ Some key)
-  behind_label key i o unnamed rest ready apart none e at is counted =
+  afterwards_label key i o unnamed rest ready apart none e at is counted =
       subst (λ (o : Input). Stands o.cursor rest → o.unnamed ≡ unnamed
       → Ready (known m f named (far_label key unnamed)) 0 o rest × Widens i o × (slice_get o.locals.names (number_of key i.locals.names) ≡ Some key)) (sym is) made at counted where
         now : Input
@@ -121,14 +121,14 @@ module _ (m : Module) (f : Function) (named : AreNamed m f) (far : Far) where
       let new = local_is_new f far.seen far.values far.labels far.pending i.locals i.local_uses (text.decimal far.unnamed) h.2 (λ is. none (subst (λ (x : Text). IsIn far.seen x) (sym e) is)) in
       let w = numbered_label_read far.unnamed (length far.labels) i rest h.3.unnamed_is few_numbers number new (subst (λ (x : Text). Stands i.cursor (10 ∷ (x ++ 58 ∷ rest))) shown ready.stands) in
       let o = names.with_label (length far.labels) (names.with_number_taken i) in
-      let behind = behind_label key i (names.with_label (length far.labels) (names.with_number_taken i)) (far.unnamed + 1) rest ready apart waits (w.1 ∙ sym e) w.2 refl (ap (λ (n : ℕ). n + 1) h.3.unnamed_is) in (
+      let afterwards = afterwards_label key i (names.with_label (length far.labels) (names.with_number_taken i)) (far.unnamed + 1) rest ready apart waits (w.1 ∙ sym e) w.2 refl (ap (λ (n : ℕ). n + 1) h.3.unnamed_is) in (
         number_of key i.locals.names,
         o,
         label_by_kind (length far.labels) k.LabelNumber i o (number_of key i.locals.names) few_labels w.3
             (subst (λ (x : Text). (names.numbered_label (length far.labels)).says i (number_of x i.locals.names) (names.with_label (length far.labels) (names.with_number_taken i))) (sym e) w.0),
-        behind.0,
-        behind.1,
-        behind.2,
+        afterwards.0,
+        afterwards.1,
+        afterwards.2,
       )
   label_goes key (inr other) i rest none apart waits few_numbers few_labels ready =
       let h = ready.holds in
@@ -141,12 +141,12 @@ module _ (m : Module) (f : Function) (named : AreNamed m f) (far : Far) where
       let at = subst (λ (x : Text). Stands i.cursor (10 ∷ (x ++ 58 ∷ rest))) shown ready.stands in
       let w = labels_are_read (length far.labels) other.0 i (10 ∷ []) rest other.1 number new refl at in
       let o = names.with_label (length far.labels) i in
-      let behind = behind_label key i (names.with_label (length far.labels) i) far.unnamed rest ready apart waits (w.1 ∙ sym e) w.2 refl h.3.unnamed_is in (
+      let afterwards = afterwards_label key i (names.with_label (length far.labels) i) far.unnamed rest ready apart waits (w.1 ∙ sym e) w.2 refl h.3.unnamed_is in (
         number_of key i.locals.names,
         o,
         label_by_kind (length far.labels) k.LabelName i o (number_of key i.locals.names) few_labels (label_comes i.cursor (10 ∷ []) other.0 rest refl other.1 at).0
             (subst (λ (x : Text). (names.new_label (length far.labels)).says i (number_of x i.locals.names) (names.with_label (length far.labels) i)) (sym e) w.0),
-        behind.0,
-        behind.1,
-        behind.2,
+        afterwards.0,
+        afterwards.1,
+        afterwards.2,
       )

@@ -13,7 +13,7 @@ use Rattle.ir_forms.specs.Decorations.{any_token, any_token_takes, decorations}
 use Rattle.ir_forms.specs.Lists.{at_round}
 use Rattle.ir_forms.specs.declared.decorating.Spot.TheVariants as spot
 use Rattle.ir_text.specs.ItemsOfText.{is_constant_by, is_constant}
-use Rattle.ir_text.specs.Lines.{text_behind, source_name, target_part_by, target_part, target_behind, target_line, at_brace, braced, group_behind, group, begins_dollar, is_dollar, is_comdat_name, dollar_name_by, dollar_name, comdat_behind, named_comdat, comdat, at_line_end, rest_of_line, is_first, line_behind, whole_line, metadata_line}
+use Rattle.ir_text.specs.Lines.{text_after, source_name, target_part_by, target_part, target_after, target_line, at_brace, braced, group_after, group, begins_dollar, is_dollar, is_comdat_name, dollar_name_by, dollar_name, comdat_after, named_comdat, comdat, at_line_end, rest_of_line, is_first, line_after, whole_line, metadata_line}
 use Rattle.ir_text.specs.Parameters.{declared_name_by, declared_name, declared_parameter, declared_parameter_takes, declared_parameters}
 use Rattle.ir_print_law.specs.Printable.{IsAnyType}
 use Rattle.ir_print_law.proofs.Decorations.{decorations_pass, separator_passes}
@@ -31,13 +31,13 @@ module _ {m : Module} (r : Reading m) where
       past r (checked (λ i. not (sees k.End i.cursor)) unexpected) (look (λ i. kind i.cursor) (λ x. skip >> pure x)) (check_passes r (λ i. not (sees k.End i.cursor)) unexpected)
       (look_passes r (λ i. kind i.cursor) (λ x. skip >> pure x) (λ x. past r skip (pure x) (skip_passes r) (pure_passes r x)))
 
-  text_passes : Passes r text_behind
+  text_passes : Passes r text_after
   text_passes = past r (expect k.Equals) (expect k.Quoted) (expect_passes r k.Equals) (expect_passes r k.Quoted)
 
   -- what the text was made from
   pub source_passes : Passes r source_name
   unfolding source_name
-  source_passes = past r skip text_behind (skip_passes r) text_passes
+  source_passes = past r skip text_after (skip_passes r) text_passes
 
   target_by_passes : (x : Kind) → Passes r (target_part_by x)
   target_by_passes k.Datalayout = skip_passes r
@@ -51,7 +51,7 @@ module _ {m : Module} (r : Reading m) where
   -- a target
   pub target_passes : Passes r target_line
   unfolding target_line
-  target_passes = past r skip target_behind (skip_passes r) (past r target_part text_behind target_part_passes text_passes)
+  target_passes = past r skip target_after (skip_passes r) (past r target_part text_after target_part_passes text_passes)
 
   braced_passes : Passes r braced
   unfolding braced
@@ -61,7 +61,7 @@ module _ {m : Module} (r : Reading m) where
   pub group_passes : Passes r group
   unfolding group
   group_passes =
-      past r skip group_behind (skip_passes r)
+      past r skip group_after (skip_passes r)
       (past r (expect k.AttributeGroup) (expect k.Equals >> (expect k.OpenBrace >> (braced >> expect k.CloseBrace))) (expect_passes r k.AttributeGroup)
       (past r (expect k.Equals) (expect k.OpenBrace >> (braced >> expect k.CloseBrace)) (expect_passes r k.Equals)
       (past r (expect k.OpenBrace) (braced >> expect k.CloseBrace) (expect_passes r k.OpenBrace)
@@ -80,7 +80,7 @@ module _ {m : Module} (r : Reading m) where
   unfolding comdat
   comdat_passes =
       past r is_comdat_name named_comdat (check_passes r (λ i. begins_dollar (spelling i.cursor)) unexpected)
-      (past r dollar_name comdat_behind dollar_passes
+      (past r dollar_name comdat_after dollar_passes
       (past r (expect k.Equals) (expect k.Comdat >> expect k.LowercaseWord) (expect_passes r k.Equals)
       (past r (expect k.Comdat) (expect k.LowercaseWord) (expect_passes r k.Comdat) (expect_passes r k.LowercaseWord))))
 
@@ -93,7 +93,7 @@ module _ {m : Module} (r : Reading m) where
   unfolding metadata_line
   metadata_passes =
       past r is_first whole_line (check_passes r (λ i. begins_line i.cursor) unexpected)
-      (past r skip line_behind (skip_passes r) (past r rest_of_line (pure tt) line_passes (pure_passes r tt)))
+      (past r skip line_after (skip_passes r) (past r rest_of_line (pure tt) line_passes (pure_passes r tt)))
 
   -- ---- parts of items
 

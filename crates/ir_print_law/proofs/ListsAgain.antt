@@ -3,7 +3,7 @@ use Rattle.std.proofs.Common.{◌≡◌, Bool, true, false, not, [], refl, ap, �
 use Rattle.std.specs.Prelude.{◌||◌}
 use Rattle.ir_tokens.specs.declared.token.Kind.{Kind}
 use Rattle.ir_tokens.specs.declared.token.Kind.TheVariants as k
-use Rattle.ir_forms.specs.Cursor.{kind, kind_behind, next, sees}
+use Rattle.ir_forms.specs.Cursor.{kind, kind_after, next, sees}
 use Rattle.ir_forms.specs.declared.decorating.Trail.{Trail}
 use Rattle.ir_forms.specs.declared.input.Input.{Input}
 use Rattle.ir_forms.specs.Decorations.{trailing}
@@ -40,9 +40,9 @@ no_metadata _ e = refl
 
 -- no further part comes at the end of the line
 pub list_ends : (i : Input) → ends_line (kind i.cursor) ≡ true → lists.at_no_comma i ≡ true
-list_ends i e = ap (λ (b : Bool). not b || lists.is_metadata (kind_behind i.cursor)) (no_comma_seen i e)
+list_ends i e = ap (λ (b : Bool). not b || lists.is_metadata (kind_after i.cursor)) (no_comma_seen i e)
 
 -- a further part comes after a comma
 pub list_goes_on : (i : Input) → kind i.cursor ≡ k.Comma → lists.is_metadata (kind (advanced i).cursor) ≡ false → lists.at_no_comma i ≡ false
-unfolding kind_behind kind next
-list_goes_on i is e = ap (λ (b : Bool). not b || lists.is_metadata (kind_behind i.cursor)) (seen k.Comma i is) ∙ e
+unfolding kind_after kind next
+list_goes_on i is e = ap (λ (b : Bool). not b || lists.is_metadata (kind_after i.cursor)) (seen k.Comma i is) ∙ e

@@ -8,7 +8,7 @@ use Rattle.ir_ast.specs.declared.module.Module.{Module}
 use Rattle.ir_ast.specs.declared.op.Op.TheVariants as op
 use Rattle.ir_tokens.specs.declared.token.Kind.TheVariants as k
 use Rattle.ir_forms.specs.declared.input.Input.{Input}
-use Rattle.ir_forms.specs.Memory.{alloca, load, stored_behind, store}
+use Rattle.ir_forms.specs.Memory.{alloca, load, stored_afterwards, store}
 use Rattle.ir_forms.specs.Written.{bits_of}
 use Rattle.ir_print_law.specs.Memory.{IsMemoryOp}
 use Rattle.ir_print_law.specs.Printable.{gives_value}
@@ -66,7 +66,7 @@ module _ {m : Module} {f : Function} {value : ℕ} (n : Naming m f value) where
       )
 
 module _ {m : Module} {f : Function} (v : Within m f) where
-  stored_keeps : (i : Input) → Keeps v.reading.Fore (Same v.reading.Fore) v.reading.Back stored_behind (IsGivingMemory m f false) i
+  stored_keeps : (i : Input) → Keeps v.reading.Fore (Same v.reading.Fore) v.reading.Back stored_afterwards (IsGivingMemory m f false) i
   stored_keeps i x o h fore =
       let r = v.reading in
       let t = h.3 in

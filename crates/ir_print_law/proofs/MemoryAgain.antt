@@ -117,7 +117,7 @@ module _ {m : Module} {f : Function} (v : Invariant m f) where
       (word_skipped v (codes "store") i gap (32 ∷ t1) s s blanks refl refl (omega arith) ready)
       (λ _ o ready g e.
       let begins = type_begins v shape o (32 ∷ []) (32 ∷ (operand_text m f.locals stored x ++ t2)) scalar.0.2 refl refl ready.stands in
-      said_on v (optional k.Volatile) (λ _. forms.stored_behind) o tt rest s good (optional_said k.Volatile o (unlike k.Volatile w.begins_type o refl begins))
+      said_on v (optional k.Volatile) (λ _. forms.stored_afterwards) o tt rest s good (optional_said k.Volatile o (unlike k.Volatile w.begins_type o refl begins))
       (on v v w.scalar value_form o (32 ∷ (operand_text m f.locals stored x ++ t2)) rest s s (IsTypeRead shape 64) good
       (scalar_reads v shape o (32 ∷ []) (32 ∷ (operand_text m f.locals stored x ++ t2)) s scalar.0.2 scalar.0.1 scalar.1 refl (ends_operand v shape stored x t2 scalar.0.0 own.2 refl) ready)
       (λ p q ready h read.
@@ -150,7 +150,7 @@ module _ {m : Module} {f : Function} (v : Invariant m f) where
       value_form p = form.operand (w.bits_of p) >>= comma_form p
 
       volatile_form : Form MemoryOp
-      volatile_form = optional k.Volatile >> forms.stored_behind
+      volatile_form = optional k.Volatile >> forms.stored_afterwards
 
   -- one without a value, where an instruction is read
   pub plain_memory_reads : (site : Site) (x : MemoryOp) (i : Input) (gap rest : Text) (s : ℕ) → AreBlanks gap → IsMemoryOp m f x → memory_gives_value x ≡ false → EndsLine rest
@@ -227,9 +227,9 @@ module _ {m : Module} {f : Function} (v u : Invariant m f) where
       let scalar = own.1 in
       let type_is = type_shown m shape held scalar.0.0 scalar.0.1 in
       let ready = subst (λ (y : Text). Ready v s i (gap ++ (codes "alloca" ++ (32 ∷ (y ++ rest))))) type_is ready in
-      let behind = 32 ∷ (shown false shape ++ rest) in
-      on v u skip (λ _. held_form) i behind rest s s (λ _ o. advanced i ≡ o) good
-      (word_skipped v (codes "alloca") i gap behind s s blanks refl refl (omega arith) ready)
+      let afterwards = 32 ∷ (shown false shape ++ rest) in
+      on v u skip (λ _. held_form) i afterwards rest s s (λ _ o. advanced i ≡ o) good
+      (word_skipped v (codes "alloca") i gap afterwards s s blanks refl refl (omega arith) ready)
       (λ _ o ready g e.
       on v u w.scalar set_form o rest rest s s (IsTypeRead shape 64) good
       (scalar_reads v shape o (32 ∷ []) rest s scalar.0.2 scalar.0.1 scalar.1 refl ends ready)

@@ -70,11 +70,11 @@ abbrev pub read_function : (symbol returned : ℕ) → List Parameter → Option
 read_function symbol returned ps c bs i = function_of (record { symbol = symbol; returned = returned; parameters = ps; collector = c }) bs i
 
 -- the state after it
-abbrev pub behind_function : (symbol returned : ℕ) → List Parameter → Option Text → List Block → Input → Input
-behind_function symbol returned ps c bs i = with_function (record { symbol = symbol; returned = returned; parameters = ps; collector = c }) bs i
+abbrev pub after_function : (symbol returned : ℕ) → List Parameter → Option Text → List Block → Input → Input
+after_function symbol returned ps c bs i = with_function (record { symbol = symbol; returned = returned; parameters = ps; collector = c }) bs i
 
 -- where reading goes on to its end from after a function, it does so from the function's brace, and no name is missing there
-leads_function : (e : Input) (symbol returned : ℕ) (ps : List Parameter) (c : Option Text) (bs : List Block) (i : Input) → Leads e (behind_function symbol returned ps c bs i)
+leads_function : (e : Input) (symbol returned : ℕ) (ps : List Parameter) (c : Option Text) (bs : List Block) (i : Input) → Leads e (after_function symbol returned ps c bs i)
     → (first_missing i.locals i.local_uses ≡ None) × Leads e i
 unfolding with_function
 leads_function e symbol returned ps c bs i b =
@@ -96,7 +96,7 @@ abbrev with_made : Made → Function → Made
 with_made made f = record made { functions = made.functions ++ f ∷ [] }
 
 between_again : (symbol returned : ℕ) (ps : List Parameter) (c : Option Text) (bs : List Block) (i : Input) (made : Made) → made_of (kept_of i) ≡ made
-    → kept_of (behind_function symbol returned ps c bs i) ≡ between (with_made made (read_function symbol returned ps c bs i))
+    → kept_of (after_function symbol returned ps c bs i) ≡ between (with_made made (read_function symbol returned ps c bs i))
 unfolding with_function
 between_again symbol returned ps c bs i made e = ap (λ (x : Made). between (with_made x (read_function symbol returned ps c bs i))) e
 
@@ -135,7 +135,7 @@ module _ (Good : Module → Function → Type 0) (keeps : FunctionKeeps Good) (e
       let u2 = u1.3 in
       let u3 = u2.3 in
       let opened = subst (λ (j : Input). open_body.says j u1.0 u1.1) (sym s7.3.1) u1.2 in
-      let end : behind_function s3.0 s2.0 s5.0 s7.0 u2.0 u3.1 ≡ o = ap (λ x. with_function x u2.0 u3.1) s7.3.0 ∙ u3.3.1 in
+      let end : after_function s3.0 s2.0 s5.0 s7.0 u2.0 u3.1 ≡ o = ap (λ x. with_function x u2.0 u3.1) s7.3.0 ∙ u3.3.1 in
       let f0 = read_function s3.0 s2.0 s5.0 s7.0 u2.0 u3.1 in
       let later = with_made made f0 in
       let r = reading_of e (λ (x : Kept). x ≡ between made) no_one in
@@ -146,7 +146,7 @@ module _ (Good : Module → Function → Type 0) (keeps : FunctionKeeps Good) (e
       let b4 = keeps m (outside_of e made (function_pending s3.0)) s3.0 s2.0 s5.0 s7.0 u2.0 s3.1 s4.1 s5.1 s6.1 s7.1 u1.1 u2.1 u3.1 s4.2 s5.2 s6.2 s7.2 opened u2.2 u3.2
       (ap (λ (x : Kept). x.locals) quiet) (ap (λ (x : Kept). x.local_uses) quiet) (ap (λ (x : Kept). x.values) quiet) (ap (λ (x : Kept). x.unnamed) quiet)
       (b3.0.0, ap made_of quiet) in
-      let there : IsBetween later (behind_function s3.0 s2.0 s5.0 s7.0 u2.0 u3.1) =
+      let there : IsBetween later (after_function s3.0 s2.0 s5.0 s7.0 u2.0 u3.1) =
       (function_added s3.0 s2.0 s5.0 s7.0 u2.0 u3.1 b4.0.0, between_again s3.0 s2.0 s5.0 s7.0 u2.0 u3.1 made b4.0.1) in (
         later,
         subst (IsBetween later) end there,

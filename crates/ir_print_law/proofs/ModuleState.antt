@@ -153,9 +153,9 @@ in_list [] place n e = absurd cc
 in_list (x ∷ xs) zero n e = inl cc
 in_list (x ∷ xs) (suc place) n e = inr (in_list xs place n e)
 
-behind : {A : Type 0} (xs ys : List A) (y : A) → IsIn ys y → IsIn (xs ++ ys) y
-behind [] ys y there = there
-behind (x ∷ xs) ys y there = inr (behind xs ys y there)
+afterwards : {A : Type 0} (xs ys : List A) (y : A) → IsIn ys y → IsIn (xs ++ ys) y
+afterwards [] ys y there = there
+afterwards (x ∷ xs) ys y there = inr (afterwards xs ys y there)
 
 -- a name that is used as a struct's is one of theirs
 pub struct_named : (e i : Input) → Leads e (with_struct_use i) → IsIn (defined_structs (module_of e)) (spelled i.cursor)
@@ -217,7 +217,7 @@ symbol_named e i is_call b = by is_call (slice_get e.symbols.sorts (symbol_numbe
   by false (Some (symbol.Defined f)) same is = absurd cc
   by true (Some (symbol.Defined f)) same is = elim (owned (symbol.Defined f) same) [
     | inl none ↦ absurd cc
-    | inr own ↦ behind (declared_functions (module_of e)) (defined_functions (module_of e)) (spelled i.cursor)
+    | inr own ↦ afterwards (declared_functions (module_of e)) (defined_functions (module_of e)) (spelled i.cursor)
         (named_in (λ (x : Function). x.symbol) e.symbols.names e.functions (symbol_number i) (spelled i.cursor)
         (in_list (symbols_of no_one e).functions f (symbol_number i) own) at)
   ]

@@ -102,8 +102,8 @@ local_operands_are_read bits locals value i gap rest is less blanks seam at =
 pub targets_are_read : TargetsAreRead
 unfolding target word_kind keywords class_of
 targets_are_read locals label i gap rest is less blanks seam at =
-    let behind = 32 ∷ (local_text locals label ++ rest) in
-    let w = word_comes i.cursor gap (codes "label") behind blanks refl refl at in
+    let afterwards = 32 ∷ (local_text locals label ++ rest) in
+    let w = word_comes i.cursor gap (codes "label") afterwards blanks refl refl at in
     let l = locals_are_read wants.Target locals label (advanced i) (32 ∷ []) rest is less refl seam w.3 in
     ((tt, advanced i, expected k.Label i w.0, l.0), l.1, l.2)
 

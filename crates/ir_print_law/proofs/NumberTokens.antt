@@ -245,8 +245,8 @@ digits_other : (x : Kind) → is_local_number x ≡ false → IsOther (digits x)
 digits_other x e = bind_leaves (λ y. is_local_number y ≡ false) (span is_digit) (λ _. pure x) (span_leaves is_digit) (λ _. pure_leaves _ x e)
 
 -- what comes after a byte
-behind_skip : (f : Form Kind) → IsOther f → IsOther (skip >> f)
-behind_skip f other = bind_leaves (λ y. is_local_number y ≡ false) skip (λ _. f) skip_leaves (λ _. other)
+after_skip : (f : Form Kind) → IsOther f → IsOther (skip >> f)
+after_skip f other = bind_leaves (λ y. is_local_number y ≡ false) skip (λ _. f) skip_leaves (λ _. other)
 
 -- quoted text
 quotation_other : (x : Kind) → is_local_number x ≡ false → IsOther (quotation x)
@@ -255,7 +255,7 @@ quotation_other x e =
 
 -- a label of another kind, or no label
 label_other : (colon other : Kind) → is_local_number colon ≡ false → is_local_number other ≡ false → (x : ByteClass) → IsOther (label_or colon other x)
-label_other colon other e f c.Colon = behind_skip (pure colon) (pure_leaves (λ y. is_local_number y ≡ false) colon e)
+label_other colon other e f c.Colon = after_skip (pure colon) (pure_leaves (λ y. is_local_number y ≡ false) colon e)
 label_other colon other e f _ = pure_leaves (λ y. is_local_number y ≡ false) other f
 
 -- words and labels of plain names
@@ -275,7 +275,7 @@ quote_other =
 -- names of symbols
 global_other : IsOther global
 unfolding global
-global_other = behind_skip (look global_by) (look_leaves _ global_by by) where
+global_other = after_skip (look global_by) (look_leaves _ global_by by) where
   by : (x : ByteClass) → IsOther (global_by x)
   by c.Quote = quotation_other k.GlobalName refl
   by c.Letter = name_other k.GlobalName refl
@@ -284,7 +284,7 @@ global_other = behind_skip (look global_by) (look_leaves _ global_by by) where
 -- groups of attributes
 group_other : IsOther group
 unfolding group
-group_other = behind_skip (look group_by) (look_leaves _ group_by by) where
+group_other = after_skip (look group_by) (look_leaves _ group_by by) where
   by : (x : ByteClass) → IsOther (group_by x)
   by c.Digit = digits_other k.AttributeGroup refl
   by _ = λ i a o h. absurd h
@@ -292,7 +292,7 @@ group_other = behind_skip (look group_by) (look_leaves _ group_by by) where
 -- metadata
 metadata_other : IsOther metadata
 unfolding metadata
-metadata_other = behind_skip (look metadata_by) (look_leaves _ metadata_by by) where
+metadata_other = after_skip (look metadata_by) (look_leaves _ metadata_by by) where
   by : (x : ByteClass) → IsOther (metadata_by x)
   by c.Letter = name_other k.MetadataName refl
   by c.Digit = digits_other k.MetadataNumber refl
@@ -341,8 +341,8 @@ number_reads i x o e h = by (first_class h.1) refl h.3 where
   by _ f s = (h.0, h.2.0 ∙ ap (λ (y : Text). h.0 ++ y) s.1, no_number x _ (subst (λ (y : Kind). is_local_number y ≡ false) s.0 refl))
 
 -- a number after its sign
-number_behind : (b : ℕ) (i : Text) (x : Kind) (o : Text) → begins is_digit i ≡ true → (digits k.LocalNumber).says i x o → Reads (b ∷ i) x o
-number_behind b i x o e h = (
+number_after : (b : ℕ) (i : Text) (x : Kind) (o : Text) → begins is_digit i ≡ true → (digits k.LocalNumber).says i x o → Reads (b ∷ i) x o
+number_after b i x o e h = (
   b ∷ h.0,
   ap (λ (y : Text). b ∷ y) (h.2.0 ∙ ap (λ (y : Text). h.0 ++ y) h.3.1),
   λ _. subst (λ (y : Kind). AreDigits (unquoted (bare y (b ∷ h.0)))) h.3.0 (spelled_digits h.0 (span_digits i h.0 h.1 e h.2)),
@@ -357,7 +357,7 @@ local_reads b i x o h = by (first_class i) refl h where
   by : (y : ByteClass) → first_class i ≡ y → (local_by y).says i x o → Reads (b ∷ i) x o
   by c.Quote e s = other (quotation k.LocalName) (quotation_other k.LocalName refl) s
   by c.Letter e s = other (name k.LocalName) (name_other k.LocalName refl) s
-  by c.Digit e s = number_behind b i x o (first_digit i e) s
+  by c.Digit e s = number_after b i x o (first_digit i e) s
   by _ e s = absurd s
 
 -- each token
@@ -373,7 +373,7 @@ token_reads (b ∷ i) x o h = by (class_of b) refl h where
   by c.At e s = other_reads global global_other (b ∷ i) x o s
   by c.Hash e s = other_reads group group_other (b ∷ i) x o s
   by c.Exclamation e s = other_reads metadata metadata_other (b ∷ i) x o s
-  by (c.Sign y) e s = other_reads (sign y) (behind_skip (pure y) (pure_leaves _ y (subst (Told b) e (class_told b)))) (b ∷ i) x o s
+  by (c.Sign y) e s = other_reads (sign y) (after_skip (pure y) (pure_leaves _ y (subst (Told b) e (class_told b)))) (b ∷ i) x o s
   by _ e s = absurd s
 
 -- ---- the tokens of a text

@@ -97,12 +97,12 @@ module _ {m : Module} {f : Function} (v : Invariant m f) where
       let text = operand_text m f.locals t x in
       let ready = subst (λ (y : Text). Ready v (s + 1) i (gap ++ ((y ++ 32 ∷ operand_text m f.locals t x) ++ rest))) type_is ready in
       let ready = subst (λ (y : Text). Ready v (s + 1) i (gap ++ y)) (append_assoc (shown false (Integer 1)) (32 ∷ text) rest) ready in
-      let behind = 32 ∷ (operand_text m f.locals t x ++ rest) in
-      on v v (w.intern (type.Integer 1)) again_form i (gap ++ (shown false (Integer 1) ++ behind)) rest s s (λ n o. slice_get o.types n ≡ Some (type.Integer 1)) good
-      (intern_reads v (type.Integer 1) i (gap ++ (shown false (Integer 1) ++ behind)) s tt ready)
+      let afterwards = 32 ∷ (operand_text m f.locals t x ++ rest) in
+      on v v (w.intern (type.Integer 1)) again_form i (gap ++ (shown false (Integer 1) ++ afterwards)) rest s s (λ n o. slice_get o.types n ≡ Some (type.Integer 1)) good
+      (intern_reads v (type.Integer 1) i (gap ++ (shown false (Integer 1) ++ afterwards)) s tt ready)
       (λ bit o ready g there.
-      on v v (w.again (numbers.bit_type bit)) (λ _. operand_form bit) o behind rest s s Any good
-      (again_reads v (Integer 1) (numbers.bit_type bit) o gap behind s (omega arith, omega arith) there (omega arith) blanks (ends_again behind (ends_operand v (Integer 1) t x rest own.0 own.1 seam)) ready)
+      on v v (w.again (numbers.bit_type bit)) (λ _. operand_form bit) o afterwards rest s s Any good
+      (again_reads v (Integer 1) (numbers.bit_type bit) o gap afterwards s (omega arith, omega arith) there (omega arith) blanks (ends_again afterwards (ends_operand v (Integer 1) t x rest own.0 own.1 seam)) ready)
       (λ _ q ready h e.
       on v v (form.operand (Some 1)) (λ y. pure (record { written = bit; operand = y })) q rest rest s s (OperandAgain m f.locals x) good
       (operand_reads v (Integer 1) t x q (32 ∷ []) rest s own.0 own.1 refl seam ready)
@@ -125,9 +125,9 @@ module _ {m : Module} {f : Function} (v u : Invariant m f) where
   unfolding numbers.arithmetic class_of
   arithmetic_reads x name value t a b i gap rest s is plain own sets blanks seam ready =
       let good = NumberAgain m f.locals (number.Arithmetic x t a b) in
-      let behind = 32 ∷ (pair_text m f.locals (typed t a) b ++ rest) in
-      on v u skip (λ _. flags_form) i behind rest s s (λ _ o. advanced i ≡ o) good
-      (word_skipped v name i gap behind s s blanks plain refl (omega arith) ready)
+      let afterwards = 32 ∷ (pair_text m f.locals (typed t a) b ++ rest) in
+      on v u skip (λ _. flags_form) i afterwards rest s s (λ _ o. advanced i ≡ o) good
+      (word_skipped v name i gap afterwards s s blanks plain refl (omega arith) ready)
       (λ _ o ready g e.
       let starts = subst (λ (y : Text). Stands o.cursor (32 ∷ y)) (front (type_text m t) (operand_text m f.locals t a) (operand_text m f.locals t b)) ready.stands in
       let begins = type_begins v own.0 o (32 ∷ []) (32 ∷ (operand_text m f.locals t a ++ (codes ", " ++ (operand_text m f.locals t b ++ rest)))) own.1.0.2 refl refl
@@ -198,9 +198,9 @@ module _ {m : Module} {f : Function} (v u : Invariant m f) where
   unfolding numbers.resize class_of
   resize_reads x name value from a to i gap rest s plain own sets blanks ends ready =
       let good = NumberAgain m f.locals (number.Resize x from a to) in
-      let behind = 32 ∷ (converted_text m f.locals (typed from a) to ++ rest) in
-      on v u skip (λ _. lists.typed >>= λ from. expect k.To >> (w.scalar >>= λ to. set_type value to.id >> pure (number.Resize x from.written from.operand to.id))) i behind rest s s (λ _ o. advanced i ≡ o) good
-      (word_skipped v name i gap behind s s blanks plain refl (omega arith) ready)
+      let afterwards = 32 ∷ (converted_text m f.locals (typed from a) to ++ rest) in
+      on v u skip (λ _. lists.typed >>= λ from. expect k.To >> (w.scalar >>= λ to. set_type value to.id >> pure (number.Resize x from.written from.operand to.id))) i afterwards rest s s (λ _ o. advanced i ≡ o) good
+      (word_skipped v name i gap afterwards s s blanks plain refl (omega arith) ready)
       (λ _ o ready g e. converted_reads v u (λ n others. IsNumberOpAgain m n f.locals others) (λ b k. number.Resize x b.written b.operand k) (number.Resize x from a to) value from a to o (32 ∷ []) rest s (λ n others b k argument type. (refl, argument.0, argument.1, type)) own sets refl ends ready)
 
   -- ---- by the word

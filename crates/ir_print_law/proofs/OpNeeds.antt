@@ -11,7 +11,7 @@ use Rattle.ir_tokens.specs.declared.token.Kind.TheVariants as k
 use Rattle.ir_tokens.specs.Bytes.{Text}
 use Rattle.ir_forms.specs.declared.input.Input.{Input}
 use Rattle.ir_forms.specs.declared.site.Site.{Site}
-use Rattle.ir_forms.specs.Choices.{phi_behind}
+use Rattle.ir_forms.specs.Choices.{phi_after}
 use Rattle.ir_forms.specs.Ends.{block_end}
 use Rattle.ir_forms.specs.Instructions.{named_op, instruction}
 use Rattle.ir_print.specs.Choices.{incoming_text}
@@ -61,7 +61,7 @@ pub record OpsRead (m : Module) (f : Function) (named : AreNamed m f) : Type 0 w
   -- a phi after its name, whose value waits for its type
   pub phi_read : (x : Phi) (key : Text) (value : ℕ) (far : Far) (i : Input) (gap rest : Text) → IsPhi m f x → far.pending ≡ (key, value) ∷ [] → IsIn far.seen key → (IsIn far.labels key → ⊥)
       → AreBlanks gap → EndsOp rest → Ready (known m f named far) 0 i (gap ++ phi_rest m f.locals x rest)
-      → Reads (known m f named (far_set key far)) 0 (phi_behind value) i rest (PhiAgain m f.locals value x)
+      → Reads (known m f named (far_set key far)) 0 (phi_after value) i rest (PhiAgain m f.locals value x)
   -- the operation after `%v =`, whose value waits for its type
   pub named_read : (op : Op) (key : Text) (value : ℕ) (far : Far) (site : Site) (i : Input) (gap rest : Text) → IsOp m f op → gives_value m op ≡ true
       → far.pending ≡ (key, value) ∷ [] → IsIn far.seen key → (IsIn far.labels key → ⊥) → AreBlanks gap → EndsOp rest → Ready (known m f named far) 0 i (gap ++ (op_text m f.locals op ++ rest))

@@ -155,14 +155,14 @@ cast_front : (from symbol to rest : Text) → cast_by from symbol to ++ rest ≡
 cast_front from symbol to rest = simp append_assoc
 
 -- a round bracket ends a type
-pub ends_round : (behind : Text) → EndsType (41 ∷ behind)
+pub ends_round : (afterwards : Text) → EndsType (41 ∷ afterwards)
 unfolding class_of
-ends_round behind = (refl, λ i at. ap ends_type (sign_comes i.cursor [] 41 behind k.CloseRound refl refl refl at).0)
+ends_round afterwards = (refl, λ i at. ap ends_type (sign_comes i.cursor [] 41 afterwards k.CloseRound refl refl refl at).0)
 
 -- the name of a global ends a type
-pub ends_global : (name behind : Text) → AreBytes name → IsSeam behind → EndsType (32 ∷ 64 ∷ (name_text blank.Kept name ++ behind))
+pub ends_global : (name afterwards : Text) → AreBytes name → IsSeam afterwards → EndsType (32 ∷ 64 ∷ (name_text blank.Kept name ++ afterwards))
 unfolding class_of
-ends_global name behind own seam = (refl, λ i at. ap ends_type (global_comes i.cursor (32 ∷ []) name behind refl own seam at).0)
+ends_global name afterwards own seam = (refl, λ i at. ap ends_type (global_comes i.cursor (32 ∷ []) name afterwards refl own seam at).0)
 
 -- the forms after the parts of a bitcast
 abbrev cast_end : WrittenType → ℕ → WrittenType → Form Operand
@@ -349,7 +349,7 @@ module _ {m : Module} {f : Function} (v : Invariant m f) where
       let there : Ready v s i (gap ++ (cast_by (shown false first) (global_text m symbol) (shown false second) ++ rest)) = subst (λ (x : Text). Ready v s i (gap ++ (x ++ rest))) whole ready in
       let there : Ready v s i (gap ++ (codes "bitcast" ++ (32 ∷ 40 ∷ (shown false first ++ (32 ∷ 64 ∷ (name_text blank.Kept (name_at m.symbols symbol) ++ (codes " to " ++ (shown false second ++ 41 ∷ rest)))))))) = simp append_assoc at there in
       looked v (λ i. kind i.cursor) (form.operand_by (bits_of_shape shape)) i rest s good k.Bitcast (word_seen v (codes "bitcast") i gap (32 ∷ 40 ∷ t1) s blanks refl refl there)
-      (go_on v skip (λ _. form.cast_behind) i (32 ∷ 40 ∷ t1) rest s s (λ _ o. advanced i ≡ o) good
+      (go_on v skip (λ _. form.cast_after) i (32 ∷ 40 ∷ t1) rest s s (λ _ o. advanced i ≡ o) good
       (word_skipped v (codes "bitcast") i gap (32 ∷ 40 ∷ t1) s s blanks refl refl (omega arith) there)
       (λ _ o ready g e.
       go_on v (expect k.OpenRound) (λ _. w.pointer_type >>= cast_global) o t1 rest s s (λ _ q. advanced o ≡ q) good
@@ -409,9 +409,9 @@ module _ {m : Module} {f : Function} (v : Invariant m f) where
         local_ends (bits_of_shape shape) (start_of i.cursor) _ _ r.0
     by (operand.Global symbol) own i at = ap begins_operand (global_comes i.cursor (32 ∷ []) (name_at m.symbols symbol) rest refl (v.is_symbol false _ own.0).0 seam at).0
     by (operand.CastGlobal from symbol to) own i at =
-        let behind = 32 ∷ 40 ∷ (type_text m from ++ (32 ∷ (global_text m symbol ++ (codes " to " ++ (type_text m to ++ 41 ∷ rest))))) in
+        let afterwards = 32 ∷ 40 ∷ (type_text m from ++ (32 ∷ (global_text m symbol ++ (codes " to " ++ (type_text m to ++ 41 ∷ rest))))) in
         let at = subst (λ (x : Text). Stands i.cursor (32 ∷ x)) (cast_front (type_text m from) (global_text m symbol) (type_text m to) rest) at in
-        ap begins_operand (word_comes i.cursor (32 ∷ []) (codes "bitcast") behind refl refl refl at).0
+        ap begins_operand (word_comes i.cursor (32 ∷ []) (codes "bitcast") afterwards refl refl refl at).0
 
   -- so an operand ends a type
   pub ends_operand : (shape : Shape) (t : ℕ) (x : Operand) (rest : Text) → HasShape m.types m.struct_names shape t → IsOperand m f (bits_of_shape shape) x → IsSeam rest → EndsType (32 ∷ (operand_text m f.locals t x ++ rest))

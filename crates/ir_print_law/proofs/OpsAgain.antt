@@ -30,11 +30,11 @@ op_reads u make form Again of x i rest s so h = (make h.0, h.1, (h.0, h.1, h.2, 
 
 module _ {m : Module} {f : Function} (v u : Invariant m f) where
   -- an operation after `%v =`, by its word
-  pub by_word : (site : Site) (value : ℕ) (x : Op) (word behind : Text) (i : Input) (gap rest : Text) (s : ℕ) → AreBlanks gap → is_plain word ≡ true → IsSeam behind → Ready v s i (gap ++ (word ++ behind))
+  pub by_word : (site : Site) (value : ℕ) (x : Op) (word afterwards : Text) (i : Input) (gap rest : Text) (s : ℕ) → AreBlanks gap → is_plain word ≡ true → IsSeam afterwards → Ready v s i (gap ++ (word ++ afterwards))
       → Reads u s (whole.named_op_by site value (word_kind word)) i rest (OpAgain m f.locals x) → Reads u s (whole.named_op site value) i rest (OpAgain m f.locals x)
   unfolding whole.named_op
-  by_word site value x word behind i gap rest s blanks plain seam ready h =
-      looked u (λ i. kind i.cursor) (whole.named_op_by site value) i rest s (OpAgain m f.locals x) (word_kind word) (word_seen v word i gap behind s blanks plain seam ready) h
+  by_word site value x word afterwards i gap rest s blanks plain seam ready h =
+      looked u (λ i. kind i.cursor) (whole.named_op_by site value) i rest s (OpAgain m f.locals x) (word_kind word) (word_seen v word i gap afterwards s blanks plain seam ready) h
 
 -- ---- without a value
 
@@ -54,8 +54,8 @@ module _ {m : Module} {f : Function} (v : Invariant m f) where
       (record { result = None; op = y }, i, (y, i, (tt, i, said, (refl, refl)), (refl, refl)), ready, grows_itself i, λ n others later. (tt, again n others later))
 
   -- an instruction by its word
-  pub plain_by_word : (site : Site) (x : Op) (word behind : Text) (i : Input) (gap rest : Text) (s : ℕ) → AreBlanks gap → is_plain word ≡ true → IsSeam behind → Ready v s i (gap ++ (word ++ behind))
+  pub plain_by_word : (site : Site) (x : Op) (word afterwards : Text) (i : Input) (gap rest : Text) (s : ℕ) → AreBlanks gap → is_plain word ≡ true → IsSeam afterwards → Ready v s i (gap ++ (word ++ afterwards))
       → Reads v s (whole.instruction_by site (word_kind word)) i rest (PlainAgain m f.locals x) → Reads v s (whole.instruction site) i rest (PlainAgain m f.locals x)
   unfolding whole.instruction
-  plain_by_word site x word behind i gap rest s blanks plain seam ready h =
-      looked v (λ i. kind i.cursor) (whole.instruction_by site) i rest s (PlainAgain m f.locals x) (word_kind word) (word_seen v word i gap behind s blanks plain seam ready) h
+  plain_by_word site x word afterwards i gap rest s blanks plain seam ready h =
+      looked v (λ i. kind i.cursor) (whole.instruction_by site) i rest s (PlainAgain m f.locals x) (word_kind word) (word_seen v word i gap afterwards s blanks plain seam ready) h

@@ -88,8 +88,8 @@ module _ (m : Module) (f : Function) (named : AreNamed m f) (types : TypesRead m
   far_parameter far key unnamed = record far { seen = far.seen ++ key ∷ []; values = far.values ++ key ∷ []; pending = []; count = far.count + 1; unnamed = unnamed }
 
   -- what the separator does after the parameter
-  abbrev pub Separates : Far → (sep behind : Text) → Type 0
-  Separates now sep behind = (o : Input) → Ready (known m f named now) 0 o sep → Goes (known m f named now) 0 (separator k.CloseRound) o behind (λ _ p. Unit {0})
+  abbrev pub Separates : Far → (sep afterwards : Text) → Type 0
+  Separates now sep afterwards = (o : Input) → Ready (known m f named now) 0 o sep → Goes (known m f named now) 0 (separator k.CloseRound) o afterwards (λ _ p. Unit {0})
 
   pub close_separates : (now : Far) (rest : Text) → Separates now (41 ∷ rest) (41 ∷ rest)
   unfolding separator class_of
@@ -116,13 +116,13 @@ module _ (m : Module) (f : Function) (named : AreNamed m f) (types : TypesRead m
       Onward far now (parameter_key f.locals x ∷ []) [] more
       × ((n : Module) (others : List Text) → IsLater o n others → IsParameterAgain m n f.locals others x y)
 
-  parameter_goes : (x : Parameter) (more : List Text) (far : Far) (i : Input) (gap sep behind : Text) → IsParameter m x → IsKey (parameter_key f.locals x) → Steady far (parameter_key f.locals x ∷ more)
+  parameter_goes : (x : Parameter) (more : List Text) (far : Far) (i : Input) (gap sep afterwards : Text) → IsParameter m x → IsKey (parameter_key f.locals x) → Steady far (parameter_key f.locals x ∷ more)
       → length far.values < 1000000 → length far.labels ≤ 65535 → AreBlanks gap → IsSeam sep
-      → ((now : Far) → Separates now sep behind)
+      → ((now : Far) → Separates now sep afterwards)
       → Ready (known m f named far) 0 i (gap ++ (type_text m x.written ++ 32 ∷ 37 ∷ (key_text (parameter_key f.locals x) ++ sep)))
-      → Leads m f named 0 parameter i behind (IsParameterRead far more x)
+      → Leads m f named 0 parameter i afterwards (IsParameterRead far more x)
   unfolding parameter parameter_type class_of
-  parameter_goes x more far i gap sep behind is_parameter is_key steady room few blanks seam separates ready =
+  parameter_goes x more far i gap sep afterwards is_parameter is_key steady room few blanks seam separates ready =
       let key = parameter_key f.locals x in
       let shape = is_parameter.0 in
       let is_type = is_parameter.1 in
@@ -190,24 +190,24 @@ module _ (m : Module) (f : Function) (named : AreNamed m f) (types : TypesRead m
   -- ---- all parameters
 
   -- the parameters after the first one, and the bracket that closes
-  abbrev pub behind_first : List Parameter → (rest : Text) → Text
-  behind_first ps rest = flat_map (λ (p : Parameter). codes ", " ++ parameter_text m f.locals p) ps ++ 41 ∷ rest
+  abbrev pub afterwards_first : List Parameter → (rest : Text) → Text
+  afterwards_first ps rest = flat_map (λ (p : Parameter). codes ", " ++ parameter_text m f.locals p) ps ++ 41 ∷ rest
 
   abbrev from_type : Parameter → (sep : Text) → Text
   from_type p sep = type_text m p.written ++ 32 ∷ 37 ∷ (key_text (parameter_key f.locals p) ++ sep)
 
-  one_behind : (p : Parameter) (sep : Text) → parameter_text m f.locals p ++ sep ≡ from_type p sep
-  one_behind p sep = append_assoc (type_text m p.written) (32 ∷ local_text f.locals p.value) sep
+  one_after : (p : Parameter) (sep : Text) → parameter_text m f.locals p ++ sep ≡ from_type p sep
+  one_after p sep = append_assoc (type_text m p.written) (32 ∷ local_text f.locals p.value) sep
 
-  more_behind : (p : Parameter) (ps : List Parameter) (rest : Text) → behind_first (p ∷ ps) rest ≡ 44 ∷ 32 ∷ from_type p (behind_first ps rest)
-  more_behind p ps rest =
+  more_after : (p : Parameter) (ps : List Parameter) (rest : Text) → afterwards_first (p ∷ ps) rest ≡ 44 ∷ 32 ∷ from_type p (afterwards_first ps rest)
+  more_after p ps rest =
       append_assoc (codes ", " ++ parameter_text m f.locals p) (flat_map (λ (p : Parameter). codes ", " ++ parameter_text m f.locals p) ps) (41 ∷ rest)
-      ∙ append_assoc (codes ", ") (parameter_text m f.locals p) (behind_first ps rest) ∙ ap (λ (t : Text). 44 ∷ 32 ∷ t) (one_behind p (behind_first ps rest))
+      ∙ append_assoc (codes ", ") (parameter_text m f.locals p) (afterwards_first ps rest) ∙ ap (λ (t : Text). 44 ∷ 32 ∷ t) (one_after p (afterwards_first ps rest))
 
-  seam_behind : (ps : List Parameter) (rest : Text) → IsSeam (behind_first ps rest)
+  seam_after : (ps : List Parameter) (rest : Text) → IsSeam (afterwards_first ps rest)
   unfolding class_of
-  seam_behind [] rest = refl
-  seam_behind (p ∷ ps) rest = refl
+  seam_after [] rest = refl
+  seam_after (p ∷ ps) rest = refl
 
   abbrev pub ParametersGo : List Parameter → (more : List Text) → Far → Input → (rest : Text) → Type 0
   ParametersGo ps more far i rest =
@@ -225,7 +225,7 @@ module _ (m : Module) (f : Function) (named : AreNamed m f) (types : TypesRead m
 
   further_go : (x : Parameter) (ps : List Parameter) (more : List Text) (far : Far) (i : Input) (gap rest : Text) → AllByRecursion (IsParameter m) (x ∷ ps) → AllByRecursion IsKey (map (parameter_key f.locals) (x ∷ ps))
       → Steady far (map (parameter_key f.locals) (x ∷ ps) ++ more) → length far.values + length (x ∷ ps) ≤ 1000000 → length far.labels ≤ 65535 → AreBlanks gap
-      → Ready (known m f named far) 0 i (gap ++ from_type x (behind_first ps rest)) → ParametersGo (x ∷ ps) more far i rest
+      → Ready (known m f named far) 0 i (gap ++ from_type x (afterwards_first ps rest)) → ParametersGo (x ∷ ps) more far i rest
   unfolding class_of
   further_go x [] more far i gap rest are keys steady room few blanks ready =
       let one = parameter_goes x more far i gap (41 ∷ rest) (41 ∷ rest) are.0 keys.0 steady (omega (arith, room)) few blanks refl (λ now. close_separates now rest) ready in (
@@ -239,10 +239,10 @@ module _ (m : Module) (f : Function) (named : AreNamed m f) (types : TypesRead m
         λ n others later. (one.6.1 n others later, tt),
       )
   further_go x (p ∷ ps) more far i gap rest are keys steady room few blanks ready =
-      let behind = from_type p (behind_first ps rest) in
-      let name_bytes = 32 ∷ 37 ∷ (key_text (parameter_key f.locals p) ++ behind_first ps rest) in
-      let here = subst (λ (t : Text). Ready (known m f named far) 0 i (gap ++ from_type x t)) (more_behind p ps rest) ready in
-      let one = parameter_goes x (map (parameter_key f.locals) (p ∷ ps) ++ more) far i gap (44 ∷ 32 ∷ behind) (32 ∷ behind) are.0 keys.0 steady (omega (arith, room)) few blanks refl
+      let afterwards = from_type p (afterwards_first ps rest) in
+      let name_bytes = 32 ∷ 37 ∷ (key_text (parameter_key f.locals p) ++ afterwards_first ps rest) in
+      let here = subst (λ (t : Text). Ready (known m f named far) 0 i (gap ++ from_type x t)) (more_after p ps rest) ready in
+      let one = parameter_goes x (map (parameter_key f.locals) (p ∷ ps) ++ more) far i gap (44 ∷ 32 ∷ afterwards) (32 ∷ afterwards) are.0 keys.0 steady (omega (arith, room)) few blanks refl
       (λ now. comma_separates now are.1.0.0 p.written name_bytes are.1.0.1 refl) here in
       let q = one.1 in
       let mid = one.2 in
@@ -253,7 +253,7 @@ module _ (m : Module) (f : Function) (named : AreNamed m f) (types : TypesRead m
         one.0 ∷ next.0,
         next.1,
         next.2,
-        (not_close x i gap (44 ∷ 32 ∷ behind) are.0 blanks here.stands, q, one.3, next.3),
+        (not_close x i gap (44 ∷ 32 ∷ afterwards) are.0 blanks here.stands, q, one.3, next.3),
         next.4,
         widens_further i q next.1 one.5 next.5,
         onward_further far mid next.2 (parameter_key f.locals x ∷ []) [] (map (parameter_key f.locals) (p ∷ ps)) [] (map (parameter_key f.locals) (p ∷ ps) ++ more) more on next.6,
@@ -266,5 +266,5 @@ module _ (m : Module) (f : Function) (named : AreNamed m f) (types : TypesRead m
   parameters_go [] more far i rest are keys steady room few ready =
       ([], i, far, (at_close i rest ready.stands, refl), ready, widens_itself i, onward_itself far more steady, λ n others later. tt)
   parameters_go (x ∷ ps) more far i rest are keys steady room few ready =
-      let e = append_assoc (parameter_text m f.locals x) (flat_map (λ (p : Parameter). codes ", " ++ parameter_text m f.locals p) ps) (41 ∷ rest) ∙ one_behind x (behind_first ps rest) in
+      let e = append_assoc (parameter_text m f.locals x) (flat_map (λ (p : Parameter). codes ", " ++ parameter_text m f.locals p) ps) (41 ∷ rest) ∙ one_after x (afterwards_first ps rest) in
       further_go x ps more far i [] rest are keys steady room few refl (subst (λ (t : Text). Ready (known m f named far) 0 i t) e ready)

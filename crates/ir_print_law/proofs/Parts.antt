@@ -46,9 +46,9 @@ use Rattle.ir_print_law.proofs.OperandsAgain.{OperandAgain, operand_reads, ends_
 use Rattle.ir_print_law.proofs.AgainTypes.{EndsAgain, no_round}
 
 -- a comma ends a type
-pub ends_comma : (behind : Text) → EndsType (44 ∷ behind)
+pub ends_comma : (afterwards : Text) → EndsType (44 ∷ afterwards)
 unfolding class_of
-ends_comma behind = (refl, λ i at. ap ends_type (sign_comes i.cursor [] 44 behind k.Comma refl refl refl at).0)
+ends_comma afterwards = (refl, λ i at. ap ends_type (sign_comes i.cursor [] 44 afterwards k.Comma refl refl refl at).0)
 
 -- what ends a type begins no parameters
 round_of : (x : Kind) → ends_type x ≡ true → no_round x ≡ true

@@ -11,7 +11,7 @@ use Rattle.ir_tokens.specs.declared.token.Kind.{Kind}
 use Rattle.ir_tokens.specs.declared.token.Kind.TheVariants as k
 use Rattle.ir_tokens.specs.Bytes.{Text, class_of}
 use Rattle.ir_tokens.specs.Keywords.{word_kind, keywords}
-use Rattle.ir_forms.specs.Cursor.{kind, kind_behind, kind_third, next, same_kind}
+use Rattle.ir_forms.specs.Cursor.{kind, kind_after, kind_third, next, same_kind}
 use Rattle.ir_forms.specs.Place.{Place}
 use Rattle.ir_forms.specs.declared.input.Input.{Input}
 use Rattle.ir_forms.specs.Choices.{is_local, begins_phi, at_no_phi, phi_value, phi_value_by, phi}
@@ -66,7 +66,7 @@ other_word x y z e = both (is_local x) (same_kind y k.Equals) (same_kind z k.Phi
 
 -- another token than a local name
 pub no_local : (i : Input) → is_local (kind i.cursor) ≡ false → begins_phi i ≡ false
-no_local i e = ap (λ (a : Bool). a && (same_kind (kind_behind i.cursor) k.Equals && same_kind (kind_third i.cursor) k.Phi)) e
+no_local i e = ap (λ (a : Bool). a && (same_kind (kind_after i.cursor) k.Equals && same_kind (kind_third i.cursor) k.Phi)) e
 
 -- no phi begins where these bytes come next
 abbrev pub BeginsNoPhi : Text → Type 0
@@ -81,13 +81,13 @@ phi_line_is m locals x rest = front (local_text locals x.value) (type_text m x.w
 -- a phi begins there
 phi_begins : (m : Module) (locals : List Text) (x : Phi) (i : Input) (rest : Text) → IsKey (name_at locals x.value) → Stands i.cursor (10 ∷ (phi_line m locals x ++ rest))
     → IsLocalKind (kind i.cursor) × (begins_phi i ≡ true)
-unfolding class_of word_kind keywords kind kind_behind kind_third next
+unfolding class_of word_kind keywords kind kind_after kind_third next
 phi_begins m locals x i rest own at =
     let at = subst (λ (t : Text). Stands i.cursor (10 ∷ t)) (phi_line_is m locals x rest) at in
     let a = local_passed i.cursor (10 ∷ 32 ∷ 32 ∷ []) (name_at locals x.value) (32 ∷ phi_rest m locals x (10 ∷ rest)) own refl refl at in
     let b = sign_comes (next i.cursor) (32 ∷ []) 61 _ k.Equals refl refl refl a.1 in
     let c = word_comes (next (next i.cursor)) (32 ∷ []) (codes "phi") _ refl refl refl b.3 in
-    (a.0, three_tokens (kind i.cursor) (kind_behind i.cursor) (kind_third i.cursor) a.0 b.0 c.0)
+    (a.0, three_tokens (kind i.cursor) (kind_after i.cursor) (kind_third i.cursor) a.0 b.0 c.0)
 
 local_line : (x : Kind) → IsLocalKind x → begins_body_line x ≡ true
 local_line x (inl e) = ap begins_body_line e

@@ -71,7 +71,7 @@ module _ {m : Module} {f : Function} (v : Invariant m f) where
       let t2 = codes ", " ++ t3 in
       let t1 = operand_text m f.locals t x.operand ++ t2 in
       let ready = subst (λ (y : Text). Ready v s i (gap ++ y)) (front (operand_text m f.locals t x.operand) (local_text f.locals x.from)) ready in
-      on v v (expect k.OpenSquare) (λ _. choices.incoming_behind (bits_of_shape shape)) i (32 ∷ t1) rest s s (λ _ o. advanced i ≡ o) good
+      on v v (expect k.OpenSquare) (λ _. choices.incoming_after (bits_of_shape shape)) i (32 ∷ t1) rest s s (λ _ o. advanced i ≡ o) good
       (sign_reads v 91 k.OpenSquare i gap (32 ∷ t1) s s blanks refl refl (omega arith) ready)
       (λ _ o ready g e.
       on v v (form.operand (bits_of_shape shape)) comma_form o t2 rest s s (OperandAgain m f.locals x.operand) good
@@ -112,20 +112,20 @@ module _ {m : Module} {f : Function} (v : Invariant m f) where
   AllEntriesAgain = IsLaterAgain (λ n others. AreAlike (IsIncomingAgain m n f.locals others))
 
   -- further entries are read
-  entries_behind : (shape : Shape) (t : ℕ) (xs : List Incoming) (i : Input) (rest : Text) (s : ℕ) → HasShape m.types m.struct_names shape t → AllByRecursion (IsIncoming m f (bits_of_shape shape)) xs → EndsLine rest
+  entries_after : (shape : Shape) (t : ℕ) (xs : List Incoming) (i : Input) (rest : Text) (s : ℕ) → HasShape m.types m.struct_names shape t → AllByRecursion (IsIncoming m f (bits_of_shape shape)) xs → EndsLine rest
       → Ready v s i (further_entries t xs ++ rest)
-      → (ys : List Incoming) × (o : Input) × Follows choices.ends_entries (λ c. (choices.entry c).says) choices.behind_entry (record { bits = bits_of_shape shape; is_further = true }) i ys o × Ready v s o rest × Grows i o × AllEntriesAgain xs ys o
+      → (ys : List Incoming) × (o : Input) × Follows choices.ends_entries (λ c. (choices.entry c).says) choices.after_entry (record { bits = bits_of_shape shape; is_further = true }) i ys o × Ready v s o rest × Grows i o × AllEntriesAgain xs ys o
   unfolding choices.entry choices.separated class_of
-  entries_behind shape t [] i rest s has own ends ready = ([], i, (list_ends i (ends.1 i ready.stands), refl), ready, grows_itself i, λ n others later. tt)
-  entries_behind shape t (x ∷ xs) i rest s has own ends ready =
-      let behind = further_entries t xs ++ rest in
+  entries_after shape t [] i rest s has own ends ready = ([], i, (list_ends i (ends.1 i ready.stands), refl), ready, grows_itself i, λ n others later. tt)
+  entries_after shape t (x ∷ xs) i rest s has own ends ready =
+      let afterwards = further_entries t xs ++ rest in
       let ready = subst (λ (y : Text). Ready v s i y) (append_assoc (codes ", " ++ incoming_text m f.locals t x) (further_entries t xs) rest ∙ append_assoc (codes ", ") (incoming_text m f.locals t x) (further_entries t xs ++ rest)) ready in
-      let comma = sign_kind v 44 k.Comma i [] (32 ∷ (incoming_text m f.locals t x ++ behind)) s refl refl refl ready in
+      let comma = sign_kind v 44 k.Comma i [] (32 ∷ (incoming_text m f.locals t x ++ afterwards)) s refl refl refl ready in
       let c = sign_reads v 44 k.Comma i [] (32 ∷ (incoming_text m f.locals t x ++ (further_entries t xs ++ rest))) s s refl refl refl (omega arith) ready in
-      let a = incoming_reads shape t x c.1 (32 ∷ []) behind s has own.0 refl c.3 in
-      let opens = square_first c.1 (operand_text m f.locals t x.operand) (local_text f.locals x.from) behind s c.3 in
+      let a = incoming_reads shape t x c.1 (32 ∷ []) afterwards s has own.0 refl c.3 in
+      let opens = square_first c.1 (operand_text m f.locals t x.operand) (local_text f.locals x.from) afterwards s c.3 in
       let metadata : lists.is_metadata (kind (advanced i).cursor) ≡ false = ap (λ (j : Input). lists.is_metadata (kind j.cursor)) c.5 ∙ ap lists.is_metadata opens in
-      let b = entries_behind shape t xs a.1 rest s has own.1 ends a.3 in (
+      let b = entries_after shape t xs a.1 rest s has own.1 ends a.3 in (
         a.0 ∷ b.0,
         b.1,
         (list_goes_on i comma metadata, a.1, (c.0, c.1, c.2, a.2), b.2),
@@ -134,8 +134,8 @@ module _ {m : Module} {f : Function} (v : Invariant m f) where
         λ n others later. (a.5 n others (later_before a.1 b.1 n others b.4 later), b.5 n others later),
       )
     where
-      square_first : (j : Input) (a b behind : Text) (s : ℕ) → Ready v s j (32 ∷ ((codes "[ " ++ a ++ codes ", " ++ b ++ codes " ]") ++ behind)) → kind j.cursor ≡ k.OpenSquare
-      square_first j a b behind s ready = sign_kind v 91 k.OpenSquare j (32 ∷ []) _ s refl refl refl ready
+      square_first : (j : Input) (a b afterwards : Text) (s : ℕ) → Ready v s j (32 ∷ ((codes "[ " ++ a ++ codes ", " ++ b ++ codes " ]") ++ afterwards)) → kind j.cursor ≡ k.OpenSquare
+      square_first j a b afterwards s ready = sign_kind v 91 k.OpenSquare j (32 ∷ []) _ s refl refl refl ready
 
   -- the entries of a phi
   entries_read : (shape : Shape) (t : ℕ) (xs : List Incoming) (i : Input) (rest : Text) (s : ℕ) → 0 < length xs → HasShape m.types m.struct_names shape t → AllByRecursion (IsIncoming m f (bits_of_shape shape)) xs → EndsLine rest
@@ -145,7 +145,7 @@ module _ {m : Module} {f : Function} (v : Invariant m f) where
   entries_read shape t (x ∷ xs) i rest s some has own ends ready =
       let ready = subst (λ (y : Text). Ready v s i (32 ∷ y)) (append_assoc (incoming_text m f.locals t x) (further_entries t xs) rest) ready in
       let a = incoming_reads shape t x i (32 ∷ []) (further_entries t xs ++ rest) s has own.0 refl ready in
-      let b = entries_behind shape t xs a.1 rest s has own.1 ends a.3 in (
+      let b = entries_after shape t xs a.1 rest s has own.1 ends a.3 in (
         a.0 ∷ b.0,
         b.1,
         (refl, a.1, (tt, i, (refl, refl), a.2), b.2),
@@ -158,7 +158,7 @@ module _ {m : Module} {f : Function} (v u : Invariant m f) where
   -- `= phi T [ V, %b ], ..` after the name of its value
   pub phi_reads : (x : Phi) (value : ℕ) (i : Input) (gap rest : Text) (s : ℕ) → IsPhi m f x → Sets v u value → EndsLine rest → AreBlanks gap
       → Ready v s i (gap ++ (codes "= phi " ++ (type_text m x.written ++ (32 ∷ (listed (incoming_text m f.locals x.written) x.incoming ++ rest)))))
-      → Reads u s (choices.phi_behind value) i rest (PhiAgain m f.locals value x)
+      → Reads u s (choices.phi_after value) i rest (PhiAgain m f.locals value x)
   unfolding class_of word_kind keywords
   phi_reads x value i gap rest s own sets ends blanks ready =
       let shape = own.0 in

@@ -109,23 +109,23 @@ module _ (m : Module) (f : Function) (v : Invariant m f) (types : TypesRead m) w
       → Reads v 0 void_result i (32 ∷ 64 ∷ (name_text blank.Kept name ++ rest)) (λ n o. slice_get o.types n ≡ Some type.Void)
   unfolding class_of
   void_reads i gap name rest own seam blanks ready =
-      let behind = 32 ∷ 64 ∷ (name_text blank.Kept name ++ rest) in
-      let a = word_skipped v (codes "void") i gap behind 0 4 blanks refl refl (omega arith) ready in
+      let afterwards = 32 ∷ 64 ∷ (name_text blank.Kept name ++ rest) in
+      let a = word_skipped v (codes "void") i gap afterwards 0 4 blanks refl refl (omega arith) ready in
       let p = a.1 in
       let none = unlike k.OpenRound is_global p refl (ap is_global (global_comes p.cursor (32 ∷ []) name rest refl own seam a.3.stands).0) in
-      let b = intern_reads v type.Void p behind 3 tt a.3 in
+      let b = intern_reads v type.Void p afterwards 3 tt a.3 in
       let o = b.1 in
-      (b.0, b.1, (tt, p, (tt, p, a.2, (ap not none, refl)), b.2), less_spare v o behind 3 0 (omega arith) b.3, grows_further i p o a.4 b.4, b.5)
+      (b.0, b.1, (tt, p, (tt, p, a.2, (ap not none, refl)), b.2), less_spare v o afterwards 3 0 (omega arith) b.3, grows_further i p o a.4 b.4, b.5)
 
   pub defined_result_reads : (returned : ℕ) (i : Input) (gap name rest : Text) → IsVoid m returned ⊎ IsPassed m returned → AreBytes name → IsSeam rest → AreBlanks gap
       → Ready v 0 i (gap ++ (type_text m returned ++ 32 ∷ 64 ∷ (name_text blank.Kept name ++ rest)))
       → Reads v 0 defined_result i (32 ∷ 64 ∷ (name_text blank.Kept name ++ rest)) (IsResultRead m returned)
   unfolding defined_result word_kind keywords class_of
   defined_result_reads returned i gap name rest (inl is_void) own seam blanks ready =
-      let behind = 32 ∷ 64 ∷ (name_text blank.Kept name ++ rest) in
+      let afterwards = 32 ∷ 64 ∷ (name_text blank.Kept name ++ rest) in
       let e = void_shown m returned is_void in
-      let here = subst (λ (t : Text). Ready v 0 i (gap ++ (t ++ behind))) e ready in
-      let comes = (word_comes i.cursor gap (codes "void") behind blanks refl refl here.stands).0 in
+      let here = subst (λ (t : Text). Ready v 0 i (gap ++ (t ++ afterwards))) e ready in
+      let comes = (word_comes i.cursor gap (codes "void") afterwards blanks refl refl here.stands).0 in
       let plain = decorations_said spot.Result i (ap (begins_decoration spot.Result (begins_line i.cursor)) comes) in
       let a = void_reads i gap name rest own seam blanks here in
       let o = a.1 in
@@ -138,12 +138,12 @@ module _ (m : Module) (f : Function) (v : Invariant m f) (types : TypesRead m) w
         λ later others is_later. inl (is_void, stays o.types later.types n type.Void is_later.types a.5),
       )
   defined_result_reads returned i gap name rest (inr is_passed) own seam blanks ready =
-      let behind = 32 ∷ 64 ∷ (name_text blank.Kept name ++ rest) in
+      let afterwards = 32 ∷ 64 ∷ (name_text blank.Kept name ++ rest) in
       let shape = is_passed.0 in
       let is_type = is_passed.1 in
-      let begins = types.type_comes shape returned i.cursor gap behind is_type blanks refl ready.stands in
+      let begins = types.type_comes shape returned i.cursor gap afterwards is_type blanks refl ready.stands in
       let plain = decorations_said spot.Result i (result_plain (begins_line i.cursor) (kind i.cursor) begins) in
-      let a = types.passed v shape returned i gap behind 0 is_type is_passed.2 blanks (ends_global name rest own seam) ready in
+      let a = types.passed v shape returned i gap afterwards 0 is_type is_passed.2 blanks (ends_global name rest own seam) ready in
       let o = a.1 in
       let w = a.0 in (
         a.0.id,
@@ -159,10 +159,10 @@ module _ (m : Module) (f : Function) (v : Invariant m f) (types : TypesRead m) w
       → Reads v 0 declared_result i (32 ∷ 64 ∷ (name_text blank.Kept name ++ rest)) (IsResultRead m returned)
   unfolding declared_result word_kind keywords class_of
   declared_result_reads returned i gap name rest (inl is_void) own seam blanks ready =
-      let behind = 32 ∷ 64 ∷ (name_text blank.Kept name ++ rest) in
+      let afterwards = 32 ∷ 64 ∷ (name_text blank.Kept name ++ rest) in
       let e = void_shown m returned is_void in
-      let here = subst (λ (t : Text). Ready v 0 i (gap ++ (t ++ behind))) e ready in
-      let comes = (word_comes i.cursor gap (codes "void") behind blanks refl refl here.stands).0 in
+      let here = subst (λ (t : Text). Ready v 0 i (gap ++ (t ++ afterwards))) e ready in
+      let comes = (word_comes i.cursor gap (codes "void") afterwards blanks refl refl here.stands).0 in
       let plain = decorations_said spot.Result i (ap (begins_decoration spot.Result (begins_line i.cursor)) comes) in
       let none = decorations_said spot.Declare i (ap (begins_decoration spot.Declare (begins_line i.cursor)) comes) in
       let a = void_reads i gap name rest own seam blanks here in
@@ -176,13 +176,13 @@ module _ (m : Module) (f : Function) (v : Invariant m f) (types : TypesRead m) w
         λ later others is_later. inl (is_void, stays o.types later.types n type.Void is_later.types a.5),
       )
   declared_result_reads returned i gap name rest (inr is_any) own seam blanks ready =
-      let behind = 32 ∷ 64 ∷ (name_text blank.Kept name ++ rest) in
+      let afterwards = 32 ∷ 64 ∷ (name_text blank.Kept name ++ rest) in
       let shape = is_any.0 in
       let is_type = is_any.1 in
-      let begins = types.type_comes shape returned i.cursor gap behind is_type blanks refl ready.stands in
+      let begins = types.type_comes shape returned i.cursor gap afterwards is_type blanks refl ready.stands in
       let plain = decorations_said spot.Result i (result_plain (begins_line i.cursor) (kind i.cursor) begins) in
       let none = decorations_said spot.Declare i (declare_plain (begins_line i.cursor) (kind i.cursor) begins) in
-      let a = types.any v shape returned i gap behind 0 is_type refl blanks (ends_global name rest own seam) ready in
+      let a = types.any v shape returned i gap afterwards 0 is_type refl blanks (ends_global name rest own seam) ready in
       let o = a.1 in
       let w = a.0 in (
         a.0.id,
@@ -211,15 +211,15 @@ module _ (m : Module) (f : Function) (v : Invariant m f) (types : TypesRead m) w
       let said = subst (λ (b : Bool). (either collector_name (pure None) b).says i None i) (sym none) (refl, refl) in
       (None, i, (tt, i, plain, (None, i, said, (tt, i, plain, (refl, refl)))), ready, grows_itself i, refl)
   head_end_reads (Some name) i rest own ready =
-      let behind = 32 ∷ 123 ∷ rest in
-      let word = word_comes i.cursor (32 ∷ []) (codes "gc") (32 ∷ (quoted_text blank.Kept name ++ behind)) refl refl refl here.stands in
+      let afterwards = 32 ∷ 123 ∷ rest in
+      let word = word_comes i.cursor (32 ∷ []) (codes "gc") (32 ∷ (quoted_text blank.Kept name ++ afterwards)) refl refl refl here.stands in
       let plain = defined_plain i k.Gc word.0 (λ first. refl) in
-      let a = word_skipped v (codes "gc") i (32 ∷ []) (32 ∷ (quoted_text blank.Kept name ++ behind)) 0 0 refl refl refl (omega arith) here in
+      let a = word_skipped v (codes "gc") i (32 ∷ []) (32 ∷ (quoted_text blank.Kept name ++ afterwards)) 0 0 refl refl refl (omega arith) here in
       let p = a.1 in
-      let q = collectors_are_read name p (32 ∷ []) behind own refl refl a.3.stands in
+      let q = collectors_are_read name p (32 ∷ []) afterwards own refl refl a.3.stands in
       let o = advanced p in
-      let size = length-append (quoted_text blank.Kept name) behind in
-      let ready_o = passed v p (32 ∷ (quoted_text blank.Kept name ++ behind)) behind 0 0 a.3 q.1 (omega (arith, size)) in
+      let size = length-append (quoted_text blank.Kept name) afterwards in
+      let ready_o = passed v p (32 ∷ (quoted_text blank.Kept name ++ afterwards)) afterwards 0 0 a.3 q.1 (omega (arith, size)) in
       let e = brace_plain o rest q.1 in
       let plain_o = defined_plain o k.OpenBrace e (λ first. refl) in
       let said = subst (λ (b : Bool). (either collector_name (pure None) b).says i (Some name) o) (sym (seen k.Gc i word.0)) (name, o, (tt, p, a.2, q.0), (refl, refl)) in

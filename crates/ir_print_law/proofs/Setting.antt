@@ -30,9 +30,9 @@ use Rattle.ir_print_law.proofs.PrintedTypes.{type_shown, read_again, scalar_read
 use Rattle.ir_print_law.proofs.Parts.{IsLaterAgain, ArgumentAgain, IsValueSort, Sets, typed_reads}
 
 -- one form after another, where other things are known of the names after the second
-pub on : {m : Module} {f : Function} (v w : Invariant m f) {A B : Type 0} (form : Form A) (g : A → Form B) (i : Input) (behind rest : Text) (s t : ℕ) (P : A → Input → Type 0) (Q : B → Input → Type 0)
-    → Reads v s form i behind P → ((a : A) (o : Input) → Ready v s o behind → Grows i o → P a o → Reads w t (g a) o rest Q) → Reads w t (form >>= g) i rest Q
-on v w form g i behind rest s t P Q h k =
+pub on : {m : Module} {f : Function} (v w : Invariant m f) {A B : Type 0} (form : Form A) (g : A → Form B) (i : Input) (afterwards rest : Text) (s t : ℕ) (P : A → Input → Type 0) (Q : B → Input → Type 0)
+    → Reads v s form i afterwards P → ((a : A) (o : Input) → Ready v s o afterwards → Grows i o → P a o → Reads w t (g a) o rest Q) → Reads w t (form >>= g) i rest Q
+on v w form g i afterwards rest s t P Q h k =
     let n = k h.0 h.1 h.3 h.4 h.5 in
     (n.0, n.1, (h.0, h.1, h.2, n.2), n.3, grows_further i h.1 n.1 h.4 n.4, n.5)
 

@@ -14,35 +14,35 @@ use Rattle.ir_print.specs.Standing.{Stands}
 use Rattle.ir_forms.specs.Cursor.{kind, kind_first, spelling, spelled, spelled_first, start, start_first, size, size_first, next, rest_of}
 
 -- tokens before those that are read
-abbrev behind : List Token → Lexed → Lexed
-behind tokens l = record { tokens = tokens ++ l.tokens; bad = l.bad }
+abbrev afterwards : List Token → Lexed → Lexed
+afterwards tokens l = record { tokens = tokens ++ l.tokens; bad = l.bad }
 
-ended_behind : (total : ℕ) (tokens found : List Token) (at : Text) → ended total (tokens ++ found) at ≡ behind tokens (ended total found at)
-ended_behind total tokens found [] = refl
-ended_behind total tokens found (b ∷ bytes) = refl
+ended_after : (total : ℕ) (tokens found : List Token) (at : Text) → ended total (tokens ++ found) at ≡ afterwards tokens (ended total found at)
+ended_after total tokens found [] = refl
+ended_after total tokens found (b ∷ bytes) = refl
 
 -- what was found before stays before what is read
-lex_behind : (n total : ℕ) (first : Bool) (tokens found : List Token) (bytes : Text) → lex_from n total first (tokens ++ found) bytes ≡ behind tokens (lex_from n total first found bytes)
+lex_after : (n total : ℕ) (first : Bool) (tokens found : List Token) (bytes : Text) → lex_from n total first (tokens ++ found) bytes ≡ afterwards tokens (lex_from n total first found bytes)
 unfolding lex_from
-lex_behind zero total first tokens found bytes = ended_behind total tokens found (past_gap false bytes)
-lex_behind (suc n) total first tokens found bytes = at_by (past_gap false bytes) (first || ends_line (before bytes (past_gap false bytes)))
-    (λ t rest. ap (λ (x : List Token). lex_from n total false x rest) (append_assoc tokens found (t ∷ [])) ∙ lex_behind n total false tokens (found ++ t ∷ []) rest) where
-      at_by : (at : Text) (begins : Bool) → ((t : Token) (rest : Text) → lex_from n total false ((tokens ++ found) ++ t ∷ []) rest ≡ behind tokens (lex_from n total false (found ++ t ∷ []) rest))
-          → lex_at total begins (tokens ++ found) at (lex_from n total false) ≡ behind tokens (lex_at total begins found at (lex_from n total false))
+lex_after zero total first tokens found bytes = ended_after total tokens found (past_gap false bytes)
+lex_after (suc n) total first tokens found bytes = at_by (past_gap false bytes) (first || ends_line (before bytes (past_gap false bytes)))
+    (λ t rest. ap (λ (x : List Token). lex_from n total false x rest) (append_assoc tokens found (t ∷ [])) ∙ lex_after n total false tokens (found ++ t ∷ []) rest) where
+      at_by : (at : Text) (begins : Bool) → ((t : Token) (rest : Text) → lex_from n total false ((tokens ++ found) ++ t ∷ []) rest ≡ afterwards tokens (lex_from n total false (found ++ t ∷ []) rest))
+          → lex_at total begins (tokens ++ found) at (lex_from n total false) ≡ afterwards tokens (lex_at total begins found at (lex_from n total false))
       at_by [] begins more = refl
       at_by (b ∷ bytes) begins more = token_is (token.read (b ∷ bytes)) where
         token_is : (r : Outcome Kind)
             → on_token r (record { tokens = tokens ++ found; bad = Some (total - length (b ∷ bytes)) }) (λ x rest. lex_from n total false ((tokens ++ found) ++ make total begins (b ∷ bytes) x rest ∷ []) rest)
-            ≡ behind tokens (on_token r (record { tokens = found; bad = Some (total - length (b ∷ bytes)) }) (λ x rest. lex_from n total false (found ++ make total begins (b ∷ bytes) x rest ∷ []) rest))
+            ≡ afterwards tokens (on_token r (record { tokens = found; bad = Some (total - length (b ∷ bytes)) }) (λ x rest. lex_from n total false (found ++ make total begins (b ∷ bytes) x rest ∷ []) rest))
         token_is None = refl
         token_is (Some p) = more (make total begins (b ∷ bytes) p.0 p.1) p.1
 
 -- one token comes, and those after it
 lex_one : (n total : ℕ) (first : Bool) (bytes : Text) (b : ℕ) (bs rest : Text) (x : Kind) → past_gap false bytes ≡ b ∷ bs → token.read (b ∷ bs) ≡ Some (x, rest)
-    → lex_from (suc n) total first [] bytes ≡ behind (make total (first || ends_line (before bytes (b ∷ bs))) (b ∷ bs) x rest ∷ []) (lex_from n total false [] rest)
+    → lex_from (suc n) total first [] bytes ≡ afterwards (make total (first || ends_line (before bytes (b ∷ bs))) (b ∷ bs) x rest ∷ []) (lex_from n total false [] rest)
 unfolding lex_from
 lex_one n total first bytes b bs rest x gap read =
-    rw (gap, read) (lex_behind n total false (make total (first || ends_line (before bytes (b ∷ bs))) (b ∷ bs) x rest ∷ []) [] rest)
+    rw (gap, read) (lex_after n total false (make total (first || ends_line (before bytes (b ∷ bs))) (b ∷ bs) x rest ∷ []) [] rest)
 
 -- the token of this kind comes next, spelled by this word, and the rest comes after it
 abbrev pub Comes : Place → Kind → Text → Text → Type 0
@@ -80,7 +80,7 @@ comes c gap b bs word rest x past read parts some at = by at.1 at.4 at.5 at.6 wh
       let front_gap = length-append at.0 gap in
       let gap_rest = length-append gap (b ∷ bs) in
       let all : length c.text ≡ length (at.0 ++ gap) + (length word + length rest) = ap length whole ∙ length-append (at.0 ++ gap) (word ++ rest) ∙ ap (λ (y : ℕ). length (at.0 ++ gap) + y) (length-append word rest) in
-      let fits_behind : length rest ≤ n = omega (arith, fits, long, some, gap_rest) in
+      let fits_after : length rest ≤ n = omega (arith, fits, long, some, gap_rest) in
       let from : length c.text - length (b ∷ bs) ≡ length (at.0 ++ gap) = omega (arith, all, long) in
       let size : (length c.text - length rest) - (length c.text - length (b ∷ bs)) ≡ length word = omega (arith, all, long) in
-      come_by c (at.0 ++ gap) word rest n x t whole fits_behind refl from size (tokens ∙ ap (λ (y : Lexed). y.tokens) e) (bad ∙ ap (λ (y : Lexed). y.bad) e)
+      come_by c (at.0 ++ gap) word rest n x t whole fits_after refl from size (tokens ∙ ap (λ (y : Lexed). y.tokens) e) (bad ∙ ap (λ (y : Lexed). y.bad) e)

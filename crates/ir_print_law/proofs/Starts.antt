@@ -20,7 +20,7 @@ use Rattle.ir_print_law.proofs.State.{Ready, used_keys, used_symbols}
 use Rattle.ir_print_law.proofs.Bodies.{front_keys, back_keys}
 use Rattle.ir_print_law.proofs.Defining.{dropped}
 use Rattle.ir_print_law.proofs.WholeFunctionEnds.{nobody, no_key, locals_empty}
-use Rattle.ir_print_law.proofs.Known.{Far, AreNamed, known, in_front, in_behind}
+use Rattle.ir_print_law.proofs.Known.{Far, AreNamed, known, in_front, in_after}
 use Rattle.ir_print_law.proofs.NewLabels.{decimal_key}
 use Rattle.ir_print_law.proofs.NewValues.{IsNext, unnamed_then}
 use Rattle.ir_print_law.proofs.Steady.{next_key, taken}
@@ -88,7 +88,7 @@ function_keys m f is =
 -- ---- what is used is named as it is read
 
 symbol_named : (m : Module) → IsPrintable m → (is_call : Bool) (name : Text) → IsIn (used_symbols m is_call) name → AreBytes name × (is_left_out name ≡ false)
-symbol_named m is true name there = all_in IsSymbol (defined_globals m ++ functions_of m) name is.symbols.0 (in_behind (defined_globals m) (functions_of m) name there)
+symbol_named m is true name there = all_in IsSymbol (defined_globals m ++ functions_of m) name is.symbols.0 (in_after (defined_globals m) (functions_of m) name there)
 symbol_named m is false name there = all_in IsSymbol (defined_globals m ++ functions_of m) name is.symbols.0 (in_front (defined_globals m) (functions_of m) name there)
 
 pub nobody_named : (m : Module) → IsPrintable m → AreNamed m nobody

@@ -76,9 +76,9 @@ module _ {m : Module} {f : Function} (v : Invariant m f) where
   -- ---- one form after another
 
   -- a form, and then the one that its value tells
-  pub go_on : {A B : Type 0} (form : Form A) (g : A → Form B) (i : Input) (behind rest : Text) (s t : ℕ) (P : A → Input → Type 0) (Q : B → Input → Type 0)
-      → Reads v s form i behind P → ((a : A) (o : Input) → Ready v s o behind → Grows i o → P a o → Reads v t (g a) o rest Q) → Reads v t (form >>= g) i rest Q
-  go_on form g i behind rest s t P Q h k =
+  pub go_on : {A B : Type 0} (form : Form A) (g : A → Form B) (i : Input) (afterwards rest : Text) (s t : ℕ) (P : A → Input → Type 0) (Q : B → Input → Type 0)
+      → Reads v s form i afterwards P → ((a : A) (o : Input) → Ready v s o afterwards → Grows i o → P a o → Reads v t (g a) o rest Q) → Reads v t (form >>= g) i rest Q
+  go_on form g i afterwards rest s t P Q h k =
       let n = k h.0 h.1 h.3 h.4 h.5 in
       (n.0, n.1, (h.0, h.1, h.2, n.2), n.3, grows_further i h.1 n.1 h.4 n.4, n.5)
 
@@ -156,11 +156,11 @@ module _ {m : Module} {f : Function} (v : Invariant m f) where
   said_then form g i o a rest t Q said grows n = (n.0, n.1, (a, o, said, n.2), n.3, grows_further i o n.1 grows n.4, n.5)
 
   -- a form that reads one token
-  pub token_then : {A B : Type 0} (form : Form A) (g : A → Form B) (i : Input) (a : A) (bytes behind rest : Text) (s t u : ℕ) (Q : B → Input → Type 0)
-      → form.says i a (advanced i) → Ready v s i bytes → Stands (next i.cursor) behind → length behind + t ≤ length bytes + s
-      → (Ready v t (advanced i) behind → Reads v u (g a) (advanced i) rest Q) → Reads v u (form >>= g) i rest Q
-  token_then form g i a bytes behind rest s t u Q said ready at le k =
-      said_then form g i (advanced i) a rest u Q said (grows_advanced i) (k (passed i bytes behind s t ready at le))
+  pub token_then : {A B : Type 0} (form : Form A) (g : A → Form B) (i : Input) (a : A) (bytes afterwards rest : Text) (s t u : ℕ) (Q : B → Input → Type 0)
+      → form.says i a (advanced i) → Ready v s i bytes → Stands (next i.cursor) afterwards → length afterwards + t ≤ length bytes + s
+      → (Ready v t (advanced i) afterwards → Reads v u (g a) (advanced i) rest Q) → Reads v u (form >>= g) i rest Q
+  token_then form g i a bytes afterwards rest s t u Q said ready at le k =
+      said_then form g i (advanced i) a rest u Q said (grows_advanced i) (k (passed i bytes afterwards s t ready at le))
 
   -- a step to the next token that gives a value
   pub step_reads : {A : Type 0} (value : Input → A) (falls : (i : Input) → left (advanced i) ≤ left i) (i : Input) (bytes rest : Text) (s t : ℕ) → Ready v s i bytes → Stands (next i.cursor) rest

@@ -12,7 +12,7 @@ use Rattle.ir_forms.specs.Cursor.{kind}
 use Rattle.ir_forms.specs.declared.input.Input.{Input}
 use Rattle.ir_forms.specs.Input.{Form, expect}
 use Rattle.ir_forms.specs.Names.{new_struct}
-use Rattle.ir_text.specs.ItemsOfText.{struct_type, struct_behind, body, body_by, add_struct, with_struct_type}
+use Rattle.ir_text.specs.ItemsOfText.{struct_type, struct_after, body, body_by, add_struct, with_struct_type}
 use Rattle.ir_print.specs.Items.{struct_line}
 use Rattle.name_text.specs.Names.{name_text}
 use Rattle.name_text.specs.Readings.{AreBytes}
@@ -41,11 +41,11 @@ line_is m struct rest =
     append_assoc (name ++ codes " = type " ++ body) (10 ∷ []) rest ∙ append_assoc (name ++ codes " = type ") body (10 ∷ rest) ∙ append_assoc name (codes " = type ") (body ++ 10 ∷ rest)
 
 -- the forms after the signs of the line
-abbrev type_behind : ℕ → Form (Unit {0})
-type_behind number = body >>= λ id. add_struct (record { name = number; body = id })
+abbrev type_after : ℕ → Form (Unit {0})
+type_after number = body >>= λ id. add_struct (record { name = number; body = id })
 
-abbrev equals_behind : ℕ → Form (Unit {0})
-equals_behind number = expect k.Type >> type_behind number
+abbrev equals_after : ℕ → Form (Unit {0})
+equals_after number = expect k.Type >> type_after number
 
 module _ (m : Module) (f : Function) (named : AreNamed m f) (types : TypesRead m) (far : Far) where
   -- what is known after the line
@@ -128,13 +128,13 @@ module _ (m : Module) (f : Function) (named : AreNamed m f) (types : TypesRead m
       let v = known m f named (far_struct m f named far name) in
       let body_bytes = type_text m struct.body ++ 10 ∷ rest in
       let here = subst (λ (x : Text). Ready (known m f named far) 0 i (gap ++ x)) (line_is m struct rest) ready in
-      leads_on v named new_struct struct_behind i (codes " = type " ++ body_bytes) (10 ∷ rest) 0 0 _ (IsStructRead struct)
+      leads_on v named new_struct struct_after i (codes " = type " ++ body_bytes) (10 ∷ rest) 0 0 _ (IsStructRead struct)
       (new_struct_goes m f named far name i gap (codes " = type " ++ body_bytes) 0 own none less blanks refl here)
       (λ number o ready_o wide_o is_name.
-      reads_lead v named (expect k.Equals) (λ _. equals_behind number) o (codes " type " ++ body_bytes) (10 ∷ rest) 0 0 _ (IsStructRead struct)
+      reads_lead v named (expect k.Equals) (λ _. equals_after number) o (codes " type " ++ body_bytes) (10 ∷ rest) 0 0 _ (IsStructRead struct)
       (sign_reads v 61 k.Equals o (32 ∷ []) (codes " type " ++ body_bytes) 0 0 refl refl refl (omega arith) ready_o)
       (λ _ p ready_p wide_p at_p.
-      reads_lead v named (expect k.Type) (λ _. type_behind number) p (32 ∷ body_bytes) (10 ∷ rest) 0 0 _ (IsStructRead struct)
+      reads_lead v named (expect k.Type) (λ _. type_after number) p (32 ∷ body_bytes) (10 ∷ rest) 0 0 _ (IsStructRead struct)
       (word_reads v (codes "type") p (32 ∷ []) (32 ∷ body_bytes) 0 0 refl refl refl (omega arith) ready_p)
       (λ _ q ready_q wide_q at_q.
       reads_lead v named body (λ id. add_struct (record { name = number; body = id })) q (10 ∷ rest) (10 ∷ rest) 0 0 _ (IsStructRead struct)

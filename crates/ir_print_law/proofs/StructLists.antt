@@ -64,8 +64,8 @@ pub record WithAll (far now : Far) (structs globals functions : List Text) (ts :
   pub more_defines : now.defines ≡ far.defines ++ gs
 
 module _ (m : Module) (is : IsPrintable m) (named : AreNamed m nobody) (ys : List Global) (ds : List Declare) (fs : List Function) where
-  abbrev behind_structs : Text
-  behind_structs = flat_map (global_line m) ys ++ functions_text m ds fs
+  abbrev after_structs : Text
+  after_structs = flat_map (global_line m) ys ++ functions_text m ds fs
 
   abbrev pub StructsGo : List StructType → Far → Input → Type 0
   StructsGo ss far i =
@@ -77,16 +77,16 @@ module _ (m : Module) (is : IsPrintable m) (named : AreNamed m nobody) (ys : Lis
       × ((n : Module) → IsModuleLater o n → AreAlike (IsDeclareAgain m n) ds xs) × ((n : Module) → IsModuleLater o n → AreAlike (IsFunctionAgain m n) fs gs)
 
   -- what the items after the struct types need
-  abbrev pub Behind : Far → Type 0
-  Behind far =
-      (i : Input) (gap : Text) → AreBlanks gap → past_gap false gap ≡ [] → outside far ≡ far → Ready (known m nobody named far) 0 i (gap ++ behind_structs) → GlobalsGo m is named ds fs ys far i
+  abbrev pub ComesAfter : Far → Type 0
+  ComesAfter far =
+      (i : Input) (gap : Text) → AreBlanks gap → past_gap false gap ≡ [] → outside far ≡ far → Ready (known m nobody named far) 0 i (gap ++ after_structs) → GlobalsGo m is named ds fs ys far i
 
   pub structs_go : (ss : List StructType) (far : Far) (i : Input) (gap : Text) → AreBlanks gap → past_gap false gap ≡ [] → past_gap false (10 ∷ []) ≡ [] → AllByRecursion (IsStructType m) ss
       → AllByRecursion AreBytes (struct_names m ss) → AreNew far.structs (struct_names m ss) → length far.struct_types + length ss < 2 ^ 32 → outside far ≡ far
-      → ((structs : List Text) (ts : List StructType) → Behind (record far { structs = structs; struct_types = ts }))
-      → Ready (known m nobody named far) 0 i (gap ++ (flat_map (struct_line m) ss ++ behind_structs)) → StructsGo ss far i
-  structs_go [] far i gap blanks past past_line are own new few out behind ready =
-      let h = behind far.structs far.struct_types i gap blanks past out ready in
+      → ((structs : List Text) (ts : List StructType) → ComesAfter (record far { structs = structs; struct_types = ts }))
+      → Ready (known m nobody named far) 0 i (gap ++ (flat_map (struct_line m) ss ++ after_structs)) → StructsGo ss far i
+  structs_go [] far i gap blanks past past_line are own new few out afterwards ready =
+      let h = afterwards far.structs far.struct_types i gap blanks past out ready in
       let w = h.11 in (
         h.0,
         h.1,
@@ -114,10 +114,10 @@ module _ (m : Module) (is : IsPrintable m) (named : AreNamed m nobody) (ys : Lis
         h.13,
         h.14,
       )
-  structs_go (s ∷ ss) far i gap blanks past past_line are own new few out behind ready =
+  structs_go (s ∷ ss) far i gap blanks past past_line are own new few out afterwards ready =
       let name = name_at m.struct_names s.name in
-      let text = flat_map (struct_line m) ss ++ behind_structs in
-      let here = subst (λ (t : Text). Ready (known m nobody named far) 0 i (gap ++ t)) (append_assoc (struct_line m s) (flat_map (struct_line m) ss) behind_structs) ready in
+      let text = flat_map (struct_line m) ss ++ after_structs in
+      let here = subst (λ (t : Text). Ready (known m nobody named far) 0 i (gap ++ t)) (append_assoc (struct_line m s) (flat_map (struct_line m) ss) after_structs) ready in
       let one = struct_goes m nobody named (types_given m) far s are.0.0 i gap text own.0 new.0 (omega (arith, few)) are.0.1 are.0.2 blanks here in
       let p = one.1 in
       let x = one.6.0 in
@@ -125,7 +125,7 @@ module _ (m : Module) (is : IsPrintable m) (named : AreNamed m nobody) (ys : Lis
       let size = length-append far.struct_types (x ∷ []) in
       let ready_p = subst (λ (z : Far). Ready (known m nobody named z) 0 p (10 ∷ text)) one.6.1 one.4 in
       let out_mid : outside mid ≡ mid = ap (λ (z : Far). record z { structs = far.structs ++ name ∷ []; struct_types = far.struct_types ++ x ∷ [] }) out in
-      let next = structs_go ss mid p (10 ∷ []) refl past_line past_line are.1 own.1 new.1 (omega (arith, few, size)) out_mid behind ready_p in
+      let next = structs_go ss mid p (10 ∷ []) refl past_line past_line are.1 own.1 new.1 (omega (arith, few, size)) out_mid afterwards ready_p in
       let o = next.1 in
       let w = next.12 in
       let e = struct_kind m s i gap text own.0 blanks here.stands in

@@ -101,16 +101,16 @@ module _ {m : Module} {f : Function} (v : Invariant m f) where
       (given v (suc room, number) i rest s (StarsRead 0 (suc room) shape) ready (omega arith, has))
   stars_read (suc count) zero number shape i rest s le has ends ready = absurd (omega (arith, le))
   stars_read (suc count) (suc room) number shape i rest s le has ends ready =
-      let behind = stars count ++ rest in
+      let afterwards = stars count ++ rest in
       let good = StarsRead (suc count) (suc room) shape in
       let star = skip >> intern (type.Pointer number) in
       looked v at_star (star_or (skip >> intern (type.Pointer number) >>= pointers room) (pure (suc room, number))) i rest s good true
-      (seen k.Star i (sign_kind v 42 k.Star i [] behind s refl refl refl ready))
-      (go_on v star (pointers room) i behind rest s s (λ n o. HasShape o.types o.struct_names.names (Pointer shape) n) good
-      (go_on v skip (λ _. intern (type.Pointer number)) i behind behind (s + 1) s (λ _ o. advanced i ≡ o) (λ n o. HasShape o.types o.struct_names.names (Pointer shape) n)
-      (sign_skipped v 42 k.Star i [] behind s (s + 1) refl refl refl (omega arith) ready)
-      (λ _ o ready g e. so v (intern (type.Pointer number)) o behind s (λ n p. slice_get p.types n ≡ Some (type.Pointer number)) (λ n p. HasShape p.types p.struct_names.names (Pointer shape) n)
-      (intern_reads v (type.Pointer number) o behind s tt ready)
+      (seen k.Star i (sign_kind v 42 k.Star i [] afterwards s refl refl refl ready))
+      (go_on v star (pointers room) i afterwards rest s s (λ n o. HasShape o.types o.struct_names.names (Pointer shape) n) good
+      (go_on v skip (λ _. intern (type.Pointer number)) i afterwards afterwards (s + 1) s (λ _ o. advanced i ≡ o) (λ n o. HasShape o.types o.struct_names.names (Pointer shape) n)
+      (sign_skipped v 42 k.Star i [] afterwards s (s + 1) refl refl refl (omega arith) ready)
+      (λ _ o ready g e. so v (intern (type.Pointer number)) o afterwards s (λ n p. slice_get p.types n ≡ Some (type.Pointer number)) (λ n p. HasShape p.types p.struct_names.names (Pointer shape) n)
+      (intern_reads v (type.Pointer number) o afterwards s tt ready)
       (λ n p h there. (
         number,
         there,
@@ -164,24 +164,24 @@ module _ {m : Module} {f : Function} (v : Invariant m f) where
       (record { has_shape = has n o g ready.ordered there; fits = fits; base_is = base_is; stars_are = sym none }))
 
   -- an integer type is read
-  pub integer_read : (bits room : ℕ) (i : Input) (gap behind : Text) (s : ℕ) → 1 ≤ bits → bits ≤ 64 → AreBlanks gap → IsSeam behind → Ready v s i (gap ++ (shown false (Integer bits) ++ behind))
-      → Reads v s (w.base room (firm room)) i behind (IsTypeRead (Integer bits) (suc room))
-  integer_read bits room i gap behind s some most blanks seam ready =
-      let r = integer_types_are_read bits i gap behind some most blanks seam ready.stands in
+  pub integer_read : (bits room : ℕ) (i : Input) (gap afterwards : Text) (s : ℕ) → 1 ≤ bits → bits ≤ 64 → AreBlanks gap → IsSeam afterwards → Ready v s i (gap ++ (shown false (Integer bits) ++ afterwards))
+      → Reads v s (w.base room (firm room)) i afterwards (IsTypeRead (Integer bits) (suc room))
+  integer_read bits room i gap afterwards s some most blanks seam ready =
+      let r = integer_types_are_read bits i gap afterwards some most blanks seam ready.stands in
       let good = IsTypeRead (Integer bits) (suc room) in
-      looked v (λ i. kind i.cursor) (w.base_by room (firm room)) i behind s good k.IntegerType r.0
-      (token_then v integer (λ n. interned (base.Integer n) room (type.Integer n)) i bits (gap ++ (shown false (Integer bits) ++ behind)) behind behind s (s + 1) s good r.1 ready r.2
-      (shorter v gap (shown false (Integer bits)) behind s (s + 1) (omega arith))
-      (λ ready. interned_read (base.Integer bits) room (suc room) (type.Integer bits) (Integer bits) (advanced i) behind s tt refl refl (omega arith) (λ n o g ordered there. there) ready))
+      looked v (λ i. kind i.cursor) (w.base_by room (firm room)) i afterwards s good k.IntegerType r.0
+      (token_then v integer (λ n. interned (base.Integer n) room (type.Integer n)) i bits (gap ++ (shown false (Integer bits) ++ afterwards)) afterwards afterwards s (s + 1) s good r.1 ready r.2
+      (shorter v gap (shown false (Integer bits)) afterwards s (s + 1) (omega arith))
+      (λ ready. interned_read (base.Integer bits) room (suc room) (type.Integer bits) (Integer bits) (advanced i) afterwards s tt refl refl (omega arith) (λ n o g ordered there. there) ready))
 
   -- the name of a struct
-  pub struct_read : (name : Text) (i : Input) (gap behind : Text) (s : ℕ) → AreBytes name → IsIn (defined_structs m) name → AreBlanks gap → IsSeam behind
-      → Ready v s i (gap ++ 37 ∷ (name_text blank.Kept name ++ behind)) → Reads v (s + 1) struct_name i behind (λ n o. place_of name o.struct_names.names ≡ Some n)
-  struct_read name i gap behind s own there blanks seam ready =
+  pub struct_read : (name : Text) (i : Input) (gap afterwards : Text) (s : ℕ) → AreBytes name → IsIn (defined_structs m) name → AreBlanks gap → IsSeam afterwards
+      → Ready v s i (gap ++ 37 ∷ (name_text blank.Kept name ++ afterwards)) → Reads v (s + 1) struct_name i afterwards (λ n o. place_of name o.struct_names.names ≡ Some n)
+  struct_read name i gap afterwards s own there blanks seam ready =
       let room = ready.room in
       let names = i.struct_names.names in
-      let a = length-append gap (37 ∷ (name_text blank.Kept name ++ behind)) in
-      let b = length-append (name_text blank.Kept name) behind in
+      let a = length-append gap (37 ∷ (name_text blank.Kept name ++ afterwards)) in
+      let b = length-append (name_text blank.Kept name) afterwards in
       let some = name_text_some name in
       let types = room.types in
       let structs = room.structs in
@@ -189,7 +189,7 @@ module _ {m : Module} {f : Function} (v : Invariant m f) where
       let locals = room.locals in
       let within = number_within name names in
       let few : number_of name i.struct_names.names < 2 ^ 32 = omega (arith, within, structs) in
-      let r = struct_names_are_read name i gap behind own few blanks seam ready.stands in
+      let r = struct_names_are_read name i gap afterwards own few blanks seam ready.stands in
       let longer = name_length (spelled i.cursor) names in (
         number_of name names,
         with_struct_use i,
@@ -222,14 +222,14 @@ module _ {m : Module} {f : Function} (v : Invariant m f) where
       )
 
   -- the name of a struct is read as a type
-  pub named_read : (name : Text) (room : ℕ) (i : Input) (gap behind : Text) (s : ℕ) → AreBytes name → IsIn (defined_structs m) name → AreBlanks gap → IsSeam behind
-      → Ready v s i (gap ++ (shown false (Named name) ++ behind)) → Reads v s (w.base room (firm room)) i behind (IsTypeRead (Named name) (suc room))
-  named_read name room i gap behind s own there blanks seam ready =
+  pub named_read : (name : Text) (room : ℕ) (i : Input) (gap afterwards : Text) (s : ℕ) → AreBytes name → IsIn (defined_structs m) name → AreBlanks gap → IsSeam afterwards
+      → Ready v s i (gap ++ (shown false (Named name) ++ afterwards)) → Reads v s (w.base room (firm room)) i afterwards (IsTypeRead (Named name) (suc room))
+  named_read name room i gap afterwards s own there blanks seam ready =
       let good = IsTypeRead (Named name) (suc room) in
-      looked v (λ i. kind i.cursor) (w.base_by room (firm room)) i behind s good k.LocalName (local_comes i.cursor gap name behind blanks own seam ready.stands).0
-      (go_on v struct_name (λ n. interned base.Named room (type.Named n)) i behind behind (s + 1) s (λ n o. place_of name o.struct_names.names ≡ Some n) good
-      (struct_read name i gap behind s own there blanks seam ready)
-      (λ n o ready g is. interned_read base.Named room (suc room) (type.Named n) (Named name) o behind s tt refl refl (omega arith)
+      looked v (λ i. kind i.cursor) (w.base_by room (firm room)) i afterwards s good k.LocalName (local_comes i.cursor gap name afterwards blanks own seam ready.stands).0
+      (go_on v struct_name (λ n. interned base.Named room (type.Named n)) i afterwards afterwards (s + 1) s (λ n o. place_of name o.struct_names.names ≡ Some n) good
+      (struct_read name i gap afterwards s own there blanks seam ready)
+      (λ n o ready g is. interned_read base.Named room (suc room) (type.Named n) (Named name) o afterwards s tt refl refl (omega arith)
       (λ k p h ordered found. (n, found, place_stays name o.struct_names.names p.struct_names.names n h.structs is)) ready))
 
   -- ---- arrays

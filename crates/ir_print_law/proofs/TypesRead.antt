@@ -20,7 +20,7 @@ use Rattle.ir_forms.specs.declared.written.WrittenType.{WrittenType}
 use Rattle.ir_forms.specs.Input.{limit, advanced, advanced_falls, skip}
 use Rattle.ir_forms.specs.Names.{struct_name}
 use Rattle.ir_forms.specs.Written as w
-use Rattle.ir_forms.specs.Written.{intern, integer, bits_at, has_bits, length_at, has_length, array_length, pointers, star_or, at_star, at_brace, comma_or, behind_field, field, field_takes, before, struct_of, starred as with_starred, with_stars, no_parameters, part_of, interned, part, firm, Firm, over, no_type, type_within}
+use Rattle.ir_forms.specs.Written.{intern, integer, bits_at, has_bits, length_at, has_length, array_length, pointers, star_or, at_star, at_brace, comma_or, after_field, field, field_takes, before, struct_of, starred as with_starred, with_stars, no_parameters, part_of, interned, part, firm, Firm, over, no_type, type_within}
 use Rattle.ir_print_law.specs.Definitions.{defined_structs}
 use Rattle.ir_print_law.specs.Shapes.{Shape, Integer, Pointer, Array, Empty, Struct, Named, HasShape, IsWritten, IsStruct, levels}
 use Rattle.ir_print_law.proofs.Forms.{Keeps, Same, Any, stepped, where_true, all}
@@ -220,9 +220,9 @@ module _ {m : Module} (r : Reading m) where
 
   -- ---- structs
 
-  behind_field_keeps : (i : Input) → Keeps r.Fore (Same r.Fore) r.Back behind_field Any i
-  unfolding behind_field
-  behind_field_keeps i = by (at_brace i) where
+  after_field_keeps : (i : Input) → Keeps r.Fore (Same r.Fore) r.Back after_field Any i
+  unfolding after_field
+  after_field_keeps i = by (at_brace i) where
     by : (t : Bool) → Keeps r.Fore (Same r.Fore) r.Back (comma_or t) Any i
     by true = λ a o h f. (subst r.Fore h.1 f, λ b. (subst r.Back (sym h.1) b, tt))
     by false = λ a o h f.
@@ -234,7 +234,7 @@ module _ {m : Module} (r : Reading m) where
   field_keeps room inner part i p o h f =
       let t = h.3 in
       let a = part i h.0 h.1 h.2 f in
-      let b = behind_field_keeps h.1 t.0 t.1 t.2 a.0 in (
+      let b = after_field_keeps h.1 t.0 t.1 t.2 a.0 in (
         subst r.Fore t.3.1 b.0,
         λ back.
             let c = b.1 (subst r.Back (sym t.3.1) back) in

@@ -20,7 +20,7 @@ use Rattle.ir_print_law.specs.Again.{IsStructAgain, IsGlobalAgain, IsDeclareAgai
 use Rattle.ir_print_law.proofs.State.{Ready}
 use Rattle.ir_print_law.proofs.WholeFunctionEnds.{nobody, IsModuleLater}
 use Rattle.ir_print_law.proofs.GlobalLists.{globals_go}
-use Rattle.ir_print_law.proofs.Known.{known, in_front, in_behind, is_last}
+use Rattle.ir_print_law.proofs.Known.{known, in_front, in_after, is_last}
 use Rattle.ir_print_law.proofs.Starts.{nobody_named, far_start, ready_at_start}
 use Rattle.ir_print_law.proofs.StructLists.{structs_go}
 use Rattle.ir_print_law.proofs.SameText.{same_text}
@@ -42,7 +42,7 @@ new_seen seen (y ∷ ys) k h is (inr there) = new_seen (seen ++ y ∷ []) ys k h
 
 new_apart : (seen xs ys : List Text) (k : Text) → AreNew seen (xs ++ ys) → IsIn xs k → IsIn ys k → ⊥
 new_apart seen [] ys k h is there = is
-new_apart seen (x ∷ xs) ys k h (inl e) there = new_seen (seen ++ x ∷ []) (xs ++ ys) k h.1 (subst (λ (y : Text). IsIn (seen ++ x ∷ []) y) e (is_last seen x)) (in_behind xs ys k there)
+new_apart seen (x ∷ xs) ys k h (inl e) there = new_seen (seen ++ x ∷ []) (xs ++ ys) k h.1 (subst (λ (y : Text). IsIn (seen ++ x ∷ []) y) e (is_last seen x)) (in_after xs ys k there)
 new_apart seen (x ∷ xs) ys k h (inr is) there = new_apart (seen ++ x ∷ []) xs ys k h.1 is there
 
 no_more : (n most : ℕ) → n ≤ most → 0 + n ≤ most

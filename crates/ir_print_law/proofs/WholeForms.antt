@@ -48,16 +48,16 @@ pub goes : {m : Module} {f : Function} (v : Invariant m f) {A : Type 0} (form : 
 goes v form i rest s P h = (h.0, h.1, h.2, h.3, grows_widens i h.1 h.4, h.5)
 
 -- one form after another
-pub goes_on : {m : Module} {f g : Function} (v : Invariant m f) (w : Invariant m g) {A B : Type 0} (form : Form A) (next_form : A → Form B) (i : Input) (behind rest : Text) (s t : ℕ) (P : A → Input → Type 0) (Q : B → Input → Type 0)
-    → Goes v s form i behind P → ((a : A) (o : Input) → Ready v s o behind → Widens i o → P a o → Goes w t (next_form a) o rest Q) → Goes w t (form >>= next_form) i rest Q
-goes_on v w form next_form i behind rest s t P Q h k =
+pub goes_on : {m : Module} {f g : Function} (v : Invariant m f) (w : Invariant m g) {A B : Type 0} (form : Form A) (next_form : A → Form B) (i : Input) (afterwards rest : Text) (s t : ℕ) (P : A → Input → Type 0) (Q : B → Input → Type 0)
+    → Goes v s form i afterwards P → ((a : A) (o : Input) → Ready v s o afterwards → Widens i o → P a o → Goes w t (next_form a) o rest Q) → Goes w t (form >>= next_form) i rest Q
+goes_on v w form next_form i afterwards rest s t P Q h k =
     let n = k h.0 h.1 h.3 h.4 h.5 in
     (n.0, n.1, (h.0, h.1, h.2, n.2), n.3, widens_further i h.1 n.1 h.4 n.4, n.5)
 
 -- a form of types, operands or operations, and then another one
-pub reads_on : {m : Module} {f g : Function} (v : Invariant m f) (w : Invariant m g) {A B : Type 0} (form : Form A) (next_form : A → Form B) (i : Input) (behind rest : Text) (s t : ℕ) (P : A → Input → Type 0) (Q : B → Input → Type 0)
-    → Reads v s form i behind P → ((a : A) (o : Input) → Ready v s o behind → Widens i o → P a o → Goes w t (next_form a) o rest Q) → Goes w t (form >>= next_form) i rest Q
-reads_on v w form next_form i behind rest s t P Q h k = goes_on v w form next_form i behind rest s t P Q (goes v form i behind s P h) k
+pub reads_on : {m : Module} {f g : Function} (v : Invariant m f) (w : Invariant m g) {A B : Type 0} (form : Form A) (next_form : A → Form B) (i : Input) (afterwards rest : Text) (s t : ℕ) (P : A → Input → Type 0) (Q : B → Input → Type 0)
+    → Reads v s form i afterwards P → ((a : A) (o : Input) → Ready v s o afterwards → Widens i o → P a o → Goes w t (next_form a) o rest Q) → Goes w t (form >>= next_form) i rest Q
+reads_on v w form next_form i afterwards rest s t P Q h k = goes_on v w form next_form i afterwards rest s t P Q (goes v form i afterwards s P h) k
 
 -- a form of which it is known what it says, which leaves the state
 pub stays_on : {m : Module} {g : Function} (w : Invariant m g) {A B : Type 0} (form : Form A) (next_form : A → Form B) (i : Input) (a : A) (rest : Text) (t : ℕ) (Q : B → Input → Type 0)
@@ -95,17 +95,17 @@ Leads m f named spare {A = A} form i rest Good =
     (a : A) × (o : Input) × (far : Far) × form.says i a o × Ready (known m f named far) spare o rest × Widens i o × Good a far o
 
 -- one form, and then another one
-pub leads_on : {m : Module} {f g : Function} (v : Invariant m g) (named : AreNamed m f) {A B : Type 0} (form : Form A) (next_form : A → Form B) (i : Input) (behind rest : Text) (s t : ℕ)
-    (P : A → Input → Type 0) (Q : B → Far → Input → Type 0) → Goes v s form i behind P
-    → ((a : A) (o : Input) → Ready v s o behind → Widens i o → P a o → Leads m f named t (next_form a) o rest Q) → Leads m f named t (form >>= next_form) i rest Q
-leads_on v named form next_form i behind rest s t P Q h k =
+pub leads_on : {m : Module} {f g : Function} (v : Invariant m g) (named : AreNamed m f) {A B : Type 0} (form : Form A) (next_form : A → Form B) (i : Input) (afterwards rest : Text) (s t : ℕ)
+    (P : A → Input → Type 0) (Q : B → Far → Input → Type 0) → Goes v s form i afterwards P
+    → ((a : A) (o : Input) → Ready v s o afterwards → Widens i o → P a o → Leads m f named t (next_form a) o rest Q) → Leads m f named t (form >>= next_form) i rest Q
+leads_on v named form next_form i afterwards rest s t P Q h k =
     let n = k h.0 h.1 h.3 h.4 h.5 in
     (n.0, n.1, n.2, (h.0, h.1, h.2, n.3), n.4, widens_further i h.1 n.1 h.4 n.5, n.6)
 
-pub reads_lead : {m : Module} {f g : Function} (v : Invariant m g) (named : AreNamed m f) {A B : Type 0} (form : Form A) (next_form : A → Form B) (i : Input) (behind rest : Text) (s t : ℕ)
-    (P : A → Input → Type 0) (Q : B → Far → Input → Type 0) → Reads v s form i behind P
-    → ((a : A) (o : Input) → Ready v s o behind → Widens i o → P a o → Leads m f named t (next_form a) o rest Q) → Leads m f named t (form >>= next_form) i rest Q
-reads_lead v named form next_form i behind rest s t P Q h k = leads_on v named form next_form i behind rest s t P Q (goes v form i behind s P h) k
+pub reads_lead : {m : Module} {f g : Function} (v : Invariant m g) (named : AreNamed m f) {A B : Type 0} (form : Form A) (next_form : A → Form B) (i : Input) (afterwards rest : Text) (s t : ℕ)
+    (P : A → Input → Type 0) (Q : B → Far → Input → Type 0) → Reads v s form i afterwards P
+    → ((a : A) (o : Input) → Ready v s o afterwards → Widens i o → P a o → Leads m f named t (next_form a) o rest Q) → Leads m f named t (form >>= next_form) i rest Q
+reads_lead v named form next_form i afterwards rest s t P Q h k = leads_on v named form next_form i afterwards rest s t P Q (goes v form i afterwards s P h) k
 
 -- a form of which it is known what it says, which leaves the state
 pub stays_lead : {m : Module} {f : Function} (named : AreNamed m f) {A B : Type 0} (form : Form A) (next_form : A → Form B) (i : Input) (a : A) (rest : Text) (t : ℕ) (Q : B → Far → Input → Type 0)
@@ -113,10 +113,10 @@ pub stays_lead : {m : Module} {f : Function} (named : AreNamed m f) {A B : Type 
 stays_lead named form next_form i a rest t Q said n = (n.0, n.1, n.2, (a, i, said, n.3), n.4, n.5, n.6)
 
 -- one form after which more is known, and then another one
-pub leads_further : {m : Module} {f : Function} (named : AreNamed m f) {A B : Type 0} (form : Form A) (next_form : A → Form B) (i : Input) (behind rest : Text) (s t : ℕ)
-    (P : A → Far → Input → Type 0) (Q : B → Far → Input → Type 0) → Leads m f named s form i behind P
-    → ((a : A) (far : Far) (o : Input) → Ready (known m f named far) s o behind → Widens i o → P a far o → Leads m f named t (next_form a) o rest Q) → Leads m f named t (form >>= next_form) i rest Q
-leads_further named form next_form i behind rest s t P Q h k =
+pub leads_further : {m : Module} {f : Function} (named : AreNamed m f) {A B : Type 0} (form : Form A) (next_form : A → Form B) (i : Input) (afterwards rest : Text) (s t : ℕ)
+    (P : A → Far → Input → Type 0) (Q : B → Far → Input → Type 0) → Leads m f named s form i afterwards P
+    → ((a : A) (far : Far) (o : Input) → Ready (known m f named far) s o afterwards → Widens i o → P a far o → Leads m f named t (next_form a) o rest Q) → Leads m f named t (form >>= next_form) i rest Q
+leads_further named form next_form i afterwards rest s t P Q h k =
     let n = k h.0 h.2 h.1 h.4 h.5 h.6 in
     (n.0, n.1, n.2, (h.0, h.1, h.3, n.3), n.4, widens_further i h.1 n.1 h.5 n.5, n.6)
 

@@ -19,8 +19,8 @@ use Rattle.ir_forms.specs.declared.input.Input.{Input}
 use Rattle.ir_forms.specs.Input.{advanced}
 use Rattle.ir_forms.specs.ManyWith.{Follows}
 use Rattle.ir_forms.specs.Names.{is_wanted, first_missing}
-use Rattle.ir_text.specs.Blocks.{blocks, further, at_close, behind_block}
-use Rattle.ir_text.specs.ItemsOfText.{open_body, open_body_by, body_behind, with_function, function_of, earlier}
+use Rattle.ir_text.specs.Blocks.{blocks, further, at_close, after_block}
+use Rattle.ir_text.specs.ItemsOfText.{open_body, open_body_by, body_after, with_function, function_of, earlier}
 use Rattle.ir_print.specs.Blocks.{block_text}
 use Rattle.ir_print_law.specs.Definitions.{value_keys_of, value_keys, label_keys, parameter_keys, block_keys}
 use Rattle.ir_print_law.specs.Printable.{IsBlock}
@@ -168,7 +168,7 @@ module _ (m : Module) (f : Function) (named : AreNamed m f) (nobody_named : AreN
 
   abbrev pub BodyGoes : (symbol returned : ℕ) → (parameters : List Parameter) → (collector : Option Text) → Far → Input → (rest : Text) → Type 0
   BodyGoes symbol returned parameters collector far i rest =
-      (o : Input) × (g : Function) × (body_behind (record { symbol = symbol; returned = returned; parameters = parameters; collector = collector })).says i tt o × Ready (known m nobody nobody_named (far_function far g)) 0 o (10 ∷ rest) × Reaches i o × IsBodyRead symbol returned parameters collector i g o
+      (o : Input) × (g : Function) × (body_after (record { symbol = symbol; returned = returned; parameters = parameters; collector = collector })).says i tt o × Ready (known m nobody nobody_named (far_function far g)) 0 o (10 ∷ rest) × Reaches i o × IsBodyRead symbol returned parameters collector i g o
 
   open_reads : (v : Invariant m f) (i : Input) (rest : Text) → Ready v 0 i (32 ∷ 123 ∷ rest) → Reads v 0 open_body i rest (λ _ o. advanced i ≡ o)
   unfolding open_body class_of
@@ -200,7 +200,7 @@ module _ (m : Module) (f : Function) (named : AreNamed m f) (nobody_named : AreN
       let all_labels : now.labels ≡ label_keys f = on.labels_are ∙ ap (λ (l : List Text). l ++ label_keys f) labels in
       let g = function_of (record { symbol = symbol; returned = returned; parameters = parameters; collector = collector }) b.0 r in
       let done = ended_function (record { symbol = symbol; returned = returned; parameters = parameters; collector = collector }) b.0 now r (10 ∷ rest) on.steady.none_waits all_values all_labels closed.3 in
-      let follows = subst (λ (n : ℕ). Follows at_close (λ b. (further b).says) behind_block (record { count = n }) p b.0 q) label_count b.3 in
+      let follows = subst (λ (n : ℕ). Follows at_close (λ b. (further b).says) after_block (record { count = n }) p b.0 q) label_count b.3 in
       let wide = widens_further i p r (grows_widens i p opened.4) (widens_further p q r b.5 (grows_widens q r closed.4)) in
       let end = with_function (record { symbol = symbol; returned = returned; parameters = parameters; collector = collector }) b.0 r in (
         with_function (record { symbol = symbol; returned = returned; parameters = parameters; collector = collector }) b.0 r,

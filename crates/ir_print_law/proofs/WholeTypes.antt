@@ -50,25 +50,25 @@ fields_stay most (Array count part) ps i o g h = absurd h
 fields_stay most (Named name) ps i o g h = absurd h
 
 -- the forms after the parts of an array
-abbrev square_behind : ℕ → WrittenType → Form WrittenType
-square_behind n p = w.interned base.Aggregate p.room (type.Array n p.id)
+abbrev square_after : ℕ → WrittenType → Form WrittenType
+square_after n p = w.interned base.Aggregate p.room (type.Array n p.id)
 
 -- after the part of an array its bracket closes
-abbrev part_behind : ℕ → WrittenType → Form WrittenType
-part_behind n p = expect k.CloseSquare >> square_behind n p
+abbrev part_after : ℕ → WrittenType → Form WrittenType
+part_after n p = expect k.CloseSquare >> square_after n p
 
 -- after the `x` of an array comes its part
-abbrev x_behind : (room n : ℕ) → Form WrittenType
-x_behind room n = part room >>= part_behind n
+abbrev x_after : (room n : ℕ) → Form WrittenType
+x_after room n = part room >>= part_after n
 
 -- after the length of an array comes an `x`
-abbrev length_behind : (room n : ℕ) → Form WrittenType
-length_behind room n = expect k.X >> x_behind room n
+abbrev length_afterwards : (room n : ℕ) → Form WrittenType
+length_afterwards room n = expect k.X >> x_after room n
 
 -- a bracket ends a type
-ends_square : (behind : Text) → EndsType (93 ∷ behind)
+ends_square : (afterwards : Text) → EndsType (93 ∷ afterwards)
 unfolding class_of
-ends_square behind = (refl, λ i at. ap ends_type (sign_comes i.cursor [] 93 behind k.CloseSquare refl refl refl at).0)
+ends_square afterwards = (refl, λ i at. ap ends_type (sign_comes i.cursor [] 93 afterwards k.CloseSquare refl refl refl at).0)
 
 -- a token of this kind closes no brace
 abbrev no_close : Kind → Bool
@@ -95,20 +95,20 @@ shape_within types names (Struct first rest) n h = slice_get_within types n _ h.
 shape_within types names (Named name) n h = slice_get_within types n _ h.1
 
 -- which token a type begins with, at any place
-pub shape_comes : (structs : List Text) (shape : Shape) (place : Place) (gap behind : Text) → IsWritten structs shape → AreBlanks gap → IsSeam behind → Stands place (gap ++ (shown false shape ++ behind)) → begins_type (kind place) ≡ true
+pub shape_comes : (structs : List Text) (shape : Shape) (place : Place) (gap afterwards : Text) → IsWritten structs shape → AreBlanks gap → IsSeam afterwards → Stands place (gap ++ (shown false shape ++ afterwards)) → begins_type (kind place) ≡ true
 unfolding class_of
-shape_comes structs (Integer bits) place gap behind own blanks seam at = ap begins_type (integer_types_are_read bits (start_of place) gap behind own.0 own.1 blanks seam at).0
-shape_comes structs (Pointer part) place gap behind own blanks seam at =
-    shape_comes structs part place gap (42 ∷ behind) own blanks refl (subst (λ (x : Text). Stands place (gap ++ x)) (append_assoc (shown false part) (42 ∷ []) behind) at)
-shape_comes structs (Array count part) place gap behind own blanks seam at = ap begins_type (sign_comes place gap 91 _ k.OpenSquare blanks refl refl at).0
-shape_comes structs Empty place gap behind own blanks seam at = ap begins_type (sign_comes place gap 123 _ k.OpenBrace blanks refl refl at).0
-shape_comes structs (Struct first rest) place gap behind own blanks seam at = ap begins_type (sign_comes place gap 123 _ k.OpenBrace blanks refl refl at).0
-shape_comes structs (Named name) place gap behind own blanks seam at = ap begins_type (local_comes place gap name behind blanks own.0 seam at).0
+shape_comes structs (Integer bits) place gap afterwards own blanks seam at = ap begins_type (integer_types_are_read bits (start_of place) gap afterwards own.0 own.1 blanks seam at).0
+shape_comes structs (Pointer part) place gap afterwards own blanks seam at =
+    shape_comes structs part place gap (42 ∷ afterwards) own blanks refl (subst (λ (x : Text). Stands place (gap ++ x)) (append_assoc (shown false part) (42 ∷ []) afterwards) at)
+shape_comes structs (Array count part) place gap afterwards own blanks seam at = ap begins_type (sign_comes place gap 91 _ k.OpenSquare blanks refl refl at).0
+shape_comes structs Empty place gap afterwards own blanks seam at = ap begins_type (sign_comes place gap 123 _ k.OpenBrace blanks refl refl at).0
+shape_comes structs (Struct first rest) place gap afterwards own blanks seam at = ap begins_type (sign_comes place gap 123 _ k.OpenBrace blanks refl refl at).0
+shape_comes structs (Named name) place gap afterwards own blanks seam at = ap begins_type (local_comes place gap name afterwards blanks own.0 seam at).0
 
 module _ {m : Module} {f : Function} (v : Invariant m f) where
   -- which token a type begins with
-  pub type_begins : (shape : Shape) (i : Input) (gap behind : Text) → IsWritten (defined_structs m) shape → AreBlanks gap → IsSeam behind → Stands i.cursor (gap ++ (shown false shape ++ behind)) → begins_type (kind i.cursor) ≡ true
-  type_begins shape i gap behind own blanks seam at = shape_comes (defined_structs m) shape i.cursor gap behind own blanks seam at
+  pub type_begins : (shape : Shape) (i : Input) (gap afterwards : Text) → IsWritten (defined_structs m) shape → AreBlanks gap → IsSeam afterwards → Stands i.cursor (gap ++ (shown false shape ++ afterwards)) → begins_type (kind i.cursor) ≡ true
+  type_begins shape i gap afterwards own blanks seam at = shape_comes (defined_structs m) shape i.cursor gap afterwards own blanks seam at
 
   -- a type with stars after it is read
   abbrev PartClaim : Shape → Type 0
@@ -129,41 +129,41 @@ module _ {m : Module} {f : Function} (v : Invariant m f) where
       → Ready v s i (shown true shape ++ (codes " }" ++ rest)) → FieldsRead n shape p s i rest
 
   -- a token ends before stars
-  seam_behind : (count : ℕ) (rest : Text) → IsSeam rest → IsSeam (stars count ++ rest)
+  seam_after : (count : ℕ) (rest : Text) → IsSeam rest → IsSeam (stars count ++ rest)
   unfolding class_of
-  seam_behind zero rest seam = seam
-  seam_behind (suc count) rest seam = refl
+  seam_after zero rest seam = seam
+  seam_after (suc count) rest seam = refl
 
   -- ---- arrays
 
   -- an array is read
-  array_read : (count room : ℕ) (shape : Shape) (i : Input) (gap behind : Text) (s : ℕ) → PartClaim shape → count < 2 ^ 64 → IsWritten (defined_structs m) shape → levels shape ≤ room → AreBlanks gap
-      → Ready v s i (gap ++ (shown false (Array count shape) ++ behind)) → Reads v s (w.base room (firm room)) i behind (IsTypeRead (Array count shape) (suc room))
+  array_read : (count room : ℕ) (shape : Shape) (i : Input) (gap afterwards : Text) (s : ℕ) → PartClaim shape → count < 2 ^ 64 → IsWritten (defined_structs m) shape → levels shape ≤ room → AreBlanks gap
+      → Ready v s i (gap ++ (shown false (Array count shape) ++ afterwards)) → Reads v s (w.base room (firm room)) i afterwards (IsTypeRead (Array count shape) (suc room))
   unfolding class_of word_kind keywords
-  array_read count room shape i gap behind s claim less own le blanks ready =
+  array_read count room shape i gap afterwards s claim less own le blanks ready =
       let good = IsTypeRead (Array count shape) (suc room) in
       let d = text.decimal count in
       let t = shown false shape in
-      let ready : Ready v s i (gap ++ 91 ∷ (text.decimal count ++ (codes " x " ++ (shown false shape ++ 93 ∷ behind)))) = simp append_assoc at ready in
-      looked v (λ i. kind i.cursor) (w.base_by room (firm room)) i behind s good k.OpenSquare (sign_kind v 91 k.OpenSquare i gap _ s blanks refl refl ready)
-      (go_on v skip (λ _. w.array_behind (firm room)) i (text.decimal count ++ (codes " x " ++ (shown false shape ++ 93 ∷ behind))) behind (s + 1) s (λ _ o. advanced i ≡ o) good
+      let ready : Ready v s i (gap ++ 91 ∷ (text.decimal count ++ (codes " x " ++ (shown false shape ++ 93 ∷ afterwards)))) = simp append_assoc at ready in
+      looked v (λ i. kind i.cursor) (w.base_by room (firm room)) i afterwards s good k.OpenSquare (sign_kind v 91 k.OpenSquare i gap _ s blanks refl refl ready)
+      (go_on v skip (λ _. w.array_after (firm room)) i (text.decimal count ++ (codes " x " ++ (shown false shape ++ 93 ∷ afterwards))) afterwards (s + 1) s (λ _ o. advanced i ≡ o) good
       (sign_skipped v 91 k.OpenSquare i gap _ s (s + 1) blanks refl refl (omega arith) ready)
       (λ _ o ready g e.
-      let c = number_comes o.cursor [] (text.decimal count) (codes " x " ++ (shown false shape ++ 93 ∷ behind)) refl (are_digits count less) refl ready.stands in
-      token_then v w.array_length (length_behind room) o count (text.decimal count ++ (codes " x " ++ (shown false shape ++ 93 ∷ behind))) (codes " x " ++ (shown false shape ++ 93 ∷ behind)) behind (s + 1) (s + 1) s good
+      let c = number_comes o.cursor [] (text.decimal count) (codes " x " ++ (shown false shape ++ 93 ∷ afterwards)) refl (are_digits count less) refl ready.stands in
+      token_then v w.array_length (length_afterwards room) o count (text.decimal count ++ (codes " x " ++ (shown false shape ++ 93 ∷ afterwards))) (codes " x " ++ (shown false shape ++ 93 ∷ afterwards)) afterwards (s + 1) (s + 1) s good
       (length_said v count o less c.0 c.1) ready c.3 (shorter v [] (text.decimal count) _ (s + 1) (s + 1) (omega arith))
       (λ ready.
-      go_on v (expect k.X) (λ _. x_behind room count) (advanced o) (32 ∷ (shown false shape ++ 93 ∷ behind)) behind (s + 1) s (λ _ q. advanced (advanced o) ≡ q) good
-      (word_reads v (codes "x") (advanced o) (32 ∷ []) (32 ∷ (shown false shape ++ 93 ∷ behind)) (s + 1) (s + 1) refl refl refl (omega arith) ready)
+      go_on v (expect k.X) (λ _. x_after room count) (advanced o) (32 ∷ (shown false shape ++ 93 ∷ afterwards)) afterwards (s + 1) s (λ _ q. advanced (advanced o) ≡ q) good
+      (word_reads v (codes "x") (advanced o) (32 ∷ []) (32 ∷ (shown false shape ++ 93 ∷ afterwards)) (s + 1) (s + 1) refl refl refl (omega arith) ready)
       (λ _ o ready g e.
-      go_on v (part room) (part_behind count) o (93 ∷ behind) behind (s + 1) s (IsTypeRead shape room) good
-      (claim 0 room o (32 ∷ []) (93 ∷ behind) (s + 1) own (omega (arith, le)) refl (ends_square behind) ready)
+      go_on v (part room) (part_after count) o (93 ∷ afterwards) afterwards (s + 1) s (IsTypeRead shape room) good
+      (claim 0 room o (32 ∷ []) (93 ∷ afterwards) (s + 1) own (omega (arith, le)) refl (ends_square afterwards) ready)
       (λ p o ready g read.
-      go_on v (expect k.CloseSquare) (λ _. square_behind count p) o behind behind (s + 1) s (λ _ q. advanced o ≡ q) good
-      (sign_reads v 93 k.CloseSquare o [] behind (s + 1) (s + 1) refl refl refl (omega arith) ready)
+      go_on v (expect k.CloseSquare) (λ _. square_after count p) o afterwards afterwards (s + 1) s (λ _ q. advanced o ≡ q) good
+      (sign_reads v 93 k.CloseSquare o [] afterwards (s + 1) (s + 1) refl refl refl (omega arith) ready)
       (λ _ q ready h e.
       let fits = read.fits in
-      interned_read v base.Aggregate p.room (suc room) (type.Array count p.id) (Array count shape) q behind s tt refl refl (omega (arith, fits))
+      interned_read v base.Aggregate p.room (suc room) (type.Array count p.id) (Array count shape) q afterwards s tt refl refl (omega (arith, fits))
       (λ n r grows ordered there. (
         p.id,
         there,
@@ -175,26 +175,26 @@ module _ {m : Module} {f : Function} (v : Invariant m f) where
   -- ---- fields
 
   -- no brace closes before a type
-  no_brace : (shape : Shape) (i : Input) (behind : Text) (s : ℕ) → IsWritten (defined_structs m) shape → IsSeam behind → Ready v s i (32 ∷ (shown false shape ++ behind)) → w.at_brace i ≡ false
-  no_brace shape i behind s own seam ready = unlike k.CloseBrace begins_type i refl (type_begins shape i (32 ∷ []) behind own refl seam ready.stands)
+  no_brace : (shape : Shape) (i : Input) (afterwards : Text) (s : ℕ) → IsWritten (defined_structs m) shape → IsSeam afterwards → Ready v s i (32 ∷ (shown false shape ++ afterwards)) → w.at_brace i ≡ false
+  no_brace shape i afterwards s own seam ready = unlike k.CloseBrace begins_type i refl (type_begins shape i (32 ∷ []) afterwards own refl seam ready.stands)
 
   -- a comma, and a further field after it
-  comma_read : (shape : Shape) (i : Input) (behind : Text) (s : ℕ) → IsWritten (defined_structs m) shape → IsSeam behind → Ready v s i (44 ∷ 32 ∷ (shown false shape ++ behind))
-      → Reads v (s + 1) w.behind_field i (32 ∷ (shown false shape ++ behind)) Any
-  unfolding w.behind_field class_of
-  comma_read shape i behind s own seam ready =
-      let text = 32 ∷ (shown false shape ++ behind) in
-      looked v w.at_brace w.comma_or i (32 ∷ (shown false shape ++ behind)) (s + 1) Any false (unlike k.CloseBrace no_close i refl (ap no_close (sign_kind v 44 k.Comma i [] (32 ∷ (shown false shape ++ behind)) s refl refl refl ready)))
-      (go_on v (expect k.Comma) (λ _. checked (λ i. not (w.at_brace i)) unexpected) i (32 ∷ (shown false shape ++ behind)) (32 ∷ (shown false shape ++ behind)) (s + 1) (s + 1) (λ _ o. advanced i ≡ o) Any
-      (sign_reads v 44 k.Comma i [] (32 ∷ (shown false shape ++ behind)) s (s + 1) refl refl refl (omega arith) ready)
-      (λ _ o ready g e. so v (checked (λ i. not (w.at_brace i)) unexpected) o (32 ∷ (shown false shape ++ behind)) (s + 1) (λ _ p. o ≡ p) Any
-      (test_reads v (λ i. not (w.at_brace i)) unexpected o (32 ∷ (shown false shape ++ behind)) (s + 1) (ap not (no_brace shape o behind (s + 1) own seam ready)) ready)
+  comma_read : (shape : Shape) (i : Input) (afterwards : Text) (s : ℕ) → IsWritten (defined_structs m) shape → IsSeam afterwards → Ready v s i (44 ∷ 32 ∷ (shown false shape ++ afterwards))
+      → Reads v (s + 1) w.after_field i (32 ∷ (shown false shape ++ afterwards)) Any
+  unfolding w.after_field class_of
+  comma_read shape i afterwards s own seam ready =
+      let text = 32 ∷ (shown false shape ++ afterwards) in
+      looked v w.at_brace w.comma_or i (32 ∷ (shown false shape ++ afterwards)) (s + 1) Any false (unlike k.CloseBrace no_close i refl (ap no_close (sign_kind v 44 k.Comma i [] (32 ∷ (shown false shape ++ afterwards)) s refl refl refl ready)))
+      (go_on v (expect k.Comma) (λ _. checked (λ i. not (w.at_brace i)) unexpected) i (32 ∷ (shown false shape ++ afterwards)) (32 ∷ (shown false shape ++ afterwards)) (s + 1) (s + 1) (λ _ o. advanced i ≡ o) Any
+      (sign_reads v 44 k.Comma i [] (32 ∷ (shown false shape ++ afterwards)) s (s + 1) refl refl refl (omega arith) ready)
+      (λ _ o ready g e. so v (checked (λ i. not (w.at_brace i)) unexpected) o (32 ∷ (shown false shape ++ afterwards)) (s + 1) (λ _ p. o ≡ p) Any
+      (test_reads v (λ i. not (w.at_brace i)) unexpected o (32 ∷ (shown false shape ++ afterwards)) (s + 1) (ap not (no_brace shape o afterwards (s + 1) own seam ready)) ready)
       (λ _ p g h. tt)))
 
   -- a further field is read, and those after it
   fields_read : (first others : Shape) → PartClaim first → FieldsClaim others → FieldsClaim (Struct first others)
   fields_read first others claim more n i rest s p own is le ready =
-      let behind = shown true others ++ (codes " }" ++ rest) in
+      let afterwards = shown true others ++ (codes " }" ++ rest) in
       let ends = ends_field others rest own.0 in
       let ready : Ready v s i (44 ∷ 32 ∷ (shown false first ++ (shown true others ++ (codes " }" ++ rest)))) = simp append_assoc at ready in
       let a = comma_read first i (shown true others ++ (codes " }" ++ rest)) s own.1 ends.0 ready in
@@ -212,12 +212,12 @@ module _ {m : Module} {f : Function} (v : Invariant m f) where
 
   -- after the last field the brace closes
   no_field_read : FieldsClaim Empty
-  unfolding w.behind_field class_of
+  unfolding w.after_field class_of
   no_field_read n i rest s p own is le ready =
       let closes : w.at_brace i ≡ true = seen k.CloseBrace i (sign_kind v 125 k.CloseBrace i (32 ∷ []) rest s refl refl refl ready) in
       let a = looked v w.at_brace w.comma_or i (codes " }" ++ rest) s Any true closes (given v tt i (codes " }" ++ rest) s Any ready tt) in
       ([], a.1, a.1, (tt, a.1, a.2, (refl, refl)), (closes_there a, refl), less_spare v a.1 (codes " }" ++ rest) s (s + 0) (omega arith) a.3, a.4, tt) where
-        closes_there : (a : Reads v s w.behind_field i (codes " }" ++ rest) Any) → w.at_brace a.1 ≡ true
+        closes_there : (a : Reads v s w.after_field i (codes " }" ++ rest) Any) → w.at_brace a.1 ≡ true
         closes_there a = seen k.CloseBrace a.1 (sign_kind v 125 k.CloseBrace a.1 (32 ∷ []) rest s refl refl refl a.3)
 
   -- ---- structs
@@ -254,63 +254,63 @@ module _ {m : Module} {f : Function} (v : Invariant m f) where
   before_read room (Named name) ps whole i bytes s fields read ready = absurd fields
 
   -- the brace that closes a struct, and the struct with the fields before it
-  closed_read : (room : ℕ) (shape : Shape) (ps : List WrittenType) (i : Input) (gap behind : Text) (s t : ℕ) → AreBlanks gap → s + field_count shape ≤ t → AreFields room shape ps i → Ready v t i (gap ++ 125 ∷ behind)
-      → Reads v s (w.close_struct room ps) i behind (IsTypeRead shape (suc room))
+  closed_read : (room : ℕ) (shape : Shape) (ps : List WrittenType) (i : Input) (gap afterwards : Text) (s t : ℕ) → AreBlanks gap → s + field_count shape ≤ t → AreFields room shape ps i → Ready v t i (gap ++ 125 ∷ afterwards)
+      → Reads v s (w.close_struct room ps) i afterwards (IsTypeRead shape (suc room))
   unfolding w.struct_of class_of
-  closed_read room shape ps i gap behind s t blanks le fields ready =
+  closed_read room shape ps i gap afterwards s t blanks le fields ready =
       let good = IsTypeRead shape (suc room) in
-      go_on v (expect k.CloseBrace) (λ _. w.struct_of room ps) i behind behind (s + field_count shape + 1) s (λ _ o. advanced i ≡ o) good
-      (sign_reads v 125 k.CloseBrace i gap behind t (s + field_count shape + 1) blanks refl refl (omega (arith, le)) ready)
+      go_on v (expect k.CloseBrace) (λ _. w.struct_of room ps) i afterwards afterwards (s + field_count shape + 1) s (λ _ o. advanced i ≡ o) good
+      (sign_reads v 125 k.CloseBrace i gap afterwards t (s + field_count shape + 1) blanks refl refl (omega (arith, le)) ready)
       (λ _ o ready g e.
-      go_on v (w.interned base.Aggregate room type.EmptyStruct) (w.before ps) o behind behind (s + field_count shape) s (IsTypeRead Empty (suc room)) good
-      (interned_read v base.Aggregate room (suc room) type.EmptyStruct Empty o behind (s + field_count shape) tt refl refl (omega arith) (λ n o g ordered there. there) ready)
-      (λ whole q ready h read. before_read room shape ps whole q behind s (fields_stay room shape ps i q (grows_further i o q g h) fields) read ready))
+      go_on v (w.interned base.Aggregate room type.EmptyStruct) (w.before ps) o afterwards afterwards (s + field_count shape) s (IsTypeRead Empty (suc room)) good
+      (interned_read v base.Aggregate room (suc room) type.EmptyStruct Empty o afterwards (s + field_count shape) tt refl refl (omega arith) (λ n o g ordered there. there) ready)
+      (λ whole q ready h read. before_read room shape ps whole q afterwards s (fields_stay room shape ps i q (grows_further i o q g h) fields) read ready))
 
   -- `{}` is read
-  empty_braced : (room : ℕ) (i : Input) (gap behind : Text) (s : ℕ) → AreBlanks gap → Ready v s i (gap ++ (codes "{}" ++ behind)) → Reads v s (w.braced room (firm room)) i behind (IsTypeRead Empty (suc room))
+  empty_braced : (room : ℕ) (i : Input) (gap afterwards : Text) (s : ℕ) → AreBlanks gap → Ready v s i (gap ++ (codes "{}" ++ afterwards)) → Reads v s (w.braced room (firm room)) i afterwards (IsTypeRead Empty (suc room))
   unfolding class_of
-  empty_braced room i gap behind s blanks ready =
+  empty_braced room i gap afterwards s blanks ready =
       let good = IsTypeRead Empty (suc room) in
-      go_on v skip (λ _. w.fields_behind room (firm room)) i (125 ∷ behind) behind s s (λ _ o. advanced i ≡ o) good
-      (sign_skipped v 123 k.OpenBrace i gap (125 ∷ behind) s s blanks refl refl (omega arith) ready)
+      go_on v skip (λ _. w.fields_afterwards room (firm room)) i (125 ∷ afterwards) afterwards s s (λ _ o. advanced i ≡ o) good
+      (sign_skipped v 123 k.OpenBrace i gap (125 ∷ afterwards) s s blanks refl refl (omega arith) ready)
       (λ _ o ready g e.
-      let closes = seen k.CloseBrace o (sign_kind v 125 k.CloseBrace o [] behind s refl refl refl ready) in
-      said_then v (many w.at_brace (w.field (firm room)) (w.field_takes (firm room))) (w.close_struct room) o o [] behind s good (closes, refl) (grows_itself o)
-      (closed_read room Empty [] o [] behind s s refl (omega arith) tt ready))
+      let closes = seen k.CloseBrace o (sign_kind v 125 k.CloseBrace o [] afterwards s refl refl refl ready) in
+      said_then v (many w.at_brace (w.field (firm room)) (w.field_takes (firm room))) (w.close_struct room) o o [] afterwards s good (closes, refl) (grows_itself o)
+      (closed_read room Empty [] o [] afterwards s s refl (omega arith) tt ready))
 
   -- so it is as a type
-  empty_read : (room : ℕ) (i : Input) (gap behind : Text) (s : ℕ) → AreBlanks gap → Ready v s i (gap ++ (codes "{}" ++ behind)) → Reads v s (w.base room (firm room)) i behind (IsTypeRead Empty (suc room))
+  empty_read : (room : ℕ) (i : Input) (gap afterwards : Text) (s : ℕ) → AreBlanks gap → Ready v s i (gap ++ (codes "{}" ++ afterwards)) → Reads v s (w.base room (firm room)) i afterwards (IsTypeRead Empty (suc room))
   unfolding class_of
-  empty_read room i gap behind s blanks ready =
-      looked v (λ i. kind i.cursor) (w.base_by room (firm room)) i behind s (IsTypeRead Empty (suc room)) k.OpenBrace (sign_kind v 123 k.OpenBrace i gap (125 ∷ behind) s blanks refl refl ready)
-      (empty_braced room i gap behind s blanks ready)
+  empty_read room i gap afterwards s blanks ready =
+      looked v (λ i. kind i.cursor) (w.base_by room (firm room)) i afterwards s (IsTypeRead Empty (suc room)) k.OpenBrace (sign_kind v 123 k.OpenBrace i gap (125 ∷ afterwards) s blanks refl refl ready)
+      (empty_braced room i gap afterwards s blanks ready)
 
   -- a struct with fields is read
-  struct_braced : (first others : Shape) (room : ℕ) (i : Input) (gap behind : Text) (s : ℕ) → PartClaim first → FieldsClaim others → IsWritten (defined_structs m) (Struct first others)
-      → levels (Struct first others) ≤ suc room → AreBlanks gap → Ready v s i (gap ++ 123 ∷ 32 ∷ (shown false first ++ (shown true others ++ (codes " }" ++ behind))))
-      → Reads v s (w.braced room (firm room)) i behind (IsTypeRead (Struct first others) (suc room))
+  struct_braced : (first others : Shape) (room : ℕ) (i : Input) (gap afterwards : Text) (s : ℕ) → PartClaim first → FieldsClaim others → IsWritten (defined_structs m) (Struct first others)
+      → levels (Struct first others) ≤ suc room → AreBlanks gap → Ready v s i (gap ++ 123 ∷ 32 ∷ (shown false first ++ (shown true others ++ (codes " }" ++ afterwards))))
+      → Reads v s (w.braced room (firm room)) i afterwards (IsTypeRead (Struct first others) (suc room))
   unfolding class_of
-  struct_braced first others room i gap behind s claim more own le blanks ready =
+  struct_braced first others room i gap afterwards s claim more own le blanks ready =
       let good = IsTypeRead (Struct first others) (suc room) in
-      let ends = ends_field others behind own.0 in
-      go_on v skip (λ _. w.fields_behind room (firm room)) i (32 ∷ (shown false first ++ (shown true others ++ (codes " }" ++ behind)))) behind (s + 1) s (λ _ o. advanced i ≡ o) good
+      let ends = ends_field others afterwards own.0 in
+      go_on v skip (λ _. w.fields_afterwards room (firm room)) i (32 ∷ (shown false first ++ (shown true others ++ (codes " }" ++ afterwards)))) afterwards (s + 1) s (λ _ o. advanced i ≡ o) good
       (sign_skipped v 123 k.OpenBrace i gap _ s (s + 1) blanks refl refl (omega arith) ready)
       (λ _ o ready g e.
-      let b = claim 0 room o (32 ∷ []) (shown true others ++ (codes " }" ++ behind)) (s + 1) own.1 (omega (arith, le)) refl ends ready in
-      let d = more room b.1 behind (s + 1) b.0 own.2 own.0 (omega (arith, le)) b.3 in
-      let opens = no_brace first o (shown true others ++ (codes " }" ++ behind)) (s + 1) own.1 ends.0 ready in
-      said_then v (many w.at_brace (w.field (firm room)) (w.field_takes (firm room))) (w.close_struct room) o d.2 (b.0 ∷ d.0) behind s good
+      let b = claim 0 room o (32 ∷ []) (shown true others ++ (codes " }" ++ afterwards)) (s + 1) own.1 (omega (arith, le)) refl ends ready in
+      let d = more room b.1 afterwards (s + 1) b.0 own.2 own.0 (omega (arith, le)) b.3 in
+      let opens = no_brace first o (shown true others ++ (codes " }" ++ afterwards)) (s + 1) own.1 ends.0 ready in
+      said_then v (many w.at_brace (w.field (firm room)) (w.field_takes (firm room))) (w.close_struct room) o d.2 (b.0 ∷ d.0) afterwards s good
       (opens, d.1, (b.0, b.1, b.2, d.3), d.4) (grows_further o b.1 d.2 b.4 d.6)
-      (closed_read room (Struct first others) (b.0 ∷ d.0) d.2 (32 ∷ []) behind s (s + 1 + field_count others) refl (omega arith) (read_stays first room b.0 b.1 d.2 d.6 b.5, d.7) d.5))
+      (closed_read room (Struct first others) (b.0 ∷ d.0) d.2 (32 ∷ []) afterwards s (s + 1 + field_count others) refl (omega arith) (read_stays first room b.0 b.1 d.2 d.6 b.5, d.7) d.5))
 
   -- so it is as a type
-  struct_type_read : (first others : Shape) (room : ℕ) (i : Input) (gap behind : Text) (s : ℕ) → PartClaim first → FieldsClaim others → IsWritten (defined_structs m) (Struct first others)
-      → levels (Struct first others) ≤ suc room → AreBlanks gap → Ready v s i (gap ++ (shown false (Struct first others) ++ behind)) → Reads v s (w.base room (firm room)) i behind (IsTypeRead (Struct first others) (suc room))
+  struct_type_read : (first others : Shape) (room : ℕ) (i : Input) (gap afterwards : Text) (s : ℕ) → PartClaim first → FieldsClaim others → IsWritten (defined_structs m) (Struct first others)
+      → levels (Struct first others) ≤ suc room → AreBlanks gap → Ready v s i (gap ++ (shown false (Struct first others) ++ afterwards)) → Reads v s (w.base room (firm room)) i afterwards (IsTypeRead (Struct first others) (suc room))
   unfolding class_of
-  struct_type_read first others room i gap behind s claim more own le blanks ready =
-      let ready : Ready v s i (gap ++ 123 ∷ 32 ∷ (shown false first ++ (shown true others ++ (codes " }" ++ behind)))) = simp append_assoc at ready in
-      looked v (λ i. kind i.cursor) (w.base_by room (firm room)) i behind s (IsTypeRead (Struct first others) (suc room)) k.OpenBrace (sign_kind v 123 k.OpenBrace i gap _ s blanks refl refl ready)
-      (struct_braced first others room i gap behind s claim more own le blanks ready)
+  struct_type_read first others room i gap afterwards s claim more own le blanks ready =
+      let ready : Ready v s i (gap ++ 123 ∷ 32 ∷ (shown false first ++ (shown true others ++ (codes " }" ++ afterwards)))) = simp append_assoc at ready in
+      looked v (λ i. kind i.cursor) (w.base_by room (firm room)) i afterwards s (IsTypeRead (Struct first others) (suc room)) k.OpenBrace (sign_kind v 123 k.OpenBrace i gap _ s blanks refl refl ready)
+      (struct_braced first others room i gap afterwards s claim more own le blanks ready)
 
   -- ---- all types
 
@@ -329,12 +329,12 @@ module _ {m : Module} {f : Function} (v : Invariant m f) where
     by : PartClaim (Integer bits)
     by count zero i gap rest s own le blanks ends ready = absurd (no_levels (Integer bits) count le)
     by count (suc room) i gap rest s own le blanks ends ready =
-        over_read v count room (Integer bits) i rest s refl le ends (integer_read v bits room i gap (stars count ++ rest) s own.0 own.1 blanks (seam_behind count rest ends.0) ready)
+        over_read v count room (Integer bits) i rest s refl le ends (integer_read v bits room i gap (stars count ++ rest) s own.0 own.1 blanks (seam_after count rest ends.0) ready)
   claims (Named name) = (by, λ n i rest s p own is le ready. absurd is) where
     by : PartClaim (Named name)
     by count zero i gap rest s own le blanks ends ready = absurd (no_levels (Named name) count le)
     by count (suc room) i gap rest s own le blanks ends ready =
-        over_read v count room (Named name) i rest s refl le ends (named_read v name room i gap (stars count ++ rest) s own.0 own.1 blanks (seam_behind count rest ends.0) ready)
+        over_read v count room (Named name) i rest s refl le ends (named_read v name room i gap (stars count ++ rest) s own.0 own.1 blanks (seam_after count rest ends.0) ready)
   claims Empty = (by, no_field_read) where
     by : PartClaim Empty
     by count zero i gap rest s own le blanks ends ready = absurd (no_levels Empty count le)

@@ -19,7 +19,7 @@ use Rattle.ir_text.specs.declared.anew.Replacement.{Replacement}
 use Rattle.ir_text.specs.declared.items_of_text.FunctionHead.{FunctionHead}
 use Rattle.ir_text.specs.declared.read_fault.ReadFault.{ReadFault}
 use Rattle.ir_text.specs.declared.read_fault.ReadFault.TheVariants as shown
-use Rattle.ir_text.specs.ItemsOfText.{defined_result, head_behind, body_behind}
+use Rattle.ir_text.specs.ItemsOfText.{defined_result, head_after, body_after}
 use Rattle.ir_text.specs.Late.{late_fault}
 use Rattle.ir_text.specs.Read.{text_limit, located}
 
@@ -59,12 +59,12 @@ abbrev pub is_named : (name : Text) → Input → Bool
 is_named name i = bytes_eq (spelled i.cursor) name
 
 -- what follows the result of the function of this name
-abbrev pub named_behind : (func : ℕ) → (name : Text) → (returned : ℕ) → Form FunctionHead
-named_behind func name returned = checked (is_named name) unexpected >> head_behind func returned
+abbrev pub named_after : (func : ℕ) → (name : Text) → (returned : ℕ) → Form FunctionHead
+named_after func name returned = checked (is_named name) unexpected >> head_after func returned
 
 -- the head of the function with this number and this name
 abbrev pub named_result : (func : ℕ) → (name : Text) → Form FunctionHead
-named_result func name = defined_result >>= named_behind func name
+named_result func name = defined_result >>= named_after func name
 
 -- `define T @f(T %a, ..) gc "name"`, of this number and name
 unfoldable pub named_head : (func : ℕ) → (name : Text) → Form FunctionHead
@@ -76,7 +76,7 @@ ends = sees_a k.End >> checked (λ i. not (is_some i.cursor.bad)) (λ i. at_end 
 
 -- a text of one function with this number and this name
 unfoldable pub anew : (func : ℕ) → (name : Text) → Form (Unit {0})
-anew func name = named_head func name >>= body_behind >> ends
+anew func name = named_head func name >>= body_after >> ends
 
 -- ---- after the text
 

@@ -66,9 +66,9 @@ abbrev pub at_close : Blocks → Input → Bool
 at_close b i = nat_lt 0 b.count && sees k.CloseBrace i.cursor
 
 -- one block more
-abbrev pub behind_block : Blocks → Block → Blocks
-behind_block b x = record b { count = b.count + 1 }
+abbrev pub after_block : Blocks → Block → Blocks
+after_block b x = record b { count = b.count + 1 }
 
 -- the blocks of a function, up to the brace after them
 unfoldable pub blocks : Form (List Block)
-blocks = many_with at_close further further_takes behind_block (record { count = 0 })
+blocks = many_with at_close further further_takes after_block (record { count = 0 })

@@ -59,8 +59,8 @@ abbrev pub add_struct : StructType → Form (Unit {0})
 add_struct s = step (λ _. tt) (with_struct_type s) (with_struct_type_falls s)
 
 -- what follows the name of a struct type
-abbrev pub struct_behind : ℕ → Form (Unit {0})
-struct_behind n = do
+abbrev pub struct_after : ℕ → Form (Unit {0})
+struct_after n = do
   expect k.Equals
   expect k.Type
   t ← body
@@ -68,7 +68,7 @@ struct_behind n = do
 
 -- `%N = type { T, .. }`
 unfoldable pub struct_type : Form (Unit {0})
-struct_type = new_struct >>= struct_behind
+struct_type = new_struct >>= struct_after
 
 -- ---- globals
 
@@ -114,8 +114,8 @@ abbrev pub add_global : Global → Form (Unit {0})
 add_global g = step (λ _. tt) (with_global g) (with_global_falls g)
 
 -- what follows the name of a global
-abbrev pub global_behind : ℕ → Form (Unit {0})
-global_behind s = do
+abbrev pub global_afterwards : ℕ → Form (Unit {0})
+global_afterwards s = do
   expect k.Equals
   is_fixed ← is_constant
   w ← held_type
@@ -134,7 +134,7 @@ global_name = look (λ i. length i.globals) (λ n. new_symbol (symbol.Global n))
 
 -- `@g = global T c`, of which there are at most 4,096
 unfoldable pub global : Form (Unit {0})
-global = below 4096 (λ i. length i.globals) >> global_name >>= global_behind
+global = below 4096 (λ i. length i.globals) >> global_name >>= global_afterwards
 
 -- ---- the end of a function's head
 
@@ -195,8 +195,8 @@ abbrev pub add_declare : Declare → Form (Unit {0})
 add_declare d = step (λ _. tt) (with_declare d) (with_declare_falls d)
 
 -- what follows the result of a declared function
-abbrev pub declare_behind : ℕ → ℕ → Option Runtime → Form (Unit {0})
-declare_behind number returned runtime = do
+abbrev pub declare_after : ℕ → ℕ → Option Runtime → Form (Unit {0})
+declare_after number returned runtime = do
   s ← function_name (symbol.Declared number)
   expect k.OpenRound
   ps ← declared_parameters
@@ -206,7 +206,7 @@ declare_behind number returned runtime = do
 
 -- what follows `declare`, with the function of the runtime that is named, if it is one
 abbrev pub declare_parts : ℕ → Form (Unit {0})
-declare_parts number = declared_result >>= λ returned. look (λ i. runtime_of (spelled i.cursor)) (declare_behind number returned)
+declare_parts number = declared_result >>= λ returned. look (λ i. runtime_of (spelled i.cursor)) (declare_after number returned)
 
 -- the declared function with this number
 abbrev pub declare_numbered : ℕ → Form (Unit {0})
@@ -273,8 +273,8 @@ abbrev pub end_function : FunctionHead → List Block → Form (Unit {0})
 end_function h bs = step (λ _. tt) (with_function h bs) (with_function_falls h bs)
 
 -- what follows the result of a defined function
-abbrev pub head_behind : ℕ → ℕ → Form FunctionHead
-head_behind number returned = do
+abbrev pub head_after : ℕ → ℕ → Form FunctionHead
+head_after number returned = do
   s ← function_name (symbol.Defined number)
   expect k.OpenRound
   ps ← parameters
@@ -284,15 +284,15 @@ head_behind number returned = do
 
 -- the head of the function with this number
 abbrev pub head_result : ℕ → Form FunctionHead
-head_result number = defined_result >>= head_behind number
+head_result number = defined_result >>= head_after number
 
 -- `define T @f(T %a, ..) gc "name"`
 unfoldable pub head : ℕ → Form FunctionHead
 head number = skip >> head_result number
 
 -- the body after a head
-abbrev pub body_behind : FunctionHead → Form (Unit {0})
-body_behind h = do
+abbrev pub body_after : FunctionHead → Form (Unit {0})
+body_after h = do
   open_body
   bs ← blocks
   expect k.CloseBrace
@@ -300,7 +300,7 @@ body_behind h = do
 
 -- the defined function with this number
 abbrev pub define_numbered : ℕ → Form (Unit {0})
-define_numbered number = head number >>= body_behind
+define_numbered number = head number >>= body_after
 
 -- `define T @f(T %a, ..) gc "name" { .. }`, of which there are at most 65,535
 unfoldable pub definition : Form (Unit {0})
@@ -329,7 +329,7 @@ item = look (λ i. kind i.cursor) item_by
 
 struct_type_takes : TakesWhere (IsKind k.LocalName) struct_type
 unfolding struct_type
-struct_type_takes = first_takes_where (IsKind k.LocalName) new_struct struct_behind new_struct_takes
+struct_type_takes = first_takes_where (IsKind k.LocalName) new_struct struct_after new_struct_takes
 
 global_name_takes : TakesWhere (IsKind k.GlobalName) global_name
 global_name_takes i a o e h = new_symbol_takes (symbol.Global (length i.globals)) i a o e h
@@ -339,7 +339,7 @@ numbered_global_takes = stays_takes (IsKind k.GlobalName) (below 4096 (λ i. len
 
 global_takes : TakesWhere (IsKind k.GlobalName) global
 unfolding global
-global_takes = first_takes_where (IsKind k.GlobalName) (below 4096 (λ i. length i.globals) >> global_name) global_behind numbered_global_takes
+global_takes = first_takes_where (IsKind k.GlobalName) (below 4096 (λ i. length i.globals) >> global_name) global_afterwards numbered_global_takes
 
 declare_numbered_takes : (number : ℕ) → TakesWhere (IsKind k.Declare) (declare_numbered number)
 declare_numbered_takes number = first_takes_where (IsKind k.Declare) skip (λ _. declare_parts number) (skip_takes k.Declare (λ x. cc))
@@ -354,7 +354,7 @@ unfolding head
 head_takes number = first_takes_where (IsKind k.Define) skip (λ _. head_result number) (skip_takes k.Define (λ x. cc))
 
 define_numbered_takes : (number : ℕ) → TakesWhere (IsKind k.Define) (define_numbered number)
-define_numbered_takes number = first_takes_where (IsKind k.Define) (head number) body_behind (head_takes number)
+define_numbered_takes number = first_takes_where (IsKind k.Define) (head number) body_after (head_takes number)
 
 definition_takes : TakesWhere (IsKind k.Define) definition
 unfolding definition

@@ -13,12 +13,12 @@ use Rattle.ir_forms.specs.Decorations.{either, any_token, any_token_takes}
 -- ---- what the text was made from
 
 -- `= "text"`
-abbrev pub text_behind : Form (Unit {0})
-text_behind = expect k.Equals >> expect k.Quoted
+abbrev pub text_after : Form (Unit {0})
+text_after = expect k.Equals >> expect k.Quoted
 
 -- `source_filename = "x"`
 unfoldable pub source_name : Form (Unit {0})
-source_name = skip >> text_behind
+source_name = skip >> text_after
 
 -- `datalayout` or `triple`
 abbrev pub target_part_by : Kind → Form (Unit {0})
@@ -31,12 +31,12 @@ unfoldable pub target_part : Form (Unit {0})
 target_part = look (λ i. kind i.cursor) target_part_by
 
 -- what follows `target`
-abbrev pub target_behind : Form (Unit {0})
-target_behind = target_part >> text_behind
+abbrev pub target_after : Form (Unit {0})
+target_after = target_part >> text_after
 
 -- `target datalayout = "x"` or `target triple = "x"`
 unfoldable pub target_line : Form (Unit {0})
-target_line = skip >> target_behind
+target_line = skip >> target_after
 
 -- ---- groups of attributes
 
@@ -49,8 +49,8 @@ unfoldable pub braced : Form (List Kind)
 braced = many at_brace any_token any_token_takes
 
 -- what follows `attributes`
-abbrev pub group_behind : Form (Unit {0})
-group_behind = do
+abbrev pub group_after : Form (Unit {0})
+group_after = do
   expect k.AttributeGroup
   expect k.Equals
   expect k.OpenBrace
@@ -59,7 +59,7 @@ group_behind = do
 
 -- `attributes #n = { .. }`
 unfoldable pub group : Form (Unit {0})
-group = skip >> group_behind
+group = skip >> group_after
 
 -- ---- comdats
 
@@ -86,15 +86,15 @@ unfoldable pub dollar_name : Form (Unit {0})
 dollar_name = look (λ i. is_dollar (spelling i.cursor)) dollar_name_by
 
 -- what follows the name of a comdat
-abbrev pub comdat_behind : Form (Unit {0})
-comdat_behind = do
+abbrev pub comdat_after : Form (Unit {0})
+comdat_after = do
   expect k.Equals
   expect k.Comdat
   expect k.LowercaseWord
 
 -- a comdat line whose name begins with `$`
 abbrev pub named_comdat : Form (Unit {0})
-named_comdat = dollar_name >> comdat_behind
+named_comdat = dollar_name >> comdat_after
 
 -- `$x = comdat any`
 unfoldable pub comdat : Form (Unit {0})
@@ -115,12 +115,12 @@ abbrev pub is_first : Form (Unit {0})
 is_first = checked (λ i. begins_line i.cursor) unexpected
 
 -- the rest of a line
-abbrev pub line_behind : Form (Unit {0})
-line_behind = rest_of_line >> pure tt
+abbrev pub line_after : Form (Unit {0})
+line_after = rest_of_line >> pure tt
 
 -- a line that is read without effect
 abbrev pub whole_line : Form (Unit {0})
-whole_line = skip >> line_behind
+whole_line = skip >> line_after
 
 -- a line that begins with `!`
 unfoldable pub metadata_line : Form (Unit {0})
@@ -130,15 +130,15 @@ metadata_line = is_first >> whole_line
 
 pub source_name_takes : TakesWhere (IsKind k.SourceFilename) source_name
 unfolding source_name
-source_name_takes = first_takes_where (IsKind k.SourceFilename) skip (λ _. text_behind) (skip_takes k.SourceFilename (λ x. cc))
+source_name_takes = first_takes_where (IsKind k.SourceFilename) skip (λ _. text_after) (skip_takes k.SourceFilename (λ x. cc))
 
 pub target_line_takes : TakesWhere (IsKind k.Target) target_line
 unfolding target_line
-target_line_takes = first_takes_where (IsKind k.Target) skip (λ _. target_behind) (skip_takes k.Target (λ x. cc))
+target_line_takes = first_takes_where (IsKind k.Target) skip (λ _. target_after) (skip_takes k.Target (λ x. cc))
 
 pub group_takes : TakesWhere (IsKind k.Attributes) group
 unfolding group
-group_takes = first_takes_where (IsKind k.Attributes) skip (λ _. group_behind) (skip_takes k.Attributes (λ x. cc))
+group_takes = first_takes_where (IsKind k.Attributes) skip (λ _. group_after) (skip_takes k.Attributes (λ x. cc))
 
 dollar_takes_by : (is_alone : Bool) → TakesWhere (IsKind k.Word) (dollar_name_by is_alone)
 dollar_takes_by true = first_takes_where (IsKind k.Word) skip (λ _. expect k.Quoted) (skip_takes k.Word (λ x. cc))
@@ -150,10 +150,10 @@ dollar_takes i a o e h = dollar_takes_by (is_dollar (spelling i.cursor)) i a o e
 
 pub comdat_takes : TakesWhere (IsKind k.Word) comdat
 unfolding comdat
-comdat_takes = stays_takes (IsKind k.Word) is_comdat_name named_comdat (λ i a o h. h.1) (first_takes_where (IsKind k.Word) dollar_name (λ _. comdat_behind) dollar_takes)
+comdat_takes = stays_takes (IsKind k.Word) is_comdat_name named_comdat (λ i a o h. h.1) (first_takes_where (IsKind k.Word) dollar_name (λ _. comdat_after) dollar_takes)
 
 whole_line_takes : (x : Kind) → x ≢ k.End → TakesWhere (IsKind x) whole_line
-whole_line_takes x ne = first_takes_where (IsKind x) skip (λ _. line_behind) (skip_takes x ne)
+whole_line_takes x ne = first_takes_where (IsKind x) skip (λ _. line_after) (skip_takes x ne)
 
 pub metadata_line_takes : (x : Kind) → x ≢ k.End → TakesWhere (IsKind x) metadata_line
 unfolding metadata_line

@@ -23,8 +23,8 @@ abbrev pub text_limit : ℕ
 text_limit = 16777216
 
 -- the bytes from a place on
-abbrev pub behind : ℕ → List ℕ → List ℕ
-behind count bytes = drop count bytes
+abbrev pub afterwards : ℕ → List ℕ → List ℕ
+afterwards count bytes = drop count bytes
 
 -- the bytes before a place
 abbrev pub front : ℕ → List ℕ → List ℕ
@@ -39,7 +39,7 @@ located bytes (fault.Unexpected place) = shown.Unexpected (position_of bytes pla
 located bytes (fault.DefinedTwice place) = shown.DefinedTwice (position_of bytes place)
 located bytes (fault.NotDefined place) = shown.NotDefined (position_of bytes place)
 located bytes (fault.OutOfRange place) = shown.OutOfRange (position_of bytes place)
-located bytes (fault.LeftOut start length) = shown.LeftOut (position_of bytes start) (front length (behind start bytes))
+located bytes (fault.LeftOut start length) = shown.LeftOut (position_of bytes start) (front length (afterwards start bytes))
 located bytes (fault.Limit place) = shown.Limit (position_of bytes place)
 located bytes (fault.WrongNumber place) = shown.WrongNumber (position_of bytes place)
 

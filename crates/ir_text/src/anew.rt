@@ -8,7 +8,7 @@ ghost use Rattle.ir_text.specs.declared.anew.Replacement.{Replacement as AReplac
 ghost use Rattle.ir_text.specs.declared.read_fault.ReadFault.{ReadFault as AFault};
 ghost use Rattle.ir_text.specs.declared.read_fault.ReadFault.TheVariants.{Memory};
 
-use crate::items_of_text::{FunctionHead, body_behind, defined_result, head_behind};
+use crate::items_of_text::{FunctionHead, body_after, defined_result, head_after};
 use crate::late::late_fault;
 use crate::read_fault::ReadFault;
 use crate::reader::located;
@@ -82,7 +82,7 @@ fn named_head(
     if spelled.as_slice() != name {
         return Err(input.refuse(false));
     }
-    head_behind(alloc, input, func, returned)
+    head_after(alloc, input, func, returned)
 }
 
 /// The end of the text.
@@ -105,7 +105,7 @@ fn anew(alloc: Global, input: &mut Input<'_>, func: FuncId, name: &[u8]) -> Resu
     ensures { Reads ((spec.anew func name.now).read input.old) result input.new }
 {
     let head = named_head(alloc, input, func, name)?;
-    body_behind(alloc, input, head)?;
+    body_after(alloc, input, head)?;
     ends(input)
 }
 

@@ -53,7 +53,7 @@ pub struct Blocks {
 }
 
 impl Following for Blocks {
-    ghost use Rattle.ir_text.specs.Blocks.{further, at_close, behind_block};
+    ghost use Rattle.ir_text.specs.Blocks.{further, at_close, after_block};
 
     type Item = Block;
 
@@ -61,7 +61,7 @@ impl Following for Blocks {
 
     ghost ends = { at_close };
 
-    ghost next = { behind_block };
+    ghost next = { after_block };
 
     fn ends(&self, input: &Input<'_>) -> bool {
         self.count > 0 && input.sees(Kind::CloseBrace)

@@ -247,18 +247,18 @@ fn head(alloc: Global, input: &mut Input<'_>, number: FuncId) -> Result<Function
 {
     input.skip();
     let returned = defined_result(alloc, input)?;
-    head_behind(alloc, input, number, returned)
+    head_after(alloc, input, number, returned)
 }
 
 /// What follows the result of a defined function.
 #[tactic(auto, unfolding(crate::specs::Parameters::parameters))]
-pub fn head_behind(
+pub fn head_after(
     alloc: Global,
     input: &mut Input<'_>,
     number: FuncId,
     returned: TypeId,
 ) -> Result<FunctionHead, Fault>
-    ensures { Reads ((form.head_behind number returned).read input.old) result input.new }
+    ensures { Reads ((form.head_after number returned).read input.old) result input.new }
 {
     let symbol = function_name(alloc, input, SymbolSort::Defined(number))?;
     input.expect(Kind::OpenRound)?;
@@ -312,12 +312,12 @@ fn definition(alloc: Global, input: &mut Input<'_>) -> Result<(), Fault>
     }
     let number = FuncId::new(input.functions.len() as u32);
     let head = head(alloc, input, number)?;
-    body_behind(alloc, input, head)
+    body_after(alloc, input, head)
 }
 
 /// The body after a head.
-pub fn body_behind(alloc: Global, input: &mut Input<'_>, head: FunctionHead) -> Result<(), Fault>
-    ensures { Reads ((form.body_behind head).read input.old) result input.new }
+pub fn body_after(alloc: Global, input: &mut Input<'_>, head: FunctionHead) -> Result<(), Fault>
+    ensures { Reads ((form.body_after head).read input.old) result input.new }
 {
     open_body(input)?;
     let blocks = all_blocks(alloc, input)?;

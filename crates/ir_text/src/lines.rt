@@ -8,8 +8,8 @@ use ir_tokens::Kind;
 use std::alloc::Global;
 
 /// `= "x"`
-fn text_behind(input: &mut Input<'_>) -> Result<(), Fault>
-    ensures { Reads (form.text_behind.read input.old) result input.new }
+fn text_after(input: &mut Input<'_>) -> Result<(), Fault>
+    ensures { Reads (form.text_after.read input.old) result input.new }
 {
     input.expect(Kind::Equals)?;
     input.expect(Kind::Quoted)
@@ -21,7 +21,7 @@ pub fn source_name(input: &mut Input<'_>) -> Result<(), Fault>
     ensures { Reads (form.source_name.read input.old) result input.new }
 {
     input.skip();
-    text_behind(input)
+    text_after(input)
 }
 
 /// `datalayout` or `triple`
@@ -45,7 +45,7 @@ pub fn target_line(input: &mut Input<'_>) -> Result<(), Fault>
 {
     input.skip();
     target_part(input)?;
-    text_behind(input)
+    text_after(input)
 }
 
 /// The tokens up to a brace that closes.

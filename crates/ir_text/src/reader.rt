@@ -16,8 +16,8 @@ use items::Items;
 use std::alloc::Global;
 
 /// The bytes after the first `count`.
-fn behind(bytes: &[u8], count: usize) -> &[u8]
-    ensures { result.now ≡ spec.behind count bytes.now }
+fn afterwards(bytes: &[u8], count: usize) -> &[u8]
+    ensures { result.now ≡ spec.afterwards count bytes.now }
 {
     if count < bytes.len() {
         &bytes[count..]
@@ -52,7 +52,7 @@ pub fn located(alloc: Global, bytes: &[u8], fault: Fault) -> ReadFault
         Fault::Limit(place) => ReadFault::Limit(Position::of(bytes, place)),
         Fault::WrongNumber(place) => ReadFault::WrongNumber(Position::of(bytes, place)),
         Fault::LeftOut { start, length } => {
-            let word = front(behind(bytes, start as usize), length as usize);
+            let word = front(afterwards(bytes, start as usize), length as usize);
             match Items::from_slice(alloc, word) {
                 Ok(word) => ReadFault::LeftOut {
                     place: Position::of(bytes, start),

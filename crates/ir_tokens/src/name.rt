@@ -17,7 +17,7 @@ pub fn front(bytes: &[u8], len: usize) -> &[u8]
 }
 
 /// The bytes after the first `len`, if any.
-fn behind(bytes: &[u8], len: usize) -> &[u8]
+fn afterwards(bytes: &[u8], len: usize) -> &[u8]
     ensures { result.now ≡ drop len bytes.now }
 {
     &bytes[len.min(bytes.len())..]
@@ -26,7 +26,10 @@ fn behind(bytes: &[u8], len: usize) -> &[u8]
 fn spelling(bytes: &[u8], token: Token) -> &[u8]
     ensures { result.now ≡ spec.spelling bytes.now token }
 {
-    front(behind(bytes, token.start as usize), token.length as usize)
+    front(
+        afterwards(bytes, token.start as usize),
+        token.length as usize,
+    )
 }
 
 /// A spelling without its sign or its `:`.
@@ -34,8 +37,8 @@ fn bare(kind: Kind, spelling: &[u8]) -> &[u8]
     ensures { result.now ≡ spec.bare kind spelling.now }
 {
     match kind {
-        Kind::LocalName | Kind::LocalNumber | Kind::GlobalName => behind(spelling, 1),
-        Kind::AttributeGroup | Kind::MetadataName | Kind::MetadataNumber => behind(spelling, 1),
+        Kind::LocalName | Kind::LocalNumber | Kind::GlobalName => afterwards(spelling, 1),
+        Kind::AttributeGroup | Kind::MetadataName | Kind::MetadataNumber => afterwards(spelling, 1),
         Kind::LabelName | Kind::LabelNumber => front(spelling, spelling.len().saturating_sub(1)),
         _ => spelling,
     }
@@ -54,7 +57,7 @@ fn begins_quote(spelling: &[u8]) -> bool
 fn inside(spelling: &[u8]) -> &[u8]
     ensures { result.now ≡ spec.inside spelling.now }
 {
-    front(behind(spelling, 1), spelling.len().saturating_sub(2))
+    front(afterwards(spelling, 1), spelling.len().saturating_sub(2))
 }
 
 /// Whether quoted text has to be read byte by byte.

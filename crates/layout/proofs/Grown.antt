@@ -41,8 +41,8 @@ module _ (m n : Module) (grow : TablesGrow m n) where
   scalars_stay written fields (Scalars.Scalar _ h) = Scalars.Scalar written (scalar_by written (slice_get m.types written) refl h)
   scalars_stay written fields (Scalars.Elements _ length part inner at h) = Scalars.Elements written length part inner (grow.types written (Array length part) at) (scalars_stay part inner h)
   scalars_stay written fields (Scalars.NoField _ at) = Scalars.NoField written (grow.types written EmptyStruct at)
-  scalars_stay written fields (Scalars.Fields _ first rest of_first behind at h k) =
-      Scalars.Fields written first rest of_first behind (grow.types written (Struct first rest) at) (scalars_stay first of_first h) (scalars_stay rest behind k)
+  scalars_stay written fields (Scalars.Fields _ first rest of_first afterwards at h k) =
+      Scalars.Fields written first rest of_first afterwards (grow.types written (Struct first rest) at) (scalars_stay first of_first h) (scalars_stay rest afterwards k)
   scalars_stay written fields (Scalars.Body _ name body inner at is h) =
       Scalars.Body written name body inner (grow.types written (Named name) at) (body_stays written name at ∙ is) (scalars_stay body inner h)
 

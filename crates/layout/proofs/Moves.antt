@@ -12,7 +12,7 @@ use Rattle.layout.specs.declared.survey.SizeMark.TheVariants.{New, Open, Endless
 use Rattle.layout.specs.declared.survey.Span.{Span}
 use Rattle.layout.specs.declared.survey.SizeTurn.{SizeTurn}
 use Rattle.layout.specs.declared.survey.SizeTurn.TheVariants.{Wait, Done, Alone, Join, Repeat}
-use Rattle.layout.specs.Steps.{part_opened, top_known, fields_behind, is_ready, same_fields, within_more, get_inside, AfterSet, Other, Here, Outside, after_set, set_length, kept_at}
+use Rattle.layout.specs.Steps.{part_opened, top_known, fields_afterwards, is_ready, same_fields, within_more, get_inside, AfterSet, Other, Here, Outside, after_set, set_length, kept_at}
 use Rattle.layout.proofs.Turns.{length_at, copies_length, turn_right}
 
 -- one copy more at the end
@@ -26,9 +26,9 @@ module _ (m : Module) (marks : List SizeMark) (fields s : List ℕ) (top : ℕ) 
       let e : fields ++ [] ≡ fields = append-nil fields in
       subst (λ fs. IsAdvance m marks fields (s ++ top ∷ []) (slice_set marks top k) fs s) e (top_known m marks fields s top survey [] k old closed (subst (λ fs. MarkFits m fs top k) (sym e) h))
 
-  behind : (more : List ℕ) (n : ℕ) → length more ≡ n → n ≤ 64 → Scalars m top more
+  afterwards : (more : List ℕ) (n : ℕ) → length more ≡ n → n ≤ 64 → Scalars m top more
       → IsAdvance m marks fields (s ++ top ∷ []) (slice_set marks top (Known (record { start = length fields; count = n }))) (fields ++ more) s
-  behind more n len few scalars = top_known m marks fields s top survey more (Known (record { start = length fields; count = n })) refl (λ e. absurd cc) (fields_behind m fields more top n len few scalars)
+  afterwards more n len few scalars = top_known m marks fields s top survey more (Known (record { start = length fields; count = n })) refl (λ e. absurd cc) (fields_afterwards m fields more top n len few scalars)
 
   by_turn : (turn : SizeTurn) → TurnFits m marks fields top turn → IsAdvance m marks fields (s ++ top ∷ []) (marks_after turn marks fields top) (fields_after turn fields top) (stack_after turn s top)
   by_turn (Wait part) h = part_opened m marks fields s top survey part h.0 h.1
@@ -37,14 +37,14 @@ module _ (m : Module) (marks : List SizeMark) (fields s : List ℕ) (top : ℕ) 
   by_turn (Done Endless) h = plain Endless refl (λ e. absurd cc) h
   by_turn (Done Large) h = plain Large refl (λ e. absurd cc) h
   by_turn (Done (Known span)) h = plain (Known span) refl (λ e. absurd cc) h
-  by_turn Alone h = behind (top ∷ []) 1 refl (omega arith) (Scalar top h)
+  by_turn Alone h = afterwards (top ∷ []) 1 refl (omega arith) (Scalar top h)
   by_turn (Join one other) h =
       let front = length_at fields one h.0 in
       let back = length_at fields other h.1 in
-      behind (fields_at fields one ++ fields_at fields other) (one.count + other.count) (length-append (fields_at fields one) (fields_at fields other) ∙ (rw (front, back) refl)) h.2 h.3
+      afterwards (fields_at fields one ++ fields_at fields other) (one.count + other.count) (length-append (fields_at fields one) (fields_at fields other) ∙ (rw (front, back) refl)) h.2 h.3
   by_turn (Repeat times span) h =
       let len = length_at fields span h.0 in
-      behind (copies times (fields_at fields span)) (times * span.count) (copies_length times (fields_at fields span) ∙ ap (λ n. times * n) len) h.1 h.2
+      afterwards (copies times (fields_at fields span)) (times * span.count) (copies_length times (fields_at fields span) ∙ ap (λ n. times * n) len) h.1 h.2
 
 -- a turn makes progress
 pub advances : (m : Module) (marks : List SizeMark) (fields s : List ℕ) (top : ℕ) → IsSurvey m marks fields (s ++ top ∷ []) → (turn : SizeTurn) → turn ≡ turn_at m marks (slice_get m.types top)

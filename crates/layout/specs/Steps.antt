@@ -106,8 +106,8 @@ fits_more m fields more t Large h = h
 fits_more m fields more t (Known span) h = (within_more fields more span h.0, subst (Scalars m t) (sym (same_fields fields more span h.0)) h.1)
 
 -- new fields at the end
-pub fields_behind : (m : Module) (fields more : List ℕ) (t n : ℕ) → length more ≡ n → n ≤ 64 → Scalars m t more → MarkFits m (fields ++ more) t (Known (record { start = length fields; count = n }))
-fields_behind m fields more t n len few s =
+pub fields_afterwards : (m : Module) (fields more : List ℕ) (t n : ℕ) → length more ≡ n → n ≤ 64 → Scalars m t more → MarkFits m (fields ++ more) t (Known (record { start = length fields; count = n }))
+fields_afterwards m fields more t n len few s =
     let all : take n (drop (length fields) (fields ++ more)) ≡ more = rw (drop-append_seam fields more, sym len) (take-length more) in
     (record { inside = simp length-append (omega arith); few = few }, subst (Scalars m t) (sym all) s)
 

@@ -27,8 +27,8 @@ pub data Scalars (m : Module) : (written : ℕ) → (fields : List ℕ) → Type
   Scalar : (written : ℕ) → is_scalar m (slice_get m.types written) ≡ true → Scalars m written (written ∷ [])
   Elements : (written length part : ℕ) (fields : List ℕ) → slice_get m.types written ≡ Some (Array length part) → Scalars m part fields → Scalars m written (copies length fields)
   NoField : (written : ℕ) → slice_get m.types written ≡ Some EmptyStruct → Scalars m written []
-  Fields : (written first rest : ℕ) (of_first behind : List ℕ) → slice_get m.types written ≡ Some (Struct first rest) → Scalars m first of_first → Scalars m rest behind
-      → Scalars m written (of_first ++ behind)
+  Fields : (written first rest : ℕ) (of_first afterwards : List ℕ) → slice_get m.types written ≡ Some (Struct first rest) → Scalars m first of_first → Scalars m rest afterwards
+      → Scalars m written (of_first ++ afterwards)
   Body : (written name body : ℕ) (fields : List ℕ) → slice_get m.types written ≡ Some (Named name) → body_named m name ≡ Some body → Scalars m body fields → Scalars m written fields
 
 -- a word that refers to this layout, if there is one

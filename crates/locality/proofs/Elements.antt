@@ -1,7 +1,7 @@
 -- What is asked of a getelementptr, and what is known after it, does not depend on functions.
 use Rattle.std.specs.List.{list_all}
 use Rattle.std.specs.Prelude.{List, None, Option, Some, [], if◌then◌else◌, is_some, length, refl, slice_get, ℕ, ◌&&◌, ◌∷◌, ◌≡◌}
-use Rattle.block_rules.specs.Elements.{after_element, are_indices, array_stride, base_layout, counted_words, define_words, element_part, element_words, is_index, is_zero, leads_from, leads_into, may_lead, part_led, part_reached, start_of, stays_at_first, stays_in, step_part, step_stride, strode, words_behind}
+use Rattle.block_rules.specs.Elements.{after_element, are_indices, array_stride, base_layout, counted_words, define_words, element_part, element_words, is_index, is_zero, leads_from, leads_into, may_lead, part_led, part_reached, start_of, stays_at_first, stays_in, step_part, step_stride, strode, words_after}
 use Rattle.block_rules.specs.Operands.{number_of}
 use Rattle.block_rules.specs.TypeKinds.{is_integer}
 use Rattle.facts.specs.Facts.{FactSet, known_at}
@@ -21,20 +21,20 @@ use Rattle.locality.proofs.Operands.{is_value_same, kind_of_same}
 use Rattle.locality.proofs.Types.{part_at_same}
 use Rattle.locality.specs.Local.{laid_with, with_functions}
 
-words_behind_by : (p : LaidOut) (fs : List Function) (facts : FactSet) (part : Option ℕ) (indices : List Argument) (words : Option WordSet) → words_behind (laid_with p fs) facts part indices words ≡ words_behind p facts part indices words
-words_behind_by p fs facts None indices words = refl
-words_behind_by p fs facts (Some written) [] words = refl
-words_behind_by p fs facts (Some written) (index ∷ indices) None = refl
-words_behind_by p fs facts (Some written) (index ∷ indices) (Some words) = λ along. let step = step_of_same p fs along written index in
-    words_behind_by p fs facts (step_part step) indices (strode (step_stride facts (kind_of_same p.of_module fs along index.written) index step) words) along
+words_after_by : (p : LaidOut) (fs : List Function) (facts : FactSet) (part : Option ℕ) (indices : List Argument) (words : Option WordSet) → words_after (laid_with p fs) facts part indices words ≡ words_after p facts part indices words
+words_after_by p fs facts None indices words = refl
+words_after_by p fs facts (Some written) [] words = refl
+words_after_by p fs facts (Some written) (index ∷ indices) None = refl
+words_after_by p fs facts (Some written) (index ∷ indices) (Some words) = λ along. let step = step_of_same p fs along written index in
+    words_after_by p fs facts (step_part step) indices (strode (step_stride facts (kind_of_same p.of_module fs along index.written) index step) words) along
 
-pub words_behind_same : (p : LaidOut) (fs : List Function) → words_behind (laid_with p fs) ≡ words_behind p
-words_behind_same p fs = λ along facts part indices words. words_behind_by p fs facts part indices words along
+pub words_after_same : (p : LaidOut) (fs : List Function) → words_after (laid_with p fs) ≡ words_after p
+words_after_same p fs = λ along facts part indices words. words_after_by p fs facts part indices words along
 
 element_words_by : (p : LaidOut) (fs : List Function) (facts : FactSet) (source : ℕ) (arguments : List Argument) (start : WordSet) → element_words (laid_with p fs) facts source arguments start ≡ element_words p facts source arguments start
 element_words_by p fs facts source [] start = refl
 element_words_by p fs facts source (first ∷ []) start = refl
-element_words_by p fs facts source (first ∷ index ∷ indices) start = λ along. if is_zero (number_of first.operand) then words_behind_same p fs along facts (Some source) (index ∷ indices) (Some start) else None
+element_words_by p fs facts source (first ∷ index ∷ indices) start = λ along. if is_zero (number_of first.operand) then words_after_same p fs along facts (Some source) (index ∷ indices) (Some start) else None
 
 pub element_words_same : (p : LaidOut) (fs : List Function) → element_words (laid_with p fs) ≡ element_words p
 element_words_same p fs = λ along facts source arguments start. element_words_by p fs facts source arguments start along

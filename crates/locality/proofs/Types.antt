@@ -12,9 +12,9 @@ use Rattle.ir_ast.specs.declared.items_of_module.SymbolSort.TheVariants.{Declare
 use Rattle.ir_ast.specs.declared.module.Module.{Module}
 use Rattle.ir_ast.specs.declared.op.Op.{Op}
 use Rattle.ir_ast.specs.declared.op.Op.TheVariants.{Element}
-use Rattle.types.specs.Elements.{body_named, body_of_layout, element_type, field_at, field_by, field_in, index_number, part_at, part_behind, part_of, type_at, written_out}
+use Rattle.types.specs.Elements.{body_named, body_of_layout, element_type, field_at, field_by, field_in, index_number, part_at, part_after, part_of, type_at, written_out}
 use Rattle.types.specs.Globals.{global_held, global_named, held_by, points_to_global, sort_at}
-use Rattle.types.specs.References.{layout_behind, layout_of_struct, pointee, referenced_layout, struct_at, struct_named}
+use Rattle.types.specs.References.{layout_after, layout_of_struct, pointee, referenced_layout, struct_at, struct_named}
 use Rattle.types.specs.RuntimeCall.{runtime_called, runtime_of_sort}
 use Rattle.types.specs.ValueTypes.{element_of, element_of_op, has_type, instruction_at, is_same, is_value_of, points_to}
 use Rattle.locality.specs.Local.{with_functions}
@@ -45,15 +45,15 @@ layout_of_struct_by m fs (Some (Named name)) = λ along. struct_named_same m fs 
 pub layout_of_struct_same : (m : Module) (fs : List Function) → layout_of_struct (with_functions m fs) ≡ layout_of_struct m
 layout_of_struct_same m fs = λ along type. layout_of_struct_by m fs type along
 
-layout_behind_by : (m : Module) (fs : List Function) (number : Option ℕ) → layout_behind (with_functions m fs) number ≡ layout_behind m number
-layout_behind_by m fs None = refl
-layout_behind_by m fs (Some part) = λ along. layout_of_struct_same m fs along (slice_get m.types part)
+layout_after_by : (m : Module) (fs : List Function) (number : Option ℕ) → layout_after (with_functions m fs) number ≡ layout_after m number
+layout_after_by m fs None = refl
+layout_after_by m fs (Some part) = λ along. layout_of_struct_same m fs along (slice_get m.types part)
 
-pub layout_behind_same : (m : Module) (fs : List Function) → layout_behind (with_functions m fs) ≡ layout_behind m
-layout_behind_same m fs = λ along number. layout_behind_by m fs number along
+pub layout_after_same : (m : Module) (fs : List Function) → layout_after (with_functions m fs) ≡ layout_after m
+layout_after_same m fs = λ along number. layout_after_by m fs number along
 
 pub referenced_layout_same : (m : Module) (fs : List Function) → referenced_layout (with_functions m fs) ≡ referenced_layout m
-referenced_layout_same m fs = λ along written. layout_behind_same m fs along (pointee_same m fs along written)
+referenced_layout_same m fs = λ along written. layout_after_same m fs along (pointee_same m fs along written)
 
 body_of_layout_by : (m : Module) (fs : List Function) (layout : Option ℕ) → body_of_layout (with_functions m fs) layout ≡ body_of_layout m layout
 body_of_layout_by m fs None = refl
@@ -111,17 +111,17 @@ part_of_same m fs = λ along written type index. part_of_by m fs written type in
 pub part_at_same : (m : Module) (fs : List Function) → part_at (with_functions m fs) ≡ part_at m
 part_at_same m fs = λ along written index. part_of_same m fs along written (slice_get m.types written) index
 
-part_behind_by : (m : Module) (fs : List Function) (number : Option ℕ) (indices : List Argument) → part_behind (with_functions m fs) number indices ≡ part_behind m number indices
-part_behind_by m fs None indices = refl
-part_behind_by m fs (Some written) [] = refl
-part_behind_by m fs (Some written) (index ∷ indices) = λ along. part_behind_by m fs (part_at_same m fs along written index) indices along
+part_after_by : (m : Module) (fs : List Function) (number : Option ℕ) (indices : List Argument) → part_after (with_functions m fs) number indices ≡ part_after m number indices
+part_after_by m fs None indices = refl
+part_after_by m fs (Some written) [] = refl
+part_after_by m fs (Some written) (index ∷ indices) = λ along. part_after_by m fs (part_at_same m fs along written index) indices along
 
-pub part_behind_same : (m : Module) (fs : List Function) → part_behind (with_functions m fs) ≡ part_behind m
-part_behind_same m fs = λ along number indices. part_behind_by m fs number indices along
+pub part_after_same : (m : Module) (fs : List Function) → part_after (with_functions m fs) ≡ part_after m
+part_after_same m fs = λ along number indices. part_after_by m fs number indices along
 
 element_type_by : (m : Module) (fs : List Function) (source : ℕ) (arguments : List Argument) → element_type (with_functions m fs) source arguments ≡ element_type m source arguments
 element_type_by m fs source [] = refl
-element_type_by m fs source (first ∷ indices) = λ along. part_behind_same m fs along (Some source) indices
+element_type_by m fs source (first ∷ indices) = λ along. part_after_same m fs along (Some source) indices
 
 pub element_type_same : (m : Module) (fs : List Function) → element_type (with_functions m fs) ≡ element_type m
 element_type_same m fs = λ along source arguments. element_type_by m fs source arguments along

@@ -39,13 +39,13 @@ offset_after p registers (Some (offset, written)) (index ∷ indices) =
     offset_after p registers (stepped offset (index_value p.of_module registers index) (step_of p written index)) indices
 
 -- after `index` whole types of this size
-abbrev pub behind_whole : (source index : ℕ) → (size : Option ℕ) → Option (ℕ × ℕ)
-behind_whole source index None = None
-behind_whole source index (Some size) = Some (wrapped 64 (index * size), source)
+abbrev pub after_whole : (source index : ℕ) → (size : Option ℕ) → Option (ℕ × ℕ)
+after_whole source index None = None
+after_whole source index (Some size) = Some (wrapped 64 (index * size), source)
 
 -- the same; where there is none to pass, the size does not matter
 abbrev pub first_place : (source index : ℕ) → (size : Option ℕ) → Option (ℕ × ℕ)
-first_place source index size = if index == 0 then Some (0, source) else behind_whole source index size
+first_place source index size = if index == 0 then Some (0, source) else after_whole source index size
 
 -- how many words the indices of a getelementptr pass: the first passes that number of whole types, the others lead into the parts
 abbrev pub element_offset : LaidOut → List Value → (source : ℕ) → List Argument → Option ℕ

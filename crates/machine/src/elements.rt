@@ -51,7 +51,7 @@ fn index_value(of_module: &Module, registers: &[Value], index: &Argument) -> u64
 }
 
 /// `words` words further, modulo 2 to the 64.
-fn behind(offset: u64, words: u64) -> u64
+fn afterwards(offset: u64, words: u64) -> u64
     ensures { result ≡ wrapped 64 (offset + words) }
 {
     wrapped_wide(64, u128::from(offset) + u128::from(words))
@@ -83,7 +83,7 @@ fn offset_after(
         let number = index_value(program.module(), registers, index);
         match program.step(written, *index)? {
             Step::Field { words, part } => {
-                offset = behind(offset, u64::from(words));
+                offset = afterwards(offset, u64::from(words));
                 written = part;
             }
             Step::Elements { words, part, .. } => {
@@ -142,7 +142,7 @@ fn word_after(
 ) -> Option<Pointee>
     ensures { result ≡ word_after program.now layout at word offset }
 {
-    word_in(program, layout, at, behind(u64::from(word), offset?))
+    word_in(program, layout, at, afterwards(u64::from(word), offset?))
 }
 
 /// A global has one word: its place is the only one to which it leads.

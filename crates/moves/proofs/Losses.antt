@@ -17,8 +17,8 @@ use Rattle.moves.specs.Calls.{action_of}
 use Rattle.std.proofs.lemmas.Option.{unwrap_or-slice_get}
 
 -- whether a cell is left after one more try
-left-behind : (count tried : ℕ) (trying : order.Phase) → tried < count → (if nat_lt (suc tried) count then trying else order.Ready) ≡ (if suc tried == count then order.Ready else trying)
-left-behind count tried trying lt = go (nat_lt (suc tried) count) (suc tried == count) refl refl
+left-afterwards : (count tried : ℕ) (trying : order.Phase) → tried < count → (if nat_lt (suc tried) count then trying else order.Ready) ≡ (if suc tried == count then order.Ready else trying)
+left-afterwards count tried trying lt = go (nat_lt (suc tried) count) (suc tried == count) refl refl
   where
     go : (b d : Bool) → nat_lt (suc tried) count ≡ b → (suc tried == count) ≡ d → (if b then trying else order.Ready) ≡ (if d then order.Ready else trying)
     go true false e f = refl
@@ -36,7 +36,7 @@ left-behind count tried trying lt = go (nat_lt (suc tried) count) (suc tried == 
 loses-next : (s : Setup) (layout : ℕ) (cells : List ℕ) (tried cell : ℕ) → IsNextTry s layout cells tried cell
     → phase_left s.pools (Alloc layout) cells (suc tried) ≡ after_loss s (tried_of cells tried) cell
 loses-next s layout cells tried cell h =
-    left-behind (slice_index s.pools layout) tried (order.Trying (tried_of cells (suc tried))) h.left
+    left-afterwards (slice_index s.pools layout) tried (order.Trying (tried_of cells (suc tried))) h.left
     ∙ rw (← h.is_next, ← h.of_layout.2, tried_of-length cells tried) refl
 
 -- a lost try is one more than those of the call so far

@@ -15,11 +15,11 @@ use Rattle.moves.specs.declared.moves.Move.TheVariants as made
 use Rattle.moves.specs.declared.shared.Shared.{Shared}
 use Rattle.moves.specs.Calls.{move_in}
 use Rattle.moves.specs.Causes.{IsTouch, Breaks, IsStepCause}
-use Rattle.moves.specs.Shared.{AreBehind}
+use Rattle.moves.specs.Shared.{AreAfter}
 
 -- a move by which a reference is used
 by_touch : (s : Setup) (m : Machine) (starts : ℕ → m.State) (run : List Happening) (t : ℕ) (move : moves.Move) (used : Reference) (shared : Shared) (cause : Option Cause)
-    → used_by move ≡ Some used → ¬ WentWrong (OfThread t move ∷ run) → AreBehind s run shared → IsTouch shared used cause → IsStepCause s m starts (OfThread t move ∷ run) cause
+    → used_by move ≡ Some used → ¬ WentWrong (OfThread t move ∷ run) → AreAfter s run shared → IsTouch shared used cause → IsStepCause s m starts (OfThread t move ∷ run) cause
 by_touch s m starts run t move used shared cause e right b touch = go cause touch
   where
     out : (P : List Happening → Reference → Type 0) → Touched P (OfThread t move ∷ run) → P run used
@@ -89,12 +89,12 @@ none_first c (inr lt) = let less = lt.1 in omega (arith, less)
 
 -- each move
 pub first_cause : (s : Setup) (m : Machine) (starts : ℕ → m.State) (run : List Happening) (t : ℕ) (roots : List Reference) (shared : Shared) (move : Move) (cause : Option Cause)
-    → AreBehind s run shared → Breaks shared move cause → IsStepCause s m starts (OfThread t (move_in roots move) ∷ run) cause
+    → AreAfter s run shared → Breaks shared move cause → IsStepCause s m starts (OfThread t (move_in roots move) ∷ run) cause
 first_cause s m starts run t roots shared made.GoesWrong cause b x =
     subst (λ (c : Option Cause). IsStepCause s m starts (OfThread t moves.GoesWrong ∷ run) c) (sym x) (record { shows = tt; first = λ c before shown. none_first c before })
 first_cause s m starts run t roots shared (made.ReadsWord base word value) cause b x = by_touch s m starts run t (moves.ReadsWord base word value) base shared cause refl (λ w. w) b x
 first_cause s m starts run t roots shared (made.ReadsOldValue base word value) cause b x = by_touch s m starts run t (moves.ReadsOldValue base word value) base shared cause refl (λ w. w) b x
-first_cause s m starts run t roots shared (made.StoresBehindBarrier base word value) cause b x = by_touch s m starts run t (moves.StoresBehindBarrier base word value) base shared cause refl (λ w. w) b x
+first_cause s m starts run t roots shared (made.StoresAfterBarrier base word value) cause b x = by_touch s m starts run t (moves.StoresAfterBarrier base word value) base shared cause refl (λ w. w) b x
 first_cause s m starts run t roots shared (made.StoresPlain base word value) cause b x = by_touch s m starts run t (moves.StoresPlain base word value) base shared cause refl (λ w. w) b x
 first_cause s m starts run t roots shared (made.Marks r) cause b x = by_touch s m starts run t (moves.Marks r) r shared cause refl (λ w. w) b x
 first_cause s m starts run t roots shared made.Works cause b x =

@@ -10,7 +10,7 @@ use Rattle.moves.specs.declared.call.Call.TheVariants.{Local, Read, StorePlain, 
 use Rattle.moves.specs.declared.call.Answer.{Answer}
 use Rattle.moves.specs.declared.call.Answer.TheVariants.{Done, Got, Answered}
 use Rattle.moves.specs.declared.moves.Move.{Move}
-use Rattle.moves.specs.declared.moves.Move.TheVariants.{Works, GoesWrong, ReadsWord, ReadsOldValue, Marks, StoresBehindBarrier, StoresPlain, Claims, ReadsPosted, Answers, Ends, ReadsPostedFirst, EntersStage, ReadsPostedAgain}
+use Rattle.moves.specs.declared.moves.Move.TheVariants.{Works, GoesWrong, ReadsWord, ReadsOldValue, Marks, StoresAfterBarrier, StoresPlain, Claims, ReadsPosted, Answers, Ends, ReadsPostedFirst, EntersStage, ReadsPostedAgain}
 
 -- a call as a machine's action
 abbrev pub action_of : Call → machine.Action
@@ -36,7 +36,7 @@ move_in roots GoesWrong = moves.GoesWrong
 move_in roots (ReadsWord base word value) = moves.ReadsWord base word value
 move_in roots (ReadsOldValue base word value) = moves.ReadsOldValue base word value
 move_in roots (Marks r) = moves.Marks r
-move_in roots (StoresBehindBarrier base word value) = moves.StoresBehindBarrier base word value
+move_in roots (StoresAfterBarrier base word value) = moves.StoresAfterBarrier base word value
 move_in roots (StoresPlain base word value) = moves.StoresPlain base word value
 move_in roots (Claims r won) = moves.Claims r won
 move_in roots (ReadsPosted stage) = moves.ReadsPosted stage

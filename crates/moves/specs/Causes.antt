@@ -8,7 +8,7 @@ use Rattle.runs.specs.Broken.{WentWrong, TouchedGone, IsCause}
 use Rattle.moves.specs.declared.cause.Cause.{Cause}
 use Rattle.moves.specs.declared.cause.Cause.TheVariants.{Wrong, TouchBlue, TouchBirth}
 use Rattle.moves.specs.declared.moves.Move.{Move}
-use Rattle.moves.specs.declared.moves.Move.TheVariants.{GoesWrong, ReadsWord, ReadsOldValue, Marks, StoresBehindBarrier, StoresPlain}
+use Rattle.moves.specs.declared.moves.Move.TheVariants.{GoesWrong, ReadsWord, ReadsOldValue, Marks, StoresAfterBarrier, StoresPlain}
 use Rattle.moves.specs.declared.shared.Shared.{Shared}
 
 -- the first cause by which the reference that a step uses is gone, if it is gone
@@ -23,7 +23,7 @@ abbrev pub Breaks : Shared → Move → Option Cause → Type 0
 Breaks h GoesWrong cause = cause ≡ Some Wrong
 Breaks h (ReadsWord base word value) cause = IsTouch h base cause
 Breaks h (ReadsOldValue base word value) cause = IsTouch h base cause
-Breaks h (StoresBehindBarrier base word value) cause = IsTouch h base cause
+Breaks h (StoresAfterBarrier base word value) cause = IsTouch h base cause
 Breaks h (StoresPlain base word value) cause = IsTouch h base cause
 Breaks h (Marks r) cause = IsTouch h r cause
 Breaks h made cause = cause ≡ None

@@ -10,19 +10,19 @@ use Rattle.colours.specs.Steps.{Step, place_of}
 use Rattle.colours.specs.Collector.{Collection, Posting, Waiting, ShadingGlobals, Passing, Scanning, Shading, Sweeping, Clearing, reference_from}
 use Rattle.colours.specs.Runs.{Event, word_after, turns_of}
 use Rattle.trace_sweep.specs.Collecting.{Collecting, ask_of, turn_of, moved, stored_by}
-use Rattle.trace_sweep.specs.Stands.{StandsBehind}
+use Rattle.trace_sweep.specs.Stands.{StandsAfter}
 use Rattle.trace_sweep.specs.Order.{next-step, took-stands}
 use Rattle.trace_sweep.specs.Extends.{next-extends}
 use Rattle.runs.specs.Machine.{Machine}
 use Rattle.runs.specs.Moves.{Move, step_of, steps_of}
 use Rattle.runs.specs.ModuleRuns.{Happening, OfThread, share_of, with_step, heap_of, IsNext, IsModuleRun}
-use Rattle.runs.specs.NextMoves.{next_move_in, sight_behind, IsSightOf}
+use Rattle.runs.specs.NextMoves.{next_move_in, sight_after, IsSightOf}
 use Rattle.runs.specs.Tries.{by_hint, TriesByHint}
 use Rattle.runs.specs.NextMoveLemmas.{next_is}
 use Rattle.runs.specs.TryLemmas.{keeps_order}
 use Rattle.moves.specs.declared.actor.Actor.{Actor}
 use Rattle.moves.specs.declared.actor.Actor.TheVariants.{Thread, Collector}
-use Rattle.moves.specs.Runs.{found_in, collector_behind, turn_for, by_thread, by_collector, next_by, with_next, run_by, AreActors}
+use Rattle.moves.specs.Runs.{found_in, collector_after, turn_for, by_thread, by_collector, next_by, with_next, run_by, AreActors}
 
 -- the number that a step's entry records leads to the same place
 pub moved-found : (c : Collecting) (found : ℕ) → moved c (found_in (turn_of c found)) ≡ moved c found
@@ -54,11 +54,11 @@ turns-with t (Some step) h = refl
 pub record IsDrawn (s : Setup) (m : Machine) (starts : ℕ → m.State) (run : List Happening) : Type 0 where
   pub is_run : IsModuleRun s m starts run
   pub tries : (t : ℕ) → t < s.threads → TriesByHint s m t (starts t) (share_of t run)
-  pub stands : StandsBehind s (turns_of (heap_of run)) (collector_behind s (turns_of (heap_of run)))
+  pub stands : StandsAfter s (turns_of (heap_of run)) (collector_after s (turns_of (heap_of run)))
 
 -- before the first step
 drawn-none : (s : Setup) (m : Machine) (starts : ℕ → m.State) → IsDrawn s m starts []
-unfolding collector_behind
+unfolding collector_after
 drawn-none s m starts = record {
   is_run = tt;
   tries = λ t lt. tt;
@@ -66,7 +66,7 @@ drawn-none s m starts = record {
 }
 
 -- what a thread sees of a run
-seen : (s : Setup) (run : List Happening) (order : ℕ → List ℕ → ℕ) → IsSightOf s run (sight_behind s run order)
+seen : (s : Setup) (run : List Happening) (order : ℕ → List ℕ → ℕ) → IsSightOf s run (sight_after s run order)
 seen s run order = record {
   word = λ c i. refl;
   word_birth = λ c i. refl;
@@ -80,8 +80,8 @@ drawn-move : (s : Setup) (m : Machine) (starts : ℕ → m.State) (run : List Ha
     → IsDrawn s m starts (with_next (next_by s m starts run (Thread t)) run)
 drawn-move s m starts run t lt d =
     let order = keeps_order s m starts run t d.is_run (d.tries t lt) in
-    let next = next_is s m starts run (sight_behind s run hinted) t d.is_run (seen s run hinted) lt order.in_pool in
-    go (next_move_in s m starts run (sight_behind s run hinted) t) next.is_next order.next
+    let next = next_is s m starts run (sight_after s run hinted) t d.is_run (seen s run hinted) lt order.in_pool in
+    go (next_move_in s m starts run (sight_after s run hinted) t) next.is_next order.next
   where
     hinted : (layout : ℕ) → List ℕ → ℕ
     hinted = by_hint s (steps_of (share_of t run))
@@ -92,7 +92,7 @@ drawn-move s m starts run t lt d =
     go (Some move) next tries = record {
       is_run = (d.is_run, next);
       tries = λ u few. each u few (t == u) refl;
-      stands = subst (λ (log : List Turn). StandsBehind s log (collector_behind s log)) (sym (turns-with t (step_of move) (heap_of run))) d.stands;
+      stands = subst (λ (log : List Turn). StandsAfter s log (collector_after s log)) (sym (turns-with t (step_of move) (heap_of run))) d.stands;
     }
       where
         each : (u : ℕ) → u < s.threads → (b : Bool) → t == u ≡ b → TriesByHint s m u (starts u) (if b then move ∷ share_of u run else share_of u run)
@@ -102,14 +102,14 @@ drawn-move s m starts run t lt d =
 -- the collector's next step, if there is one
 drawn-turn : (s : Setup) (m : Machine) (starts : ℕ → m.State) (run : List Happening) → IsDrawn s m starts run
     → IsDrawn s m starts (with_next (next_by s m starts run Collector) run)
-unfolding collector_behind
-drawn-turn s m starts run d = go (ask_of (collector_behind s (turns_of (heap_of run)))) refl
+unfolding collector_after
+drawn-turn s m starts run d = go (ask_of (collector_after s (turns_of (heap_of run)))) refl
   where
     log : List Turn
     log = turns_of (heap_of run)
 
     c : Collecting
-    c = collector_behind s log
+    c = collector_after s log
 
     at : Place → ℕ
     at = word_after s (heap_of run)
@@ -124,7 +124,7 @@ drawn-turn s m starts run d = go (ask_of (collector_behind s (turns_of (heap_of 
         record {
           is_run = (d.is_run, extends.may_happen);
           tries = d.tries;
-          stands = subst (λ (e : Collecting). StandsBehind s (turn_of c found ∷ log) e) (sym (moved-found c found)) (goes s log d.stands);
+          stands = subst (λ (e : Collecting). StandsAfter s (turn_of c found ∷ log) e) (sym (moved-found c found)) (goes s log d.stands);
         }
 
 -- the run of a list of actors

@@ -5,9 +5,9 @@ use Rattle.colours.specs.Mutator as order
 use Rattle.colours.specs.Mutator.{Phase}
 use Rattle.runs.specs.Machine as machine
 use Rattle.runs.specs.Machine.{Reference, Action, Answer, Machine}
-use Rattle.runs.specs.Moves.{step_of, phase_behind, ends_call, answer_of}
+use Rattle.runs.specs.Moves.{step_of, phase_afterwards, ends_call, answer_of}
 use Rattle.runs.specs.Moves as moves
-use Rattle.runs.specs.Ends.{moved, stage_behind, old_by}
+use Rattle.runs.specs.Ends.{moved, stage_afterwards, old_by}
 use Rattle.runs.specs.Tries.{hints_by}
 use Rattle.moves.specs.declared.call.Call.{Call}
 use Rattle.moves.specs.declared.call.Call.TheVariants as call
@@ -53,7 +53,7 @@ ends-between moves.GoesWrong phase e = e
 ends-between (moves.ReadsWord base word value) phase e = e
 ends-between (moves.ReadsOldValue base word value) phase e = e
 ends-between (moves.Marks r) phase e = e
-ends-between (moves.StoresBehindBarrier base word value) phase e = e
+ends-between (moves.StoresAfterBarrier base word value) phase e = e
 ends-between (moves.StoresPlain base word value) phase e = e
 ends-between (moves.Claims r won) phase e = e
 ends-between (moves.ReadsPosted stage) phase e = e
@@ -76,7 +76,7 @@ between-phase cells to_try roots others stance.Entering e = absurd cc
 between-phase cells to_try roots others stance.Leaving e = absurd cc
 
 -- a cell is won only at a call's end, so until then the hints stay
-hints-within : (s : Setup) (hints : List ℕ) (stage : ℕ) (phase : Phase) (m : moves.Move) → ends_call m (phase_behind s stage phase (step_of m)) ≡ false → hints_by s hints (step_of m) ≡ hints
+hints-within : (s : Setup) (hints : List ℕ) (stage : ℕ) (phase : Phase) (m : moves.Move) → ends_call m (phase_afterwards s stage phase (step_of m)) ≡ false → hints_by s hints (step_of m) ≡ hints
 hints-within s hints stage phase (moves.Claims r true) e = absurd cc
 hints-within s hints stage phase (moves.Claims r false) e = refl
 hints-within s hints stage phase moves.Works e = refl
@@ -84,7 +84,7 @@ hints-within s hints stage phase moves.GoesWrong e = refl
 hints-within s hints stage phase (moves.ReadsWord base word value) e = refl
 hints-within s hints stage phase (moves.ReadsOldValue base word value) e = refl
 hints-within s hints stage phase (moves.Marks r) e = refl
-hints-within s hints stage phase (moves.StoresBehindBarrier base word value) e = refl
+hints-within s hints stage phase (moves.StoresAfterBarrier base word value) e = refl
 hints-within s hints stage phase (moves.StoresPlain base word value) e = refl
 hints-within s hints stage phase (moves.ReadsPosted posted) e = refl
 hints-within s hints stage phase (moves.StoresStage to roots) e = refl
@@ -94,10 +94,10 @@ hints-within s hints stage phase (moves.ReadsPostedAgain posted) e = refl
 
 -- the thread after a move, where its call ends ..
 pub moved-between : (s : Setup) (m : Machine) (stand : Stand m.State) (move : Move) (state : m.State) (stage : ℕ) (at : Stance) (replaced : Reference) (hints : List ℕ) (answer : Answer)
-    → (let cells = cells_to_try s stand.hints (m.action stand.state) in phase_at cells (m.roots stand.state) at ≡ phase_behind s stand.stage (phase_at cells (m.roots stand.state) stand.stance) (step_of (move_in (m.roots stand.state) move)))
+    → (let cells = cells_to_try s stand.hints (m.action stand.state) in phase_at cells (m.roots stand.state) at ≡ phase_afterwards s stand.stage (phase_at cells (m.roots stand.state) stand.stance) (step_of (move_in (m.roots stand.state) move)))
     → ends_call (move_in (m.roots stand.state) move) (phase_at (cells_to_try s stand.hints (m.action stand.state)) (m.roots stand.state) at) ≡ true
     → state ≡ m.after_answer stand.state answer → answer ≡ answer_of (m.action stand.state) (move_in (m.roots stand.state) move)
-    → stage ≡ stage_behind stand.stage (move_in (m.roots stand.state) move) → replaced ≡ old_by (move_in (m.roots stand.state) move) → hints ≡ hints_by s stand.hints (step_of (move_in (m.roots stand.state) move))
+    → stage ≡ stage_afterwards stand.stage (move_in (m.roots stand.state) move) → replaced ≡ old_by (move_in (m.roots stand.state) move) → hints ≡ hints_by s stand.hints (step_of (move_in (m.roots stand.state) move))
     → standing s m (record { state = state; stage = stage; stance = at; replaced = replaced; hints = hints }) ≡ moved s m (standing s m stand) (move_in (m.roots stand.state) move)
 moved-between s m stand move state stage at replaced hints answer phase between after given is_stage is_old are_hints =
     let ends = ap (ends_call (move_in (m.roots stand.state) move)) (sym phase) ∙ between in
@@ -106,9 +106,9 @@ moved-between s m stand move state stage at replaced hints answer phase between 
 
 -- .. and where it does not
 pub moved-within : (s : Setup) (m : Machine) (stand : Stand m.State) (move : Move) (stage : ℕ) (at : Stance) (replaced : Reference) (hints : List ℕ)
-    → (let cells = cells_to_try s stand.hints (m.action stand.state) in phase_at cells (m.roots stand.state) at ≡ phase_behind s stand.stage (phase_at cells (m.roots stand.state) stand.stance) (step_of (move_in (m.roots stand.state) move)))
+    → (let cells = cells_to_try s stand.hints (m.action stand.state) in phase_at cells (m.roots stand.state) at ≡ phase_afterwards s stand.stage (phase_at cells (m.roots stand.state) stand.stance) (step_of (move_in (m.roots stand.state) move)))
     → ends_call (move_in (m.roots stand.state) move) (phase_at (cells_to_try s stand.hints (m.action stand.state)) (m.roots stand.state) at) ≡ false
-    → stage ≡ stage_behind stand.stage (move_in (m.roots stand.state) move) → replaced ≡ old_by (move_in (m.roots stand.state) move) → hints ≡ hints_by s stand.hints (step_of (move_in (m.roots stand.state) move))
+    → stage ≡ stage_afterwards stand.stage (move_in (m.roots stand.state) move) → replaced ≡ old_by (move_in (m.roots stand.state) move) → hints ≡ hints_by s stand.hints (step_of (move_in (m.roots stand.state) move))
     → standing s m (record { state = stand.state; stage = stage; stance = at; replaced = replaced; hints = hints }) ≡ moved s m (standing s m stand) (move_in (m.roots stand.state) move)
 moved-within s m stand move stage at replaced hints phase within is_stage is_old are_hints =
     let ends = ap (ends_call (move_in (m.roots stand.state) move)) (sym phase) ∙ within in

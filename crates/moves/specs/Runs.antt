@@ -12,7 +12,7 @@ use Rattle.trace_sweep.specs.Collecting.{Collecting, plan_of, begun, ask_of, tur
 use Rattle.runs.specs.Machine.{Machine}
 use Rattle.runs.specs.Moves.{Move, steps_of}
 use Rattle.runs.specs.ModuleRuns.{Happening, OfThread, OfCollector, share_of, heap_of}
-use Rattle.runs.specs.NextMoves.{next_move_in, sight_behind}
+use Rattle.runs.specs.NextMoves.{next_move_in, sight_after}
 use Rattle.runs.specs.Tries.{by_hint}
 use Rattle.moves.specs.declared.actor.Actor.{Actor}
 use Rattle.moves.specs.declared.actor.Actor.TheVariants.{Thread, Collector}
@@ -31,9 +31,9 @@ found_in (ClearWord cell word) = 0
 found_in (Free cell) = 0
 
 -- the collector after its steps
-unfoldable pub collector_behind : Setup → List Turn → Collecting
-collector_behind s [] = begun (plan_of s)
-collector_behind s (turn ∷ log) = moved (collector_behind s log) (found_in turn)
+unfoldable pub collector_after : Setup → List Turn → Collecting
+collector_after s [] = begun (plan_of s)
+collector_after s (turn ∷ log) = moved (collector_after s log) (found_in turn)
 
 -- the step of an operation, if one is asked for, on these words
 abbrev pub turn_for : Collecting → (Place → ℕ) → Option Ask → Option Turn
@@ -58,8 +58,8 @@ by_collector (Some turn) = Some (OfCollector turn)
 
 -- the one next step of an actor after a run; none where its thread has ended, or at the limit of the cycles
 abbrev pub next_by : (s : Setup) (m : Machine) (starts : ℕ → m.State) → List Happening → Actor → Option Happening
-next_by s m starts run (Thread t) = by_thread t (next_move_in s m starts run (sight_behind s run (by_hint s (steps_of (share_of t run)))) t)
-next_by s m starts run Collector = by_collector (next_turn (collector_behind s (turns_of (heap_of run))) (word_after s (heap_of run)))
+next_by s m starts run (Thread t) = by_thread t (next_move_in s m starts run (sight_after s run (by_hint s (steps_of (share_of t run)))) t)
+next_by s m starts run Collector = by_collector (next_turn (collector_after s (turns_of (heap_of run))) (word_after s (heap_of run)))
 
 -- a run with one more happening, if there is one
 abbrev pub with_next : Option Happening → List Happening → List Happening

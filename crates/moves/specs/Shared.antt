@@ -8,7 +8,7 @@ use Rattle.colours.specs.Colours.{mark_at, claim_at, done}
 use Rattle.colours.specs.Runs.{word_after}
 use Rattle.runs.specs.ModuleRuns.{Happening, heap_of, birth_of, birth_in}
 use Rattle.moves.specs.declared.moves.Move.{Move}
-use Rattle.moves.specs.declared.moves.Move.TheVariants.{Marks, StoresBehindBarrier, StoresPlain, Claims, Answers, Ends, EntersStage}
+use Rattle.moves.specs.declared.moves.Move.TheVariants.{Marks, StoresAfterBarrier, StoresPlain, Claims, Answers, Ends, EntersStage}
 use Rattle.moves.specs.declared.shared.Shared.{Shared}
 use Rattle.moves.specs.Kinds.{MayHold}
 use Rattle.moves.specs.Rows.{word_at, with_word}
@@ -44,21 +44,21 @@ pub record HasShape (s : Setup) (h : Shared) : Type 0 where
   pub kinds : (cell word : ℕ) (kind : WordKind) → cell < cells s → kind_of s cell word ≡ Some kind → MayHold s (Some kind) (word_at h.words cell word)
 
 -- they are the words and births after a run
-pub record AreBehind (s : Setup) (run : List Happening) (h : Shared) : Type 0 where
+pub record AreAfter (s : Setup) (run : List Happening) (h : Shared) : Type 0 where
   pub words : (p : Place) → held_at h p ≡ word_after s (heap_of run) p
   pub word_births : (cell word : ℕ) → (word_at h.words cell word).birth ≡ birth_in run cell word
   pub births : (cell : ℕ) → slice_index h.births cell ≡ birth_of s run cell
 
 -- so, with a place for each thread, cell and word of the heap
-pub record StandBehind (s : Setup) (run : List Happening) (h : Shared) : Type 0 where
+pub record StandAfter (s : Setup) (run : List Happening) (h : Shared) : Type 0 where
   pub shape : HasShape s h
-  pub behind : AreBehind s run h
+  pub afterwards : AreAfter s run h
 
 -- ---- what a thread's move leaves
 
 -- the move of a thread at this stage may be made: its places are there
 abbrev pub CanTake : Shared → (thread stage : ℕ) → Move → Type 0
-CanTake h thread stage (StoresBehindBarrier base word value) = CanHold h (Word base.cell word)
+CanTake h thread stage (StoresAfterBarrier base word value) = CanHold h (Word base.cell word)
 CanTake h thread stage (StoresPlain base word value) = CanHold h (Word base.cell word)
 CanTake h thread stage (Marks r) = CanHold h (Colour r.cell) × (stage < 2 ^ 62)
 CanTake h thread stage (Claims r won) = CanHold h (Colour r.cell) × (r.cell < length h.births) × (stage < 2 ^ 62)
@@ -69,7 +69,7 @@ CanTake h thread stage made = Unit {0}
 
 -- the words and births after it
 abbrev pub with_move : Shared → (thread stage : ℕ) → Move → Shared
-with_move h thread stage (StoresBehindBarrier base word value) = record h { words = with_word h.words base.cell word value }
+with_move h thread stage (StoresAfterBarrier base word value) = record h { words = with_word h.words base.cell word value }
 with_move h thread stage (StoresPlain base word value) = record h { words = with_word h.words base.cell word value }
 with_move h thread stage (Marks r) = record h { colours = slice_set h.colours r.cell (max (slice_index h.colours r.cell) (mark_at stage)) }
 with_move h thread stage (Claims r true) = record h { colours = slice_set h.colours r.cell (claim_at stage); births = slice_set h.births r.cell r.birth }

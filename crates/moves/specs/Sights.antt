@@ -9,15 +9,15 @@ use Rattle.colours.specs.Mutator.{Phase, Ready, Trying, Absent, Entering, stage_
 use Rattle.runs.specs.Machine.{Reference, Action, Read, Write, Alloc, Safepoint, Machine}
 use Rattle.runs.specs.Moves.{Move, Works, ReadsWord, ReadsOldValue, Claims, ReadsPosted, ReadsPostedFirst, ReadsPostedAgain, steps_of, state_after, old_of}
 use Rattle.runs.specs.ModuleRuns.{Happening, share_of}
-use Rattle.runs.specs.NextMoves.{Sight, next_move, try_of, sight_behind}
+use Rattle.runs.specs.NextMoves.{Sight, next_move, try_of, sight_after}
 use Rattle.runs.specs.Tries.{hint_in, cells_of_pool, by_hint, AreHints}
-use Rattle.runs.specs.Ends.{Standing, StandsBehind, next_move_of}
+use Rattle.runs.specs.Ends.{Standing, StandsAfter, next_move_of}
 use Rattle.runs.specs.Standings.{goes_on}
 use Rattle.moves.specs.declared.actor.Actor.TheVariants.{Thread}
 use Rattle.moves.specs.declared.shared.Shared.{Shared}
 use Rattle.moves.specs.Rows.{word_at}
 use Rattle.moves.specs.Runs.{by_thread, next_by}
-use Rattle.moves.specs.Shared.{AreBehind}
+use Rattle.moves.specs.Shared.{AreAfter}
 use Rattle.moves.specs.Stands.{cells_by, sight_in}
 
 -- they show the same everywhere
@@ -61,22 +61,22 @@ same_cells s log hints are layout = elim (cases_lt layout (length s.pools)) [
 ]
 
 -- the state after a run, seen in the run and in the words
-alike_behind : (s : Setup) (run : List Happening) (log : List Step) (shared : Shared) (hints : List ℕ) → AreBehind s run shared → AreHints s log hints → AreAlike (sight_behind s run (by_hint s log)) (sight_in s shared hints)
-alike_behind s run log shared hints b are = record {
-  word = λ c i. sym (one_reference (word_at shared.words c i) ((sight_behind s run (by_hint s log)).word c i) (b.words (Word c i)) (b.word_births c i));
+alike_after : (s : Setup) (run : List Happening) (log : List Step) (shared : Shared) (hints : List ℕ) → AreAfter s run shared → AreHints s log hints → AreAlike (sight_after s run (by_hint s log)) (sight_in s shared hints)
+alike_after s run log shared hints b are = record {
+  word = λ c i. sym (one_reference (word_at shared.words c i) ((sight_after s run (by_hint s log)).word c i) (b.words (Word c i)) (b.word_births c i));
   posted = sym (b.words Posted);
   claim = λ layout tried.
       let same = ap (λ (cells : List ℕ). slice_index cells (length tried)) (same_cells s log hints are layout) in
-      one_reference ((sight_behind s run (by_hint s log)).claim layout tried) ((sight_in s shared hints).claim layout tried) same
+      one_reference ((sight_after s run (by_hint s log)).claim layout tried) ((sight_in s shared hints).claim layout tried) same
       (ap suc (sym (b.births (by_hint s log layout tried)) ∙ ap (slice_index shared.births) same));
   is_blue = λ c. ap (λ n. n == 0) (sym (b.words (Colour c)));
 }
 
 -- the next step of a thread that is after a run, from the words as they are
-pub next_in_words : (s : Setup) (m : Machine) (starts : ℕ → m.State) (run : List Happening) (t : ℕ) (stand : Standing m.State) (shared : Shared) → AreBehind s run shared → StandsBehind s m starts run t stand
+pub next_in_words : (s : Setup) (m : Machine) (starts : ℕ → m.State) (run : List Happening) (t : ℕ) (stand : Standing m.State) (shared : Shared) → AreAfter s run shared → StandsAfter s m starts run t stand
     → next_by s m starts run (Thread t) ≡ by_thread t (next_move_of s m (sight_in s shared stand.hints) stand)
-next_in_words s m starts run t stand shared behind stands =
+next_in_words s m starts run t stand shared afterwards stands =
     let share = share_of t run in
     let state = state_after s m t (starts t) share in
-    let same = alike_next s (sight_behind s run (by_hint s (steps_of share))) (sight_in s shared stand.hints) (alike_behind s run (steps_of share) shared stand.hints behind stands.hints) (stage_of (steps_of share)) (m.roots state) (old_of share) (m.action state) (phase_of s t (steps_of share)) in
+    let same = alike_next s (sight_after s run (by_hint s (steps_of share))) (sight_in s shared stand.hints) (alike_after s run (steps_of share) shared stand.hints afterwards stands.hints) (stage_of (steps_of share)) (m.roots state) (old_of share) (m.action state) (phase_of s t (steps_of share)) in
     ap (by_thread t) (same ∙ sym ((goes_on s m starts run t stand stands).next (sight_in s shared stand.hints)))

@@ -23,7 +23,7 @@ pub fn broken_by(shared: &Shared, made: &Move) -> Option<Cause>
         Move::GoesWrong => Some(Cause::Wrong),
         Move::ReadsWord { base, .. }
         | Move::ReadsOldValue { base, .. }
-        | Move::StoresBehindBarrier { base, .. }
+        | Move::StoresAfterBarrier { base, .. }
         | Move::StoresPlain { base, .. } => touched(shared, *base),
         Move::Marks(marked) => touched(shared, *marked),
         _ => None,

@@ -2,7 +2,7 @@ ghost use Rattle.std.specs.Prelude.{◌≡◌, List, IfOk, OnOk, OnErr};
 ghost use Rattle.pools.specs.Heap.{Setup};
 ghost use Rattle.runs.specs.Machine.{Reference as AReference, machine_of};
 ghost use Rattle.runs.specs.Moves.{answer_of};
-ghost use Rattle.runs.specs.Ends.{moved, stage_behind, old_by};
+ghost use Rattle.runs.specs.Ends.{moved, stage_afterwards, old_by};
 ghost use Rattle.moves.specs.Calls.{action_of, answer_in, move_in};
 ghost use Rattle.moves.specs.declared.call.Call.{Call as ACall};
 ghost use Rattle.moves.specs.Kinds.{MayAnswer};
@@ -13,7 +13,7 @@ ghost use Rattle.moves.specs.RootsAfter.{IsToldOfRoots};
 use crate::call::Answer;
 use crate::hints::note_win;
 use crate::moves::Move;
-use crate::moving::{answer_of, ends_call, stance_behind};
+use crate::moving::{answer_of, ends_call, stance_after};
 use crate::reference::{NULL, Reference};
 use crate::roots_after::RootsAfter;
 use crate::runner::Runner;
@@ -37,13 +37,13 @@ pub fn go_on<M: Runner>(
     ensures err { OnErr result (stand.new ≡ stand.old) }
 {
     let call = stand.state.call();
-    let stance = stance_behind(pools, &call, stand.stage, stand.stance, made);
+    let stance = stance_after(pools, &call, stand.stage, stand.stance, made);
     let roots_after = if ends_call(made, stance) {
         end_call(&mut stand.state, answer_of(&call, made))?
     } else {
         RootsAfter::Same
     };
-    stand.stage = stage_behind(stand.stage, made);
+    stand.stage = stage_afterwards(stand.stage, made);
     stand.stance = stance;
     stand.replaced = old_by(made);
     note_win(pools, &call, &mut stand.hints, made);
@@ -76,8 +76,8 @@ fn compared(before: &[Reference], after: &[Reference]) -> RootsAfter
 }
 
 /// The stage after a move.
-fn stage_behind(stage: u64, made: &Move) -> u64
-    ensures { (roots : List AReference) → result ≡ stage_behind stage (move_in roots made.now) }
+fn stage_afterwards(stage: u64, made: &Move) -> u64
+    ensures { (roots : List AReference) → result ≡ stage_afterwards stage (move_in roots made.now) }
 {
     match made {
         Move::Answers(next) | Move::EntersStage(next) => *next,

@@ -2,7 +2,7 @@ ghost use Rattle.std.specs.Prelude.{ℕ, ◌≡◌, ◌<◌, ◌∷◌, Option, 
 ghost use Rattle.pools.specs.Heap.{Setup};
 ghost use Rattle.runs.specs.Machine.{Reference, machine_of};
 ghost use Rattle.runs.specs.ModuleRuns.{Happening, OfThread, share_of, IsModuleRun};
-ghost use Rattle.runs.specs.Ends.{StandsBehind, next_move_of};
+ghost use Rattle.runs.specs.Ends.{StandsAfter, next_move_of};
 ghost use Rattle.runs.specs.Tries.{TriesByHint};
 ghost use Rattle.moves.specs.declared.actor.Actor.{Actor};
 ghost use Rattle.moves.specs.declared.actor.Actor.TheVariants.{Thread};
@@ -13,7 +13,7 @@ ghost use Rattle.moves.specs.declared.stand.Stand.{Stand};
 ghost use Rattle.moves.specs.Runs.{run_by, next_by, by_thread, AreActors};
 ghost use Rattle.moves.specs.Calls.{move_in};
 ghost use Rattle.moves.specs.Causes.{Breaks, IsStepCause};
-ghost use Rattle.moves.specs.Shared.{AreBehind};
+ghost use Rattle.moves.specs.Shared.{AreAfter};
 ghost use Rattle.moves.specs.Stands.{standing, sight_in};
 
 use runs::Machine;
@@ -30,14 +30,14 @@ pub fn drawn_law<M: Machine>()
 /// The law of sights: where the words and births are those after a run, and a thread is in its state after its share of the
 /// run, the next move from these is the thread's next step in the run.
 pub fn sight_law<M: Machine>()
-    ensures { (s : Setup) (starts : ℕ → M) (run : List Happening) (t : ℕ) (stand : Stand M) (shared : Shared) → AreBehind s run shared
-        → StandsBehind s (machine_of M.action M.after_answer M.roots) starts run t (standing s (machine_of M.action M.after_answer M.roots) stand)
+    ensures { (s : Setup) (starts : ℕ → M) (run : List Happening) (t : ℕ) (stand : Stand M) (shared : Shared) → AreAfter s run shared
+        → StandsAfter s (machine_of M.action M.after_answer M.roots) starts run t (standing s (machine_of M.action M.after_answer M.roots) stand)
         → next_by s (machine_of M.action M.after_answer M.roots) starts run (Thread t) ≡ by_thread t (next_move_of s (machine_of M.action M.after_answer M.roots) (sight_in s shared stand.hints) (standing s (machine_of M.action M.after_answer M.roots) stand)) }
 {}
 
 /// The law of touches: where the words and births are those after a run, the cause that they give for a move is the first by
 /// which the run is broken after it. Where they give none, the move is not wrong and touches no cell that is gone.
 pub fn touch_law<M: Machine>()
-    ensures { (s : Setup) (starts : ℕ → M) (run : List Happening) (t : ℕ) (roots : List Reference) (shared : Shared) (made : Move) (cause : Option Cause) → AreBehind s run shared → Breaks shared made cause
+    ensures { (s : Setup) (starts : ℕ → M) (run : List Happening) (t : ℕ) (roots : List Reference) (shared : Shared) (made : Move) (cause : Option Cause) → AreAfter s run shared → Breaks shared made cause
         → IsStepCause s (machine_of M.action M.after_answer M.roots) starts (OfThread t (move_in roots made) ∷ run) cause }
 {}

@@ -19,7 +19,7 @@ pub enum Move {
         value: Reference,
     },
     Marks(Reference),
-    StoresBehindBarrier {
+    StoresAfterBarrier {
         base: Reference,
         word: u32,
         value: Reference,

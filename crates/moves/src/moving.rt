@@ -2,7 +2,7 @@ ghost use Rattle.std.specs.Prelude.{ℕ, ◌≡◌, false, Some, List};
 ghost use Rattle.pools.specs.Heap.{Setup};
 ghost use Rattle.colours.specs.Mutator as order;
 ghost use Rattle.runs.specs.Machine.{Reference as AReference};
-ghost use Rattle.runs.specs.Moves.{step_of, phase_behind, cells_of};
+ghost use Rattle.runs.specs.Moves.{step_of, phase_afterwards, cells_of};
 ghost use Rattle.runs.specs.Moves as moves;
 ghost use Rattle.moves.specs.Calls.{action_of, answer_in, move_in};
 ghost use Rattle.colours.specs.Steps as steps;
@@ -17,7 +17,7 @@ use colours::DONE;
 use pools::Pools;
 
 /// Where a thread is after a move of its call.
-pub(crate) fn stance_behind(
+pub(crate) fn stance_after(
     pools: &Pools,
     call: &Call,
     stage: u64,
@@ -26,7 +26,7 @@ pub(crate) fn stance_behind(
 ) -> Stance
     requires { HasRoom stance made.now }
     ensures { (s : Setup) (hints : List ℕ) (roots : List AReference) → s.pools ≡ pools.now → MayMake s hints roots call.now stance made.now
-        → (let cells = cells_to_try s hints (action_of call.now) in phase_at cells roots result ≡ phase_behind s stage (phase_at cells roots stance) (step_of (move_in roots made.now))) }
+        → (let cells = cells_to_try s hints (action_of call.now) in phase_at cells roots result ≡ phase_afterwards s stage (phase_at cells roots stance) (step_of (move_in roots made.now))) }
 {
     match made {
         Move::Works => stance,
@@ -41,14 +41,14 @@ pub(crate) fn stance_behind(
             word: *word,
             old: value.cell,
         },
-        Move::Marks(marked) => behind_mark(stance, marked.cell),
-        Move::Claims { won, .. } if !*won => behind_loss(pools, call, stance),
+        Move::Marks(marked) => afterwards_mark(stance, marked.cell),
+        Move::Claims { won, .. } if !*won => afterwards_loss(pools, call, stance),
         Move::ReadsPosted(posted) if *posted != stage => Stance::Answering {
             stage: *posted,
             marked: 0,
         },
-        Move::Ends => behind_stage(stance, DONE),
-        Move::Answers(answered) => behind_stage(stance, *answered),
+        Move::Ends => after_stage(stance, DONE),
+        Move::Answers(answered) => after_stage(stance, *answered),
         Move::ReadsPostedFirst(posted) => Stance::Arriving { stage: *posted },
         Move::EntersStage(_) => Stance::Entering,
         Move::ReadsPostedAgain(posted) if *posted != stage => Stance::Leaving,
@@ -57,8 +57,8 @@ pub(crate) fn stance_behind(
 }
 
 /// After a store of this stage. A late thread that leaves has not begun.
-fn behind_stage(stance: Stance, stored: u64) -> Stance
-    ensures { (s : Setup) (stage : ℕ) (cells : List ℕ) (roots named : List AReference) → phase_at cells roots result ≡ phase_behind s stage (phase_at cells roots stance) (Some (steps.StoreStage stored (cells_of named))) }
+fn after_stage(stance: Stance, stored: u64) -> Stance
+    ensures { (s : Setup) (stage : ℕ) (cells : List ℕ) (roots named : List AReference) → phase_at cells roots result ≡ phase_afterwards s stage (phase_at cells roots stance) (Some (steps.StoreStage stored (cells_of named))) }
 {
     match stance {
         Stance::Leaving => Stance::Absent,
@@ -68,10 +68,10 @@ fn behind_stage(stance: Stance, stored: u64) -> Stance
 }
 
 /// After a mark.
-fn behind_mark(stance: Stance, cell: u64) -> Stance
+fn afterwards_mark(stance: Stance, cell: u64) -> Stance
     requires { CountsMark stance }
     ensures { (s : Setup) (stage : ℕ) (cells : List ℕ) (roots : List AReference) → MarksNext roots stance cell
-        → phase_at cells roots result ≡ phase_behind s stage (phase_at cells roots stance) (Some (steps.Mark cell)) }
+        → phase_at cells roots result ≡ phase_afterwards s stage (phase_at cells roots stance) (Some (steps.Mark cell)) }
 {
     match stance {
         Stance::MarkingOld { cell, word, old } => Stance::MarkingNew { cell, word, old },
@@ -94,10 +94,10 @@ fn behind_mark(stance: Stance, cell: u64) -> Stance
 }
 
 /// After the try of a cell that was not free: the next one, if one is left.
-fn behind_loss(pools: &Pools, call: &Call, stance: Stance) -> Stance
+fn afterwards_loss(pools: &Pools, call: &Call, stance: Stance) -> Stance
     requires { CountsTry stance }
     ensures { (s : Setup) (stage : ℕ) (hints : List ℕ) (roots : List AReference) (cell : ℕ) → s.pools ≡ pools.now → TriesNext s hints call.now stance cell
-        → (let cells = cells_to_try s hints (action_of call.now) in phase_at cells roots result ≡ phase_behind s stage (phase_at cells roots stance) (Some (steps.Claim cell false))) }
+        → (let cells = cells_to_try s hints (action_of call.now) in phase_at cells roots result ≡ phase_afterwards s stage (phase_at cells roots stance) (Some (steps.Claim cell false))) }
 {
     match stance {
         Stance::Trying { tried } => tries_left(pools, call, tried + 1),

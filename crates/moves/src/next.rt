@@ -66,7 +66,7 @@ fn answering_move<M: Runner>(state: &M, stage: u64, marked: usize) -> Result<Mov
         return Ok(Move::Answers(stage));
     }
     let roots = state.root_references()?;
-    Ok(mark_or_answer(stage, root_behind(roots.as_slice(), marked)))
+    Ok(mark_or_answer(stage, root_after(roots.as_slice(), marked)))
 }
 
 /// The first move of a call.
@@ -131,7 +131,7 @@ fn mark_or_store(call: &Call, stage: u64) -> Option<Move>
         Call::Write { value, .. } if !is_async(stage) && value.cell != 0 => Some(Move::Marks(
             *value,
         )),
-        Call::Write { base, word, value } => Some(Move::StoresBehindBarrier {
+        Call::Write { base, word, value } => Some(Move::StoresAfterBarrier {
             base: *base,
             word: *word,
             value: *value,
@@ -146,7 +146,7 @@ fn store_of_new(call: &Call) -> Option<Move>
         → next_move s h stage roots old (action_of call.now) (order.Writing cell word replaced new) ≡ made_by roots result }
 {
     match call {
-        Call::Write { base, word, value } => Some(Move::StoresBehindBarrier {
+        Call::Write { base, word, value } => Some(Move::StoresAfterBarrier {
             base: *base,
             word: *word,
             value: *value,
@@ -211,7 +211,7 @@ fn mark_or_answer(stage: u64, root: Option<Reference>) -> Move
 }
 
 /// The root at this place among those that are not null.
-fn root_behind(roots: &[Reference], marked: usize) -> Option<Reference>
+fn root_after(roots: &[Reference], marked: usize) -> Option<Reference>
     ensures root { result ≡ slice_get (filter (λ r. not (r.cell == 0)) roots.now) marked }
     ensures few { OnSome result (marked < 2 ^ 63) }
 {

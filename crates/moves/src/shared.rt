@@ -87,7 +87,7 @@ impl Shared {
         ensures { self.new ≡ with_move self.old thread stage made.now }
     {
         match made {
-            Move::StoresBehindBarrier { base, word, value }
+            Move::StoresAfterBarrier { base, word, value }
             | Move::StoresPlain { base, word, value } => {
                 self.words.put(base.cell, *word, *value);
             }

@@ -56,25 +56,25 @@ take_len (suc n) [] = omega arith
 take_len (suc n) (byte ∷ bytes) = let rest = take_len n bytes in omega (arith, rest)
 
 -- what follows the next word and the blanks after it
-abbrev pub behind_word : Text → Text
-behind_word bytes = past_blanks (past_word false bytes)
+abbrev pub after_word : Text → Text
+after_word bytes = past_blanks (past_word false bytes)
 
 -- no more is left after a word and the blanks after it
-pub behind_word_falls : (bytes : Text) → length (behind_word bytes) ≤ length bytes
-behind_word_falls bytes =
+pub after_word_falls : (bytes : Text) → length (after_word bytes) ≤ length bytes
+after_word_falls bytes =
     let word = past_word_len false bytes in
     let blanks = past_blanks_len (past_word false bytes) in
     omega (arith, word, blanks)
 
 -- after a word that has bytes less is left
-pub word_takes : (bytes : Text) → 0 < length (word_at bytes) → length (behind_word bytes) < length bytes
+pub word_takes : (bytes : Text) → 0 < length (word_at bytes) → length (after_word bytes) < length bytes
 word_takes bytes some =
     let within = take_len (length bytes - length (past_word false bytes)) bytes in
     let blanks = past_blanks_len (past_word false bytes) in
     omega (arith, within, blanks, some)
 
 -- so is it after this word, which has bytes
-pub wanted_takes : (wanted : Text) → 0 < length wanted → (bytes : Text) → bytes_eq (word_at bytes) wanted ≡ true → length (behind_word bytes) < length bytes
+pub wanted_takes : (wanted : Text) → 0 < length wanted → (bytes : Text) → bytes_eq (word_at bytes) wanted ≡ true → length (after_word bytes) < length bytes
 wanted_takes wanted some bytes e =
     let same = same_len (word_at bytes) wanted e in
     word_takes bytes (omega (arith, same, some))

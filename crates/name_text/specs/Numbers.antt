@@ -14,13 +14,13 @@ abbrev pub is_number : Text → Bool
 is_number word = not (is_nil word) && list_all is_digit word
 
 -- the number that digits spell after those that spell n
-abbrev pub decimal_behind : ℕ → Text → ℕ
-decimal_behind n [] = n
-decimal_behind n (digit ∷ digits) = decimal_behind (10 * n + (digit - 48)) digits
+abbrev pub decimal_after : ℕ → Text → ℕ
+decimal_after n [] = n
+decimal_after n (digit ∷ digits) = decimal_after (10 * n + (digit - 48)) digits
 
 -- the number that decimal digits spell
 unfoldable pub decimal : Text → ℕ
-decimal digits = decimal_behind 0 digits
+decimal digits = decimal_after 0 digits
 
 -- the number below 2 to the 64 that a word is
 abbrev pub number_of_word : Text → Option ℕ

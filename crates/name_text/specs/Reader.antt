@@ -7,7 +7,7 @@ use Rattle.grammar.specs.Outcome as outcome
 use Rattle.grammar.specs.Outcome.{Outcome}
 use Rattle.ir_tokens.specs.Bytes.{Text}
 use Rattle.name_text.specs.Falls as words
-use Rattle.name_text.specs.Falls.{past_lines_len, behind_word_falls, wanted_takes}
+use Rattle.name_text.specs.Falls.{past_lines_len, after_word_falls, wanted_takes}
 use Rattle.name_text.specs.Numbers.{is_nil}
 use Rattle.name_text.specs.Words.{past_word, past_blanks, past_lines, word_at, ends_line}
 use Rattle.name_text.specs.declared.found.Found.{Found}
@@ -59,7 +59,7 @@ noted change i = record i { read = change i.read }
 module _ {D : Type 0} where
   pub after_falls : (i : Reader D) → left (after i) ≤ left i
   unfolding after
-  after_falls i = behind_word_falls i.rest
+  after_falls i = after_word_falls i.rest
 
   pub next_line_falls : (i : Reader D) → left (next_line i) ≤ left i
   unfolding next_line

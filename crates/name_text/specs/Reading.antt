@@ -141,14 +141,14 @@ module _ (blank : Blank) (name : Text) (own : AreBytes name) where
   in_quotes rest = ap (λ (x : Text). 34 ∷ x) (append_assoc (flat_map (quoted_byte blank) name) (34 ∷ []) rest)
 
   -- what follows a sign
-  behind_sign : (rest : Text) → begins is_name rest ≡ false → (f : ByteClass → Form Kind) (x : Kind) → ((i : Text) → (f c.Letter).read i ≡ (tokens.name x).read i)
+  after_sign : (rest : Text) → begins is_name rest ≡ false → (f : ByteClass → Form Kind) (x : Kind) → ((i : Text) → (f c.Letter).read i ≡ (tokens.name x).read i)
       → ((i : Text) → (f c.Quote).read i ≡ (quotation x).read i) → (t : Bool) → is_plain name ≡ t → (f (first_class (written t ++ rest))).read (written t ++ rest) ≡ Some (x, rest)
   unfolding class_of
-  behind_sign rest ends f x letter quote true e =
+  after_sign rest ends f x letter quote true e =
       let parts = and_parts (begins_plain name) _ e in
       let read = (tokens.name x).again (name ++ rest) x rest (name, rest, (refl, passes name parts.1, ends), (refl, refl)) in
       ap (λ (class : ByteClass). (f class).read (name ++ rest)) (first_letter name rest parts.0) ∙ letter (name ++ rest) ∙ read
-  behind_sign rest ends f x letter quote false e =
+  after_sign rest ends f x letter quote false e =
       let bytes : Text = 34 ∷ (flat_map (quoted_byte blank) name ++ 34 ∷ rest) in
       let read = (quotation x).again bytes x rest (tt, rest, (tt, flat_map (quoted_byte blank) name ++ 34 ∷ rest, (refl, refl), (name, quotes_read blank name rest own)), (refl, refl)) in
       ap (λ (i : Text). (f (first_class i)).read i) (in_quotes rest) ∙ quote bytes ∙ read
@@ -156,12 +156,12 @@ module _ (blank : Blank) (name : Text) (own : AreBytes name) where
   -- a printed name after `@` is one token, where no name goes on after it
   pub global_token : (rest : Text) → begins is_name rest ≡ false → token.read (64 ∷ (name_text blank name ++ rest)) ≡ Some (k.GlobalName, rest)
   unfolding token global class_of
-  global_token rest ends = behind_sign rest ends global_by k.GlobalName (λ i. refl) (λ i. refl) (is_plain name) refl
+  global_token rest ends = after_sign rest ends global_by k.GlobalName (λ i. refl) (λ i. refl) (is_plain name) refl
 
   -- so is one after `%`
   pub local_token : (rest : Text) → begins is_name rest ≡ false → token.read (37 ∷ (name_text blank name ++ rest)) ≡ Some (k.LocalName, rest)
   unfolding token local class_of
-  local_token rest ends = behind_sign rest ends local_by k.LocalName (λ i. refl) (λ i. refl) (is_plain name) refl
+  local_token rest ends = after_sign rest ends local_by k.LocalName (λ i. refl) (λ i. refl) (is_plain name) refl
 
   -- a text in quotes spells that text
   pub quotes_spelled : unquoted (quoted_text blank name) ≡ name

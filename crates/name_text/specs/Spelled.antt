@@ -14,7 +14,7 @@ use Rattle.ir_tokens.specs.declared.token.Kind.{Kind}
 use Rattle.ir_tokens.specs.declared.token.Kind.TheVariants as k
 use Rattle.name_text.specs.Names.{name_text}
 use Rattle.name_text.specs.Naming.{name_by, name_in}
-use Rattle.name_text.specs.Numbers.{is_nil, is_number, decimal_behind, number_of_word, small}
+use Rattle.name_text.specs.Numbers.{is_nil, is_number, decimal_after, number_of_word, small}
 use Rattle.name_text.specs.Numbers as numbers
 use Rattle.name_text.specs.Readings.{AreBytes, IsName}
 use Rattle.name_text.specs.Words.{is_word}
@@ -69,8 +69,8 @@ digits_are_word (byte ∷ w) some e = bytes_close (byte ∷ w) (digits_are_inner
 
 -- ---- numbers
 
-own : IsNumeralModel (λ (ds : Text). list_all is_digit ds ≡ true) (decimal_behind 0)
-own = numerals_by_fold _ (search rules) decimal_behind (search rules)
+own : IsNumeralModel (λ (ds : Text). list_all is_digit ds ≡ true) (decimal_after 0)
+own = numerals_by_fold _ (search rules) decimal_after (search rules)
 
 pub number_is_inner : (n : ℕ) → n < 2 ^ 64 → list_all is_word_byte (decimal n) ≡ true
 number_is_inner n less = digits_are_inner (decimal n) (digits_decimal own n less)

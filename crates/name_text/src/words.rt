@@ -55,11 +55,11 @@ fn past_comment(bytes: &[u8]) -> &[u8]
     ensures { result.now ≡ spec.past_comment bytes.now }
 {
     let mut rest = bytes;
-    while let [_, behind @ ..] = rest {
+    while let [_, afterwards @ ..] = rest {
         if ends_line(rest) {
             return rest;
         }
-        rest = behind;
+        rest = afterwards;
     }
     rest
 }

@@ -40,7 +40,7 @@ pub point_is_layout : (first : ℕ) (counts : List ℕ) (cell k : ℕ) → first
     → (k ≡ layout_at counts (cell - first)) × (layout_at counts (cell - first) < length counts)
 point_is_layout first [] cell k le lt below above = omega arith
 point_is_layout first (count ∷ counts) cell zero le lt below above =
-    let behind : nat_le (first + count) cell ≡ false = above 0 0 (omega arith) (omega arith) in
+    let afterwards : nat_le (first + count) cell ≡ false = above 0 0 (omega arith) (omega arith) in
     let here : nat_lt (cell - first) count ≡ true = grind (arith, nat_tests) in
     rw here (refl, omega arith)
 point_is_layout first (count ∷ counts) cell (suc k) le lt below above =
@@ -64,9 +64,9 @@ pool_at counts ends cell k pools positive within point =
 pub ends_one_more : (counts : List ℕ) (i end : ℕ) → i < length counts → end ≡ cells_in (take i counts)
     → ends_from 1 (take (i + 1) counts) ≡ ends_from 1 (take i counts) ++ (end + slice_index counts i) ∷ []
 ends_one_more counts i end lt is =
-    let behind : 1 + sum (take i counts) ≡ end = omega arith in
+    let afterwards : 1 + sum (take i counts) ≡ end = omega arith in
     let more : take (suc i) counts ≡ take i counts ++ (slice_index counts i ∷ []) = take-suc counts i 0 lt in
-    rw (add-one, more, ends_push, behind) refl
+    rw (add-one, more, ends_push, afterwards) refl
 
 -- ---- where a pool begins and ends
 

@@ -7,8 +7,8 @@ use Rattle.runs.specs.Moves.{IsIn}
 use Rattle.program_safety.specs.Threads.{reference_in}
 
 -- one value more in front
-behind_one : (v w : Value) (values : List Value) → Contains values w → Contains (v ∷ values) w
-behind_one v w values c = (suc c.0, omega (arith, c.1), c.2)
+after_one : (v w : Value) (values : List Value) → Contains values w → Contains (v ∷ values) w
+after_one v w values c = (suc c.0, omega (arith, c.1), c.2)
 
 -- a reference among those of some values is that of one of them
 pub from_values : (values : List Value) (r : Reference) → IsIn r (map reference_in values) → (v : Value) × Contains values v × (r ≡ reference_in v)
@@ -16,7 +16,7 @@ from_values [] r h = absurd h
 from_values (v ∷ values) r (inl e) = (v, (0, omega arith, refl), e)
 from_values (v ∷ values) r (inr h) =
     let there = from_values values r h in
-    (there.0, behind_one v there.0 values there.1, there.2)
+    (there.0, after_one v there.0 values there.1, there.2)
 
 -- the reference of a value is among those of the values
 pub among_values : (values : List Value) (v : Value) → Contains values v → IsIn (reference_in v) (map reference_in values)

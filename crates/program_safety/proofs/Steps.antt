@@ -17,7 +17,7 @@ use Rattle.machine.specs.declared.value.Value.{Value}
 use Rattle.machine.specs.declared.value.Value.TheVariants as value
 use Rattle.machine.specs.Log.{Log, Held, HoldsCell, IsFresh, RefersTo, RefersToCell, IsNullOrHeld, IsNullOrHeldOf, MayBeRead, MayBeStored, MayBeWritten, MayTouch, Keeps, Possible}
 use Rattle.runs.specs.Machine.{Reference}
-use Rattle.runs.specs.Moves.{Move, Works, ReadsWord, StoresBehindBarrier, StoresPlain, Claims, ReadsPosted, StoresStage, IsIn, steps_of, answer_of}
+use Rattle.runs.specs.Moves.{Move, Works, ReadsWord, StoresAfterBarrier, StoresPlain, Claims, ReadsPosted, StoresStage, IsIn, steps_of, answer_of}
 use Rattle.runs.specs.Discipline as discipline
 use Rattle.runs.specs.Discipline.{Holds, MayName, MayPut, MayCall, IsPossibleMove}
 use Rattle.runs.specs.Soundness.{EndsCall}
@@ -193,39 +193,39 @@ answered s share log roots stage b rooted = record {
 -- ---- every call
 
 -- after the last move of a call that obeyed the discipline
-pub behind_call : (s : Setup) (share : List Move) (log : Log) (roots : List Value) (asked : Action) (move : Move) → BearsOut s share log → Keeps s log asked
+pub afterwards_call : (s : Setup) (share : List Move) (log : Log) (roots : List Value) (asked : Action) (move : Move) → BearsOut s share log → Keeps s log asked
     → ((root : Value) → Contains roots root → IsNullOrHeld log root) → EndsCall s (map reference_in roots) (asked_as asked) move → IsPossibleMove s share move
     → Left s share log asked (given_as s asked (answer_of (asked_as asked) move)) roots move
-behind_call s share log roots Local Works b k rooted e p = record {
+afterwards_call s share log roots Local Works b k rooted e p = record {
   possible = tt;
   borne_out = record { held = λ r. none_more (b.held r); fresh = b.fresh };
 }
-behind_call s share log roots (Read at word) (ReadsWord base w v) b k rooted e p = rw (e.0, e.1) read
+afterwards_call s share log roots (Read at word) (ReadsWord base w v) b k rooted e p = rw (e.0, e.1) read
   where
     read : Left s share log (Read at word) (word_read (kind_of s at.cell word) v) roots (ReadsWord (in_run at) word v)
     read =
         let found = read_after s share log at word v roots (kind_of s at.cell word) refl b k.1 (subst (λ q. MayFind s (steps_of share) (kind_of s q.cell word) v.cell) e.0 (subst (λ i. MayFind s (steps_of share) (kind_of s base.cell i) v.cell) e.1 p)) in
         record { possible = found.0; borne_out = found.1 }
-behind_call s share log roots (StorePlain at word v) (StoresPlain base w u) b k rooted e p = rw (e.0, e.1, e.2) (record {
+afterwards_call s share log roots (StorePlain at word v) (StoresPlain base w u) b k rooted e p = rw (e.0, e.1, e.2) (record {
   possible = tt;
   borne_out = record {
     held = λ r. none_more (b.held r);
     fresh = λ c f. ((b.fresh c f.1).0, inr (refl, plain_leaves s log at.cell (kind_of s at.cell word) v c k.1 (b.fresh c f.1).0 f.0, (b.fresh c f.1).1));
   };
 })
-behind_call s share log roots (Write at word v) (StoresBehindBarrier base w u) b k rooted e p = rw (e.0, e.1, e.2) (record {
+afterwards_call s share log roots (Write at word v) (StoresAfterBarrier base w u) b k rooted e p = rw (e.0, e.1, e.2) (record {
   possible = tt;
   borne_out = record {
     held = λ r. none_more (b.held r);
     fresh = λ c f. ((b.fresh c f.1).0, inr (refl, write_leaves s log (kind_of s at.cell word) v c k.1 (b.fresh c f.1).0 f.0, (b.fresh c f.1).1));
   };
 })
-behind_call s share log roots (Alloc layout) Works b k rooted e p = record {
+afterwards_call s share log roots (Alloc layout) Works b k rooted e p = record {
   possible = tt;
   borne_out = record { held = λ r. none_more (b.held r); fresh = λ c. none_fresh (b.fresh c) };
 }
-behind_call s share log roots (Alloc layout) (Claims r true) b k rooted e p = rw (cell_given s layout r e) (claimed s share log layout r roots b e p)
-behind_call s share log roots (Alloc layout) (Claims r false) b k rooted e p = record {
+afterwards_call s share log roots (Alloc layout) (Claims r true) b k rooted e p = rw (cell_given s layout r e) (claimed s share log layout r roots b e p)
+afterwards_call s share log roots (Alloc layout) (Claims r false) b k rooted e p = record {
   possible = tt;
   borne_out = record { held = λ q. none_more (b.held q); fresh = λ c f. lost c f };
 }
@@ -233,9 +233,9 @@ behind_call s share log roots (Alloc layout) (Claims r false) b k rooted e p = r
     lost : (c : ℕ) → ⊥ ⊎ IsFresh log c → (0 < c) × mutator.Fresh s (steps_of (Claims r false ∷ share)) c
     lost c (inl x) = absurd x
     lost c (inr f) = ((b.fresh c f).0, inr (refl, refl, (b.fresh c f).1))
-behind_call s share log roots Safepoint (ReadsPosted stage) b k rooted e p = record {
+afterwards_call s share log roots Safepoint (ReadsPosted stage) b k rooted e p = record {
   possible = tt;
   borne_out = record { held = λ r. none_more (b.held r); fresh = λ c f. ((b.fresh c f).0, inr (refl, refl, (b.fresh c f).1)) };
 }
-behind_call s share log roots Safepoint (StoresStage to rs) b k rooted e p = rw e (answered s share log roots to b rooted)
-behind_call s share log roots asked move b k rooted e p = absurd e
+afterwards_call s share log roots Safepoint (StoresStage to rs) b k rooted e p = rw e (answered s share log roots to b rooted)
+afterwards_call s share log roots asked move b k rooted e p = absurd e

@@ -15,7 +15,7 @@ use Rattle.runs.specs.Soundness.{EndsCall, Grows, IsSound, AreSound}
 use Rattle.program_safety.specs.Threads.{ProgramThread, asked_as, given_as, reference_in, asks, goes_on, names, program_machine}
 use Rattle.program_safety.specs.Sound.{BearsOut, Sound}
 use Rattle.program_safety.specs.Safety.{IsBegun, AreBegun}
-use Rattle.program_safety.proofs.Steps.{Left, may_call, may_name, behind_call}
+use Rattle.program_safety.proofs.Steps.{Left, may_call, may_name, afterwards_call}
 
 -- what a thread that is safe for every list of answers is now
 now : (s : Setup) (share : List Move) (t : ProgramThread) (h : Sound s share t) → IsSafe s t.program t.state h.log
@@ -51,7 +51,7 @@ goes_on_over s share program state log move b safe e p = record {
     given = given_as s (action program state) (answer_of (asked_as (action program state)) move)
 
     left : Left s share log (action program state) given (roots program.of_module state) move
-    left = behind_call s share log (roots program.of_module state) (action program state) move b (safe []).keeps (safe []).rooted e p
+    left = afterwards_call s share log (roots program.of_module state) (action program state) move b (safe []).keeps (safe []).rooted e p
 
 goes_on_sound : (s : Setup) (share : List Move) (t : ProgramThread) (move : Move) → Sound s share t → EndsCall s (names t) (asks t) move → IsPossibleMove s share move
     → Sound s (move ∷ share) (goes_on t (answer_of (asks t) move))

@@ -35,7 +35,7 @@ module _ (m : Module) (fs : List Function) where
   scalars_with written fields (Scalars.Scalar _ h) = Scalars.Scalar written (scalar_with (slice_get m.types written) h)
   scalars_with written fields (Scalars.Elements _ length part inner at h) = Scalars.Elements written length part inner at (scalars_with part inner h)
   scalars_with written fields (Scalars.NoField _ at) = Scalars.NoField written at
-  scalars_with written fields (Scalars.Fields _ first rest of_first behind at h k) = Scalars.Fields written first rest of_first behind at (scalars_with first of_first h) (scalars_with rest behind k)
+  scalars_with written fields (Scalars.Fields _ first rest of_first afterwards at h k) = Scalars.Fields written first rest of_first afterwards at (scalars_with first of_first h) (scalars_with rest afterwards k)
   scalars_with written fields (Scalars.Body _ name body inner at is h) = Scalars.Body written name body inner at (body_with name ∙ is) (scalars_with body inner h)
 
 size_with : (m : Module) (fs : List Function) (written : ℕ) (size : Option ℕ) → IsSize m written size → IsSize (with_functions m fs) written size

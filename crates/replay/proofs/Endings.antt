@@ -11,7 +11,7 @@ use Rattle.runs.specs.Machine.{Reference, Machine}
 use Rattle.runs.specs.Machine as machine
 use Rattle.runs.specs.Moves.{Move, steps_of}
 use Rattle.runs.specs.ModuleRuns.{Happening, OfThread, share_of, heap_of}
-use Rattle.runs.specs.Ends.{StandsBehind, next_move_of}
+use Rattle.runs.specs.Ends.{StandsAfter, next_move_of}
 use Rattle.runs.specs.NextMoves.{Sight, next_move}
 use Rattle.moves.specs.declared.actor.Actor.{Actor}
 use Rattle.moves.specs.declared.actor.Actor.TheVariants.{Thread, Collector}
@@ -19,7 +19,7 @@ use Rattle.moves.specs.declared.shared.Shared.{Shared}
 use Rattle.moves.specs.declared.stand.Stance.{Stance}
 use Rattle.moves.specs.declared.stand.Stance.TheVariants.{Ready, MarkingOld, MarkingNew, Writing, Trying, Answering, Ended, Absent, Arriving, Entering, Leaving}
 use Rattle.moves.specs.declared.stand.Stand.{Stand}
-use Rattle.moves.specs.Runs.{run_by, by_thread, by_collector, next_by, next_turn, collector_behind, with_next}
+use Rattle.moves.specs.Runs.{run_by, by_thread, by_collector, next_by, next_turn, collector_after, with_next}
 use Rattle.moves.specs.Stands.{cells_to_try, standing, phase_at, sight_in}
 use Rattle.moves.specs.Sights.{next_in_words}
 use Rattle.trace_sweep.specs.Collecting.{Collecting}
@@ -77,18 +77,18 @@ none_next s h stage roots old action phase e = rw e refl
 -- a thread that is so after this run, and the endings that were kept so far
 module _ (p : LaidOut) (setup : traced.Setup) (run : List Happening) (t : ℕ) (stand : Stand ProgramThread) (endings : List ThreadOutcome) where
   abbrev Stands : Type 0
-  Stands = StandsBehind (heaps.heap_of p setup) program_machine (starts_of p setup) run t (standing (heaps.heap_of p setup) program_machine stand)
+  Stands = StandsAfter (heaps.heap_of p setup) program_machine (starts_of p setup) run t (standing (heaps.heap_of p setup) program_machine stand)
 
   -- the cells that it tries
   abbrev to_try : List ℕ
   to_try = cells_to_try (heaps.heap_of p setup) stand.hints (program_machine.action stand.state)
 
-  abbrev Behind : List Happening → ThreadOutcome → Type 0
-  Behind longer ending = AreEndings p setup longer (slice_set endings t ending)
+  abbrev ComesAfter : List Happening → ThreadOutcome → Type 0
+  ComesAfter longer ending = AreEndings p setup longer (slice_set endings t ending)
 
   -- the endings where the share of another thread stays, and this one has ended so if it has
   put : (ending : ThreadOutcome) (longer : List Happening) → AreEndings p setup run endings → t < length setup.starts → ((u : ℕ) → (t == u) ≡ false → share_of u longer ≡ share_of u run)
-      → (phase_of (heaps.heap_of p setup) t (steps_of (share_of t longer)) ≡ order.Ended → ending ≡ ending_of (heaps.heap_of p setup) t (starts_of p setup t) (share_of t longer)) → Behind longer ending
+      → (phase_of (heaps.heap_of p setup) t (steps_of (share_of t longer)) ≡ order.Ended → ending ≡ ending_of (heaps.heap_of p setup) t (starts_of p setup t) (share_of t longer)) → ComesAfter longer ending
   put ending longer are is_thread others own = record {
     one_each = length-set endings t ending ∙ are.one_each;
     each = λ u few ended. each u few (t == u) refl ended;
@@ -111,7 +111,7 @@ module _ (p : LaidOut) (setup : traced.Setup) (run : List Happening) (t : ℕ) (
 
   -- after a step of the thread, or none
   either : (next : Option Move) → (phase_at to_try (names stand.state) stand.stance ≡ order.Ended → next ≡ None) → Stands → t < length setup.starts → AreEndings p setup run endings
-      → Behind (with_next (by_thread t next) run) (ending_in stand.stance stand.state (slice_get endings t))
+      → ComesAfter (with_next (by_thread t next) run) (ending_in stand.stance stand.state (slice_get endings t))
   either None none stands is_thread are = put (ending_in stand.stance stand.state (slice_get endings t)) run are is_thread (λ u e. refl) (λ ended. own ended (by_stance to_try (names stand.state) stand.stance stand.state (slice_get endings t)))
     where
       own : phase_of (heaps.heap_of p setup) t (steps_of (share_of t run)) ≡ order.Ended
@@ -149,7 +149,7 @@ kept p setup before threads shared c endings t end is_thread are =
     let found = get_some threads t (subst (λ (n : ℕ). t < n) (sym end.count) is_thread) in
     let stands = end.stands t found.0 found.1 in
     let next = next_move_of s program_machine (sight_in s shared found.0.hints) (standing s program_machine found.0) in
-    let by = next_in_words s program_machine (starts_of p setup) run t (standing s program_machine found.0) shared end.words.behind stands in
+    let by = next_in_words s program_machine (starts_of p setup) run t (standing s program_machine found.0) shared end.words.afterwards stands in
     let cells = cells_to_try s found.0.hints (program_machine.action found.0.state) in
     let none : phase_at cells (names found.0.state) found.0.stance ≡ order.Ended → next ≡ None =
     λ e. none_next s (sight_in s shared found.0.hints) found.0.stage (names found.0.state) found.0.replaced (program_machine.action found.0.state) (phase_at cells (names found.0.state) found.0.stance) e in
@@ -176,7 +176,7 @@ kept_by_collector p setup before endings are = go (next_by (heaps.heap_of p setu
     by_turn (Some turn) t = refl
 
     is_turn : (t : ℕ) → share_of t (with_next (next_by (heaps.heap_of p setup) program_machine (starts_of p setup) (run_of p setup before) Collector) (run_of p setup before)) ≡ share_of t (run_of p setup before)
-    is_turn t = by_turn (next_turn (collector_behind (heaps.heap_of p setup) (turns_of (heap_of (run_of p setup before)))) (word_after (heaps.heap_of p setup) (heap_of (run_of p setup before)))) t
+    is_turn t = by_turn (next_turn (collector_after (heaps.heap_of p setup) (turns_of (heap_of (run_of p setup before)))) (word_after (heaps.heap_of p setup) (heap_of (run_of p setup before)))) t
 
 -- a thread that has made no step has not ended
 not_at_once : (p : LaidOut) (setup : traced.Setup) (t : ℕ) → phase_of (heaps.heap_of p setup) t [] ≢ order.Ended

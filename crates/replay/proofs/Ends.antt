@@ -10,7 +10,7 @@ use Rattle.trace_sweep.specs.Stands as collector
 use Rattle.runs.specs.Machine.{Reference, Machine}
 use Rattle.runs.specs.Moves.{null}
 use Rattle.runs.specs.ModuleRuns.{Happening, heap_of}
-use Rattle.runs.specs.Ends.{Standing, StandsBehind, IsEndOf}
+use Rattle.runs.specs.Ends.{Standing, StandsAfter, IsEndOf}
 use Rattle.moves.specs.declared.actor.Actor.{Actor}
 use Rattle.moves.specs.declared.shared.Shared.{Shared}
 use Rattle.moves.specs.declared.stand.Stand.{Stand}
@@ -22,7 +22,7 @@ use Rattle.program_runner.specs.Threads.{program_machine}
 use Rattle.program_runner.specs.Heaps as heaps
 use Rattle.program_runner.specs.Kinds.{FitsThread}
 use Rattle.setups.specs.Setups.{starts_of}
-use Rattle.replay.specs.Worlds.{World, AreEndings, IsBehind, run_of}
+use Rattle.replay.specs.Worlds.{World, AreEndings, IsAfter, run_of}
 
 -- ---- the words
 
@@ -41,7 +41,7 @@ in_row rows c i r row at within =
 
 -- where the actors are at the end of a run, after which the collector is so
 pub is_end_of : (s : heap.Setup) (m : Machine) (Fits : m.State → Type 0) (starts : ℕ → m.State) (run : List Happening) (threads : List (Stand m.State)) (shared : Shared) (c : Collecting)
-    → stepping.IsEnd s m Fits starts run threads shared c → (stands : collector.StandsBehind s (turns_of (heap_of run)) c)
+    → stepping.IsEnd s m Fits starts run threads shared c → (stands : collector.StandsAfter s (turns_of (heap_of run)) c)
     → IsEndOf s m starts run (record {
       threads = map (standing s m) threads;
       stages = shared.stages;
@@ -53,27 +53,27 @@ pub is_end_of : (s : heap.Setup) (m : Machine) (Fits : m.State → Type 0) (star
     })
 is_end_of s m Fits starts run threads shared c e stands = record {
   count = length-map threads (standing s m) ∙ e.count;
-  threads = λ t stand at. let found = from_map (standing s m) threads t stand at in subst (λ (x : Standing m.State). StandsBehind s m starts run t x) found.2 (e.stands t found.0 found.1);
-  stages = λ t. e.words.behind.words (Stage t);
-  posted = e.words.behind.words Posted;
-  colours = λ c. e.words.behind.words (Colour c);
-  births = e.words.behind.births;
+  threads = λ t stand at. let found = from_map (standing s m) threads t stand at in subst (λ (x : Standing m.State). StandsAfter s m starts run t x) found.2 (e.stands t found.0 found.1);
+  stages = λ t. e.words.afterwards.words (Stage t);
+  posted = e.words.afterwards.words Posted;
+  colours = λ c. e.words.afterwards.words (Colour c);
+  births = e.words.afterwards.births;
   words = λ c i r row at within. let same = in_row shared.words c i r row at within in record {
-    cell_is = ap (λ (x : Reference). x.cell) (sym same) ∙ e.words.behind.words (Word c i);
-    birth_is = ap (λ (x : Reference). x.birth) (sym same) ∙ e.words.behind.word_births c i;
+    cell_is = ap (λ (x : Reference). x.cell) (sym same) ∙ e.words.afterwards.words (Word c i);
+    birth_is = ap (λ (x : Reference). x.birth) (sym same) ∙ e.words.afterwards.word_births c i;
   };
   collector = stands.collects;
 }
 
 -- the world of some actors after their steps, with these endings
-pub behind : (w : World) (before : List Actor)
-    → stepping.IsBehind (heaps.heap_of w.program w.setup) program_machine (FitsThread (heaps.heap_of w.program w.setup)) (starts_of w.program w.setup) before w.threads w.shared w.collector
-    → AreEndings w.program w.setup (run_of w.program w.setup before) w.endings → IsBehind w before
-behind w before b endings =
+pub afterwards : (w : World) (before : List Actor)
+    → stepping.IsAfter (heaps.heap_of w.program w.setup) program_machine (FitsThread (heaps.heap_of w.program w.setup)) (starts_of w.program w.setup) before w.threads w.shared w.collector
+    → AreEndings w.program w.setup (run_of w.program w.setup before) w.endings → IsAfter w before
+afterwards w before b endings =
     let s = heaps.heap_of w.program w.setup in
     let starts = starts_of w.program w.setup in
     let is = drawn s program_machine starts before b.are_actors in
-    let stands = subst (λ (c : Collecting). collector.StandsBehind s (turns_of (heap_of (run_of w.program w.setup before))) c) (sym b.is_end.collects) is.stands in
+    let stands = subst (λ (c : Collecting). collector.StandsAfter s (turns_of (heap_of (run_of w.program w.setup before))) c) (sym b.is_end.collects) is.stands in
     record {
       are_actors = b.are_actors;
       ends = record {

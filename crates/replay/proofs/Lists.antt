@@ -27,9 +27,9 @@ first_reversed xs ys =
     ap (λ n. reverse (take n (reverse xs ++ ys))) (sym (length-reverse xs)) ∙ ap reverse (take-append_seam (reverse xs) ys) ∙ reverse-reverse xs
 
 -- the element after some in a list
-pub slice_get-behind : {A : Type 0} (xs : List A) (y : A) (ys : List A) → slice_get (xs ++ y ∷ ys) (length xs) ≡ Some y
-slice_get-behind [] y ys = refl
-slice_get-behind (x ∷ xs) y ys = slice_get-behind xs y ys
+pub slice_get-afterwards : {A : Type 0} (xs : List A) (y : A) (ys : List A) → slice_get (xs ++ y ∷ ys) (length xs) ≡ Some y
+slice_get-afterwards [] y ys = refl
+slice_get-afterwards (x ∷ xs) y ys = slice_get-afterwards xs y ys
 
 -- ---- runs
 
@@ -64,7 +64,7 @@ first_break p setup before rest b unbroken step is_run cause =
     record {
       place = length before;
       step = step;
-      actor = ap (λ n. slice_get (reverse before ++ actor_in b.actor ∷ rest) n) (sym (length-reverse before)) ∙ slice_get-behind (reverse before) (actor_in b.actor) rest;
+      actor = ap (λ n. slice_get (reverse before ++ actor_in b.actor ∷ rest) n) (sym (length-reverse before)) ∙ slice_get-afterwards (reverse before) (actor_in b.actor) rest;
       before = λ steps few. unbroken_at p setup before (actor_in b.actor ∷ rest) steps unbroken few;
       is_run = subst (λ l. IsModuleRun (heap_of p setup) program_machine (starts_of p setup) (run_of p setup l)) (sym same) is_run;
       cause = subst (λ l. IsCause (heap_of p setup) program_machine (starts_of p setup) (run_of p setup l) (cause_in b.cause)) (sym same) cause;

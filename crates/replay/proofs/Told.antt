@@ -19,7 +19,7 @@ use Rattle.replay.specs.declared.world.World.TheInside.{Inside}
 use Rattle.replay.specs.Keeping.{end_at, end_told}
 use Rattle.setups.specs.Setups.{starts_of}
 use Rattle.replay.specs.ThreadEnds.{AreEndsOf, end_in, end_of}
-use Rattle.replay.specs.Worlds.{World, IsBehind, ending_of, run_of}
+use Rattle.replay.specs.Worlds.{World, IsAfter, ending_of, run_of}
 use Rattle.replay.specs.WorldView.{world_seen}
 
 -- ---- lists
@@ -72,7 +72,7 @@ by_phase cells roots Entering stage kept ending same = refl
 by_phase cells roots Leaving stage kept ending same = refl
 
 -- what is told of a thread of a world is where it is
-told_is : (w : World) (before : List run.Actor) → IsBehind w before → (t : ℕ) → t < length w.setup.starts → end_told (slice_get w.threads t) (slice_get w.endings t) ≡ end_of w.program w.setup (run_of w.program w.setup before) t
+told_is : (w : World) (before : List run.Actor) → IsAfter w before → (t : ℕ) → t < length w.setup.starts → end_told (slice_get w.threads t) (slice_get w.endings t) ≡ end_of w.program w.setup (run_of w.program w.setup before) t
 told_is w before b t few =
     let s = heap_of w.program w.setup in
     let share = share_of t (run_of w.program w.setup before) in
@@ -89,9 +89,9 @@ told_is w before b t few =
 
 -- so of all of them
 pub are_ends : (i : Inside) (w : World) (ends : List ThreadOutcome) (count : ℕ) → world_seen i ≡ w → length i.actors.threads.items ≤ count → count ≤ length i.actors.threads.items
-    → AreTold ends count (λ k. end_told (slice_get i.actors.threads.items k) (slice_get i.endings k)) → (before : List run.Actor) → IsBehind w before → AreEndsOf w before ends
+    → AreTold ends count (λ k. end_told (slice_get i.actors.threads.items k) (slice_get i.endings k)) → (before : List run.Actor) → IsAfter w before → AreEndsOf w before ends
 are_ends i w ends count seen most least told before b =
-    let here : IsBehind (world_seen i) before = subst (λ (v : World). IsBehind v before) (sym seen) b in
+    let here : IsAfter (world_seen i) before = subst (λ (v : World). IsAfter v before) (sym seen) b in
     let all : length i.actors.threads.items ≡ length i.setup.now.starts = here.ends.is_end.count in
     let many : count ≡ length i.setup.now.starts = omega (arith, all, most, least) in
     subst (λ (v : World). AreEndsOf v before ends) seen (record {

@@ -15,12 +15,12 @@ use Rattle.stepping.specs.declared.happening.MadeStep.{MadeStep}
 use Rattle.stepping.specs.Ends.{IsStepOrNone}
 use Rattle.replay.specs.declared.thread_outcome.ThreadOutcome.{ThreadOutcome}
 use Rattle.setups.specs.Setups.{starts_of}
-use Rattle.replay.specs.ThreadEnds.{AreEndsOf, AreEndsBehind}
-use Rattle.replay.specs.Worlds.{World, run_of, IsBehind, IsStepBehind, IsBrokenWorld, actor_in}
+use Rattle.replay.specs.ThreadEnds.{AreEndsOf, AreEndsAfter}
+use Rattle.replay.specs.Worlds.{World, run_of, IsAfter, IsStepAfter, IsBrokenWorld, actor_in}
 use Rattle.replay.specs.declared.outcome.BreakCause.{BreakCause}
 use Rattle.replay.specs.declared.watch.Watch.{Watch}
 use Rattle.replay.specs.Outcomes.{Reports}
-use Rattle.replay.specs.Watched.{IsUnbroken, IsWatched, IsStepped, IsMadeBehind, IsCauseBehind, HasRoomFor, claims_cell, frees_cell}
+use Rattle.replay.specs.Watched.{IsUnbroken, IsWatched, IsStepped, IsMadeAfter, IsCauseAfter, HasRoomFor, claims_cell, frees_cell}
 use Rattle.replay.proofs.StepsTaken.{claims-more, frees-more, claims-short, frees-short}
 
 -- ---- one step
@@ -32,22 +32,22 @@ unbroken_now p setup (actor ∷ before) unbroken = unbroken.0
 
 -- a world that made one step tells how it breaks the run
 pub cause_is : (p : LaidOut) (setup : Setup) (before : List Actor) (actor : Actor) (made : Option MadeStep) (w : World) (o : Option BreakCause) → w.program ≡ p → w.setup ≡ setup
-    → IsBehind w (actor ∷ before) → IsStepOrNone (heap_of p setup) program_machine (starts_of p setup) (run_of p setup before) actor made → IsUnbroken p setup before
-    → ((before : List Actor) (actor : Actor) → IsBehind w (actor ∷ before) → IsMadeBehind w before actor made → ¬ IsBrokenWorld w before → IsCauseBehind w.program w.setup (actor ∷ before) o)
-    → IsCauseBehind p setup (actor ∷ before) o
-cause_is p setup before actor made w o same_program same_setup behind is unbroken tells =
+    → IsAfter w (actor ∷ before) → IsStepOrNone (heap_of p setup) program_machine (starts_of p setup) (run_of p setup before) actor made → IsUnbroken p setup before
+    → ((before : List Actor) (actor : Actor) → IsAfter w (actor ∷ before) → IsMadeAfter w before actor made → ¬ IsBrokenWorld w before → IsCauseAfter w.program w.setup (actor ∷ before) o)
+    → IsCauseAfter p setup (actor ∷ before) o
+cause_is p setup before actor made w o same_program same_setup afterwards is unbroken tells =
     let Tells : LaidOut → Setup → Type 0 = λ q begun. IsStepOrNone (heap_of q begun) program_machine (starts_of q begun) (run_of q begun before) actor made
-    → ¬ IsBroken (heap_of q begun) program_machine (starts_of q begun) (run_of q begun before) → IsCauseBehind q begun (actor ∷ before) o in
-    let here : Tells w.program w.setup = λ made_is now. tells before actor behind made_is now in
+    → ¬ IsBroken (heap_of q begun) program_machine (starts_of q begun) (run_of q begun before) → IsCauseAfter q begun (actor ∷ before) o in
+    let here : Tells w.program w.setup = λ made_is now. tells before actor afterwards made_is now in
     let there : Tells p setup = subst (λ q. Tells q setup) same_program (subst (λ begun. Tells w.program begun) same_setup here) in
     there is (unbroken_now p setup before unbroken)
 
 -- its run is a run
-pub run_is : (p : LaidOut) (setup : Setup) (actors : List Actor) (w : World) → w.program ≡ p → w.setup ≡ setup → IsBehind w actors
+pub run_is : (p : LaidOut) (setup : Setup) (actors : List Actor) (w : World) → w.program ≡ p → w.setup ≡ setup → IsAfter w actors
     → IsModuleRun (heap_of p setup) program_machine (starts_of p setup) (run_of p setup actors)
-run_is p setup actors w same_program same_setup behind =
+run_is p setup actors w same_program same_setup afterwards =
     subst (λ q. IsModuleRun (heap_of q setup) program_machine (starts_of q setup) (run_of q setup actors)) same_program
-    (subst (λ begun. IsModuleRun (heap_of w.program begun) program_machine (starts_of w.program begun) (run_of w.program begun actors)) same_setup behind.ends.is_run)
+    (subst (λ begun. IsModuleRun (heap_of w.program begun) program_machine (starts_of w.program begun) (run_of w.program begun actors)) same_setup afterwards.ends.is_run)
 
 -- a step that was counted, and breaks nothing
 pub goes_on : (p : LaidOut) (setup : Setup) (before : List Actor) (actor : Actor) (made : Option MadeStep) (w v : Watch) → IsStepped p setup before actor made w → v.world ≡ w.world
@@ -56,7 +56,7 @@ pub goes_on : (p : LaidOut) (setup : Setup) (before : List Actor) (actor : Actor
 goes_on p setup before actor made w v is same steps claims frees unbroken = record {
   program = ap (λ (x : World). x.program) same ∙ is.program;
   setup_is = ap (λ (x : World). x.setup) same ∙ is.setup_is;
-  behind = subst (λ (x : World). IsBehind x (actor ∷ before)) (sym same) is.behind;
+  afterwards = subst (λ (x : World). IsAfter x (actor ∷ before)) (sym same) is.afterwards;
   unbroken = (unbroken, is.unbroken);
   steps = omega (arith, steps, is.steps);
   claims_are = claims ∙ claims-more (heap_of p setup) program_machine (starts_of p setup) actor before made w.claims is.made_is is.claims_are;
@@ -104,10 +104,10 @@ room_for_more p setup before count done actor v few more is =
 pub reports : (p : LaidOut) (setup : Setup) (before : List Actor) (w : Watch) (ends : List ThreadOutcome) (posted : ℕ) → IsWatched p setup before w → AreEndsOf w.world before ends → posted ≡ w.world.shared.posted
     → Reports p setup before (record { threads = ends; steps = w.steps; claims = w.claims; frees = w.frees; posted = posted })
 reports p setup before w ends posted is ends_are posted_is =
-    let Stand : LaidOut → Setup → Type 0 = λ q begun. AreEndsBehind q begun (run_of q begun before) ends in
+    let Stand : LaidOut → Setup → Type 0 = λ q begun. AreEndsAfter q begun (run_of q begun before) ends in
     let stand : Stand p setup = subst (λ q. Stand q setup) is.program (subst (λ begun. Stand w.world.program begun) is.setup_is ends_are) in
     let Posts : LaidOut → Setup → Type 0 = λ q begun. posted ≡ word_after (heap_of q begun) (events_of (run_of q begun before)) Posted in
-    let posts : Posts p setup = subst (λ q. Posts q setup) is.program (subst (λ begun. Posts w.world.program begun) is.setup_is (posted_is ∙ is.behind.ends.ends.posted)) in
+    let posts : Posts p setup = subst (λ q. Posts q setup) is.program (subst (λ begun. Posts w.world.program begun) is.setup_is (posted_is ∙ is.afterwards.ends.ends.posted)) in
     record {
       one_each = stand.one_each;
       threads = stand.each;
@@ -119,7 +119,7 @@ reports p setup before w ends posted is ends_are posted_is =
 
 -- a world that made one step more, which is not counted so far
 pub stepped : (p : LaidOut) (setup : Setup) (before : List Actor) (actor : TracedActor) (made : Option MadeStep) (w : Watch) (world : World) → IsWatched p setup before w → (world.program ≡ w.world.program) × (world.setup ≡ w.world.setup)
-    → IsStepBehind w.world before actor made × IsBehind world (actor_in actor ∷ before) → IsStepped p setup before (actor_in actor) made (record w { world = world })
+    → IsStepAfter w.world before actor made × IsAfter world (actor_in actor ∷ before) → IsStepped p setup before (actor_in actor) made (record w { world = world })
 stepped p setup before actor made w world is same both =
     let Made : LaidOut → Setup → Type 0 = λ q begun. IsStepOrNone (heap_of q begun) program_machine (starts_of q begun) (run_of q begun before) (actor_in actor) made in
     let made_is : Made p setup = subst (λ q. Made q setup) is.program (subst (λ begun. Made w.world.program begun) is.setup_is both.0) in
@@ -127,7 +127,7 @@ stepped p setup before actor made w world is same both =
       program = same.0 ∙ is.program;
       setup_is = same.1 ∙ is.setup_is;
       made_is = made_is;
-      behind = both.1;
+      afterwards = both.1;
       unbroken = is.unbroken;
       steps = is.steps;
       claims_are = is.claims_are;

@@ -24,23 +24,23 @@ use Rattle.trace_text.specs.declared.trace.Start.{Start}
 use Rattle.replay.specs.declared.world.World.TheInside.{Inside}
 use Rattle.replay.specs.Keeping.{endings_after}
 use Rattle.setups.specs.Setups.{HasNoFault, IsCertifiedSetup, AreBegun, begun_at, new_thread, starts_of}
-use Rattle.replay.specs.Worlds.{World, AreEndings, IsBehind, IsStepBehind, IsBrokenWorld, actor_in, run_of}
+use Rattle.replay.specs.Worlds.{World, AreEndings, IsAfter, IsStepAfter, IsBrokenWorld, actor_in, run_of}
 use Rattle.replay.specs.WorldView.{world_seen, IsKept}
 use Rattle.replay.proofs.Endings.{kept, kept_by_collector, none_ended}
-use Rattle.replay.proofs.Ends.{behind, from_map}
+use Rattle.replay.proofs.Ends.{afterwards, from_map}
 use Rattle.setups.specs.SafeSetups.{certified_setup, each_may_begin}
 use Rattle.setups.specs.SetupHeaps.{is_setup}
 
 -- the actors of a world are those after the steps that led to it
-pub are_behind : (i : Inside) (w : World) (before : List run.Actor) → world_seen i ≡ w → IsKept i → IsBehind w before
-    → stepping.AreBehindSteps (heap_of w.program w.setup) program_machine (FitsThread (heap_of w.program w.setup)) (starts_of w.program w.setup) before i.actors
-are_behind i w before seen kept b =
-    subst (λ (v : World). IsBehind v before → stepping.AreBehindSteps (heap_of v.program v.setup) program_machine (FitsThread (heap_of v.program v.setup)) (starts_of v.program v.setup) before i.actors)
+pub are_after : (i : Inside) (w : World) (before : List run.Actor) → world_seen i ≡ w → IsKept i → IsAfter w before
+    → stepping.AreAfterSteps (heap_of w.program w.setup) program_machine (FitsThread (heap_of w.program w.setup)) (starts_of w.program w.setup) before i.actors
+are_after i w before seen kept b =
+    subst (λ (v : World). IsAfter v before → stepping.AreAfterSteps (heap_of v.program v.setup) program_machine (FitsThread (heap_of v.program v.setup)) (starts_of v.program v.setup) before i.actors)
     seen
     (λ b. record {
       schema = kept.schema;
       setup = is_setup i.program.now i.setup.now;
-      is_behind = record { are_actors = b.are_actors; is_end = b.ends.is_end };
+      is_after = record { are_actors = b.are_actors; is_end = b.ends.is_end };
     })
     b
 
@@ -51,10 +51,10 @@ is_actor threads Collector is = tt
 
 -- the endings after a step
 are_endings : (p : LaidOut) (setup : Setup) (before : List run.Actor) (actors : Actors ProgramThread) (endings : List ThreadOutcome) (actor : Actor)
-    → stepping.AreBehindSteps (heap_of p setup) program_machine (FitsThread (heap_of p setup)) (starts_of p setup) before actors → IsActorOf (length setup.starts) actor
+    → stepping.AreAfterSteps (heap_of p setup) program_machine (FitsThread (heap_of p setup)) (starts_of p setup) before actors → IsActorOf (length setup.starts) actor
     → AreEndings p setup (run_of p setup before) endings
     → AreEndings p setup (run_of p setup (actor_in actor ∷ before)) (endings_after actor actors.threads.items endings)
-are_endings p setup before actors endings (Thread t) b is are = kept p setup before actors.threads.items actors.shared actors.collector endings t b.is_behind.is_end is are
+are_endings p setup before actors endings (Thread t) b is are = kept p setup before actors.threads.items actors.shared actors.collector endings t b.is_after.is_end is are
 are_endings p setup before actors endings Collector b is are = kept_by_collector p setup before endings are
 
 -- the fields of a world after a step
@@ -67,24 +67,24 @@ IsStepOf i before actor made actors =
     stepping.IsOneStep (heap_of i.program.now i.setup.now) program_machine (FitsThread (heap_of i.program.now i.setup.now)) (starts_of i.program.now i.setup.now) before (actor_in actor) made actors
 
 -- the world after a step
-pub is_behind : (i : Inside) (actor : Actor) (before : List run.Actor) (made : Option MadeStep) (actors : Actors ProgramThread) → IsKept i → IsBehind (world_seen i) before
-    → IsActorOf (length i.setup.now.starts) actor → IsStepOf i before actor made actors → IsBehind (world_seen (stepped i actor actors)) (actor_in actor ∷ before)
-is_behind i actor before made actors kept b is step =
-    behind (world_seen (stepped i actor actors)) (actor_in actor ∷ before) step.behind.is_behind
-    (are_endings i.program.now i.setup.now before i.actors i.endings actor (are_behind i (world_seen i) before refl kept b) is b.ends.endings)
+pub is_after : (i : Inside) (actor : Actor) (before : List run.Actor) (made : Option MadeStep) (actors : Actors ProgramThread) → IsKept i → IsAfter (world_seen i) before
+    → IsActorOf (length i.setup.now.starts) actor → IsStepOf i before actor made actors → IsAfter (world_seen (stepped i actor actors)) (actor_in actor ∷ before)
+is_after i actor before made actors kept b is step =
+    afterwards (world_seen (stepped i actor actors)) (actor_in actor ∷ before) step.afterwards.is_after
+    (are_endings i.program.now i.setup.now before i.actors i.endings actor (are_after i (world_seen i) before refl kept b) is b.ends.endings)
 
 -- keeps what a world keeps
 pub is_kept : (i : Inside) (actor : Actor) (made : Option MadeStep) (actors : Actors ProgramThread) → (kept : IsKept i) → IsActorOf (length i.setup.now.starts) actor
     → IsStepOf i kept.made.0 actor made actors → IsKept (stepped i actor actors)
 is_kept i actor made actors kept is step = record {
-  schema = step.behind.schema;
+  schema = step.afterwards.schema;
   setup = kept.setup;
   no_fault = kept.no_fault;
-  made = (actor_in actor ∷ kept.made.0, is_behind i actor kept.made.0 made actors kept kept.made.1 is step);
+  made = (actor_in actor ∷ kept.made.0, is_after i actor kept.made.0 made actors kept kept.made.1 is step);
 }
 
 -- where the program is certified, no world is broken
-pub is_safe : CertifiedIsSafe → (i : Inside) (certs : List Section) (before : List run.Actor) → IsKept i → IsCertifiedSetup i.program.now i.setup.now certs → IsBehind (world_seen i) before
+pub is_safe : CertifiedIsSafe → (i : Inside) (certs : List Section) (before : List run.Actor) → IsKept i → IsCertifiedSetup i.program.now i.setup.now certs → IsAfter (world_seen i) before
     → ¬ IsBrokenWorld (world_seen i) before
 is_safe law i certs before kept certified b = certified_setup law i.program.now i.setup.now certs kept.setup kept.no_fault certified (run_of i.program.now i.setup.now before) b.ends.is_run
 
@@ -93,7 +93,7 @@ pub record IsMadeBy (i : Inside) (actor : Actor) (made : Option MadeStep) (actor
   pub is_actor : IsActorOf (length i.setup.now.starts) actor
   pub endings_are : endings ≡ endings_after actor i.actors.threads.items i.endings
   pub makes : (before : List run.Actor)
-      → stepping.AreBehindSteps (heap_of i.program.now i.setup.now) program_machine (FitsThread (heap_of i.program.now i.setup.now)) (starts_of i.program.now i.setup.now) before i.actors
+      → stepping.AreAfterSteps (heap_of i.program.now i.setup.now) program_machine (FitsThread (heap_of i.program.now i.setup.now)) (starts_of i.program.now i.setup.now) before i.actors
       → IsStepOf i before actor made actors
 
 -- the actor is a thread of the world
@@ -107,24 +107,24 @@ pub keeps : (i : Inside) (actor : Actor) (made : Option MadeStep) (actors : Acto
     → IsKept (record i { actors = actors; endings = endings })
 keeps i actor made actors endings kept by =
     subst (λ (e : List ThreadOutcome). IsKept (record i { actors = actors; endings = e })) (sym by.endings_are)
-    (is_kept i actor made actors kept by.is_actor (by.makes kept.made.0 (are_behind i (world_seen i) kept.made.0 refl kept kept.made.1)))
+    (is_kept i actor made actors kept by.is_actor (by.makes kept.made.0 (are_after i (world_seen i) kept.made.0 refl kept kept.made.1)))
 
 -- the step is told, and the world is the one after it
 pub tells : (i : Inside) (w : World) (given actor : Actor) (made : Option MadeStep) (actors : Actors ProgramThread) (endings : List ThreadOutcome) → world_seen i ≡ w → given ≡ actor → IsKept i
-    → IsMadeBy i actor made actors endings → (before : List run.Actor) → IsBehind w before
-    → IsStepBehind w before given made × IsBehind (world_seen (record i { actors = actors; endings = endings })) (actor_in given ∷ before)
+    → IsMadeBy i actor made actors endings → (before : List run.Actor) → IsAfter w before
+    → IsStepAfter w before given made × IsAfter (world_seen (record i { actors = actors; endings = endings })) (actor_in given ∷ before)
 tells i w given actor made actors endings seen is kept by before b =
-    let here : IsBehind (world_seen i) before = subst (λ (v : World). IsBehind v before) (sym seen) b in
-    let step = by.makes before (are_behind i (world_seen i) before refl kept here) in
-    let told : IsStepBehind (world_seen i) before actor made = step.made_is in
-    let there : IsStepBehind w before actor made = subst (λ (v : World). IsStepBehind v before actor made) seen told in
-    let leads : IsBehind (world_seen (record i { actors = actors; endings = endings })) (actor_in actor ∷ before) =
-    subst (λ (e : List ThreadOutcome). IsBehind (world_seen (record i { actors = actors; endings = e })) (actor_in actor ∷ before)) (sym by.endings_are) (is_behind i actor before made actors kept here by.is_actor step) in
-    (subst (λ (a : Actor). IsStepBehind w before a made) (sym is) there, subst (λ (a : Actor). IsBehind (world_seen (record i { actors = actors; endings = endings })) (actor_in a ∷ before)) (sym is) leads)
+    let here : IsAfter (world_seen i) before = subst (λ (v : World). IsAfter v before) (sym seen) b in
+    let step = by.makes before (are_after i (world_seen i) before refl kept here) in
+    let told : IsStepAfter (world_seen i) before actor made = step.made_is in
+    let there : IsStepAfter w before actor made = subst (λ (v : World). IsStepAfter v before actor made) seen told in
+    let leads : IsAfter (world_seen (record i { actors = actors; endings = endings })) (actor_in actor ∷ before) =
+    subst (λ (e : List ThreadOutcome). IsAfter (world_seen (record i { actors = actors; endings = e })) (actor_in actor ∷ before)) (sym by.endings_are) (is_after i actor before made actors kept here by.is_actor step) in
+    (subst (λ (a : Actor). IsStepAfter w before a made) (sym is) there, subst (λ (a : Actor). IsAfter (world_seen (record i { actors = actors; endings = endings })) (actor_in a ∷ before)) (sym is) leads)
 
 -- and it is not broken where the program is certified
 pub stays_safe : CertifiedIsSafe → (i : Inside) (w : World) (given actor : Actor) (made : Option MadeStep) (actors : Actors ProgramThread) (endings : List ThreadOutcome) → world_seen i ≡ w → given ≡ actor → IsKept i
-    → IsMadeBy i actor made actors endings → (certs : List Section) (before : List run.Actor) → IsCertifiedSetup w.program w.setup certs → IsBehind w before
+    → IsMadeBy i actor made actors endings → (certs : List Section) (before : List run.Actor) → IsCertifiedSetup w.program w.setup certs → IsAfter w before
     → ¬ IsBrokenWorld (world_seen (record i { actors = actors; endings = endings })) (actor_in given ∷ before)
 stays_safe law i w given actor made actors endings seen is kept by certs before certified b =
     is_safe law (record i { actors = actors; endings = endings }) certs (actor_in given ∷ before) (keeps i actor made actors endings kept by)
@@ -160,6 +160,6 @@ pub late_threads : (p : LaidOut) (setup : Setup) (threads : List (NewThread Prog
 late_threads p setup threads are = lateness p setup setup.starts ∙ ap (map (λ (new : NewThread ProgramThread). new.is_late)) (sym are)
 
 -- the world before its first step
-pub is_first : (i : Inside) → stepping.AreBehindSteps (heap_of i.program.now i.setup.now) program_machine (FitsThread (heap_of i.program.now i.setup.now)) (starts_of i.program.now i.setup.now) [] i.actors
-    → length i.endings ≡ length i.setup.now.starts → IsBehind (world_seen i) []
-is_first i b one_each = behind (world_seen i) [] b.is_behind (none_ended i.program.now i.setup.now i.endings one_each)
+pub is_first : (i : Inside) → stepping.AreAfterSteps (heap_of i.program.now i.setup.now) program_machine (FitsThread (heap_of i.program.now i.setup.now)) (starts_of i.program.now i.setup.now) [] i.actors
+    → length i.endings ≡ length i.setup.now.starts → IsAfter (world_seen i) []
+is_first i b one_each = afterwards (world_seen i) [] b.is_after (none_ended i.program.now i.setup.now i.endings one_each)

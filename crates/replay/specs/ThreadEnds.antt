@@ -29,10 +29,10 @@ end_of p setup run t =
     end_in (phase_of s t (steps_of share)) (stage_of (steps_of share)) (ending_of s t (starts_of p setup t) share)
 
 -- where the threads of a run are
-pub record AreEndsBehind (p : LaidOut) (setup : Setup) (run : List Happening) (ends : List ThreadOutcome) : Type 0 where
+pub record AreEndsAfter (p : LaidOut) (setup : Setup) (run : List Happening) (ends : List ThreadOutcome) : Type 0 where
   pub one_each : length ends ≡ length setup.starts
   pub each : (t : ℕ) → t < length setup.starts → slice_get ends t ≡ Some (end_of p setup run t)
 
 -- and of a world after these actors
 abbrev pub AreEndsOf : World → (before : List Actor) → List ThreadOutcome → Type 0
-AreEndsOf w before ends = AreEndsBehind w.program w.setup (run_of w.program w.setup before) ends
+AreEndsOf w before ends = AreEndsAfter w.program w.setup (run_of w.program w.setup before) ends

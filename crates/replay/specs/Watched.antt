@@ -6,7 +6,7 @@ use Rattle.replay.specs.Runs.{program_machine, heap_of}
 use Rattle.trace_text.specs.declared.trace.Setup.{Setup}
 use Rattle.moves.specs.declared.actor.Actor.{Actor}
 use Rattle.setups.specs.Setups.{starts_of}
-use Rattle.replay.specs.Worlds.{World, run_of, IsBehind}
+use Rattle.replay.specs.Worlds.{World, run_of, IsAfter}
 use Rattle.replay.specs.declared.outcome.Break.{Break}
 use Rattle.moves.specs.declared.moves.Move.TheVariants.{Claims}
 use Rattle.colours.specs.declared.turn.Turn.TheVariants.{Free}
@@ -28,7 +28,7 @@ IsUnbroken p setup (actor ∷ before) = ¬ IsBroken (heap_of p setup) program_ma
 pub record IsWatched (p : LaidOut) (setup : Setup) (before : List Actor) (w : Watch) : Type 0 where
   pub program : w.world.program ≡ p
   pub setup_is : w.world.setup ≡ setup
-  pub behind : IsBehind w.world before
+  pub afterwards : IsAfter w.world before
   pub unbroken : IsUnbroken p setup before
   pub steps : w.steps ≡ length before
   pub claims_are : w.claims ≡ count_by claims (run_of p setup before)
@@ -66,13 +66,13 @@ frees_cell None = false
 frees_cell (Some step) = frees_made step.happening
 
 -- the first cause by which the run of these actors is broken, the newest first, if it is
-abbrev pub IsCauseBehind : LaidOut → Setup → List Actor → Option BreakCause → Type 0
-IsCauseBehind p setup actors None = ¬ IsBroken (heap_of p setup) program_machine (starts_of p setup) (run_of p setup actors)
-IsCauseBehind p setup actors (Some c) = IsCause (heap_of p setup) program_machine (starts_of p setup) (run_of p setup actors) (cause_in c)
+abbrev pub IsCauseAfter : LaidOut → Setup → List Actor → Option BreakCause → Type 0
+IsCauseAfter p setup actors None = ¬ IsBroken (heap_of p setup) program_machine (starts_of p setup) (run_of p setup actors)
+IsCauseAfter p setup actors (Some c) = IsCause (heap_of p setup) program_machine (starts_of p setup) (run_of p setup actors) (cause_in c)
 
 -- the step, or none, is that of this actor after those of the world, and says how it breaks the run
-abbrev pub IsMadeBehind : World → (before : List Actor) → Actor → Option MadeStep → Type 0
-IsMadeBehind w before actor made =
+abbrev pub IsMadeAfter : World → (before : List Actor) → Actor → Option MadeStep → Type 0
+IsMadeAfter w before actor made =
     IsStepOrNone (heap_of w.program w.setup) program_machine (starts_of w.program w.setup) (run_of w.program w.setup before) actor made
 
 -- the world is the one after one more actor, whose step is not counted so far
@@ -80,7 +80,7 @@ pub record IsStepped (p : LaidOut) (setup : Setup) (before : List Actor) (actor 
   pub program : w.world.program ≡ p
   pub setup_is : w.world.setup ≡ setup
   pub made_is : IsStepOrNone (heap_of p setup) program_machine (starts_of p setup) (run_of p setup before) actor made
-  pub behind : IsBehind w.world (actor ∷ before)
+  pub afterwards : IsAfter w.world (actor ∷ before)
   pub unbroken : IsUnbroken p setup before
   pub steps : w.steps ≡ length before
   pub claims_are : w.claims ≡ count_by claims (run_of p setup before)

@@ -89,13 +89,13 @@ pub record EndsIn (w : World) (run : List Happening) : Type 0 where
   pub endings : AreEndings w.program w.setup run w.endings
 
 -- the world is what these actors, the newest first, make of its setup
-pub record IsBehind (w : World) (actors : List Actor) : Type 0 where
+pub record IsAfter (w : World) (actors : List Actor) : Type 0 where
   pub are_actors : AreActors (length w.setup.starts) actors
   pub ends : EndsIn w (run_of w.program w.setup actors)
 
 -- each world is what some actors make
 abbrev pub IsMade : World → Type 0
-IsMade w = (actors : List Actor) × IsBehind w actors
+IsMade w = (actors : List Actor) × IsAfter w actors
 
 -- ---- its steps
 
@@ -105,8 +105,8 @@ actor_in (traced_actor.Thread t) = Thread t
 actor_in traced_actor.Collector = Collector
 
 -- the step, or none, is that of the actor after these, and says how it breaks the run
-abbrev pub IsStepBehind : World → (before : List Actor) → traced.Actor → Option MadeStep → Type 0
-IsStepBehind w before actor made =
+abbrev pub IsStepAfter : World → (before : List Actor) → traced.Actor → Option MadeStep → Type 0
+IsStepAfter w before actor made =
     IsStepOrNone (heap_of w.program w.setup) program_machine (starts_of w.program w.setup) (run_of w.program w.setup before) (actor_in actor) made
 
 -- the first thing that is gone in the world after these and can be reached, if there is one

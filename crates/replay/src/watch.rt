@@ -4,10 +4,10 @@ ghost use Rattle.trace_text.specs.Traces.{IsActorOf};
 ghost use Rattle.trace_text.specs.declared.trace.Setup.{Setup as ASetup};
 ghost use Rattle.moves.specs.declared.actor.Actor.{Actor as AnActor};
 ghost use Rattle.setups.specs.Setups.{IsSetupOf, IsSetupFault, HasNoFault};
-ghost use Rattle.replay.specs.Worlds.{IsBehind, IsBrokenWorld, actor_in};
+ghost use Rattle.replay.specs.Worlds.{IsAfter, IsBrokenWorld, actor_in};
 ghost use Rattle.setups.specs.declared.setup_fault.SetupFault.TheVariants as fault;
 ghost use Rattle.replay.specs.Outcomes.{Reports};
-ghost use Rattle.replay.specs.Watched.{IsWatched, IsWatchedOn, HasRoomFor, IsMadeBehind, IsStepped, IsCauseBehind, claims_cell, frees_cell};
+ghost use Rattle.replay.specs.Watched.{IsWatched, IsWatchedOn, HasRoomFor, IsMadeAfter, IsStepped, IsCauseAfter, claims_cell, frees_cell};
 
 use crate::outcome::{Break, BreakCause, Report};
 use crate::world::World;
@@ -152,9 +152,9 @@ fn frees_cell(made: &Option<MadeStep>) -> bool
 
 /// The first cause by which the run is broken after a step, if it is, where it was not broken before it.
 fn cause_after(world: &World<'_>, made: &Option<MadeStep>) -> Result<Option<BreakCause>, AllocError>
-    ensures { (before : List AnActor) (actor : AnActor) → IsBehind world.now (actor ∷ before)
-        → IsMadeBehind world.now before actor made.now → ¬ IsBrokenWorld world.now before
-        → IfOk result (IsCauseBehind world.now.program world.now.setup (actor ∷ before)) }
+    ensures { (before : List AnActor) (actor : AnActor) → IsAfter world.now (actor ∷ before)
+        → IsMadeAfter world.now before actor made.now → ¬ IsBrokenWorld world.now before
+        → IfOk result (IsCauseAfter world.now.program world.now.setup (actor ∷ before)) }
 {
     let Some(step) = made else {
         return Ok(None);

@@ -3,7 +3,7 @@ ghost use Rattle.certs.specs.declared.section.Section.{Section};
 ghost use Rattle.moves.specs.declared.actor.Actor.{Actor as AnActor};
 ghost use Rattle.trace_text.specs.Traces.{IsActorOf};
 ghost use Rattle.setups.specs.Setups.{IsSetupOf, IsSetupFault, HasNoFault, IsCertifiedSetup};
-ghost use Rattle.replay.specs.Worlds.{IsBehind, actor_in, ended_by, IsStepBehind, IsBrokenWorld, IsFirstGoneOf};
+ghost use Rattle.replay.specs.Worlds.{IsAfter, actor_in, ended_by, IsStepAfter, IsBrokenWorld, IsFirstGoneOf};
 ghost use Rattle.replay.specs.Keeping.{ending_after, end_told};
 ghost use Rattle.replay.specs.ThreadEnds.{AreEndsOf};
 ghost use Rattle.setups.specs.declared.setup_fault.SetupFault.TheVariants as fault;
@@ -48,7 +48,7 @@ impl<'a> World<'a> {
     /// A world before its first step.
     pub fn new(alloc: Global, program: &'a Program, setup: &'a Setup) -> Result<Self, SetupFault>
         requires { IsSetupOf program.now setup.now }
-        ensures ok { IfOk result (λ world. (world.program ≡ program.now) × (world.setup ≡ setup.now) × IsBehind world []) }
+        ensures ok { IfOk result (λ world. (world.program ≡ program.now) × (world.setup ≡ setup.now) × IsAfter world []) }
         ensures no_fault { IfOk result (λ _. HasNoFault program.now setup.now) }
         ensures fault { IfErr result (λ e. e ≢ fault.Memory → IsSetupFault program.now setup.now e) }
     {
@@ -79,11 +79,11 @@ impl<'a> World<'a> {
     pub fn step(&mut self, actor: Actor) -> Result<Option<MadeStep>, AllocError>
         requires { IsActorOf (length self.old.setup.starts) actor }
         // The step is the actor's one next step after the run that led here, and the world is the end of the longer run.
-        ensures ok { (before : List AnActor) → IsBehind self.old before → IfOk result (λ made. IsStepBehind self.old before actor made × IsBehind self.new (actor_in actor ∷ before)) }
+        ensures ok { (before : List AnActor) → IsAfter self.old before → IfOk result (λ made. IsStepAfter self.old before actor made × IsAfter self.new (actor_in actor ∷ before)) }
         ensures same { (self.new.program ≡ self.old.program) × (self.new.setup ≡ self.old.setup) }
         ensures err { OnErr result (self.new ≡ self.old) }
         // Where the program is certified with some certificates, and the threads began with what these promise, the world after the step is not broken.
-        ensures safe { (certs : List Section) (before : List AnActor) → IsCertifiedSetup self.old.program self.old.setup certs → IsBehind self.old before
+        ensures safe { (certs : List Section) (before : List AnActor) → IsCertifiedSetup self.old.program self.old.setup certs → IsAfter self.old before
             → IfOk result (λ _. ¬ IsBrokenWorld self.new (actor_in actor ∷ before)) }
     {
         program_law();
@@ -103,7 +103,7 @@ impl<'a> World<'a> {
 
     /// The first thing that is gone and can be reached, if there is one.
     pub fn first_gone(&self) -> Result<Option<Gone>, AllocError>
-        ensures { (before : List AnActor) → IsBehind self.now before → IfOk result (IsFirstGoneOf self.now before) }
+        ensures { (before : List AnActor) → IsAfter self.now before → IfOk result (IsFirstGoneOf self.now before) }
     {
         self.actors.first_gone(self.alloc)
     }
@@ -117,7 +117,7 @@ impl<'a> World<'a> {
 
     /// Where each thread is.
     pub fn ends(&self) -> Result<Items<ThreadOutcome>, AllocError>
-        ensures { (before : List AnActor) → IsBehind self.now before → IfOk result (AreEndsOf self.now before) }
+        ensures { (before : List AnActor) → IsAfter self.now before → IfOk result (AreEndsOf self.now before) }
     {
         let mut ends = Items::new(self.alloc);
         for thread in 0..self.actors.threads() {

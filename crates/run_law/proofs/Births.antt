@@ -7,7 +7,7 @@ use Rattle.colours.specs.declared.place.Place.TheVariants.{Colour}
 use Rattle.colours.specs.declared.turn.Turn.{Turn}
 use Rattle.colours.specs.declared.turn.Turn.TheVariants.{PostStage, ReadStage, MarkFound, ReadColour, ScanWord, Blacken, ClearWord, Free}
 use Rattle.colours.specs.Colours.{is_async, cycle_of, grey, black, claim_at}
-use Rattle.colours.specs.Steps.{Step, ReadWord, ReadOldValue, Mark, StoreBehindBarrier, StorePlain, Claim, ReadPosted, StoreStage, ReadPostedFirst, EnterStage, ReadPostedAgain}
+use Rattle.colours.specs.Steps.{Step, ReadWord, ReadOldValue, Mark, StoreAfterBarrier, StorePlain, Claim, ReadPosted, StoreStage, ReadPostedFirst, EnterStage, ReadPostedAgain}
 use Rattle.colours.specs.Mutator.{stage_of, wins}
 use Rattle.colours.specs.Collector.{Collection, Posting, posted_of, Collects}
 use Rattle.colours.specs.Runs.{Event, ByThread, ByCollector, log_of, turns_of, word_after, births_after, IsRun}
@@ -39,7 +39,7 @@ won_shows s h t (Claim cell won) c z w =
 won_shows s h t (ReadWord cell word value) c z w = absurd cc
 won_shows s h t (ReadOldValue cell word value) c z w = absurd cc
 won_shows s h t (Mark cell) c z w = absurd cc
-won_shows s h t (StoreBehindBarrier cell word value) c z w = absurd cc
+won_shows s h t (StoreAfterBarrier cell word value) c z w = absurd cc
 won_shows s h t (StorePlain cell word value) c z w = absurd cc
 won_shows s h t (ReadPosted stage) c z w = absurd cc
 won_shows s h t (StoreStage stage roots) c z w = absurd cc

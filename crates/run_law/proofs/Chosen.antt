@@ -9,7 +9,7 @@ use Rattle.colours.specs.Colours.{is_async}
 use Rattle.colours.specs.Mutator.{HasBegun}
 use Rattle.colours.specs.Steps.{Step}
 use Rattle.runs.specs.Machine.{Reference, Action, Read, StorePlain, Write, Alloc, Safepoint}
-use Rattle.runs.specs.Moves.{Move, Works, ReadsWord, ReadsOldValue, Marks, StoresBehindBarrier, StoresPlain, Claims, StoresStage, IsIn, next_root}
+use Rattle.runs.specs.Moves.{Move, Works, ReadsWord, ReadsOldValue, Marks, StoresAfterBarrier, StoresPlain, Claims, StoresStage, IsIn, next_root}
 use Rattle.runs.specs.NextMoves.{next_move, try_of, mark_or_answer}
 use Rattle.runs.specs.TryLemmas.{StandsSo, of_order}
 use Rattle.runs.specs.Calls.{get_in}
@@ -29,7 +29,7 @@ abbrev pub IsChosen : Setup → Shared → (hints : List ℕ) → (roots : List 
 IsChosen s h hints roots action at (ReadsWord base word value) = (action ≡ Read base word) × (value ≡ word_at h.words base.cell word)
 IsChosen s h hints roots action at (ReadsOldValue base word value) = (next : Reference) × (action ≡ Write base word next) × (value ≡ word_at h.words base.cell word)
 IsChosen s h hints roots action at (Marks r) = (r.cell < cells s) × MarksNext roots at r.cell × HasBegun (phase_at (cells_to_try s hints action) roots at)
-IsChosen s h hints roots action at (StoresBehindBarrier base word value) = action ≡ Write base word value
+IsChosen s h hints roots action at (StoresAfterBarrier base word value) = action ≡ Write base word value
 IsChosen s h hints roots action at (StoresPlain base word value) = action ≡ StorePlain base word value
 IsChosen s h hints roots action at (Claims r won) =
     (layout : ℕ) × (action ≡ Alloc layout) × IsOfLayout s layout r.cell × (won ≡ (slice_index h.colours r.cell == 0)) × (r.birth ≡ suc (slice_index h.births r.cell)) × TriesNext s hints (call.Alloc layout) at r.cell × HasBegun (phase_at (cells_to_try s hints action) roots at)
@@ -71,7 +71,7 @@ chosen s h hints log stage roots old (Write base word value) stance.Ready a r o 
 chosen s h hints log stage roots old (Write base word value) (stance.MarkingOld c i x) a r o f = (o, tt, tt)
 chosen s h hints log stage roots old (Write base word value) (stance.MarkingNew c i x) a r o f = go (is_async stage || (value.cell == 0))
   where
-    go : (b : Bool) → IsChosen s h hints roots (Write base word value) (stance.MarkingNew c i x) (if b then StoresBehindBarrier base word value else Marks value)
+    go : (b : Bool) → IsChosen s h hints roots (Write base word value) (stance.MarkingNew c i x) (if b then StoresAfterBarrier base word value else Marks value)
     go true = refl
     go false = (cell-held s (kind_of s base.cell word) value a.1 a.2, tt, tt)
 chosen s h hints log stage roots old (Write base word value) (stance.Writing c i x n) a r o f = refl

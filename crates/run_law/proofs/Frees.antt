@@ -63,8 +63,8 @@ at_look s posted p cell colour c n h = go (colour == grey (cycle_of posted))
     go false = at_pass s posted p c n h
 
 -- after a wait
-behind_wait : (posted c n : ℕ) → 3 * n < posted → MayHaveFreed posted (after_wait posted) c n
-behind_wait posted c n h = go (posted % 3 == 1) (posted % 3 == 2) refl refl
+afterwards_wait : (posted c n : ℕ) → 3 * n < posted → MayHaveFreed posted (after_wait posted) c n
+afterwards_wait posted c n h = go (posted % 3 == 1) (posted % 3 == 2) refl refl
   where
     third : posted % 3 ≢ 1 → posted % 3 ≢ 2 → posted % 3 ≡ 0
     third p q = omega arith
@@ -81,7 +81,7 @@ at_wait s posted thread c n h = go (nat_lt thread s.threads)
   where
     go : (b : Bool) → MayHaveFreed posted (if b then Waiting thread else after_wait posted) c n
     go true = h
-    go false = behind_wait posted c n h
+    go false = afterwards_wait posted c n h
 
 -- the sweep has passed a freed cell
 one_more : (s : Setup) (posted d c n : ℕ) → IsSwept posted d c n → MayHaveFreed posted (sweep_from s (suc d)) c (if d == c then suc n else n)

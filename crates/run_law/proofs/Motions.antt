@@ -12,10 +12,10 @@ use Rattle.colours.specs.Colours.{cycle_of}
 use Rattle.colours.specs.Steps.{turn_of, place_of, same_place}
 use Rattle.colours.specs.Runs.{Event, ByCollector, turns_of, births_after}
 use Rattle.trace_sweep.specs.declared.motion.Motion.{Motion}
-use Rattle.trace_sweep.specs.Turns.{turn_in, behind}
+use Rattle.trace_sweep.specs.Turns.{turn_in, afterwards}
 use Rattle.trace_sweep.specs.Collecting as machine
 use Rattle.trace_sweep.specs.Collecting.{Collecting, plan_of, in_order, moved, NamesCells, stored_by}
-use Rattle.trace_sweep.specs.Stands.{StandsBehind, IsStepOn, ExtendsLogs, ExtendsRun}
+use Rattle.trace_sweep.specs.Stands.{StandsAfter, IsStepOn, ExtendsLogs, ExtendsRun}
 use Rattle.trace_sweep.specs.Order.{moved-stands}
 use Rattle.trace_sweep.specs.Extends.{next-extends}
 use Rattle.runs.specs.ModuleRuns.{Happening, heap_of, birth_in, cleared_birth}
@@ -23,12 +23,12 @@ use Rattle.moves.specs.declared.shared.Shared.{Shared}
 use Rattle.moves.specs.Kinds.{MayHold}
 use Rattle.moves.specs.Rows.{word_at}
 use Rattle.moves.specs.Shared.{held_at, HasShape, CanHold, with_number}
-use Rattle.run_law.specs.Growth.{IsPlaceInHeap, IsInHeap, with_stored, CollectorIsBehind, MotionGrows}
+use Rattle.run_law.specs.Growth.{IsPlaceInHeap, IsInHeap, with_stored, CollectorIsAfter, MotionGrows}
 use Rattle.run_law.proofs.Rows.{word-set}
 use Rattle.run_law.proofs.Places.{held-number}
 use Rattle.run_law.proofs.Shapes.{shape-colours, shape-posted, shape-word}
 use Rattle.run_law.proofs.Words.{birth-stored}
-use Rattle.run_law.proofs.Turns.{names-cells, place-there, in-heap-behind, listed-below}
+use Rattle.run_law.proofs.Turns.{names-cells, place-there, in-heap-afterwards, listed-below}
 
 -- ---- what a step stores
 
@@ -64,9 +64,9 @@ born-stored h motion (Some n) cell = go motion.place
     go (Word c word) = refl
 
 -- in the run
-born-behind : (s : Setup) (turn : Turn) (h : List Event) (cell : ℕ) → (births_after s h).of_cell cell ≡ (births_after s (ByCollector turn ∷ h)).of_cell cell
+born-afterwards : (s : Setup) (turn : Turn) (h : List Event) (cell : ℕ) → (births_after s h).of_cell cell ≡ (births_after s (ByCollector turn ∷ h)).of_cell cell
 unfolding births_after
-born-behind s turn h cell = refl
+born-afterwards s turn h cell = refl
 
 -- ---- by the step
 
@@ -114,24 +114,24 @@ birth-turn h cycle found (Free cell) d j n can same = same
 -- ---- each next step
 
 -- of the collector of a run
-motion-grows : (s : Setup) (run : List Happening) (c : Collecting) (h : Shared) → CollectorIsBehind s run c h
+motion-grows : (s : Setup) (run : List Happening) (c : Collecting) (h : Shared) → CollectorIsAfter s run c h
     → (motion : Motion) (next : Collecting) → IsStepOn (held_at h) c motion next → MotionGrows s run h motion next
 motion-grows s run c h b motion next step = record {
   can_hold = can;
   stands = goes s (turns_of (heap_of run)) b.stands;
   in_heap = subst (λ (d : Collecting). IsInHeap s d) (sym step.moves) (
-    subst (λ (plan : Setup). IsPlaceInHeap s (in_order (behind plan c.posted c.listed c.at found))) (sym b.stands.heap)
-        (in-heap-behind s h c.posted c.listed c.at found b.words.shape b.in_heap.0 b.in_heap.1 (ap (held_at h) place)),
-    listed-below s c.posted c.listed c.at (in_order (behind c.heap c.posted c.listed c.at found)) found b.in_heap.0 b.in_heap.1,
+    subst (λ (plan : Setup). IsPlaceInHeap s (in_order (afterwards plan c.posted c.listed c.at found))) (sym b.stands.heap)
+        (in-heap-afterwards s h c.posted c.listed c.at found b.words.shape b.in_heap.0 b.in_heap.1 (ap (held_at h) place)),
+    listed-below s c.posted c.listed c.at (in_order (afterwards c.heap c.posted c.listed c.at found)) found b.in_heap.0 b.in_heap.1,
   );
   words = record {
     shape = subst (λ (k : Shared). HasShape s k) left (shape-turn s h (cycle_of c.posted) found motion.turn b.words.shape there);
-    behind = record {
+    afterwards = record {
       words = λ p. held-stored h motion motion.stored p can ∙ sym (extends.words p);
       word_births = λ d j.
           ap (λ (k : Shared). (word_at k.words d j).birth) (sym left)
-          ∙ birth-turn h (cycle_of c.posted) found motion.turn d j (birth_in run d j) there (b.words.behind.word_births d j);
-      births = λ d. born-stored h motion motion.stored d ∙ b.words.behind.births d ∙ born-behind s motion.turn (heap_of run) d;
+          ∙ birth-turn h (cycle_of c.posted) found motion.turn d j (birth_in run d j) there (b.words.afterwards.word_births d j);
+      births = λ d. born-stored h motion motion.stored d ∙ b.words.afterwards.births d ∙ born-afterwards s motion.turn (heap_of run) d;
     };
   };
 }
@@ -159,14 +159,14 @@ motion-grows s run c h b motion next step = record {
 
     goes : ExtendsLogs c motion.turn next
     goes r log stands =
-        subst (λ (t : Turn). StandsBehind r (t ∷ log) next) (sym step.turn)
-        (subst (λ (d : Collecting). StandsBehind r (machine.turn_of c found ∷ log) d) (sym step.moves) (moved-stands r log c found stands step.further))
+        subst (λ (t : Turn). StandsAfter r (t ∷ log) next) (sym step.turn)
+        (subst (λ (d : Collecting). StandsAfter r (machine.turn_of c found ∷ log) d) (sym step.moves) (moved-stands r log c found stands step.further))
 
     extends : ExtendsRun s (heap_of run) (held_at h) motion
-    extends = next-extends c (held_at h) motion next step goes s (heap_of run) b.stands b.words.behind.words
+    extends = next-extends c (held_at h) motion next step goes s (heap_of run) b.stands b.words.afterwards.words
 
 -- the same after each run
-pub collector-grows : (s : Setup) (run : List Happening) (c : Collecting) (h : Shared) → CollectorIsBehind s run c h
+pub collector-grows : (s : Setup) (run : List Happening) (c : Collecting) (h : Shared) → CollectorIsAfter s run c h
     → NamesCells c.heap (held_at h) × ((motion : Motion) (next : Collecting) → IsStepOn (held_at h) c motion next → MotionGrows s run h motion next)
 collector-grows s run c h b =
     (subst (λ (plan : Setup). NamesCells plan (held_at h)) (sym b.stands.heap) (names-cells s h b.words.shape), motion-grows s run c h b)

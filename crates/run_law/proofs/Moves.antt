@@ -66,7 +66,7 @@ holds-there s h cell word value shape is_cell may = go (kind_of s cell word) ref
 
 -- what it puts fits
 pub puts : (s : Setup) (h : Shared) (hints : List ℕ) (roots : List Reference) (action : Action) (at : Stance) (move : Move) → AsksByKind s action → IsChosen s h hints roots action at (move_in roots move) → PutsByKind s move
-puts s h hints roots action at (made.StoresBehindBarrier base word value) a c = let asks : AsksByKind s (Write base word value) = subst (λ (x : Action). AsksByKind s x) c a in asks.2
+puts s h hints roots action at (made.StoresAfterBarrier base word value) a c = let asks : AsksByKind s (Write base word value) = subst (λ (x : Action). AsksByKind s x) c a in asks.2
 puts s h hints roots action at (made.StoresPlain base word value) a c = let asks : AsksByKind s (StorePlain base word value) = subst (λ (x : Action). AsksByKind s x) c a in asks.1
 puts s h hints roots action at made.Works a c = tt
 puts s h hints roots action at made.GoesWrong a c = tt
@@ -89,7 +89,7 @@ sees s h hints roots action at made.GoesWrong c = tt
 sees s h hints roots action at (made.ReadsWord base word value) c = tt
 sees s h hints roots action at (made.ReadsOldValue base word value) c = tt
 sees s h hints roots action at (made.Marks r) c = tt
-sees s h hints roots action at (made.StoresBehindBarrier base word value) c = tt
+sees s h hints roots action at (made.StoresAfterBarrier base word value) c = tt
 sees s h hints roots action at (made.StoresPlain base word value) c = tt
 sees s h hints roots action at (made.ReadsPosted stage) c = tt
 sees s h hints roots action at (made.Answers stage) c = tt
@@ -101,7 +101,7 @@ sees s h hints roots action at (made.ReadsPostedAgain posted) c = tt
 -- its places are there
 pub takes : (s : Setup) (h : Shared) (hints : List ℕ) (roots : List Reference) (action : Action) (at : Stance) (t stage : ℕ) (move : Move) → HasShape s h → AsksByKind s action → t < s.threads → (HasBegun (phase_at (cells_to_try s hints action) roots at) → stage < 2 ^ 62)
     → IsChosen s h hints roots action at (move_in roots move) → CanTake h t stage move
-takes s h hints roots action at t stage (made.StoresBehindBarrier base word value) shape a lt few c =
+takes s h hints roots action at t stage (made.StoresAfterBarrier base word value) shape a lt few c =
     let asks : AsksByKind s (Write base word value) = subst (λ (x : Action). AsksByKind s x) c a in
     holds-there s h base.cell word value shape asks.0 asks.2
 takes s h hints roots action at t stage (made.StoresPlain base word value) shape a lt few c =
@@ -134,7 +134,7 @@ may-make s h hints roots action at made.Works asked e c = tt
 may-make s h hints roots action at made.GoesWrong asked e c = tt
 may-make s h hints roots action at (made.ReadsWord base word value) asked e c = tt
 may-make s h hints roots action at (made.ReadsOldValue base word value) asked e c = tt
-may-make s h hints roots action at (made.StoresBehindBarrier base word value) asked e c = tt
+may-make s h hints roots action at (made.StoresAfterBarrier base word value) asked e c = tt
 may-make s h hints roots action at (made.StoresPlain base word value) asked e c = tt
 may-make s h hints roots action at (made.ReadsPosted stage) asked e c = tt
 may-make s h hints roots action at (made.Answers stage) asked e c = tt
@@ -165,7 +165,7 @@ nothing-fits s roots (Read base word) made.Works q = tt
 nothing-fits s roots (Read base word) made.GoesWrong q = tt
 nothing-fits s roots (Read base word) (made.ReadsOldValue b w v) q = tt
 nothing-fits s roots (Read base word) (made.Marks r) q = tt
-nothing-fits s roots (Read base word) (made.StoresBehindBarrier b w v) q = tt
+nothing-fits s roots (Read base word) (made.StoresAfterBarrier b w v) q = tt
 nothing-fits s roots (Read base word) (made.StoresPlain b w v) q = tt
 nothing-fits s roots (Read base word) (made.ReadsPosted stage) q = tt
 nothing-fits s roots (Read base word) (made.Answers stage) q = tt
@@ -177,7 +177,7 @@ nothing-fits s roots (Alloc layout) made.Works q = inl refl
 nothing-fits s roots (Alloc layout) made.GoesWrong q = tt
 nothing-fits s roots (Alloc layout) (made.ReadsOldValue b w v) q = tt
 nothing-fits s roots (Alloc layout) (made.Marks r) q = tt
-nothing-fits s roots (Alloc layout) (made.StoresBehindBarrier b w v) q = tt
+nothing-fits s roots (Alloc layout) (made.StoresAfterBarrier b w v) q = tt
 nothing-fits s roots (Alloc layout) (made.StoresPlain b w v) q = tt
 nothing-fits s roots (Alloc layout) (made.ReadsPosted stage) q = tt
 nothing-fits s roots (Alloc layout) (made.Answers stage) q = tt
@@ -202,7 +202,7 @@ answers s h hints roots action at made.Works shape a c = nothing-fits s roots ac
 answers s h hints roots action at made.GoesWrong shape a c = nothing-fits s roots action made.GoesWrong tt
 answers s h hints roots action at (made.ReadsOldValue base word value) shape a c = nothing-fits s roots action (made.ReadsOldValue base word value) tt
 answers s h hints roots action at (made.Marks r) shape a c = nothing-fits s roots action (made.Marks r) tt
-answers s h hints roots action at (made.StoresBehindBarrier base word value) shape a c = nothing-fits s roots action (made.StoresBehindBarrier base word value) tt
+answers s h hints roots action at (made.StoresAfterBarrier base word value) shape a c = nothing-fits s roots action (made.StoresAfterBarrier base word value) tt
 answers s h hints roots action at (made.StoresPlain base word value) shape a c = nothing-fits s roots action (made.StoresPlain base word value) tt
 answers s h hints roots action at (made.ReadsPosted stage) shape a c = nothing-fits s roots action (made.ReadsPosted stage) tt
 answers s h hints roots action at (made.Answers stage) shape a c = nothing-fits s roots action (made.Answers stage) tt
@@ -236,7 +236,7 @@ replaced-cell s h hints roots action at made.Works shape a c = omega arith
 replaced-cell s h hints roots action at made.GoesWrong shape a c = omega arith
 replaced-cell s h hints roots action at (made.ReadsWord base word value) shape a c = omega arith
 replaced-cell s h hints roots action at (made.Marks r) shape a c = omega arith
-replaced-cell s h hints roots action at (made.StoresBehindBarrier base word value) shape a c = omega arith
+replaced-cell s h hints roots action at (made.StoresAfterBarrier base word value) shape a c = omega arith
 replaced-cell s h hints roots action at (made.StoresPlain base word value) shape a c = omega arith
 replaced-cell s h hints roots action at (made.Claims r won) shape a c = omega arith
 replaced-cell s h hints roots action at (made.ReadsPosted stage) shape a c = omega arith

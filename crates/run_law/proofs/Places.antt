@@ -88,7 +88,7 @@ held-left h t stage roots made.GoesWrong p can sees = refl
 held-left h t stage roots (made.ReadsWord base word value) p can sees = refl
 held-left h t stage roots (made.ReadsOldValue base word value) p can sees = refl
 held-left h t stage roots (made.ReadsPosted posted) p can sees = refl
-held-left h t stage roots (made.StoresBehindBarrier base word value) p can sees = held-word h base.cell word value p can
+held-left h t stage roots (made.StoresAfterBarrier base word value) p can sees = held-word h base.cell word value p can
 held-left h t stage roots (made.StoresPlain base word value) p can sees = held-word h base.cell word value p can
 held-left h t stage roots (made.Marks r) p can sees =
     held-number h (Colour r.cell) (max (slice_index h.colours r.cell) (mark_at stage)) p can.0 ∙ held-made h (Colour r.cell) (λ m. max m (mark_at stage)) p

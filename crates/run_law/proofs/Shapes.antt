@@ -78,7 +78,7 @@ shape-word s h c i r shape can may = record {
 
 -- a move puts what fits the kind of its word
 abbrev pub PutsByKind : Setup → Move → Type 0
-PutsByKind s (made.StoresBehindBarrier base word value) = MayHold s (kind_of s base.cell word) value
+PutsByKind s (made.StoresAfterBarrier base word value) = MayHold s (kind_of s base.cell word) value
 PutsByKind s (made.StoresPlain base word value) = MayHold s (kind_of s base.cell word) value
 PutsByKind s move = Unit {0}
 
@@ -89,7 +89,7 @@ shape-move s h t stage made.GoesWrong shape can puts = shape
 shape-move s h t stage (made.ReadsWord base word value) shape can puts = shape
 shape-move s h t stage (made.ReadsOldValue base word value) shape can puts = shape
 shape-move s h t stage (made.ReadsPosted posted) shape can puts = shape
-shape-move s h t stage (made.StoresBehindBarrier base word value) shape can puts = shape-word s h base.cell word value shape can puts
+shape-move s h t stage (made.StoresAfterBarrier base word value) shape can puts = shape-word s h base.cell word value shape can puts
 shape-move s h t stage (made.StoresPlain base word value) shape can puts = shape-word s h base.cell word value shape can puts
 shape-move s h t stage (made.Marks r) shape can puts = shape-colours s h r.cell _ shape
 shape-move s h t stage (made.Answers next) shape can puts = shape-stages s h t next shape

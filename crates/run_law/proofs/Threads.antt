@@ -23,7 +23,7 @@ use Rattle.moves.specs.Kinds.{KeepsKinds}
 use Rattle.moves.specs.Shared.{CanTake}
 use Rattle.moves.specs.Stands.{HasTryLeft, cells_to_try, phase_at, standing, sight_in}
 use Rattle.moves.specs.Nexts.{tried_of-length}
-use Rattle.run_law.specs.Growth.{ThreadIsBehind, MoveGrows, ThreadGrows}
+use Rattle.run_law.specs.Growth.{ThreadIsAfter, MoveGrows, ThreadGrows}
 use Rattle.run_law.proofs.Words.{words-grow}
 use Rattle.run_law.proofs.Chosen.{IsChosen, is-chosen}
 use Rattle.run_law.proofs.Hints.{has-hint}
@@ -65,9 +65,9 @@ not-ended s h stage roots old action phase move e is =
 
 -- of a thread of a run
 pub thread-grows : (s : Setup) (m : Machine) (Fits : m.State → Type 0) → ((state : m.State) → Fits state → KeepsKinds s m.action m.after_answer m.roots Fits state)
-    → (starts : ℕ → m.State) (run : List Happening) (t : ℕ) (stand : Stand m.State) (h : Shared) → IsBounded s run → ThreadIsBehind s m Fits starts run t stand h → ThreadGrows s m Fits run t stand h
+    → (starts : ℕ → m.State) (run : List Happening) (t : ℕ) (stand : Stand m.State) (h : Shared) → IsBounded s run → ThreadIsAfter s m Fits starts run t stand h → ThreadGrows s m Fits run t stand h
 thread-grows s m Fits keeps_kinds starts run t stand h bounded b = record {
-  births = λ cell. subst (λ n. n < 2 ^ 62) (sym (b.words.behind.births cell)) (bounded.births cell);
+  births = λ cell. subst (λ n. n < 2 ^ 62) (sym (b.words.afterwards.births cell)) (bounded.births cell);
   try_left = try-left s log action to_try roots stand.stance b.few_cells tries;
   move = grows;
 }

@@ -9,7 +9,7 @@ use Rattle.colours.specs.declared.turn.Turn.TheVariants.{ScanWord, Blacken, Clea
 use Rattle.colours.specs.Colours.{cycle_of, grey}
 use Rattle.colours.specs.Steps.{turn_of, place_of}
 use Rattle.colours.specs.Collector.{Collection, Posting, Waiting, ShadingGlobals, Passing, Scanning, Shading, Sweeping, Clearing, Pass, first_pass, after_wait, wait_from, sweep_from, pass_from, has_answered, with_grey, is_white, skip_integers, reference_from}
-use Rattle.trace_sweep.specs.Turns.{turn_in, behind, next_cell, pass_after_look, list_after, list_after_look, kept_list, list_limit}
+use Rattle.trace_sweep.specs.Turns.{turn_in, afterwards, next_cell, pass_after_look, list_after, list_after_look, kept_list, list_limit}
 use Rattle.trace_sweep.specs.Below.{AreBelow, add-below}
 use Rattle.trace_sweep.specs.Collecting.{plan_of, in_order, NamesCells}
 use Rattle.runs.specs.Machine.{Reference}
@@ -76,14 +76,14 @@ names-cells s h shape cell word is = go (nat_lt cell (cells s)) refl
 wait-in : (s : Setup) (stage thread : ℕ) → IsPlaceInHeap s (in_order (wait_from (plan_of s) stage thread))
 wait-in s stage thread = go (nat_lt thread s.threads) refl
   where
-    behind-last : (a b : Bool) → IsPlaceInHeap s (in_order (if a then Posting else (if b then ShadingGlobals else Passing first_pass)))
-    behind-last true b = tt
-    behind-last false true = tt
-    behind-last false false = omega arith
+    afterwards-last : (a b : Bool) → IsPlaceInHeap s (in_order (if a then Posting else (if b then ShadingGlobals else Passing first_pass)))
+    afterwards-last true b = tt
+    afterwards-last false true = tt
+    afterwards-last false false = omega arith
 
     go : (b : Bool) → nat_lt thread s.threads ≡ b → IsPlaceInHeap s (in_order (if b then Waiting thread else after_wait stage))
     go true e = lt_true thread s.threads e
-    go false e = behind-last (stage % 3 == 1) (stage % 3 == 2)
+    go false e = afterwards-last (stage % 3 == 1) (stage % 3 == 2)
 
 -- the sweep from a cell on
 sweep-in : (s : Setup) (cell : ℕ) → IsPlaceInHeap s (in_order (sweep_from (plan_of s) cell))
@@ -140,9 +140,9 @@ list-below s stage listed (Sweeping cell) found is are = are
 list-below s stage listed (Clearing cell word) found is are = are
 
 -- wherever that leads
-pub listed-below : (s : Setup) (stage : ℕ) (listed : List ℕ) (at behind : Collection) (found : ℕ) → IsPlaceInHeap s at → AreBelow (cells s) listed
-    → AreBelow (cells s) (kept_list behind (list_after stage listed at found))
-listed-below s stage listed at behind found is are = kept-below (cells s) behind (list_after stage listed at found) (list-below s stage listed at found is are)
+pub listed-below : (s : Setup) (stage : ℕ) (listed : List ℕ) (at afterwards : Collection) (found : ℕ) → IsPlaceInHeap s at → AreBelow (cells s) listed
+    → AreBelow (cells s) (kept_list afterwards (list_after stage listed at found))
+listed-below s stage listed at afterwards found is are = kept-below (cells s) afterwards (list_after stage listed at found) (list-below s stage listed at found is are)
 
 -- ---- the step
 
@@ -176,21 +176,21 @@ place-there s h stage listed (Clearing cell word) found shape is are = go (nat_l
     go false e = let count = shape.colours in omega (arith, count, is)
 
 -- and where it is then
-pub in-heap-behind : (s : Setup) (h : Shared) (stage : ℕ) (listed : List ℕ) (at : Collection) (found : ℕ) → HasShape s h → IsPlaceInHeap s at → AreBelow (cells s) listed
-    → found ≡ held_at h (place_of (turn_of (cycle_of stage) (turn_in (plan_of s) stage listed at found))) → IsPlaceInHeap s (in_order (behind (plan_of s) stage listed at found))
-in-heap-behind s h stage listed Posting found shape is are e = wait-in s (stage + 1) 0
-in-heap-behind s h stage listed (Waiting thread) found shape is are e = go (has_answered stage found)
+pub in-heap-afterwards : (s : Setup) (h : Shared) (stage : ℕ) (listed : List ℕ) (at : Collection) (found : ℕ) → HasShape s h → IsPlaceInHeap s at → AreBelow (cells s) listed
+    → found ≡ held_at h (place_of (turn_of (cycle_of stage) (turn_in (plan_of s) stage listed at found))) → IsPlaceInHeap s (in_order (afterwards (plan_of s) stage listed at found))
+in-heap-afterwards s h stage listed Posting found shape is are e = wait-in s (stage + 1) 0
+in-heap-afterwards s h stage listed (Waiting thread) found shape is are e = go (has_answered stage found)
   where
     go : (b : Bool) → IsPlaceInHeap s (in_order (if b then wait_from (plan_of s) stage (thread + 1) else Waiting thread))
     go true = wait-in s stage (thread + 1)
     go false = is
-in-heap-behind s h stage listed ShadingGlobals found shape is are e = tt
-in-heap-behind s h stage listed (Passing p) found shape is are e = go (found == grey (cycle_of stage))
+in-heap-afterwards s h stage listed ShadingGlobals found shape is are e = tt
+in-heap-afterwards s h stage listed (Passing p) found shape is are e = go (found == grey (cycle_of stage))
   where
     go : (b : Bool) → IsPlaceInHeap s (in_order (if b then Scanning (next_cell p.next listed) 0 (with_grey (pass_after_look p p.next listed)) else pass_from (plan_of s) (pass_after_look p p.next listed)))
     go true = next-below (cells s) p.next listed is are
     go false = pass-in s (pass_after_look p p.next listed)
-in-heap-behind s h stage listed (Scanning cell word p) found shape is are e = go (nat_lt at (length (words_of_cell (plan_of s) cell))) refl e (found == 0)
+in-heap-afterwards s h stage listed (Scanning cell word p) found shape is are e = go (nat_lt at (length (words_of_cell (plan_of s) cell))) refl e (found == 0)
   where
     at : ℕ
     at = reference_from (plan_of s) cell word
@@ -204,13 +204,13 @@ in-heap-behind s h stage listed (Scanning cell word p) found shape is are e = go
         let value = cell-found s h cell at shape is (subst (λ k. IsTrue (is_reference_kind k)) (same-kind s cell at) ref) in
         (subst (λ n. n < cells s) (sym same) value, is)
     go false x same z = pass-in s p
-in-heap-behind s h stage listed (Shading value cell word p) found shape is are e = is.1
-in-heap-behind s h stage listed (Sweeping cell) found shape is are e = go (is_white stage found)
+in-heap-afterwards s h stage listed (Shading value cell word p) found shape is are e = is.1
+in-heap-afterwards s h stage listed (Sweeping cell) found shape is are e = go (is_white stage found)
   where
     go : (b : Bool) → IsPlaceInHeap s (in_order (if b then Clearing cell 0 else sweep_from (plan_of s) (cell + 1)))
     go true = is
     go false = sweep-in s (cell + 1)
-in-heap-behind s h stage listed (Clearing cell word) found shape is are e = go (nat_lt word (length (words_of_cell (plan_of s) cell)))
+in-heap-afterwards s h stage listed (Clearing cell word) found shape is are e = go (nat_lt word (length (words_of_cell (plan_of s) cell)))
   where
     go : (b : Bool) → IsPlaceInHeap s (in_order (if b then Clearing cell (word + 1) else sweep_from (plan_of s) (cell + 1)))
     go true = is

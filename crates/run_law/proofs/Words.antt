@@ -15,7 +15,7 @@ use Rattle.moves.specs.declared.moves.Move.TheVariants as made
 use Rattle.moves.specs.declared.shared.Shared.{Shared}
 use Rattle.moves.specs.Calls.{move_in}
 use Rattle.moves.specs.Rows.{word_at, with_word}
-use Rattle.moves.specs.Shared.{StandBehind, CanTake, with_move}
+use Rattle.moves.specs.Shared.{StandAfter, CanTake, with_move}
 use Rattle.run_law.proofs.Rows.{entry-set, word-set}
 use Rattle.run_law.proofs.Places.{SeesCell, left_in, held-left}
 use Rattle.run_law.proofs.Shapes.{PutsByKind, shape-move}
@@ -23,11 +23,11 @@ use Rattle.run_law.proofs.Shapes.{PutsByKind, shape-move}
 -- ---- words
 
 -- what a step, if it is one, leaves in a place
-left-behind : (s : Setup) (t stage : ℕ) (o : Option Step) (h : List Event) (p : Place) → stage ≡ stage_of (log_of t h)
+left-afterwards : (s : Setup) (t stage : ℕ) (o : Option Step) (h : List Event) (p : Place) → stage ≡ stage_of (log_of t h)
     → left_in t stage o p (word_after s h p) ≡ word_after s (with_step t o h) p
 unfolding word_after
-left-behind s t stage None h p e = refl
-left-behind s t stage (Some step) h p e = ap (λ n. left_by (ask_of t n step) p (word_after s h p)) e
+left-afterwards s t stage None h p e = refl
+left-afterwards s t stage (Some step) h p e = ap (λ n. left_by (ask_of t n step) p (word_after s h p)) e
 
 -- ---- births in words
 
@@ -60,7 +60,7 @@ birth-left h t stage roots (made.EntersStage next) d j n can same = same
 birth-left h t stage roots (made.ReadsPostedAgain posted) d j n can same = same
 birth-left h t stage roots (made.Claims r true) d j n can same = same
 birth-left h t stage roots (made.Claims r false) d j n can same = same
-birth-left h t stage roots (made.StoresBehindBarrier base word value) d j n can same =
+birth-left h t stage roots (made.StoresAfterBarrier base word value) d j n can same =
     birth-stored h.words base.cell word value d j n (word-set h.words base.cell word value d j can.0 can.1) same
 birth-left h t stage roots (made.StoresPlain base word value) d j n can same =
     birth-stored h.words base.cell word value d j n (word-set h.words base.cell word value d j can.0 can.1) same
@@ -73,10 +73,10 @@ won_by None cell birth = birth
 won_by (Some step) cell birth = if wins step cell then suc birth else birth
 
 -- what it leaves in the run
-born-behind : (s : Setup) (t : ℕ) (o : Option Step) (h : List Event) (cell : ℕ) → won_by o cell ((births_after s h).of_cell cell) ≡ (births_after s (with_step t o h)).of_cell cell
+born-afterwards : (s : Setup) (t : ℕ) (o : Option Step) (h : List Event) (cell : ℕ) → won_by o cell ((births_after s h).of_cell cell) ≡ (births_after s (with_step t o h)).of_cell cell
 unfolding births_after
-born-behind s t None h cell = refl
-born-behind s t (Some step) h cell = refl
+born-afterwards s t None h cell = refl
+born-afterwards s t (Some step) h cell = refl
 
 -- what a claim leaves
 born-won : (births : List ℕ) (c birth d : ℕ) → birth ≡ suc (slice_index births c) → slice_index (slice_set births c birth) d ≡ (if c == d then birth else slice_index births d)
@@ -102,7 +102,7 @@ born-left h t stage roots (made.ReadsPostedFirst posted) d can sees = refl
 born-left h t stage roots (made.EntersStage next) d can sees = refl
 born-left h t stage roots (made.ReadsPostedAgain posted) d can sees = refl
 born-left h t stage roots (made.Claims r false) d can sees = refl
-born-left h t stage roots (made.StoresBehindBarrier base word value) d can sees = refl
+born-left h t stage roots (made.StoresAfterBarrier base word value) d can sees = refl
 born-left h t stage roots (made.StoresPlain base word value) d can sees = refl
 born-left h t stage roots (made.Claims r true) d can sees = born-won h.births r.cell r.birth d sees.1 (entry-set h.births r.cell d r.birth 0 can.1)
 
@@ -110,19 +110,19 @@ born-left h t stage roots (made.Claims r true) d can sees = born-won h.births r.
 
 -- after a thread's move
 pub words-grow : (s : Setup) (run : List Happening) (t stage : ℕ) (roots : List Reference) (h : Shared) (move : Move) → stage ≡ stage_of (steps_of (share_of t run))
-    → StandBehind s run h → CanTake h t stage move → SeesCell h move → PutsByKind s move
-    → StandBehind s (OfThread t (move_in roots move) ∷ run) (with_move h t stage move)
+    → StandAfter s run h → CanTake h t stage move → SeesCell h move → PutsByKind s move
+    → StandAfter s (OfThread t (move_in roots move) ∷ run) (with_move h t stage move)
 words-grow s run t stage roots h move is_stage stand can sees puts = record {
   shape = shape-move s h t stage move stand.shape can puts;
-  behind = record {
+  afterwards = record {
     words = λ p.
         held-left h t stage roots move p can sees
-        ∙ ap (left_in t stage (step_of (move_in roots move)) p) (stand.behind.words p)
-        ∙ left-behind s t stage (step_of (move_in roots move)) (heap_of run) p (is_stage ∙ ap stage_of (sym (log_is t run)));
-    word_births = λ d j. birth-left h t stage roots move d j (birth_in run d j) can (stand.behind.word_births d j);
+        ∙ ap (left_in t stage (step_of (move_in roots move)) p) (stand.afterwards.words p)
+        ∙ left-afterwards s t stage (step_of (move_in roots move)) (heap_of run) p (is_stage ∙ ap stage_of (sym (log_is t run)));
+    word_births = λ d j. birth-left h t stage roots move d j (birth_in run d j) can (stand.afterwards.word_births d j);
     births = λ d.
         born-left h t stage roots move d can sees
-        ∙ ap (won_by (step_of (move_in roots move)) d) (stand.behind.births d)
-        ∙ born-behind s t (step_of (move_in roots move)) (heap_of run) d;
+        ∙ ap (won_by (step_of (move_in roots move)) d) (stand.afterwards.births d)
+        ∙ born-afterwards s t (step_of (move_in roots move)) (heap_of run) d;
   };
 }

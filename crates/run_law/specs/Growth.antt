@@ -11,7 +11,7 @@ use Rattle.trace_sweep.specs.declared.motion.Motion.{Motion}
 use Rattle.runs.specs.Machine.{Reference, Machine, Action, Answer, machine_of}
 use Rattle.runs.specs.Moves.{answer_of}
 use Rattle.runs.specs.ModuleRuns.{Happening, OfThread, OfCollector, share_of, heap_of, IsModuleRun}
-use Rattle.runs.specs.Ends.{StandsBehind, moved, next_move_of}
+use Rattle.runs.specs.Ends.{StandsAfter, moved, next_move_of}
 use Rattle.runs.specs.Tries.{TriesByHint}
 use Rattle.moves.specs.declared.call.Call.{Call}
 use Rattle.moves.specs.declared.moves.Move.{Move}
@@ -20,28 +20,28 @@ use Rattle.moves.specs.declared.stand.Stand.{Stand}
 use Rattle.moves.specs.Calls.{action_of, move_in}
 use Rattle.moves.specs.Kinds.{AnswersByKind}
 use Rattle.moves.specs.Moving.{HasHint, MayMake}
-use Rattle.moves.specs.Shared.{StandBehind, CanHold, CanTake, with_move, with_number, held_at}
+use Rattle.moves.specs.Shared.{StandAfter, CanHold, CanTake, with_move, with_number, held_at}
 use Rattle.moves.specs.Stands.{HasTryLeft, standing, sight_in}
 
 -- ---- threads
 
 -- where a thread of a run is, with a state that fits the heap, and the words and births after the run
-pub record ThreadIsBehind (s : Setup) (m : Machine) (Fits : m.State → Type 0) (starts : ℕ → m.State) (run : List Happening) (t : ℕ) (stand : Stand m.State) (h : Shared) : Type 0 where
+pub record ThreadIsAfter (s : Setup) (m : Machine) (Fits : m.State → Type 0) (starts : ℕ → m.State) (run : List Happening) (t : ℕ) (stand : Stand m.State) (h : Shared) : Type 0 where
   pub few_cells : cells s ≤ 2 ^ 32
   pub is_run : IsModuleRun s m starts run
   pub tries : TriesByHint s m t (starts t) (share_of t run)
   pub is_thread : t < s.threads
-  pub stands : StandsBehind s m starts run t (standing s m stand)
+  pub stands : StandsAfter s m starts run t (standing s m stand)
   pub fits : Fits stand.state
   pub replaced : stand.replaced.cell < cells s
-  pub words : StandBehind s run h
+  pub words : StandAfter s run h
 
 -- a next move of the thread may be made, and leaves the words and births after the longer run
 pub record MoveGrows (s : Setup) (m : Machine) (Fits : m.State → Type 0) (run : List Happening) (t : ℕ) (stand : Stand m.State) (h : Shared) (made : Move) : Type 0 where
   pub may_make : (call : Call) → action_of call ≡ m.action stand.state → MayMake s stand.hints (m.roots stand.state) call stand.stance made
   pub hint : HasHint s.pools stand.hints made (m.action stand.state)
   pub can_take : CanTake h t stand.stage made
-  pub words : StandBehind s (OfThread t (move_in (m.roots stand.state) made) ∷ run) (with_move h t stand.stage made)
+  pub words : StandAfter s (OfThread t (move_in (m.roots stand.state) made) ∷ run) (with_move h t stand.stage made)
   pub answers : AnswersByKind s (m.action stand.state) (answer_of (m.action stand.state) (move_in (m.roots stand.state) made))
   pub fits : Fits (moved s m (standing s m stand) (move_in (m.roots stand.state) made)).state
   pub replaced : (moved s m (standing s m stand) (move_in (m.roots stand.state) made)).old.cell < cells s
@@ -55,7 +55,7 @@ pub record ThreadGrows (s : Setup) (m : Machine) (Fits : m.State → Type 0) (ru
 -- the same for each thread of a machine that obeys the kinds of words
 abbrev pub ThreadsGrow : (s : Setup) {State : Type 0} (action : State → Action) (after_answer : State → Answer → State) (roots : State → List Reference) (Fits : State → Type 0) → Type 0
 ThreadsGrow s {State} action after_answer roots Fits = (starts : ℕ → State) (run : List Happening) (t : ℕ) (stand : Stand State) (h : Shared)
-    → ThreadIsBehind s (machine_of action after_answer roots) Fits starts run t stand h → ThreadGrows s (machine_of action after_answer roots) Fits run t stand h
+    → ThreadIsAfter s (machine_of action after_answer roots) Fits starts run t stand h → ThreadGrows s (machine_of action after_answer roots) Fits run t stand h
 
 -- ---- the collector
 
@@ -80,19 +80,19 @@ with_stored h motion None = h
 with_stored h motion (Some n) = with_number h motion.place n
 
 -- where the collector of a run is, and the words and births after the run
-pub record CollectorIsBehind (s : Setup) (run : List Happening) (c : Collecting) (h : Shared) : Type 0 where
-  pub stands : collector.StandsBehind s (turns_of (heap_of run)) c
+pub record CollectorIsAfter (s : Setup) (run : List Happening) (c : Collecting) (h : Shared) : Type 0 where
+  pub stands : collector.StandsAfter s (turns_of (heap_of run)) c
   pub in_heap : IsInHeap s c
-  pub words : StandBehind s run h
+  pub words : StandAfter s run h
 
 -- its next step may be made, and leaves the words and births after the longer run
-pub record MotionGrows (s : Setup) (run : List Happening) (h : Shared) (motion : Motion) (behind : Collecting) : Type 0 where
+pub record MotionGrows (s : Setup) (run : List Happening) (h : Shared) (motion : Motion) (afterwards : Collecting) : Type 0 where
   pub can_hold : CanHold h motion.place
-  pub stands : collector.StandsBehind s (turns_of (heap_of (OfCollector motion.turn ∷ run))) behind
-  pub in_heap : IsInHeap s behind
-  pub words : StandBehind s (OfCollector motion.turn ∷ run) (with_stored h motion motion.stored)
+  pub stands : collector.StandsAfter s (turns_of (heap_of (OfCollector motion.turn ∷ run))) afterwards
+  pub in_heap : IsInHeap s afterwards
+  pub words : StandAfter s (OfCollector motion.turn ∷ run) (with_stored h motion motion.stored)
 
 -- the same after each run
 abbrev pub CollectorGrows : Setup → Type 0
-CollectorGrows s = (run : List Happening) (c : Collecting) (h : Shared) → CollectorIsBehind s run c h
-    → NamesCells c.heap (held_at h) × ((motion : Motion) (behind : Collecting) → IsStepOn (held_at h) c motion behind → MotionGrows s run h motion behind)
+CollectorGrows s = (run : List Happening) (c : Collecting) (h : Shared) → CollectorIsAfter s run c h
+    → NamesCells c.heap (held_at h) × ((motion : Motion) (afterwards : Collecting) → IsStepOn (held_at h) c motion afterwards → MotionGrows s run h motion afterwards)

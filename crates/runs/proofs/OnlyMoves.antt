@@ -10,7 +10,7 @@ use Rattle.colours.specs.Steps.{Step, Found, ask_of, place_of}
 use Rattle.colours.specs.Mutator.{Phase, Ready, MarkingOld, MarkingNew, Writing, Trying, Answering, Ended, Absent, Arriving, Entering, Leaving, MayFollow, non_null, stage_of, phase_of}
 use Rattle.colours.specs.Runs.{word_after, log_of, ByThread, MayHappen}
 use Rattle.runs.specs.Machine.{Reference, Action, Local, Read, StorePlain, Write, Alloc, Safepoint, End, Wrong, Machine}
-use Rattle.runs.specs.Moves.{Move, Works, GoesWrong, ReadsWord, ReadsOldValue, Marks, StoresBehindBarrier, StoresPlain, Claims, ReadsPosted, StoresStage, ReadsPostedFirst, EntersStage, ReadsPostedAgain, cells_of, step_of, steps_of, state_after, next_root, old_of, IsOfTry, AsksFor, Follows}
+use Rattle.runs.specs.Moves.{Move, Works, GoesWrong, ReadsWord, ReadsOldValue, Marks, StoresAfterBarrier, StoresPlain, Claims, ReadsPosted, StoresStage, ReadsPostedFirst, EntersStage, ReadsPostedAgain, cells_of, step_of, steps_of, state_after, next_root, old_of, IsOfTry, AsksFor, Follows}
 use Rattle.runs.specs.ModuleRuns.{Happening, OfThread, share_of, heap_of, birth_of, FindsBirth, IsNext}
 use Rattle.runs.specs.NextMoves.{Sight, IsSightOf, next_move, next_move_in, mark_or_answer, try_of, IsThisMove, NextMovesAreOnly}
 use Rattle.runs.specs.NextMoveLemmas.{non_null_cells, length_cells}
@@ -71,18 +71,18 @@ module _ (s : Setup) (run : List Happening) (h : Sight) (is : IsSightOf s run h)
   asked (Write base word value) (MarkingNew c p o) (Marks r) a f =
       let sync : is_async stage ≡ false = f.follows.0 in
       let some : (value.cell == 0) ≡ false = test_no value.cell 0 (subst (λ (v : Reference). v.cell ≢ 0) a f.follows.1) in
-      by_test (is_async stage || (value.cell == 0)) false (StoresBehindBarrier base word value) (Marks value) (Marks r) (rw (sync, some) refl) (ap Marks a)
-  asked (Write base word value) (MarkingNew c p o) (StoresBehindBarrier b w v) a f = go (is_async stage) refl
+      by_test (is_async stage || (value.cell == 0)) false (StoresAfterBarrier base word value) (Marks value) (Marks r) (rw (sync, some) refl) (ap Marks a)
+  asked (Write base word value) (MarkingNew c p o) (StoresAfterBarrier b w v) a f = go (is_async stage) refl
     where
-      stored : StoresBehindBarrier b w v ≡ StoresBehindBarrier base word value
-      stored = λ i. StoresBehindBarrier (a.0 i) (a.1 i) (a.2 i)
+      stored : StoresAfterBarrier b w v ≡ StoresAfterBarrier base word value
+      stored = λ i. StoresAfterBarrier (a.0 i) (a.1 i) (a.2 i)
 
-      go : (x : Bool) → is_async stage ≡ x → IsThis (Some (if is_async stage || (value.cell == 0) then StoresBehindBarrier base word value else Marks value)) (StoresBehindBarrier b w v)
-      go true e = by_test (is_async stage || (value.cell == 0)) true (StoresBehindBarrier base word value) (Marks value) (StoresBehindBarrier b w v) (rw e refl) stored
+      go : (x : Bool) → is_async stage ≡ x → IsThis (Some (if is_async stage || (value.cell == 0) then StoresAfterBarrier base word value else Marks value)) (StoresAfterBarrier b w v)
+      go true e = by_test (is_async stage || (value.cell == 0)) true (StoresAfterBarrier base word value) (Marks value) (StoresAfterBarrier b w v) (rw e refl) stored
       go false e =
           let none : (value.cell == 0) ≡ true = test_yes value.cell 0 (subst (λ (x : Reference). x.cell ≡ 0) a.2 (f.follows.2 e)) in
-          by_test (is_async stage || (value.cell == 0)) true (StoresBehindBarrier base word value) (Marks value) (StoresBehindBarrier b w v) (rw (e, none) refl) stored
-  asked (Write base word value) (Writing c p o n) (StoresBehindBarrier b w v) a f = λ i. StoresBehindBarrier (a.0 i) (a.1 i) (a.2 i)
+          by_test (is_async stage || (value.cell == 0)) true (StoresAfterBarrier base word value) (Marks value) (StoresAfterBarrier b w v) (rw (e, none) refl) stored
+  asked (Write base word value) (Writing c p o n) (StoresAfterBarrier b w v) a f = λ i. StoresAfterBarrier (a.0 i) (a.1 i) (a.2 i)
   asked (Alloc layout) Ready Works a f = by_test (slice_index s.pools layout == 0) true Works (try_of h (h.claim layout [])) Works (test_yes (slice_index s.pools layout) 0 a) refl
   asked (Alloc layout) Ready (Claims r won) a f =
       let some = some_cell s layout r.cell a in

@@ -2,7 +2,7 @@
 use Rattle.std.proofs.Common.{◌≡◌, ℕ, ◌==◌, true, false, List, ◌∷◌, if◌then◌else◌, refl, sym, ◌∙◌, subst, IsTrue}
 use Rattle.lemmas.specs.Numbers.{test_yes, test_no}
 use Rattle.pools.specs.Heap.{Setup}
-use Rattle.colours.specs.Steps.{Step, ReadWord, ReadOldValue, Mark, StoreBehindBarrier, StorePlain, Claim, ReadPosted, StoreStage, ReadPostedFirst, EnterStage, ReadPostedAgain}
+use Rattle.colours.specs.Steps.{Step, ReadWord, ReadOldValue, Mark, StoreAfterBarrier, StorePlain, Claim, ReadPosted, StoreStage, ReadPostedFirst, EnterStage, ReadPostedAgain}
 use Rattle.colours.specs.Mutator.{Held, gains, IsPossible}
 use Rattle.colours.specs.Runs.{Event, ByThread, log_of, births_after, given, puts, value_put, IsAlive, IsHeapRun, held}
 use Rattle.runs.specs.Promises.{HeapLaw}
@@ -19,7 +19,7 @@ same_birth_of s h t (Claim cell false) c p x = refl
 same_birth_of s h t (ReadWord cell word value) c p x = refl
 same_birth_of s h t (ReadOldValue cell word value) c p x = refl
 same_birth_of s h t (Mark cell) c p x = refl
-same_birth_of s h t (StoreBehindBarrier cell word value) c p x = refl
+same_birth_of s h t (StoreAfterBarrier cell word value) c p x = refl
 same_birth_of s h t (StorePlain cell word value) c p x = refl
 same_birth_of s h t (ReadPosted stage) c p x = refl
 same_birth_of s h t (StoreStage stage roots) c p x = refl

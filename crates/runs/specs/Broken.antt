@@ -6,7 +6,7 @@ use Rattle.colours.specs.declared.place.Place.TheVariants.{Colour, Word}
 use Rattle.colours.specs.Mutator.{Phase, Ended, HasBegun, phase_of}
 use Rattle.colours.specs.Runs.{word_after}
 use Rattle.runs.specs.Machine.{Reference, Machine}
-use Rattle.runs.specs.Moves.{Move, GoesWrong, ReadsWord, ReadsOldValue, Marks, StoresBehindBarrier, StoresPlain, null, IsIn, steps_of, state_after}
+use Rattle.runs.specs.Moves.{Move, GoesWrong, ReadsWord, ReadsOldValue, Marks, StoresAfterBarrier, StoresPlain, null, IsIn, steps_of, state_after}
 use Rattle.runs.specs.ModuleRuns.{Happening, OfThread, share_of, heap_of, birth_of, birth_in}
 
 -- ---- reachable
@@ -60,7 +60,7 @@ abbrev pub used_by : Move → Option Reference
 used_by (ReadsWord base word value) = Some base
 used_by (ReadsOldValue base word value) = Some base
 used_by (Marks r) = Some r
-used_by (StoresBehindBarrier base word value) = Some base
+used_by (StoresAfterBarrier base word value) = Some base
 used_by (StoresPlain base word value) = Some base
 used_by move = None
 

@@ -10,7 +10,7 @@ use Rattle.colours.specs.Colours.{done}
 use Rattle.colours.specs.Steps.{Step}
 use Rattle.colours.specs.Mutator.{Phase, Ready, MarkingOld, MarkingNew, Writing, Trying, Answering, Ended, Absent, Arriving, Entering, Leaving, HasBegun, stage_of, phase_of, MayFollow}
 use Rattle.runs.specs.Machine.{Reference, Action, Local, Read, StorePlain, Write, Alloc, Safepoint, End, Wrong, Machine}
-use Rattle.runs.specs.Moves.{Move, Works, GoesWrong, ReadsWord, ReadsOldValue, Marks, StoresBehindBarrier, StoresPlain, Claims, ReadsPosted, StoresStage, ReadsPostedFirst, EntersStage, ReadsPostedAgain, IsIn, step_of, logged, steps_of, phase_behind, ends_call, answer_of, state_after, old_of, IsOfTry, AsksFor, Follows, IsAsked, IsShare, HasEnded}
+use Rattle.runs.specs.Moves.{Move, Works, GoesWrong, ReadsWord, ReadsOldValue, Marks, StoresAfterBarrier, StoresPlain, Claims, ReadsPosted, StoresStage, ReadsPostedFirst, EntersStage, ReadsPostedAgain, IsIn, step_of, logged, steps_of, phase_afterwards, ends_call, answer_of, state_after, old_of, IsOfTry, AsksFor, Follows, IsAsked, IsShare, HasEnded}
 use Rattle.runs.specs.Discipline.{Holds, MayName, MayPut, KeepsTo, ArePossible, MayCall}
 use Rattle.runs.specs.Broken.{IsUnderWay}
 use Rattle.runs.specs.Soundness.{EndsCall, Grows, IsSound, AreSound}
@@ -46,7 +46,7 @@ next_at : (s : Setup) (m : Machine) (Sound : List Move → m.State → Type 0) (
     → AsksFor s roots (old_of share) action phase move → MayCall s share action
     → (EndsCall s roots action move → Sound (move ∷ share) (m.after_answer state (answer_of action move)))
     → (IsQuiet move → Sound (move ∷ share) state)
-    → Stands s m Sound share state action (phase_behind s stage phase (step_of move)) move
+    → Stands s m Sound share state action (phase_afterwards s stage phase (step_of move)) move
 next_at s m Sound share state roots stage Local Ready Works a k ends mid = inr (ends tt, tt, tt)
 next_at s m Sound share state roots stage Wrong Ready GoesWrong a k ends mid = absurd k
 next_at s m Sound share state roots stage (Read base word) Ready (ReadsWord b w v) a k ends mid = inr (ends a, tt, tt)
@@ -58,8 +58,8 @@ next_at s m Sound share state roots stage (Write base word value) Ready (ReadsOl
     go false e = inr (mid tt, inl (refl, rw (a.0, a.1) (k.1), test_false v.cell 0 e), tt)
 next_at s m Sound share state roots stage (Write base word value) (MarkingOld c i o) (Marks r) a k ends mid = inr (mid tt, tt, tt)
 next_at s m Sound share state roots stage (Write base word value) (MarkingNew c i o) (Marks r) a k ends mid = inr (mid tt, tt, tt)
-next_at s m Sound share state roots stage (Write base word value) (MarkingNew c i o) (StoresBehindBarrier b w v) a k ends mid = inr (ends a, tt, tt)
-next_at s m Sound share state roots stage (Write base word value) (Writing c i o n) (StoresBehindBarrier b w v) a k ends mid = inr (ends a, tt, tt)
+next_at s m Sound share state roots stage (Write base word value) (MarkingNew c i o) (StoresAfterBarrier b w v) a k ends mid = inr (ends a, tt, tt)
+next_at s m Sound share state roots stage (Write base word value) (Writing c i o n) (StoresAfterBarrier b w v) a k ends mid = inr (ends a, tt, tt)
 next_at s m Sound share state roots stage (Alloc layout) Ready Works a k ends mid = inr (ends a, tt, tt)
 next_at s m Sound share state roots stage (Alloc layout) Ready (Claims r true) a k ends mid = inr (ends a, tt, tt)
 next_at s m Sound share state roots stage (Alloc layout) Ready (Claims r false) a k ends mid = go (length (r.cell ∷ []) == slice_index s.pools (layout_of s r.cell))
@@ -131,8 +131,8 @@ keeps_at s share roots stage (Write base word value) Ready (ReadsOldValue b w v)
 keeps_at s share roots stage (Write base word value) (MarkingOld c i old) (Marks r) a k n o f = rw a o
 keeps_at s share roots stage (Write base word value) (MarkingNew c i old) (Marks r) a k n o f =
     rw a (held_of s share value (put_named s share (kind_of s base.cell word) value k.1 k.2) (λ z. f.1 (ap (λ (q : Reference). q.cell) a ∙ z)))
-keeps_at s share roots stage (Write base word value) (MarkingNew c i old) (StoresBehindBarrier b w v) a k n o f = rw (a.0, a.1, a.2) k
-keeps_at s share roots stage (Write base word value) (Writing c i old new) (StoresBehindBarrier b w v) a k n o f = rw (a.0, a.1, a.2) k
+keeps_at s share roots stage (Write base word value) (MarkingNew c i old) (StoresAfterBarrier b w v) a k n o f = rw (a.0, a.1, a.2) k
+keeps_at s share roots stage (Write base word value) (Writing c i old new) (StoresAfterBarrier b w v) a k n o f = rw (a.0, a.1, a.2) k
 keeps_at s share roots stage (Alloc layout) Ready Works a k n o f = tt
 keeps_at s share roots stage (Alloc layout) Ready (Claims r won) a k n o f = tt
 keeps_at s share roots stage (Alloc layout) (Trying tried) (Claims r won) a k n o f = tt
@@ -148,7 +148,7 @@ keeps_at s share roots stage action phase move a k n o f = absurd a
 abbrev TryGoesOn : Setup → List Move → (phase next : Phase) → Move → Type 0
 TryGoesOn s share phase next move = (HasBegun phase → ⊥) × (ends_call move next ≡ false) × Old s (move ∷ share) next
 
-try_at : (s : Setup) (share : List Move) (stage : ℕ) (phase : Phase) (move : Move) → IsOfTry phase move → TryGoesOn s share phase (phase_behind s stage phase (step_of move)) move
+try_at : (s : Setup) (share : List Move) (stage : ℕ) (phase : Phase) (move : Move) → IsOfTry phase move → TryGoesOn s share phase (phase_afterwards s stage phase (step_of move)) move
 try_at s share stage Absent (ReadsPostedFirst posted) a = (λ x. x, refl, tt)
 try_at s share stage (Arriving posted) (EntersStage next) a = (λ x. x, refl, tt)
 try_at s share stage Entering (ReadsPostedAgain posted) a = (λ x. x, refl, go (posted == stage))
@@ -185,7 +185,7 @@ no_move s roots old phase action move e a = go action (subst (λ (x : Phase). Is
     go End (inr a) = a
 
 -- where a thread is after a move, by its step
-pub phase_with : (s : Setup) (t : ℕ) (log : List Step) (o : Option Step) → phase_behind s (stage_of log) (phase_of s t log) o ≡ phase_of s t (logged o log)
+pub phase_with : (s : Setup) (t : ℕ) (log : List Step) (o : Option Step) → phase_afterwards s (stage_of log) (phase_of s t log) o ≡ phase_of s t (logged o log)
 phase_with s t log None = refl
 phase_with s t log (Some step) = refl
 
@@ -199,14 +199,14 @@ record Standing (s : Setup) (m : Machine) (t : ℕ) (start : m.State) (Sound : L
   old : Old s share phase
   place : HasBegun phase ⊎ (state ≡ start)
 
-behind : (s : Setup) (m : Machine) (t : ℕ) (start : m.State) (Sound : List Move → m.State → Type 0) → IsSound s m Sound → Sound [] start → (share : List Move) → IsShare s m t start share → ArePossible s share
+afterwards : (s : Setup) (m : Machine) (t : ℕ) (start : m.State) (Sound : List Move → m.State → Type 0) → IsSound s m Sound → Sound [] start → (share : List Move) → IsShare s m t start share → ArePossible s share
     → HasEnded s t share ⊎ Standing s m t start Sound share (state_after s m t start share) (phase_of s t (steps_of share))
-behind s m t start Sound sound first [] h p = inr (record { facts = first; old = go (is_late s t); place = inr refl })
+afterwards s m t start Sound sound first [] h p = inr (record { facts = first; old = go (is_late s t); place = inr refl })
   where
     go : (b : Bool) → Old s [] (if b then Absent else Ready)
     go true = tt
     go false = tt
-behind s m t start Sound sound first (move ∷ share) h p = go (behind s m t start Sound sound first share h.0 p.0) h.1.1
+afterwards s m t start Sound sound first (move ∷ share) h p = go (afterwards s m t start Sound sound first share h.0 p.0) h.1.1
   where
     state : m.State
     state = state_after s m t start share
@@ -220,14 +220,14 @@ behind s m t start Sound sound first (move ∷ share) h p = go (behind s m t sta
     Goal : Phase → Type 0
     Goal next = (next ≡ Ended) ⊎ Standing s m t start Sound (move ∷ share) (if ends_call move next then m.after_answer state (answer_of (m.action state) move) else state) next
 
-    of_call : Stands s m Sound share state (m.action state) (phase_behind s (stage_of log) phase (step_of move)) move → Goal (phase_behind s (stage_of log) phase (step_of move))
+    of_call : Stands s m Sound share state (m.action state) (phase_afterwards s (stage_of log) phase (step_of move)) move → Goal (phase_afterwards s (stage_of log) phase (step_of move))
     of_call (inl e) = inl e
     of_call (inr x) = inr (record { facts = x.0; old = x.1; place = inl x.2 })
 
-    of_try : TryGoesOn s share phase (phase_behind s (stage_of log) phase (step_of move)) move → HasBegun phase ⊎ (state ≡ start) → Goal (phase_behind s (stage_of log) phase (step_of move))
+    of_try : TryGoesOn s share phase (phase_afterwards s (stage_of log) phase (step_of move)) move → HasBegun phase ⊎ (state ≡ start) → Goal (phase_afterwards s (stage_of log) phase (step_of move))
     of_try x (inl b) = absurd (x.0 b)
     of_try x (inr e) =
-        let stays : (if ends_call move (phase_behind s (stage_of log) phase (step_of move)) then m.after_answer state (answer_of (m.action state) move) else state) ≡ start = rw x.1 e in
+        let stays : (if ends_call move (phase_afterwards s (stage_of log) phase (step_of move)) then m.after_answer state (answer_of (m.action state) move) else state) ≡ start = rw x.1 e in
         let anew : Sound (move ∷ share) start = sound.grows [] (move ∷ share) start first (record { held = λ r h. absurd h; fresh = λ c f. absurd f }) in
         inr (record { facts = subst (λ (q : m.State). Sound (move ∷ share) q) (sym stays) anew; old = x.2; place = inr stays })
 
@@ -250,7 +250,7 @@ careful s m t start Sound sound first = record {
 }
   where
     call_may : (share : List Move) → IsShare s m t start share → ArePossible s share → phase_of s t (steps_of share) ≡ Ready → MayCall s share (m.action (state_after s m t start share))
-    call_may share h p z = go (behind s m t start Sound sound first share h p)
+    call_may share h p z = go (afterwards s m t start Sound sound first share h p)
       where
         go : (HasEnded s t share ⊎ Standing s m t start Sound share (state_after s m t start share) (phase_of s t (steps_of share))) → MayCall s share (m.action (state_after s m t start share))
         go (inl e) = absurd (apart (sym z ∙ e))
@@ -260,7 +260,7 @@ careful s m t start Sound sound first = record {
         go (inr y) = sound.calls share (state_after s m t start share) y.facts
 
     move_kept : (share : List Move) (move : Move) → IsShare s m t start share → ArePossible s share → IsAsked s m t start share move → KeepsTo s share move
-    move_kept share move h p a = go (behind s m t start Sound sound first share h p) a.1
+    move_kept share move h p a = go (afterwards s m t start Sound sound first share h p) a.1
       where
         state : m.State
         state = state_after s m t start share
@@ -276,7 +276,7 @@ careful s m t start Sound sound first = record {
             (sound.calls share state y.facts) (sound.roots share state y.facts) y.old (follows s t (steps_of share) (step_of move) a.0)
 
     root_named : (share : List Move) → IsShare s m t start share → ArePossible s share → IsUnderWay (phase_of s t (steps_of share)) → (r : Reference) → IsIn r (m.roots (state_after s m t start share)) → MayName s share r
-    root_named share h p n r x = go (behind s m t start Sound sound first share h p)
+    root_named share h p n r x = go (afterwards s m t start Sound sound first share h p)
       where
         go : (HasEnded s t share ⊎ Standing s m t start Sound share (state_after s m t start share) (phase_of s t (steps_of share))) → MayName s share r
         go (inl e) = absurd (subst (λ (q : Phase). IsUnderWay q) e n)

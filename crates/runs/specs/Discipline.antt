@@ -6,7 +6,7 @@ use Rattle.pools.specs.Heap.{Setup, kind_of, IsOfLayout}
 use Rattle.pools.specs.Layouts.{is_reference_kind}
 use Rattle.colours.specs.Mutator.{Fresh, IsPossible}
 use Rattle.runs.specs.Machine.{Reference, Action, Read, StorePlain, Write, Wrong}
-use Rattle.runs.specs.Moves.{Move, GoesWrong, ReadsWord, ReadsOldValue, Marks, StoresBehindBarrier, StoresPlain, Claims, StoresStage, null, IsIn, step_of, steps_of}
+use Rattle.runs.specs.Moves.{Move, GoesWrong, ReadsWord, ReadsOldValue, Marks, StoresAfterBarrier, StoresPlain, Claims, StoresStage, null, IsIn, step_of, steps_of}
 
 -- ---- what is held
 
@@ -49,7 +49,7 @@ KeepsTo s share GoesWrong = ⊥
 KeepsTo s share (ReadsWord base word value) = MayTouch s share base × (kind_of s base.cell word ≢ None)
 KeepsTo s share (ReadsOldValue base word value) = MayTouch s share base × IsTrue (is_reference_kind (kind_of s base.cell word))
 KeepsTo s share (Marks r) = Holds s share r
-KeepsTo s share (StoresBehindBarrier base word value) =
+KeepsTo s share (StoresAfterBarrier base word value) =
     MayTouch s share base × IsTrue (is_reference_kind (kind_of s base.cell word)) × MayPut s share (kind_of s base.cell word) value
 KeepsTo s share (StoresPlain base word value) =
     MayTouch s share base × (IsTrue (is_reference_kind (kind_of s base.cell word)) → Fresh s (steps_of share) base.cell) × MayPut s share (kind_of s base.cell word) value

@@ -7,7 +7,7 @@ use Rattle.colours.specs.Collector.{Collection, Collects}
 use Rattle.colours.specs.Mutator.{Phase, Ready, Absent, stage_of, phase_of}
 use Rattle.colours.specs.Runs.{word_after, turns_of}
 use Rattle.runs.specs.Machine.{Reference, Machine}
-use Rattle.runs.specs.Moves.{Move, ReadsOldValue, StoresStage, EntersStage, null, step_of, steps_of, phase_behind, ends_call, answer_of, state_after, old_of}
+use Rattle.runs.specs.Moves.{Move, ReadsOldValue, StoresStage, EntersStage, null, step_of, steps_of, phase_afterwards, ends_call, answer_of, state_after, old_of}
 use Rattle.runs.specs.ModuleRuns.{Happening, OfThread, OfCollector, share_of, heap_of, birth_of, birth_in}
 use Rattle.runs.specs.NextMoves.{Sight, next_move, next_move_in}
 use Rattle.runs.specs.Tries.{AreHints, hints_by}
@@ -23,7 +23,7 @@ pub record Standing (State : Type 0) : Type 0 where
 -- ---- one thread
 
 -- the thread has this state after its share
-pub record StandsBehind (s : Setup) (m : Machine) (starts : ℕ → m.State) (run : List Happening) (t : ℕ) (stand : Standing m.State) : Type 0 where
+pub record StandsAfter (s : Setup) (m : Machine) (starts : ℕ → m.State) (run : List Happening) (t : ℕ) (stand : Standing m.State) : Type 0 where
   pub state : stand.state ≡ state_after s m t (starts t) (share_of t run)
   pub stage : stand.stage ≡ stage_of (steps_of (share_of t run))
   pub phase : stand.phase ≡ phase_of s t (steps_of (share_of t run))
@@ -35,10 +35,10 @@ abbrev pub begun : (s : Setup) (m : Machine) (starts : ℕ → m.State) (thread 
 begun s m starts t = record { state = starts t; stage = 0; phase = if is_late s t then Absent else Ready; old = null; hints = replicate (length s.pools) 0 }
 
 -- the stage after a move
-abbrev pub stage_behind : (stage : ℕ) → Move → ℕ
-stage_behind stage (StoresStage next roots) = next
-stage_behind stage (EntersStage next) = next
-stage_behind stage move = stage
+abbrev pub stage_afterwards : (stage : ℕ) → Move → ℕ
+stage_afterwards stage (StoresStage next roots) = next
+stage_afterwards stage (EntersStage next) = next
+stage_afterwards stage move = stage
 
 -- what a write under way has read, if this was its move
 abbrev pub old_by : Move → Reference
@@ -48,9 +48,9 @@ old_by move = null
 -- the thread after a move
 abbrev pub moved : (s : Setup) (m : Machine) → Standing m.State → Move → Standing m.State
 moved s m stand move = record {
-  state = if ends_call move (phase_behind s stand.stage stand.phase (step_of move)) then m.after_answer stand.state (answer_of (m.action stand.state) move) else stand.state;
-  stage = stage_behind stand.stage move;
-  phase = phase_behind s stand.stage stand.phase (step_of move);
+  state = if ends_call move (phase_afterwards s stand.stage stand.phase (step_of move)) then m.after_answer stand.state (answer_of (m.action stand.state) move) else stand.state;
+  stage = stage_afterwards stand.stage move;
+  phase = phase_afterwards s stand.stage stand.phase (step_of move);
   old = old_by move;
   hints = hints_by s stand.hints (step_of move);
 }
@@ -62,9 +62,9 @@ next_move_of s m h stand = next_move s h stand.stage (m.roots stand.state) stand
 -- how a thread goes on from where it is after a run: its next move, and where it is after one more happening
 pub record GoesOn (s : Setup) (m : Machine) (starts : ℕ → m.State) (run : List Happening) (t : ℕ) (stand : Standing m.State) : Type 0 where
   pub next : (h : Sight) → next_move_of s m h stand ≡ next_move_in s m starts run h t
-  pub own : (move : Move) → StandsBehind s m starts (OfThread t move ∷ run) t (moved s m stand move)
-  pub other : (u : ℕ) (move : Move) → u ≢ t → StandsBehind s m starts (OfThread u move ∷ run) t stand
-  pub collector : (turn : Turn) → StandsBehind s m starts (OfCollector turn ∷ run) t stand
+  pub own : (move : Move) → StandsAfter s m starts (OfThread t move ∷ run) t (moved s m stand move)
+  pub other : (u : ℕ) (move : Move) → u ≢ t → StandsAfter s m starts (OfThread u move ∷ run) t stand
+  pub collector : (turn : Turn) → StandsAfter s m starts (OfCollector turn ∷ run) t stand
 
 -- ---- the whole end
 
@@ -86,7 +86,7 @@ pub record IsInWord (s : Setup) (run : List Happening) (cell word : ℕ) (r : Re
 -- the run ends in this state
 pub record IsEndOf (s : Setup) (m : Machine) (starts : ℕ → m.State) (run : List Happening) (w : WorldState m.State) : Type 0 where
   pub count : length w.threads ≡ s.threads
-  pub threads : (t : ℕ) (stand : Standing m.State) → slice_get w.threads t ≡ Some stand → StandsBehind s m starts run t stand
+  pub threads : (t : ℕ) (stand : Standing m.State) → slice_get w.threads t ≡ Some stand → StandsAfter s m starts run t stand
   pub stages : (t : ℕ) → slice_index w.stages t ≡ word_after s (heap_of run) (Stage t)
   pub posted : w.posted ≡ word_after s (heap_of run) Posted
   pub colours : (c : ℕ) → slice_index w.colours c ≡ word_after s (heap_of run) (Colour c)

@@ -6,7 +6,7 @@ use Rattle.colours.specs.declared.turn.Turn.TheVariants.{ClearWord}
 use Rattle.colours.specs.Steps.{Step}
 use Rattle.colours.specs.Runs.{Event, ByThread, ByCollector, births_after, MayHappen}
 use Rattle.runs.specs.Machine.{Machine}
-use Rattle.runs.specs.Moves.{Move, ReadsWord, ReadsOldValue, StoresBehindBarrier, StoresPlain, Claims, step_of, IsAsked}
+use Rattle.runs.specs.Moves.{Move, ReadsWord, ReadsOldValue, StoresAfterBarrier, StoresPlain, Claims, step_of, IsAsked}
 
 -- a thread's move or a step of the collector
 pub data Happening : Type 0 where
@@ -40,7 +40,7 @@ birth_of s run c = (births_after s (heap_of run)).of_cell c
 
 -- of the reference that a move leaves in a word, from the birth that was there
 abbrev pub left_birth : Move → (cell word birth : ℕ) → ℕ
-left_birth (StoresBehindBarrier base word value) c i b = if (base.cell == c) && (word == i) then value.birth else b
+left_birth (StoresAfterBarrier base word value) c i b = if (base.cell == c) && (word == i) then value.birth else b
 left_birth (StoresPlain base word value) c i b = if (base.cell == c) && (word == i) then value.birth else b
 left_birth move c i b = b
 

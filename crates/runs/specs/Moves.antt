@@ -15,7 +15,7 @@ pub data Move : Type 0 where
   ReadsWord : (base : Reference) (word : ℕ) (value : Reference) → Move
   ReadsOldValue : (base : Reference) (word : ℕ) (value : Reference) → Move
   Marks : Reference → Move
-  StoresBehindBarrier : (base : Reference) (word : ℕ) (value : Reference) → Move
+  StoresAfterBarrier : (base : Reference) (word : ℕ) (value : Reference) → Move
   StoresPlain : (base : Reference) (word : ℕ) (value : Reference) → Move
   Claims : Reference → (won : Bool) → Move  -- with the birth that the claim gives
   ReadsPosted : (stage : ℕ) → Move
@@ -47,7 +47,7 @@ step_of GoesWrong = None
 step_of (ReadsWord base word value) = Some (step.ReadWord base.cell word value.cell)
 step_of (ReadsOldValue base word value) = Some (step.ReadOldValue base.cell word value.cell)
 step_of (Marks r) = Some (step.Mark r.cell)
-step_of (StoresBehindBarrier base word value) = Some (step.StoreBehindBarrier base.cell word value.cell)
+step_of (StoresAfterBarrier base word value) = Some (step.StoreAfterBarrier base.cell word value.cell)
 step_of (StoresPlain base word value) = Some (step.StorePlain base.cell word value.cell)
 step_of (Claims r won) = Some (step.Claim r.cell won)
 step_of (ReadsPosted stage) = Some (step.ReadPosted stage)
@@ -67,9 +67,9 @@ steps_of [] = []
 steps_of (move ∷ share) = logged (step_of move) (steps_of share)
 
 -- where the thread is after a step, if it is one
-abbrev pub phase_behind : Setup → (stage : ℕ) → Phase → Option Step → Phase
-phase_behind s stage phase None = phase
-phase_behind s stage phase (Some step) = phase_after s stage phase step
+abbrev pub phase_afterwards : Setup → (stage : ℕ) → Phase → Option Step → Phase
+phase_afterwards s stage phase None = phase
+phase_afterwards s stage phase (Some step) = phase_after s stage phase step
 
 -- ---- the thread's state
 
@@ -127,8 +127,8 @@ AsksFor s roots old (StorePlain base word value) Ready (StoresPlain b w v) = (b 
 AsksFor s roots old (Write base word value) Ready (ReadsOldValue b w v) = (b ≡ base) × (w ≡ word)
 AsksFor s roots old (Write base word value) (MarkingOld c i o) (Marks r) = r ≡ old
 AsksFor s roots old (Write base word value) (MarkingNew c i o) (Marks r) = r ≡ value
-AsksFor s roots old (Write base word value) (MarkingNew c i o) (StoresBehindBarrier b w v) = (b ≡ base) × (w ≡ word) × (v ≡ value)
-AsksFor s roots old (Write base word value) (Writing c i o n) (StoresBehindBarrier b w v) = (b ≡ base) × (w ≡ word) × (v ≡ value)
+AsksFor s roots old (Write base word value) (MarkingNew c i o) (StoresAfterBarrier b w v) = (b ≡ base) × (w ≡ word) × (v ≡ value)
+AsksFor s roots old (Write base word value) (Writing c i o n) (StoresAfterBarrier b w v) = (b ≡ base) × (w ≡ word) × (v ≡ value)
 AsksFor s roots old (Alloc layout) Ready Works = slice_index s.pools layout ≡ 0
 AsksFor s roots old (Alloc layout) Ready (Claims r won) = IsOfLayout s layout r.cell
 AsksFor s roots old (Alloc layout) (Trying tried) (Claims r won) = IsOfLayout s layout r.cell

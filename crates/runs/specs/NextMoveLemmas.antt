@@ -11,7 +11,7 @@ use Rattle.colours.specs.Steps.{Step, Found, ask_of, place_of}
 use Rattle.colours.specs.Mutator.{Phase, Ready, MarkingOld, MarkingNew, Writing, Trying, Answering, Ended, Absent, Arriving, Entering, Leaving, is_between, MayFollow, non_null, stage_of, phase_of}
 use Rattle.colours.specs.Runs.{ByThread, log_of, word_after, MayHappen}
 use Rattle.runs.specs.Machine.{Reference, Action, Local, Read, StorePlain, Write, Alloc, Safepoint, End, Wrong, Machine}
-use Rattle.runs.specs.Moves.{Move, Works, GoesWrong, ReadsWord, ReadsOldValue, Marks, StoresBehindBarrier, StoresPlain, Claims, ReadsPosted, StoresStage, ReadsPostedFirst, EntersStage, ReadsPostedAgain, null, cells_of, IsIn, step_of, steps_of, phase_behind, ends_call, answer_of, state_after, next_root, old_of, IsOfTry, AsksFor, Follows, IsShare}
+use Rattle.runs.specs.Moves.{Move, Works, GoesWrong, ReadsWord, ReadsOldValue, Marks, StoresAfterBarrier, StoresPlain, Claims, ReadsPosted, StoresStage, ReadsPostedFirst, EntersStage, ReadsPostedAgain, null, cells_of, IsIn, step_of, steps_of, phase_afterwards, ends_call, answer_of, state_after, next_root, old_of, IsOfTry, AsksFor, Follows, IsShare}
 use Rattle.runs.specs.ModuleRuns.{Happening, OfThread, share_of, heap_of, FindsBirth, IsNext}
 use Rattle.runs.specs.NextMoves.{Sight, IsSightOf, next_move, next_move_in, mark_or_answer, try_of, TriesInPool, NextMovesAreNext}
 use Rattle.runs.specs.Shares.{same_cell, is_share, log_is}
@@ -96,7 +96,7 @@ Fits roots old Safepoint (Answering next marked) = IsTrue (is_async next) → re
 Fits roots old action phase = ⊥
 
 fits_at : (s : Setup) (stage : ℕ) (roots : List Reference) (share : List Move) (action : Action) (phase : Phase) (move : Move) → AsksFor s roots (old_of share) action phase move
-    → Fits roots (old_of share) action phase → Fits roots (old_of (move ∷ share)) action (phase_behind s stage phase (step_of move))
+    → Fits roots (old_of share) action phase → Fits roots (old_of (move ∷ share)) action (phase_afterwards s stage phase (step_of move))
 fits_at s stage roots share Local Ready Works a f = tt
 fits_at s stage roots share Wrong Ready GoesWrong a f = tt
 fits_at s stage roots share (Read base word) Ready (ReadsWord b w v) a f = tt
@@ -108,8 +108,8 @@ fits_at s stage roots share (Write base word value) Ready (ReadsOldValue b w v) 
     go false = (same_cell a.0, a.1, refl)
 fits_at s stage roots share (Write base word value) (MarkingOld c i o) (Marks r) a f = (f.0, f.1)
 fits_at s stage roots share (Write base word value) (MarkingNew c i o) (Marks r) a f = (f.0, f.1, same_cell a)
-fits_at s stage roots share (Write base word value) (MarkingNew c i o) (StoresBehindBarrier b w v) a f = tt
-fits_at s stage roots share (Write base word value) (Writing c i o n) (StoresBehindBarrier b w v) a f = tt
+fits_at s stage roots share (Write base word value) (MarkingNew c i o) (StoresAfterBarrier b w v) a f = tt
+fits_at s stage roots share (Write base word value) (Writing c i o n) (StoresAfterBarrier b w v) a f = tt
 fits_at s stage roots share (Alloc layout) Ready Works a f = tt
 fits_at s stage roots share (Alloc layout) Ready (Claims r true) a f = tt
 fits_at s stage roots share (Alloc layout) Ready (Claims r false) a f = go (length (r.cell ∷ []) == slice_index s.pools (layout_of s r.cell))
@@ -143,7 +143,7 @@ fits_at s stage roots share action phase move a f = absurd a
 
 -- to a late thread's try each action fits
 fits_try : (s : Setup) (stage : ℕ) (roots : List Reference) (old : Reference) (action : Action) (phase : Phase) (move : Move) → IsOfTry phase move
-    → Fits roots old action (phase_behind s stage phase (step_of move))
+    → Fits roots old action (phase_afterwards s stage phase (step_of move))
 fits_try s stage roots old action Absent (ReadsPostedFirst posted) a = tt
 fits_try s stage roots old action (Arriving posted) (EntersStage next) a = tt
 fits_try s stage roots old action Entering (ReadsPostedAgain posted) a = go (posted == stage)
@@ -193,7 +193,7 @@ fits s m t start (move ∷ share) h =
     phase : Phase
     phase = phase_of s t (steps_of share)
 
-    go : Fits (m.roots state) (old_of share) (m.action state) phase → IsOfTry phase move ⊎ AsksFor s (m.roots state) (old_of share) (m.action state) phase move → Fits (m.roots state) (old_of (move ∷ share)) (m.action state) (phase_behind s stage phase (step_of move))
+    go : Fits (m.roots state) (old_of share) (m.action state) phase → IsOfTry phase move ⊎ AsksFor s (m.roots state) (old_of share) (m.action state) phase move → Fits (m.roots state) (old_of (move ∷ share)) (m.action state) (phase_afterwards s stage phase (step_of move))
     go f (inl a) = fits_try s stage (m.roots state) (old_of (move ∷ share)) (m.action state) phase move a
     go f (inr a) = fits_at s stage (m.roots state) share (m.action state) phase move a f
 
@@ -220,7 +220,7 @@ chosen s h stage roots old (Write base word value) (MarkingOld i w o) f c = (sym
 chosen s h stage roots old (Write base word value) (MarkingNew i w o) f c = go (is_async stage) (value.cell == 0) refl refl
   where
     go : (a z : Bool) → is_async stage ≡ a → (value.cell == 0) ≡ z
-        → IsFine s stage roots old (Write base word value) (MarkingNew i w o) (if a || z then StoresBehindBarrier base word value else Marks value)
+        → IsFine s stage roots old (Write base word value) (MarkingNew i w o) (if a || z then StoresAfterBarrier base word value else Marks value)
     go true z e n = ((sym f.0, sym f.1, λ x. absurd cc), inr (refl, refl, refl))
     go false true e n = ((sym f.0, sym f.1, λ x. test_true value.cell 0 n), inr (refl, refl, refl))
     go false false e n = ((e, test_false value.cell 0 n), inr refl)
@@ -288,7 +288,7 @@ found_at s run h k t stage roots old (Write base word value) Ready = (sym (k.wor
 found_at s run h k t stage roots old (Write base word value) (MarkingOld i w o) = (tt, tt)
 found_at s run h k t stage roots old (Write base word value) (MarkingNew i w o) = go (is_async stage || (value.cell == 0))
   where
-    go : (z : Bool) → StandsThere s run t stage (if z then StoresBehindBarrier base word value else Marks value)
+    go : (z : Bool) → StandsThere s run t stage (if z then StoresAfterBarrier base word value else Marks value)
     go true = (tt, tt)
     go false = (tt, tt)
 found_at s run h k t stage roots old (Write base word value) (Writing i w o n) = (tt, tt)

@@ -6,7 +6,7 @@ use Rattle.colours.specs.Colours.{is_async, done}
 use Rattle.colours.specs.Mutator.{Phase, Ready, MarkingOld, MarkingNew, Writing, Trying, Answering, Ended, Absent, Arriving, Entering, Leaving, MayTry, stage_of, phase_of}
 use Rattle.colours.specs.Runs.{word_after}
 use Rattle.runs.specs.Machine.{Reference, Action, Local, Read, StorePlain, Write, Alloc, Safepoint, End, Wrong, Machine}
-use Rattle.runs.specs.Moves.{Move, Works, GoesWrong, ReadsWord, ReadsOldValue, Marks, StoresBehindBarrier, StoresPlain, Claims, ReadsPosted, StoresStage, ReadsPostedFirst, EntersStage, ReadsPostedAgain, next_root, steps_of, state_after, old_of}
+use Rattle.runs.specs.Moves.{Move, Works, GoesWrong, ReadsWord, ReadsOldValue, Marks, StoresAfterBarrier, StoresPlain, Claims, ReadsPosted, StoresStage, ReadsPostedFirst, EntersStage, ReadsPostedAgain, next_root, steps_of, state_after, old_of}
 use Rattle.runs.specs.ModuleRuns.{Happening, OfThread, share_of, heap_of, birth_of, birth_in, IsNext, IsModuleRun}
 
 -- the contents of the heap, and the order in which cells are tried
@@ -39,8 +39,8 @@ next_move s h stage roots old (StorePlain base word value) Ready = Some (StoresP
 next_move s h stage roots old (Write base word value) Ready = Some (ReadsOldValue base word (h.word base.cell word))
 next_move s h stage roots old (Write base word value) (MarkingOld c i o) = Some (Marks old)
 next_move s h stage roots old (Write base word value) (MarkingNew c i o) =
-    Some (if is_async stage || (value.cell == 0) then StoresBehindBarrier base word value else Marks value)
-next_move s h stage roots old (Write base word value) (Writing c i o n) = Some (StoresBehindBarrier base word value)
+    Some (if is_async stage || (value.cell == 0) then StoresAfterBarrier base word value else Marks value)
+next_move s h stage roots old (Write base word value) (Writing c i o n) = Some (StoresAfterBarrier base word value)
 next_move s h stage roots old (Alloc layout) Ready = Some (if slice_index s.pools layout == 0 then Works else try_of h (h.claim layout []))
 next_move s h stage roots old (Alloc layout) (Trying tried) = Some (try_of h (h.claim layout tried))
 next_move s h stage roots old Safepoint Ready = Some (ReadsPosted h.posted)
@@ -65,8 +65,8 @@ pub record IsSightOf (s : Setup) (run : List Happening) (h : Sight) : Type 0 whe
   pub claim_birth : (layout : ℕ) (tried : List ℕ) → (h.claim layout tried).birth ≡ suc (birth_of s run (h.claim layout tried).cell)
 
 -- that sight, where cells are tried in this order
-abbrev pub sight_behind : Setup → List Happening → (order : (layout : ℕ) → (tried : List ℕ) → ℕ) → Sight
-sight_behind s run order = record {
+abbrev pub sight_after : Setup → List Happening → (order : (layout : ℕ) → (tried : List ℕ) → ℕ) → Sight
+sight_after s run order = record {
   word = λ c i. record { cell = word_after s (heap_of run) (Word c i); birth = birth_in run c i };
   posted = word_after s (heap_of run) Posted;
   claim = λ layout tried. record { cell = order layout tried; birth = suc (birth_of s run (order layout tried)) };
@@ -80,8 +80,8 @@ TriesInPool s h (Alloc layout) (Trying tried) = MayTry s tried (h.claim layout t
 TriesInPool s h action phase = Unit {0}
 
 -- the same for a thread after a run
-abbrev pub TriesInPoolBehind : (s : Setup) (m : Machine) (starts : ℕ → m.State) → List Happening → Sight → (thread : ℕ) → Type 0
-TriesInPoolBehind s m starts run h t =
+abbrev pub TriesInPoolAfter : (s : Setup) (m : Machine) (starts : ℕ → m.State) → List Happening → Sight → (thread : ℕ) → Type 0
+TriesInPoolAfter s m starts run h t =
     TriesInPool s h (m.action (state_after s m t (starts t) (share_of t run))) (phase_of s t (steps_of (share_of t run)))
 
 -- after every run, the next move of a thread from the heap there may happen next. There is one unless the thread has ended
@@ -92,7 +92,7 @@ pub record NextMoveIsNext (s : Setup) (m : Machine) (starts : ℕ → m.State) (
 -- the law of next moves
 abbrev pub NextMovesAreNext : (s : Setup) (m : Machine) → Type 0
 NextMovesAreNext s m = (starts : ℕ → m.State) (run : List Happening) (h : Sight) (t : ℕ) → IsModuleRun s m starts run → IsSightOf s run h → t < s.threads
-    → TriesInPoolBehind s m starts run h t → NextMoveIsNext s m starts run h t
+    → TriesInPoolAfter s m starts run h t → NextMoveIsNext s m starts run h t
 
 -- a move is this one; where both try a cell, they are one if their cells are
 abbrev pub IsThisMove : (next move : Move) → Type 0

@@ -10,12 +10,12 @@ use Rattle.pools.specs.Layouts.{is_reference_kind}
 use Rattle.colours.specs.declared.place.Place.TheVariants.{Word}
 use Rattle.colours.specs.declared.turn.Turn.{Turn}
 use Rattle.colours.specs.declared.turn.Turn.TheVariants.{PostStage, ReadStage, MarkFound, ReadColour, ScanWord, Blacken, ClearWord, Free}
-use Rattle.colours.specs.Steps.{Step, ReadWord, ReadOldValue, Mark, StoreBehindBarrier, StorePlain, Claim, ReadPosted, StoreStage, ReadPostedFirst, EnterStage, ReadPostedAgain}
+use Rattle.colours.specs.Steps.{Step, ReadWord, ReadOldValue, Mark, StoreAfterBarrier, StorePlain, Claim, ReadPosted, StoreStage, ReadPostedFirst, EnterStage, ReadPostedAgain}
 use Rattle.colours.specs.Mutator.{Held, Keeps, IsDisciplined, IsPossible, phase_of}
 use Rattle.colours.specs.Runs.{Event, ByThread, ByCollector, log_of, word_after, births_after, puts, value_put, IsAlive, IsHeapRun, MayHappen, KeepsDiscipline, Kept, globals, held, further}
 use Rattle.colours.specs.Frames.{word_left}
 use Rattle.runs.specs.Machine.{Reference, Machine}
-use Rattle.runs.specs.Moves.{Move, Works, GoesWrong, ReadsWord, ReadsOldValue, Marks, StoresBehindBarrier, StoresPlain, Claims, ReadsPosted, StoresStage, ReadsPostedFirst, EntersStage, ReadsPostedAgain, step_of, steps_of, state_after, old_of, AsksFor}
+use Rattle.runs.specs.Moves.{Move, Works, GoesWrong, ReadsWord, ReadsOldValue, Marks, StoresAfterBarrier, StoresPlain, Claims, ReadsPosted, StoresStage, ReadsPostedFirst, EntersStage, ReadsPostedAgain, step_of, steps_of, state_after, old_of, AsksFor}
 use Rattle.runs.specs.Discipline.{Brings, Holds, MayTouch, MayName, MayPut, KeepsTo, ArePossible, IsPossibleMove}
 use Rattle.runs.specs.ModuleRuns.{Happening, OfThread, OfCollector, share_of, with_step, heap_of, birth_of, birth_in, FindsBirth, IsNext, IsModuleRun}
 use Rattle.runs.specs.Broken as broken
@@ -80,7 +80,7 @@ brought s run inv t (Claims q won) r b m f =
 brought s run inv t Works r b m f = absurd b
 brought s run inv t GoesWrong r b m f = absurd b
 brought s run inv t (Marks q) r b m f = absurd b
-brought s run inv t (StoresBehindBarrier base word value) r b m f = absurd b
+brought s run inv t (StoresAfterBarrier base word value) r b m f = absurd b
 brought s run inv t (StoresPlain base word value) r b m f = absurd b
 brought s run inv t (ReadsPosted stage) r b m f = absurd b
 brought s run inv t (StoresStage stage roots) r b m f = absurd b
@@ -129,7 +129,7 @@ word_next s run inv t GoesWrong k c i r n = inv.word_births c i r n
 word_next s run inv t (ReadsWord base word value) k c i r n = quiet s run inv t (ReadWord base.cell word value.cell) c i refl r n
 word_next s run inv t (ReadsOldValue base word value) k c i r n = quiet s run inv t (ReadOldValue base.cell word value.cell) c i refl r n
 word_next s run inv t (Marks q) k c i r n = quiet s run inv t (Mark q.cell) c i refl r n
-word_next s run inv t (StoresBehindBarrier base word value) k c i r n = put s run inv t (StoreBehindBarrier base.cell word value.cell) base word value c i refl refl k.2 r n
+word_next s run inv t (StoresAfterBarrier base word value) k c i r n = put s run inv t (StoreAfterBarrier base.cell word value.cell) base word value c i refl refl k.2 r n
 word_next s run inv t (StoresPlain base word value) k c i r n = put s run inv t (StorePlain base.cell word value.cell) base word value c i refl refl k.2 r n
 word_next s run inv t (Claims q won) k c i r n = quiet s run inv t (Claim q.cell won) c i refl r n
 word_next s run inv t (ReadsPosted stage) k c i r n = quiet s run inv t (ReadPosted stage) c i refl r n
@@ -285,7 +285,7 @@ safe s m starts setup law careful run r broken = go broken
     wrong (OfThread t (ReadsWord base word value) ∷ run) e x = x
     wrong (OfThread t (ReadsOldValue base word value) ∷ run) e x = x
     wrong (OfThread t (Marks q) ∷ run) e x = x
-    wrong (OfThread t (StoresBehindBarrier base word value) ∷ run) e x = x
+    wrong (OfThread t (StoresAfterBarrier base word value) ∷ run) e x = x
     wrong (OfThread t (StoresPlain base word value) ∷ run) e x = x
     wrong (OfThread t (Claims q won) ∷ run) e x = x
     wrong (OfThread t (ReadsPosted stage) ∷ run) e x = x
@@ -304,7 +304,7 @@ safe s m starts setup law careful run r broken = go broken
     touch t (ReadsWord base word value) run e k = alive run e t base k.0
     touch t (ReadsOldValue base word value) run e k = alive run e t base k.0
     touch t (Marks q) run e k = alive run e t q (inr k)
-    touch t (StoresBehindBarrier base word value) run e k = alive run e t base k.0
+    touch t (StoresAfterBarrier base word value) run e k = alive run e t base k.0
     touch t (StoresPlain base word value) run e k = alive run e t base k.0
     touch t Works run e k = λ x. x
     touch t GoesWrong run e k = λ x. x

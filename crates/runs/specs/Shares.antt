@@ -10,7 +10,7 @@ use Rattle.colours.specs.Steps.{Step}
 use Rattle.colours.specs.Mutator.{Held, IsAmong, Keeps, gains, IsDisciplined, IsPossible, IsPossibleLog, MayUse, MayStore}
 use Rattle.colours.specs.Runs.{Event, ByThread, log_of, IsRun, MayHappen}
 use Rattle.runs.specs.Machine.{Reference, Machine}
-use Rattle.runs.specs.Moves.{Move, Works, GoesWrong, ReadsWord, ReadsOldValue, Marks, StoresBehindBarrier, StoresPlain, Claims, ReadsPosted, StoresStage, ReadsPostedFirst, EntersStage, ReadsPostedAgain, cells_of, IsIn, step_of, logged, steps_of, IsShare, IsAsked}
+use Rattle.runs.specs.Moves.{Move, Works, GoesWrong, ReadsWord, ReadsOldValue, Marks, StoresAfterBarrier, StoresPlain, Claims, ReadsPosted, StoresStage, ReadsPostedFirst, EntersStage, ReadsPostedAgain, cells_of, IsIn, step_of, logged, steps_of, IsShare, IsAsked}
 use Rattle.runs.specs.Discipline.{Brings, Leaves, Holds, MayTouch, MayName, MayPut, KeepsTo, ArePossible}
 use Rattle.runs.specs.ModuleRuns.{Happening, OfThread, OfCollector, share_of, with_step, heap_of, IsModuleRun}
 
@@ -81,7 +81,7 @@ brings_gains s (Claims q won) r h = rw (h.1, test_yes r.cell q.cell (same_cell h
 brings_gains s Works r h = absurd h
 brings_gains s GoesWrong r h = absurd h
 brings_gains s (Marks q) r h = absurd h
-brings_gains s (StoresBehindBarrier base word value) r h = absurd h
+brings_gains s (StoresAfterBarrier base word value) r h = absurd h
 brings_gains s (StoresPlain base word value) r h = absurd h
 brings_gains s (ReadsPosted stage) r h = absurd h
 brings_gains s (StoresStage stage roots) r h = absurd h
@@ -97,7 +97,7 @@ leaves_keeps GoesWrong r h = tt
 leaves_keeps (ReadsWord base word value) r h = tt
 leaves_keeps (ReadsOldValue base word value) r h = tt
 leaves_keeps (Marks q) r h = tt
-leaves_keeps (StoresBehindBarrier base word value) r h = tt
+leaves_keeps (StoresAfterBarrier base word value) r h = tt
 leaves_keeps (StoresPlain base word value) r h = tt
 leaves_keeps (Claims q won) r h = tt
 leaves_keeps (ReadsPosted stage) r h = tt
@@ -145,7 +145,7 @@ disciplined s share GoesWrong h = tt
 disciplined s share (ReadsWord base word value) h = (may_use s share base h.0, h.1)
 disciplined s share (ReadsOldValue base word value) h = (may_use s share base h.0, h.1)
 disciplined s share (Marks r) h = holds_held s share r h
-disciplined s share (StoresBehindBarrier base word value) h = (may_use s share base h.0, h.1, may_store s share (kind_of s base.cell word) value h.2)
+disciplined s share (StoresAfterBarrier base word value) h = (may_use s share base h.0, h.1, may_store s share (kind_of s base.cell word) value h.2)
 disciplined s share (StoresPlain base word value) h = (may_use s share base h.0, h.1, may_store s share (kind_of s base.cell word) value h.2)
 disciplined s share (Claims r won) h = tt
 disciplined s share (ReadsPosted stage) h = tt

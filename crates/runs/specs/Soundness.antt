@@ -3,7 +3,7 @@ use Rattle.std.specs.Prelude.{ℕ, ◌<◌, ◌≡◌, List, [], ◌∷◌, slic
 use Rattle.pools.specs.Heap.{Setup, IsOfLayout}
 use Rattle.colours.specs.Mutator.{Fresh}
 use Rattle.runs.specs.Machine.{Reference, Action, Local, Read, StorePlain, Write, Alloc, Safepoint, Machine}
-use Rattle.runs.specs.Moves.{Move, Works, ReadsWord, StoresBehindBarrier, StoresPlain, Claims, ReadsPosted, StoresStage, IsIn, steps_of, answer_of}
+use Rattle.runs.specs.Moves.{Move, Works, ReadsWord, StoresAfterBarrier, StoresPlain, Claims, ReadsPosted, StoresStage, IsIn, steps_of, answer_of}
 use Rattle.runs.specs.Discipline.{Holds, MayName, MayCall, IsPossibleMove}
 
 -- the move may end the call that the action asks for
@@ -11,7 +11,7 @@ abbrev pub EndsCall : Setup → (roots : List Reference) → Action → Move →
 EndsCall s roots Local Works = Unit {0}
 EndsCall s roots (Read base word) (ReadsWord b w v) = (b ≡ base) × (w ≡ word)
 EndsCall s roots (StorePlain base word value) (StoresPlain b w v) = (b ≡ base) × (w ≡ word) × (v ≡ value)
-EndsCall s roots (Write base word value) (StoresBehindBarrier b w v) = (b ≡ base) × (w ≡ word) × (v ≡ value)
+EndsCall s roots (Write base word value) (StoresAfterBarrier b w v) = (b ≡ base) × (w ≡ word) × (v ≡ value)
 EndsCall s roots (Alloc layout) Works = slice_index s.pools layout ≡ 0
 EndsCall s roots (Alloc layout) (Claims r won) = IsOfLayout s layout r.cell
 EndsCall s roots Safepoint (ReadsPosted stage) = Unit {0}

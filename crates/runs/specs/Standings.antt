@@ -9,10 +9,10 @@ use Rattle.colours.specs.Steps.{Step, Claim}
 use Rattle.colours.specs.Steps as step
 use Rattle.colours.specs.Mutator.{Phase, stage_of, phase_of}
 use Rattle.runs.specs.Machine.{Reference, Machine}
-use Rattle.runs.specs.Moves.{Move, Works, GoesWrong, ReadsWord, ReadsOldValue, Marks, StoresBehindBarrier, StoresPlain, Claims, ReadsPosted, StoresStage, ReadsPostedFirst, EntersStage, ReadsPostedAgain, step_of, steps_of, logged, phase_behind, ends_call, answer_of, state_after, old_of}
+use Rattle.runs.specs.Moves.{Move, Works, GoesWrong, ReadsWord, ReadsOldValue, Marks, StoresAfterBarrier, StoresPlain, Claims, ReadsPosted, StoresStage, ReadsPostedFirst, EntersStage, ReadsPostedAgain, step_of, steps_of, logged, phase_afterwards, ends_call, answer_of, state_after, old_of}
 use Rattle.runs.specs.ModuleRuns.{Happening, OfThread, OfCollector, share_of}
 use Rattle.runs.specs.NextMoves.{Sight, next_move, next_move_in}
-use Rattle.runs.specs.Ends.{Standing, StandsBehind, begun, stage_behind, old_by, moved, next_move_of, GoesOn}
+use Rattle.runs.specs.Ends.{Standing, StandsAfter, begun, stage_afterwards, old_by, moved, next_move_of, GoesOn}
 use Rattle.runs.specs.Tries.{hint_in, AreHints, hints_by}
 use Rattle.runs.specs.Calls.{phase_with}
 
@@ -54,7 +54,7 @@ hints-with s log hints (Some (Claim cell false)) h = record { one_each = h.one_e
 hints-with s log hints (Some (step.ReadWord cell word value)) h = record { one_each = h.one_each; each = h.each }
 hints-with s log hints (Some (step.ReadOldValue cell word value)) h = record { one_each = h.one_each; each = h.each }
 hints-with s log hints (Some (step.Mark cell)) h = record { one_each = h.one_each; each = h.each }
-hints-with s log hints (Some (step.StoreBehindBarrier cell word value)) h = record { one_each = h.one_each; each = h.each }
+hints-with s log hints (Some (step.StoreAfterBarrier cell word value)) h = record { one_each = h.one_each; each = h.each }
 hints-with s log hints (Some (step.StorePlain cell word value)) h = record { one_each = h.one_each; each = h.each }
 hints-with s log hints (Some (step.ReadPosted stage)) h = record { one_each = h.one_each; each = h.each }
 hints-with s log hints (Some (step.StoreStage stage roots)) h = record { one_each = h.one_each; each = h.each }
@@ -65,7 +65,7 @@ hints-with s log hints (Some (step.ReadPostedAgain stage)) h = record { one_each
 -- ---- the start
 
 -- a thread before its first move
-pub begins : (s : Setup) (m : Machine) (starts : ℕ → m.State) (t : ℕ) → StandsBehind s m starts [] t (begun s m starts t)
+pub begins : (s : Setup) (m : Machine) (starts : ℕ → m.State) (t : ℕ) → StandsAfter s m starts [] t (begun s m starts t)
 begins s m starts t = record { state = refl; stage = refl; phase = refl; old = refl; hints = no-hints s }
 
 -- a thread has this state after this share
@@ -76,24 +76,24 @@ record IsAt (s : Setup) (m : Machine) (t : ℕ) (start : m.State) (share : List 
   old : stand.old ≡ old_of share
   hints : AreHints s (steps_of share) stand.hints
 
-at_share : (s : Setup) (m : Machine) (starts : ℕ → m.State) (run : List Happening) (t : ℕ) (stand : Standing m.State) → StandsBehind s m starts run t stand → IsAt s m t (starts t) (share_of t run) stand
+at_share : (s : Setup) (m : Machine) (starts : ℕ → m.State) (run : List Happening) (t : ℕ) (stand : Standing m.State) → StandsAfter s m starts run t stand → IsAt s m t (starts t) (share_of t run) stand
 at_share s m starts run t stand x = record { state = x.state; stage = x.stage; phase = x.phase; old = x.old; hints = x.hints }
 
-behind_run : (s : Setup) (m : Machine) (starts : ℕ → m.State) (run : List Happening) (t : ℕ) (share : List Move) (stand : Standing m.State) → share_of t run ≡ share → IsAt s m t (starts t) share stand
-    → StandsBehind s m starts run t stand
-behind_run s m starts run t share stand e x =
+after_run : (s : Setup) (m : Machine) (starts : ℕ → m.State) (run : List Happening) (t : ℕ) (share : List Move) (stand : Standing m.State) → share_of t run ≡ share → IsAt s m t (starts t) share stand
+    → StandsAfter s m starts run t stand
+after_run s m starts run t share stand e x =
     let y : IsAt s m t (starts t) (share_of t run) stand = subst (λ (q : List Move). IsAt s m t (starts t) q stand) (sym e) x in
     record { state = y.state; stage = y.stage; phase = y.phase; old = y.old; hints = y.hints }
 
 -- ---- its own move
 
-stage_with : (log : List Step) (move : Move) (share : List Move) → log ≡ steps_of share → stage_behind (stage_of log) move ≡ stage_of (steps_of (move ∷ share))
+stage_with : (log : List Step) (move : Move) (share : List Move) → log ≡ steps_of share → stage_afterwards (stage_of log) move ≡ stage_of (steps_of (move ∷ share))
 stage_with log Works share e = ap stage_of e
 stage_with log GoesWrong share e = ap stage_of e
 stage_with log (ReadsWord base word value) share e = ap stage_of e
 stage_with log (ReadsOldValue base word value) share e = ap stage_of e
 stage_with log (Marks r) share e = ap stage_of e
-stage_with log (StoresBehindBarrier base word value) share e = ap stage_of e
+stage_with log (StoresAfterBarrier base word value) share e = ap stage_of e
 stage_with log (StoresPlain base word value) share e = ap stage_of e
 stage_with log (Claims r won) share e = ap stage_of e
 stage_with log (ReadsPosted stage) share e = ap stage_of e
@@ -108,8 +108,8 @@ old_with move share = refl
 
 own_move : (s : Setup) (m : Machine) (t : ℕ) (start : m.State) (share : List Move) (stand : Standing m.State) → IsAt s m t start share stand → (move : Move) → IsAt s m t start (move ∷ share) (moved s m stand move)
 own_move s m t start share stand x move = record {
-  state = ap (λ (q : m.State). after q (phase_behind s stand.stage stand.phase (step_of move))) x.state ∙ ap (λ (q : Phase). after (state_after s m t start share) q) same_phase;
-  stage = ap (λ (n : ℕ). stage_behind n move) x.stage ∙ stage_with (steps_of share) move share refl;
+  state = ap (λ (q : m.State). after q (phase_afterwards s stand.stage stand.phase (step_of move))) x.state ∙ ap (λ (q : Phase). after (state_after s m t start share) q) same_phase;
+  stage = ap (λ (n : ℕ). stage_afterwards n move) x.stage ∙ stage_with (steps_of share) move share refl;
   phase = same_phase;
   old = old_with move share;
   hints = hints-with s (steps_of share) stand.hints (step_of move) x.hints;
@@ -118,21 +118,21 @@ own_move s m t start share stand x move = record {
     after : m.State → Phase → m.State
     after state phase = if ends_call move phase then m.after_answer state (answer_of (m.action state) move) else state
 
-    same_phase : phase_behind s stand.stage stand.phase (step_of move) ≡ phase_of s t (steps_of (move ∷ share))
+    same_phase : phase_afterwards s stand.stage stand.phase (step_of move) ≡ phase_of s t (steps_of (move ∷ share))
     same_phase =
-        ap (λ (n : ℕ). phase_behind s n stand.phase (step_of move)) x.stage
-        ∙ ap (λ (q : Phase). phase_behind s (stage_of (steps_of share)) q (step_of move)) x.phase
+        ap (λ (n : ℕ). phase_afterwards s n stand.phase (step_of move)) x.stage
+        ∙ ap (λ (q : Phase). phase_afterwards s (stage_of (steps_of share)) q (step_of move)) x.phase
         ∙ phase_with s t (steps_of share) (step_of move)
 
 -- ---- every happening
 
 -- the thread goes on from where it is
-pub goes_on : (s : Setup) (m : Machine) (starts : ℕ → m.State) (run : List Happening) (t : ℕ) (stand : Standing m.State) → StandsBehind s m starts run t stand → GoesOn s m starts run t stand
+pub goes_on : (s : Setup) (m : Machine) (starts : ℕ → m.State) (run : List Happening) (t : ℕ) (stand : Standing m.State) → StandsAfter s m starts run t stand → GoesOn s m starts run t stand
 goes_on s m starts run t stand x = record {
   next = same_next;
-  own = λ move. behind_run s m starts (OfThread t move ∷ run) t (move ∷ share_of t run) (moved s m stand move) (here move) (own_move s m t (starts t) (share_of t run) stand at move);
-  other = λ u move n. behind_run s m starts (OfThread u move ∷ run) t (share_of t run) stand (elsewhere u move n) at;
-  collector = λ turn. behind_run s m starts (OfCollector turn ∷ run) t (share_of t run) stand refl at;
+  own = λ move. after_run s m starts (OfThread t move ∷ run) t (move ∷ share_of t run) (moved s m stand move) (here move) (own_move s m t (starts t) (share_of t run) stand at move);
+  other = λ u move n. after_run s m starts (OfThread u move ∷ run) t (share_of t run) stand (elsewhere u move n) at;
+  collector = λ turn. after_run s m starts (OfCollector turn ∷ run) t (share_of t run) stand refl at;
 }
   where
     at : IsAt s m t (starts t) (share_of t run) stand

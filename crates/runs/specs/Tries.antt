@@ -8,7 +8,7 @@ use Rattle.colours.specs.Mutator.{Phase, Trying, phase_of}
 use Rattle.runs.specs.Machine.{Action, Alloc, Machine}
 use Rattle.runs.specs.Moves.{Move, Claims, steps_of, state_after}
 use Rattle.runs.specs.ModuleRuns.{Happening, share_of, IsModuleRun}
-use Rattle.runs.specs.NextMoves.{next_move_in, sight_behind, TriesInPoolBehind}
+use Rattle.runs.specs.NextMoves.{next_move_in, sight_after, TriesInPoolAfter}
 
 -- a thread's hint for a layout: the place in the pool after the cell that it won last, at first 0
 abbrev pub hint_in : Setup → (layout : ℕ) → List Step → ℕ
@@ -51,8 +51,8 @@ TriesByHint s m t start (move ∷ share) = TriesByHint s m t start share × IsBy
 
 -- the cell that is tried next in this order is one of the pool that was not tried, and the next move follows the order
 pub record KeepsOrder (s : Setup) (m : Machine) (starts : ℕ → m.State) (run : List Happening) (t : ℕ) : Type 0 where
-  pub in_pool : TriesInPoolBehind s m starts run (sight_behind s run (by_hint s (steps_of (share_of t run)))) t
-  pub next : MatchOption (next_move_in s m starts run (sight_behind s run (by_hint s (steps_of (share_of t run)))) t) (Unit {0}) (λ move. TriesByHint s m t (starts t) (move ∷ share_of t run))
+  pub in_pool : TriesInPoolAfter s m starts run (sight_after s run (by_hint s (steps_of (share_of t run)))) t
+  pub next : MatchOption (next_move_in s m starts run (sight_after s run (by_hint s (steps_of (share_of t run)))) t) (Unit {0}) (λ move. TriesByHint s m t (starts t) (move ∷ share_of t run))
 
 -- the law of that order
 abbrev pub HintsInOrder : (s : Setup) (m : Machine) → Type 0

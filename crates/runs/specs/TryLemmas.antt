@@ -10,9 +10,9 @@ use Rattle.colours.specs.Hints.{pool_by_hint}
 use Rattle.colours.specs.Colours.{done}
 use Rattle.colours.specs.Mutator.{Phase, Ready, MarkingOld, MarkingNew, Writing, Trying, Answering, Ended, Absent, Arriving, Entering, Leaving, IsAmong, MayTry, stage_of, phase_of}
 use Rattle.runs.specs.Machine.{Reference, Action, Local, Read, StorePlain, Write, Alloc, Safepoint, End, Wrong, Machine}
-use Rattle.runs.specs.Moves.{Move, Works, GoesWrong, ReadsWord, ReadsOldValue, Marks, StoresBehindBarrier, StoresPlain, Claims, ReadsPosted, StoresStage, ReadsPostedFirst, EntersStage, ReadsPostedAgain, step_of, steps_of, logged, phase_behind, ends_call, answer_of, state_after, old_of, IsOfTry, AsksFor, IsShare}
+use Rattle.runs.specs.Moves.{Move, Works, GoesWrong, ReadsWord, ReadsOldValue, Marks, StoresAfterBarrier, StoresPlain, Claims, ReadsPosted, StoresStage, ReadsPostedFirst, EntersStage, ReadsPostedAgain, step_of, steps_of, logged, phase_afterwards, ends_call, answer_of, state_after, old_of, IsOfTry, AsksFor, IsShare}
 use Rattle.runs.specs.ModuleRuns.{Happening, share_of}
-use Rattle.runs.specs.NextMoves.{next_move, next_move_in, try_of, sight_behind, TriesInPool}
+use Rattle.runs.specs.NextMoves.{next_move, next_move_in, try_of, sight_after, TriesInPool}
 use Rattle.runs.specs.Tries.{hint_in, cells_of_pool, by_hint, IsByHint, TriesByHint, HintsInOrder}
 use Rattle.runs.specs.Shares.{is_share}
 use Rattle.runs.specs.Calls.{phase_with}
@@ -121,7 +121,7 @@ some_cell s layout cell o =
     omega (arith, some)
 
 stands_at : (s : Setup) (log : List Step) (stage : ℕ) (roots : List Reference) (old : Reference) (action : Action) (phase : Phase) (move : Move) → AsksFor s roots old action phase move → IsByHint s log action phase move
-    → StandsSo s log action phase → StandsSo s (logged (step_of move) log) action (phase_behind s stage phase (step_of move))
+    → StandsSo s log action phase → StandsSo s (logged (step_of move) log) action (phase_afterwards s stage phase (step_of move))
 stands_at s log stage roots old Local Ready Works a l f = tt
 stands_at s log stage roots old Wrong Ready GoesWrong a l f = tt
 stands_at s log stage roots old (Read base word) Ready (ReadsWord b w v) a l f = tt
@@ -133,8 +133,8 @@ stands_at s log stage roots old (Write base word value) Ready (ReadsOldValue b w
     go false = tt
 stands_at s log stage roots old (Write base word value) (MarkingOld c i o) (Marks r) a l f = tt
 stands_at s log stage roots old (Write base word value) (MarkingNew c i o) (Marks r) a l f = tt
-stands_at s log stage roots old (Write base word value) (MarkingNew c i o) (StoresBehindBarrier b w v) a l f = tt
-stands_at s log stage roots old (Write base word value) (Writing c i o n) (StoresBehindBarrier b w v) a l f = tt
+stands_at s log stage roots old (Write base word value) (MarkingNew c i o) (StoresAfterBarrier b w v) a l f = tt
+stands_at s log stage roots old (Write base word value) (Writing c i o n) (StoresAfterBarrier b w v) a l f = tt
 stands_at s log stage roots old (Alloc layout) Ready Works a l f = tt
 stands_at s log stage roots old (Alloc layout) Ready (Claims r true) a l f = tt
 stands_at s log stage roots old (Alloc layout) Ready (Claims r false) a l f = lost s log layout [] r.cell a l (λ c x. absurd x) (some_cell s layout r.cell a)
@@ -158,7 +158,7 @@ stands_at s log stage roots old End Ready (StoresStage to rs) a l f = go (to == 
     go false = tt
 stands_at s log stage roots old action phase move a l f = absurd a
 
-stands_try : (s : Setup) (log : List Step) (stage : ℕ) (action : Action) (phase : Phase) (move : Move) → IsOfTry phase move → StandsSo s log action (phase_behind s stage phase (step_of move))
+stands_try : (s : Setup) (log : List Step) (stage : ℕ) (action : Action) (phase : Phase) (move : Move) → IsOfTry phase move → StandsSo s log action (phase_afterwards s stage phase (step_of move))
 stands_try s log stage action Absent (ReadsPostedFirst posted) a = tt
 stands_try s log stage action (Arriving posted) (EntersStage next) a = tt
 stands_try s log stage action Entering (ReadsPostedAgain posted) a = go (posted == stage)
@@ -203,13 +203,13 @@ stands_so s m t start (move ∷ share) h l =
     phase : Phase
     phase = phase_of s t (steps_of share)
 
-    go : StandsSo s (steps_of share) (m.action state) phase → IsOfTry phase move ⊎ AsksFor s (m.roots state) (old_of share) (m.action state) phase move → StandsSo s (steps_of (move ∷ share)) (m.action state) (phase_behind s stage phase (step_of move))
+    go : StandsSo s (steps_of share) (m.action state) phase → IsOfTry phase move ⊎ AsksFor s (m.roots state) (old_of share) (m.action state) phase move → StandsSo s (steps_of (move ∷ share)) (m.action state) (phase_afterwards s stage phase (step_of move))
     go f (inl a) = stands_try s (steps_of (move ∷ share)) stage (m.action state) phase move a
     go f (inr a) = stands_at s (steps_of share) stage (m.roots state) (old_of share) (m.action state) phase move a l.1 f
 
 -- ---- the next try
 
-tries_in_pool : (s : Setup) (run : List Happening) (log : List Step) (action : Action) (phase : Phase) → StandsSo s log action phase → TriesInPool s (sight_behind s run (by_hint s log)) action phase
+tries_in_pool : (s : Setup) (run : List Happening) (log : List Step) (action : Action) (phase : Phase) → StandsSo s log action phase → TriesInPool s (sight_after s run (by_hint s log)) action phase
 tries_in_pool s run log (Alloc layout) Ready f = λ some. let o = of_order s layout (hint_in s layout log) 0 (omega (arith, some)) in ((o.0, o.1), o)
 tries_in_pool s run log (Alloc layout) (Trying tried) f = (may tried f, of_order s layout (hint_in s layout log) (length tried) f.few)
   where
@@ -231,10 +231,10 @@ every P f None = tt
 every P f (Some move) = f move
 
 next_by_hint : (s : Setup) (run : List Happening) (log : List Step) (stage : ℕ) (roots : List Reference) (old : Reference) (action : Action) (phase : Phase)
-    → MatchOption (next_move s (sight_behind s run (by_hint s log)) stage roots old action phase) (Unit {0}) (IsByHint s log action phase)
+    → MatchOption (next_move s (sight_after s run (by_hint s log)) stage roots old action phase) (Unit {0}) (IsByHint s log action phase)
 next_by_hint s run log stage roots old (Alloc layout) Ready = go (slice_index s.pools layout == 0)
   where
-    go : (z : Bool) → IsByHint s log (Alloc layout) Ready (if z then Works else try_of (sight_behind s run (by_hint s log)) ((sight_behind s run (by_hint s log)).claim layout []))
+    go : (z : Bool) → IsByHint s log (Alloc layout) Ready (if z then Works else try_of (sight_after s run (by_hint s log)) ((sight_after s run (by_hint s log)).claim layout []))
     go true = tt
     go false = refl
 next_by_hint s run log stage roots old (Alloc layout) (Trying tried) = refl
@@ -247,19 +247,19 @@ next_by_hint s run log stage roots old (Alloc layout) Absent = tt
 next_by_hint s run log stage roots old (Alloc layout) (Arriving posted) = tt
 next_by_hint s run log stage roots old (Alloc layout) Entering = tt
 next_by_hint s run log stage roots old (Alloc layout) Leaving = tt
-next_by_hint s run log stage roots old Local phase = every (IsByHint s log Local phase) (λ move. tt) (next_move s (sight_behind s run (by_hint s log)) stage roots old Local phase)
-next_by_hint s run log stage roots old Wrong phase = every (IsByHint s log Wrong phase) (λ move. tt) (next_move s (sight_behind s run (by_hint s log)) stage roots old Wrong phase)
-next_by_hint s run log stage roots old End phase = every (IsByHint s log End phase) (λ move. tt) (next_move s (sight_behind s run (by_hint s log)) stage roots old End phase)
-next_by_hint s run log stage roots old Safepoint phase = every (IsByHint s log Safepoint phase) (λ move. tt) (next_move s (sight_behind s run (by_hint s log)) stage roots old Safepoint phase)
-next_by_hint s run log stage roots old (Read base word) phase = every (IsByHint s log (Read base word) phase) (λ move. tt) (next_move s (sight_behind s run (by_hint s log)) stage roots old (Read base word) phase)
-next_by_hint s run log stage roots old (StorePlain base word value) phase = every (IsByHint s log (StorePlain base word value) phase) (λ move. tt) (next_move s (sight_behind s run (by_hint s log)) stage roots old (StorePlain base word value) phase)
-next_by_hint s run log stage roots old (Write base word value) phase = every (IsByHint s log (Write base word value) phase) (λ move. tt) (next_move s (sight_behind s run (by_hint s log)) stage roots old (Write base word value) phase)
+next_by_hint s run log stage roots old Local phase = every (IsByHint s log Local phase) (λ move. tt) (next_move s (sight_after s run (by_hint s log)) stage roots old Local phase)
+next_by_hint s run log stage roots old Wrong phase = every (IsByHint s log Wrong phase) (λ move. tt) (next_move s (sight_after s run (by_hint s log)) stage roots old Wrong phase)
+next_by_hint s run log stage roots old End phase = every (IsByHint s log End phase) (λ move. tt) (next_move s (sight_after s run (by_hint s log)) stage roots old End phase)
+next_by_hint s run log stage roots old Safepoint phase = every (IsByHint s log Safepoint phase) (λ move. tt) (next_move s (sight_after s run (by_hint s log)) stage roots old Safepoint phase)
+next_by_hint s run log stage roots old (Read base word) phase = every (IsByHint s log (Read base word) phase) (λ move. tt) (next_move s (sight_after s run (by_hint s log)) stage roots old (Read base word) phase)
+next_by_hint s run log stage roots old (StorePlain base word value) phase = every (IsByHint s log (StorePlain base word value) phase) (λ move. tt) (next_move s (sight_after s run (by_hint s log)) stage roots old (StorePlain base word value) phase)
+next_by_hint s run log stage roots old (Write base word value) phase = every (IsByHint s log (Write base word value) phase) (λ move. tt) (next_move s (sight_after s run (by_hint s log)) stage roots old (Write base word value) phase)
 
 -- so that order goes on
 pub keeps_order : (s : Setup) (m : Machine) → HintsInOrder s m
 keeps_order s m starts run t r l = record {
   in_pool = tries_in_pool s run (steps_of share) (m.action state) (phase_of s t (steps_of share)) (stands_so s m t (starts t) share (is_share s m starts run t r) l);
-  next = joined (next_move_in s m starts run (sight_behind s run (by_hint s (steps_of share))) t)
+  next = joined (next_move_in s m starts run (sight_after s run (by_hint s (steps_of share))) t)
       (next_by_hint s run (steps_of share) (stage_of (steps_of share)) (m.roots state) (old_of share) (m.action state) (phase_of s t (steps_of share)));
 }
   where

@@ -5,9 +5,9 @@ ghost use Rattle.runs.specs.ModuleRuns.{Happening};
 ghost use Rattle.runs.specs.Broken.{CausesName};
 ghost use Rattle.runs.specs.Promises.{AreCareful, IsSafe, CarefulIsSafe, CarefulIsNeverWrong};
 ghost use Rattle.runs.specs.Soundness.{AreSound};
-ghost use Rattle.runs.specs.NextMoves.{NextMovesAreNext, NextMovesAreOnly, IsSightOf, sight_behind};
+ghost use Rattle.runs.specs.NextMoves.{NextMovesAreNext, NextMovesAreOnly, IsSightOf, sight_after};
 ghost use Rattle.runs.specs.Tries.{HintsInOrder};
-ghost use Rattle.runs.specs.Ends.{Standing, StandsBehind, GoesOn, begun};
+ghost use Rattle.runs.specs.Ends.{Standing, StandsAfter, GoesOn, begun};
 ghost use Rattle.runs.specs.RealThreads.{CarefulMeetsConditions};
 
 use crate::machine::{Judged, Machine};
@@ -50,15 +50,15 @@ pub fn next_move_law<M: Machine>()
     ensures next { (s : Setup) → NextMovesAreNext s (machine_of M.action M.after_answer M.roots) }
     ensures only { (s : Setup) → NextMovesAreOnly s (machine_of M.action M.after_answer M.roots) }
     ensures hints { (s : Setup) → HintsInOrder s (machine_of M.action M.after_answer M.roots) }
-    ensures sight { (s : Setup) (run : List Happening) (order : ℕ → List ℕ → ℕ) → IsSightOf s run (sight_behind s run order) }
+    ensures sight { (s : Setup) (run : List Happening) (order : ℕ → List ℕ → ℕ) → IsSightOf s run (sight_after s run order) }
 {}
 
 /// The law of standings: where a thread is before its first move; and, from where it is after a run, its next move and
 /// where it is after one more happening.
 pub fn standing_law<M: Machine>()
-    ensures begun { (s : Setup) (starts : ℕ → M) (t : ℕ) → StandsBehind s (machine_of M.action M.after_answer M.roots) starts [] t (begun s (machine_of M.action M.after_answer M.roots) starts t) }
+    ensures begun { (s : Setup) (starts : ℕ → M) (t : ℕ) → StandsAfter s (machine_of M.action M.after_answer M.roots) starts [] t (begun s (machine_of M.action M.after_answer M.roots) starts t) }
     ensures goes_on { (s : Setup) (starts : ℕ → M) (run : List Happening) (t : ℕ) (stand : Standing M)
-        → StandsBehind s (machine_of M.action M.after_answer M.roots) starts run t stand
+        → StandsAfter s (machine_of M.action M.after_answer M.roots) starts run t stand
         → GoesOn s (machine_of M.action M.after_answer M.roots) starts run t stand }
 {}
 

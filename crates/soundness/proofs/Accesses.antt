@@ -88,23 +88,23 @@ module _ (heap : Setup) (p : LaidOut) (certs : List Section) (reaches : Bool) (f
   asked arguments called = a.call_action p f table frame.registers returned arguments (Some d) defined (Some called)
 
   -- the frame after it
-  abbrev behind : List Argument → Runtime → Answer → Frame
-  behind arguments called given = mc.after_call p f table result arguments (Some called) given frame
+  abbrev afterwards : List Argument → Runtime → Answer → Frame
+  afterwards arguments called given = mc.after_call p f table result arguments (Some called) given frame
 
   -- ---- gcread
 
   -- a read under `i8*` for an object that may be used
   read_by : (object place : Argument) → a.are_gcread_types p.of_module d.returned d.parameters ≡ true → a.are_gcread_types p.of_module returned (object.written ∷ place.written ∷ []) ≡ true → k.is_usable p.of_module f table frame.registers object.written object.operand ≡ true
       → kind_of p.of_module returned ≡ AnyReference → IsPlace p f table facts place.written place.operand → r.loads_known p facts AnyReference (o.known_of facts place.operand) ≡ true
-      → Goes heap p table frame.slots reaches guarded log (after_read_call p result (object ∷ place ∷ []) facts) (asked (object ∷ place ∷ []) runtime.GcRead) (behind (object ∷ place ∷ []) runtime.GcRead)
+      → Goes heap p table frame.slots reaches guarded log (after_read_call p result (object ∷ place ∷ []) facts) (asked (object ∷ place ∷ []) runtime.GcRead) (afterwards (object ∷ place ∷ []) runtime.GcRead)
   read_by object place declared written object_usable kind s loads =
-      subst (λ x. Goes heap p table frame.slots reaches guarded log (after_read_call p result (object ∷ place ∷ []) facts) x (behind (object ∷ place ∷ []) runtime.GcRead)) (sym (rw (declared, written, object_usable) refl))
+      subst (λ x. Goes heap p table frame.slots reaches guarded log (after_read_call p result (object ∷ place ∷ []) facts) x (afterwards (object ∷ place ∷ []) runtime.GcRead)) (sym (rw (declared, written, object_usable) refl))
       (read_goes heap p certs reaches f table guarded log guards fits cells facts frame h result returned place.written place.operand (λ name. after_read_call p name (object ∷ place ∷ []) facts) s
       (subst (λ x. r.loads_known p facts x (o.known_of facts place.operand) ≡ true) (sym kind) loads) refl (λ n. ap (λ x. r.load_known p n x (o.known_of facts place.operand) facts) (sym kind)))
 
   -- a call of gcread with this object and place that the rules allow
   read_pair : (object place : Argument) → is_declared_as p.of_module d runtime.GcRead ≡ true → first_failing (read_conditions p f table here facts returned object place) ≡ None
-      → Goes heap p table frame.slots reaches guarded log (after_read_call p result (object ∷ place ∷ []) facts) (asked (object ∷ place ∷ []) runtime.GcRead) (behind (object ∷ place ∷ []) runtime.GcRead)
+      → Goes heap p table frame.slots reaches guarded log (after_read_call p result (object ∷ place ∷ []) facts) (asked (object ∷ place ∷ []) runtime.GcRead) (afterwards (object ∷ place ∷ []) runtime.GcRead)
   read_pair object place declared e =
       let all = rules_hold (read_conditions p f table here facts returned object place) e in
       let k1 = and_parts (o.is_available table facts object.operand) (o.is_available table facts place.operand) (all K1) in
@@ -125,10 +125,10 @@ module _ (heap : Setup) (p : LaidOut) (certs : List Section) (reaches : Bool) (f
 
   -- a call of gcread that the rules allow
   pub gcread_goes : (arguments : List Argument) → is_declared_as p.of_module d runtime.GcRead ≡ true → (length arguments == 2) ≡ true → first_failing (read_call_conditions p f table here facts returned arguments) ≡ None
-      → Goes heap p table frame.slots reaches guarded log (after_read_call p result arguments facts) (asked arguments runtime.GcRead) (behind arguments runtime.GcRead)
+      → Goes heap p table frame.slots reaches guarded log (after_read_call p result arguments facts) (asked arguments runtime.GcRead) (afterwards arguments runtime.GcRead)
   gcread_goes arguments declared arity e =
       let parts = two_parameters arguments (test_true (length arguments) 2 arity) in
-      subst (λ x. Goes heap p table frame.slots reaches guarded log (after_read_call p result x facts) (asked x runtime.GcRead) (behind x runtime.GcRead)) (sym parts.2)
+      subst (λ x. Goes heap p table frame.slots reaches guarded log (after_read_call p result x facts) (asked x runtime.GcRead) (afterwards x runtime.GcRead)) (sym parts.2)
       (read_pair parts.0 parts.1 declared (subst (λ x. first_failing (read_call_conditions p f table here facts returned x) ≡ None) parts.2 e))
 
   -- ---- gcwrite
@@ -137,15 +137,15 @@ module _ (heap : Setup) (p : LaidOut) (certs : List Section) (reaches : Bool) (f
   write_by : (stored object place : Argument) → a.are_gcwrite_types p.of_module d.returned d.parameters ≡ true → a.are_gcwrite_types p.of_module returned (stored.written ∷ object.written ∷ place.written ∷ []) ≡ true
       → k.is_usable p.of_module f table frame.registers stored.written stored.operand ≡ true → k.is_usable p.of_module f table frame.registers object.written object.operand ≡ true
       → kind_of p.of_module stored.written ≡ AnyReference → IsStored p f table facts stored.written stored.operand → IsPlace p f table facts place.written place.operand → r.stores_known p facts AnyReference (o.known_of facts stored.operand) (o.known_of facts place.operand) ≡ true
-      → Goes heap p table frame.slots reaches guarded log (after_write (stored ∷ object ∷ place ∷ []) facts) (asked (stored ∷ object ∷ place ∷ []) runtime.GcWrite) (behind (stored ∷ object ∷ place ∷ []) runtime.GcWrite)
+      → Goes heap p table frame.slots reaches guarded log (after_write (stored ∷ object ∷ place ∷ []) facts) (asked (stored ∷ object ∷ place ∷ []) runtime.GcWrite) (afterwards (stored ∷ object ∷ place ∷ []) runtime.GcWrite)
   write_by stored object place declared written stored_usable object_usable kind i s stores =
-      subst (λ x. Goes heap p table frame.slots reaches guarded log (after_write (stored ∷ object ∷ place ∷ []) facts) x (behind (stored ∷ object ∷ place ∷ []) runtime.GcWrite)) (sym (rw (declared, written, stored_usable, object_usable) refl))
+      subst (λ x. Goes heap p table frame.slots reaches guarded log (after_write (stored ∷ object ∷ place ∷ []) facts) x (afterwards (stored ∷ object ∷ place ∷ []) runtime.GcWrite)) (sym (rw (declared, written, stored_usable, object_usable) refl))
       (write_goes heap p certs reaches f table guarded log fits cells facts frame h members stored.written stored.operand place.written place.operand i s (ap may_be_reference kind)
       (subst (λ x. r.stores_known p facts x (o.known_of facts stored.operand) (o.known_of facts place.operand) ≡ true) (sym kind) stores))
 
   -- a call of gcwrite with this value, object and place that the rules allow
   write_triple : (stored object place : Argument) → is_declared_as p.of_module d runtime.GcWrite ≡ true → first_failing (write_conditions p f table here facts returned stored object place) ≡ None
-      → Goes heap p table frame.slots reaches guarded log (after_write (stored ∷ object ∷ place ∷ []) facts) (asked (stored ∷ object ∷ place ∷ []) runtime.GcWrite) (behind (stored ∷ object ∷ place ∷ []) runtime.GcWrite)
+      → Goes heap p table frame.slots reaches guarded log (after_write (stored ∷ object ∷ place ∷ []) facts) (asked (stored ∷ object ∷ place ∷ []) runtime.GcWrite) (afterwards (stored ∷ object ∷ place ∷ []) runtime.GcWrite)
   write_triple stored object place declared e =
       let all = rules_hold (write_conditions p f table here facts returned stored object place) e in
       let k1 = and_parts (o.is_available table facts stored.operand && o.is_available table facts object.operand) (o.is_available table facts place.operand) (all K1) in
@@ -175,8 +175,8 @@ module _ (heap : Setup) (p : LaidOut) (certs : List Section) (reaches : Bool) (f
 
   -- a call of gcwrite that the rules allow
   pub gcwrite_goes : (arguments : List Argument) → is_declared_as p.of_module d runtime.GcWrite ≡ true → (length arguments == 3) ≡ true → first_failing (write_call_conditions p f table here facts returned arguments) ≡ None
-      → Goes heap p table frame.slots reaches guarded log (after_write arguments facts) (asked arguments runtime.GcWrite) (behind arguments runtime.GcWrite)
+      → Goes heap p table frame.slots reaches guarded log (after_write arguments facts) (asked arguments runtime.GcWrite) (afterwards arguments runtime.GcWrite)
   gcwrite_goes arguments declared arity e =
       let parts = three_parameters arguments (test_true (length arguments) 3 arity) in
-      subst (λ x. Goes heap p table frame.slots reaches guarded log (after_write x facts) (asked x runtime.GcWrite) (behind x runtime.GcWrite)) (sym parts.3)
+      subst (λ x. Goes heap p table frame.slots reaches guarded log (after_write x facts) (asked x runtime.GcWrite) (afterwards x runtime.GcWrite)) (sym parts.3)
       (write_triple parts.0 parts.1 parts.2 declared (subst (λ x. first_failing (write_call_conditions p f table here facts returned x) ≡ None) parts.3 e))

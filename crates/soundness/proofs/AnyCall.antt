@@ -40,8 +40,8 @@ module _ (heap : Setup) (p : LaidOut) (certs : List Section) (reaches : Bool) (f
   asked arguments callee declared called = a.call_action p f table frame.registers returned arguments declared (a.function_numbered p.of_module (a.number_called p.of_module callee)) called
 
   -- the frame after it
-  abbrev behind : List Argument → Option Runtime → Answer → Frame
-  behind arguments called given = mc.after_call p f table result arguments called given frame
+  abbrev afterwards : List Argument → Option Runtime → Answer → Frame
+  afterwards arguments called given = mc.after_call p f table result arguments called given frame
 
   -- no other call is allowed
   never : (named : Option Runtime) (arguments : List Argument) → first_failing (refused_conditions p.of_module f table here facts named arguments) ≡ None → ⊥
@@ -52,16 +52,16 @@ module _ (heap : Setup) (p : LaidOut) (certs : List Section) (reaches : Bool) (f
 
   -- by the declaration
   of_runtime : (callee : ℕ) (arguments : List Argument) (called : Runtime) (next : FactSet) → (c : IsCallee p.of_module callee (length arguments) called (a.declare_of p.of_module callee) × (runtime_called p.of_module callee ≡ Some called))
-      → Goes heap p table frame.slots reaches guarded log next (asked arguments callee (Some c.0.declare) (Some called)) (behind arguments (Some called))
-      → Goes heap p table frame.slots reaches guarded log next (asked arguments callee (a.declare_of p.of_module callee) (runtime_called p.of_module callee)) (behind arguments (runtime_called p.of_module callee))
+      → Goes heap p table frame.slots reaches guarded log next (asked arguments callee (Some c.0.declare) (Some called)) (afterwards arguments (Some called))
+      → Goes heap p table frame.slots reaches guarded log next (asked arguments callee (a.declare_of p.of_module callee) (runtime_called p.of_module callee)) (afterwards arguments (runtime_called p.of_module callee))
   of_runtime callee arguments called next c goes =
-      subst (λ x. Goes heap p table frame.slots reaches guarded log next (asked arguments callee (a.declare_of p.of_module callee) x) (behind arguments x)) (sym c.1)
-      (subst (λ x. Goes heap p table frame.slots reaches guarded log next (asked arguments callee x (Some called)) (behind arguments (Some called))) (sym c.0.is_declared) goes)
+      subst (λ x. Goes heap p table frame.slots reaches guarded log next (asked arguments callee (a.declare_of p.of_module callee) x) (afterwards arguments x)) (sym c.1)
+      (subst (λ x. Goes heap p table frame.slots reaches guarded log next (asked arguments callee x (Some called)) (afterwards arguments (Some called))) (sym c.0.is_declared) goes)
 
   -- by the function of the runtime
   runtime_goes : (callee : ℕ) (arguments : List Argument) (called : Runtime) → IsCallee p.of_module callee (length arguments) called (a.declare_of p.of_module callee) × (runtime_called p.of_module callee ≡ Some called)
       → first_failing (call_conditions p certs f table here facts returned arguments (OfRuntime called)) ≡ None
-      → Goes heap p table frame.slots reaches guarded log (after_call p certs table result returned arguments (OfRuntime called) facts) (asked arguments callee (a.declare_of p.of_module callee) (runtime_called p.of_module callee)) (behind arguments (runtime_called p.of_module callee))
+      → Goes heap p table frame.slots reaches guarded log (after_call p certs table result returned arguments (OfRuntime called) facts) (asked arguments callee (a.declare_of p.of_module callee) (runtime_called p.of_module callee)) (afterwards arguments (runtime_called p.of_module callee))
   runtime_goes callee arguments runtime.Alloc c e =
       of_runtime callee arguments runtime.Alloc _ c (alloc_goes heap p certs reaches f table guarded log guards here marked cells facts frame h members.1 result returned (a.function_numbered p.of_module (a.number_called p.of_module callee)) c.0.declare arguments c.0.types c.0.arity e)
   runtime_goes callee arguments runtime.GcRoot c e =
@@ -76,13 +76,13 @@ module _ (heap : Setup) (p : LaidOut) (certs : List Section) (reaches : Bool) (f
   -- a call that the rules allow, and that is of no defined function
   pub call_goes : (callee : ℕ) (arguments : List Argument) → a.number_called p.of_module callee ≡ None → first_failing (call_conditions p certs f table here facts returned arguments (callee_of p.of_module callee (length arguments))) ≡ None
       → Goes heap p table frame.slots reaches guarded log (after_call p certs table result returned arguments (callee_of p.of_module callee (length arguments)) facts) (asked arguments callee (a.declare_of p.of_module callee) (runtime_called p.of_module callee))
-      (behind arguments (runtime_called p.of_module callee))
+      (afterwards arguments (runtime_called p.of_module callee))
   call_goes callee arguments inside e = by (callee_of p.of_module callee (length arguments)) refl e where
     by : (called : Callee) → callee_of p.of_module callee (length arguments) ≡ called → first_failing (call_conditions p certs f table here facts returned arguments called) ≡ None
         → Goes heap p table frame.slots reaches guarded log (after_call p certs table result returned arguments (callee_of p.of_module callee (length arguments)) facts) (asked arguments callee (a.declare_of p.of_module callee) (runtime_called p.of_module callee))
-        (behind arguments (runtime_called p.of_module callee))
+        (afterwards arguments (runtime_called p.of_module callee))
     by (NoFunction named) is e = absurd (never named arguments e)
     by (OfModule number) is e = absurd (let d = defined_is p.of_module callee (length arguments) number is in let x : Some number ≡ None = sym d.named ∙ inside in cc)
     by (OfRuntime called) is e =
-        subst (λ x. Goes heap p table frame.slots reaches guarded log (after_call p certs table result returned arguments x facts) (asked arguments callee (a.declare_of p.of_module callee) (runtime_called p.of_module callee)) (behind arguments (runtime_called p.of_module callee))) (sym is)
+        subst (λ x. Goes heap p table frame.slots reaches guarded log (after_call p certs table result returned arguments x facts) (asked arguments callee (a.declare_of p.of_module callee) (runtime_called p.of_module callee)) (afterwards arguments (runtime_called p.of_module callee))) (sym is)
         (runtime_goes callee arguments called (callee_is p.of_module callee (length arguments) called is) e)

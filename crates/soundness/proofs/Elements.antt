@@ -230,7 +230,7 @@ module _ (p : LaidOut) where
     by (Some (Named name)) e = struct_part written (t.index_number p.of_module index) step e
 
   -- from nowhere nothing is reached
-  none_after : (facts : FactSet) (part : Option ℕ) (indices : List Argument) → r.words_behind p facts part indices None ≡ None
+  none_after : (facts : FactSet) (part : Option ℕ) (indices : List Argument) → r.words_after p facts part indices None ≡ None
   none_after facts None indices = refl
   none_after facts (Some written) [] = refl
   none_after facts (Some written) (index ∷ indices) = refl
@@ -392,7 +392,7 @@ module _ (heap : Setup) (p : LaidOut) (certs : List Section) (reaches : Bool) (f
     has : has_word to.members (word + offset) ≡ true
 
   -- the words to which the rules' indices lead have the word to which the machine's do
-  walk : (written : ℕ) (indices : List Argument) (from to : WordSet) → AllFit p f table facts indices → r.words_behind p facts (Some written) indices (Some from) ≡ Some to
+  walk : (written : ℕ) (indices : List Argument) (from to : WordSet) → AllFit p f table facts indices → r.words_after p facts (Some written) indices (Some from) ≡ Some to
       → (word offset : ℕ) → word + offset < 64 → has_word from.members (word + offset) ≡ true → Walked to word (Some (offset, written)) indices
   walk written [] from to fit e word offset lt has =
       let same : from ≡ to = cc in record { offset = offset; is = refl; within = lt; has = subst (λ s. has_word s.members (word + offset) ≡ true) same has }
@@ -401,22 +401,22 @@ module _ (heap : Setup) (p : LaidOut) (certs : List Section) (reaches : Bool) (f
         number : ℕ
         number = index_value p.of_module frame.registers index
 
-        by : (step : Option Step) → step_of p written index ≡ step → r.words_behind p facts (r.step_part step) indices (r.strode (r.step_stride facts (kind_of p.of_module index.written) index step) from) ≡ Some to
-            → ((part : ℕ) (next : WordSet) → r.words_behind p facts (Some part) indices (Some next) ≡ Some to → (at : ℕ) → word + at < 64 → has_word next.members (word + at) ≡ true → Walked to word (Some (at, part)) indices)
+        by : (step : Option Step) → step_of p written index ≡ step → r.words_after p facts (r.step_part step) indices (r.strode (r.step_stride facts (kind_of p.of_module index.written) index step) from) ≡ Some to
+            → ((part : ℕ) (next : WordSet) → r.words_after p facts (Some part) indices (Some next) ≡ Some to → (at : ℕ) → word + at < 64 → has_word next.members (word + at) ≡ true → Walked to word (Some (at, part)) indices)
             → Walked to word (Some (offset, written)) (index ∷ indices)
         by None is e rest = absurd cc
         by (Some step) is e rest = strides (r.step_stride facts (kind_of p.of_module index.written) index (Some step)) refl e where
-          strides : (q : Option Stride) → r.step_stride facts (kind_of p.of_module index.written) index (Some step) ≡ q → r.words_behind p facts (r.step_part (Some step)) indices (r.strode q from) ≡ Some to → Walked to word (Some (offset, written)) (index ∷ indices)
+          strides : (q : Option Stride) → r.step_stride facts (kind_of p.of_module index.written) index (Some step) ≡ q → r.words_after p facts (r.step_part (Some step)) indices (r.strode q from) ≡ Some to → Walked to word (Some (offset, written)) (index ∷ indices)
           strides None so e = absurd (let x = none_after p facts (r.step_part (Some step)) indices in cc)
           strides (Some stride) so e = reach (r.strode (Some stride) from) refl e where
-            reach : (q : Option WordSet) → r.strode (Some stride) from ≡ q → r.words_behind p facts (r.step_part (Some step)) indices q ≡ Some to → Walked to word (Some (offset, written)) (index ∷ indices)
+            reach : (q : Option WordSet) → r.strode (Some stride) from ≡ q → r.words_after p facts (r.step_part (Some step)) indices q ≡ Some to → Walked to word (Some (offset, written)) (index ∷ indices)
             reach None reaches e = absurd (let x = none_after p facts (r.step_part (Some step)) indices in cc)
             reach (Some next) reaches e =
                 let l = index_leads index fit step stride so in
                 let turn : word + offset + l.number * stride.size ≡ word + (offset + l.number * stride.size) = omega arith in
                 let there = strode_has stride from next reaches (word + offset) l.number lt has l.from l.to in
                 let less : word + (offset + l.number * stride.size) < 64 = omega (arith, there.0, turn) in
-                let w = rest l.part next (subst (λ x. r.words_behind p facts x indices (Some next) ≡ Some to) l.is_part e) (offset + l.number * stride.size) less (subst (λ x. has_word next.members x ≡ true) turn there.1) in
+                let w = rest l.part next (subst (λ x. r.words_after p facts x indices (Some next) ≡ Some to) l.is_part e) (offset + l.number * stride.size) less (subst (λ x. has_word next.members x ≡ true) turn there.1) in
                 record {
                   offset = w.offset;
                   is = ap (λ x. offset_after p frame.registers (stepped offset number x) indices) is ∙ ap (λ x. offset_after p frame.registers x indices) (l.steps offset (omega (arith, less))) ∙ w.is;
@@ -425,29 +425,29 @@ module _ (heap : Setup) (p : LaidOut) (certs : List Section) (reaches : Bool) (f
                 }
 
   -- and there is a part of the type there
-  parts : (written : ℕ) (indices : List Argument) (from to : WordSet) → AllFit p f table facts indices → r.words_behind p facts (Some written) indices (Some from) ≡ Some to → is_some (t.part_behind p.of_module (Some written) indices) ≡ true
+  parts : (written : ℕ) (indices : List Argument) (from to : WordSet) → AllFit p f table facts indices → r.words_after p facts (Some written) indices (Some from) ≡ Some to → is_some (t.part_after p.of_module (Some written) indices) ≡ true
   parts written [] from to fit e = refl
   parts written (index ∷ indices) from to (fit, others) e =
       by (step_of p written index) refl e (λ part next z. parts part indices next to others z) where
-        by : (step : Option Step) → step_of p written index ≡ step → r.words_behind p facts (r.step_part step) indices (r.strode (r.step_stride facts (kind_of p.of_module index.written) index step) from) ≡ Some to
-            → ((part : ℕ) (next : WordSet) → r.words_behind p facts (Some part) indices (Some next) ≡ Some to → is_some (t.part_behind p.of_module (Some part) indices) ≡ true) → is_some (t.part_behind p.of_module (t.part_at p.of_module written index) indices) ≡ true
+        by : (step : Option Step) → step_of p written index ≡ step → r.words_after p facts (r.step_part step) indices (r.strode (r.step_stride facts (kind_of p.of_module index.written) index step) from) ≡ Some to
+            → ((part : ℕ) (next : WordSet) → r.words_after p facts (Some part) indices (Some next) ≡ Some to → is_some (t.part_after p.of_module (Some part) indices) ≡ true) → is_some (t.part_after p.of_module (t.part_at p.of_module written index) indices) ≡ true
         by None is e rest = absurd cc
         by (Some step) is e rest =
             rw (step_leads p written index step (sym (integer_same p.of_module index.written) ∙ fit.integer) is)
             (at (r.step_part (Some step)) (r.strode (r.step_stride facts (kind_of p.of_module index.written) index (Some step)) from) e) where
-              at : (part : Option ℕ) (q : Option WordSet) → r.words_behind p facts part indices q ≡ Some to → is_some (t.part_behind p.of_module part indices) ≡ true
+              at : (part : Option ℕ) (q : Option WordSet) → r.words_after p facts part indices q ≡ Some to → is_some (t.part_after p.of_module part indices) ≡ true
               at None q e = absurd cc
               at (Some part) None e = absurd (let x = none_after p facts (Some part) indices in cc)
               at (Some part) (Some next) e = rest part next e
 
   -- where the rules' indices lead to a part of the type, so do the machine's
-  reached_parts : (part : Option ℕ) (indices : List Argument) → is_some (r.part_reached p facts part indices) ≡ true → is_some (t.part_behind p.of_module part indices) ≡ true
+  reached_parts : (part : Option ℕ) (indices : List Argument) → is_some (r.part_reached p facts part indices) ≡ true → is_some (t.part_after p.of_module part indices) ≡ true
   reached_parts None indices e = absurd cc
   reached_parts (Some written) [] e = refl
   reached_parts (Some written) (index ∷ indices) e = by (r.leads_into p facts (slice_get p.of_module.types written) index) e (reached_parts (t.part_at p.of_module written index) indices) where
     by : (b : Bool) → is_some (r.part_reached p facts (if b then t.part_at p.of_module written index else None) indices) ≡ true
-        → (is_some (r.part_reached p facts (t.part_at p.of_module written index) indices) ≡ true → is_some (t.part_behind p.of_module (t.part_at p.of_module written index) indices) ≡ true)
-        → is_some (t.part_behind p.of_module (t.part_at p.of_module written index) indices) ≡ true
+        → (is_some (r.part_reached p facts (t.part_at p.of_module written index) indices) ≡ true → is_some (t.part_after p.of_module (t.part_at p.of_module written index) indices) ≡ true)
+        → is_some (t.part_after p.of_module (t.part_at p.of_module written index) indices) ≡ true
     by true e rest = rest e
     by false e rest = absurd cc
 
@@ -487,7 +487,7 @@ module _ (heap : Setup) (p : LaidOut) (certs : List Section) (reaches : Bool) (f
   led source [] from to fit e = absurd cc
   led source (first ∷ []) from to fit e = absurd cc
   led source (first ∷ index ∷ indices) from to (fit, others) e = by (r.is_zero (o.number_of first.operand)) refl e where
-    by : (b : Bool) → r.is_zero (o.number_of first.operand) ≡ b → (if b then r.words_behind p facts (Some source) (index ∷ indices) (Some from) else None) ≡ Some to → Led source (first ∷ index ∷ indices) from to
+    by : (b : Bool) → r.is_zero (o.number_of first.operand) ≡ b → (if b then r.words_after p facts (Some source) (index ∷ indices) (Some from) else None) ≡ Some to → Led source (first ∷ index ∷ indices) from to
     by false is e = absurd cc
     by true is e = record {
       typed = parts source (index ∷ indices) from to others e;

@@ -187,8 +187,8 @@ module _ (heap : Setup) (program : LaidOut) (certs : List Section) (f : Function
       let s = shown_first (w.open_way first.target) (map (λ case. w.open_way case.target) cases) shown in
       pick (number_in (constant_value program.of_module written first.constant) == n) (record { named = c.1; shown = s.0 }) (switch_open written n otherwise cases b.1 s.1 last) where
         pick : (b : Bool) → IsOpen facts first.target → IsOpen facts (j.switch_way program.of_module written n otherwise cases) → IsOpen facts (if b then first.target else j.switch_way program.of_module written n otherwise cases)
-        pick true here behind = here
-        pick false here behind = behind
+        pick true here afterwards = here
+        pick false here afterwards = afterwards
 
   cases_fit_so : (written : ℕ) (cases : List Case) → are_cases program.of_module f written cases ≡ true → j.cases_fit program.of_module written cases ≡ true
   cases_fit_so written [] e = refl

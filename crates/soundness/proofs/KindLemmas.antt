@@ -178,7 +178,7 @@ module _ (m : Module) where
     inner (Some (Struct first rest)) = refl
     inner (Some (Named name)) = struct_layout (struct_named m name)
 
-    by : (o : Option IrType) → layout_of_kind (kind_in m o) ≡ Rattle.types.specs.References.layout_behind m (Rattle.types.specs.References.part_of_pointer o)
+    by : (o : Option IrType) → layout_of_kind (kind_in m o) ≡ Rattle.types.specs.References.layout_after m (Rattle.types.specs.References.part_of_pointer o)
     by None = refl
     by (Some Void) = refl
     by (Some (Integer bits)) = refl

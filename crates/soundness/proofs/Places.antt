@@ -92,13 +92,13 @@ blocks_named P (block ∷ blocks) each = (each 0 (omega arith), blocks_named P b
 -- ---- what an instruction leaves
 
 -- after an instruction a frame is where it was, with as many registers, and has written no slots but roots
-pub record SamePlace (m : Module) (table : SlotTable) (before behind : Frame) : Type 0 where
-  pub function : behind.function ≡ before.function
-  pub into : behind.into ≡ before.into
-  pub block : behind.block ≡ before.block
-  pub place : behind.place ≡ before.place
-  pub size : length behind.registers ≡ length before.registers
-  pub rooted : AreRooted m table before.slots → AreRooted m table behind.slots
+pub record SamePlace (m : Module) (table : SlotTable) (before afterwards : Frame) : Type 0 where
+  pub function : afterwards.function ≡ before.function
+  pub into : afterwards.into ≡ before.into
+  pub block : afterwards.block ≡ before.block
+  pub place : afterwards.place ≡ before.place
+  pub size : length afterwards.registers ≡ length before.registers
+  pub rooted : AreRooted m table before.slots → AreRooted m table afterwards.slots
 
 module _ (p : LaidOut) (f : Function) (table : SlotTable) (names : NamesRoots p.of_module table) where
   same_place : (frame : Frame) → SamePlace p.of_module table frame frame

@@ -10,7 +10,7 @@ use Rattle.ir_ast.specs.declared.ir_type.IrType.TheVariants as type
 use Rattle.ir_ast.specs.declared.module.Module.{Module}
 use Rattle.pools.specs.Heap.{Setup}
 use Rattle.layout.specs.Layouts.{LaidOut}
-use Rattle.types.specs.References.{part_of_pointer, layout_behind, referenced_layout}
+use Rattle.types.specs.References.{part_of_pointer, layout_after, referenced_layout}
 use Rattle.shadow_stack.specs.Slots.{SlotTable, slots_of, held_type, slot_layout, is_among, is_reference_held, slot_rooted_by, with_root, with_roots, with_roots_of}
 use Rattle.facts.specs.Facts.{FactSet}
 use Rattle.machine.specs.declared.frame.Frame.{Frame}
@@ -58,7 +58,7 @@ module _ (m : Module) (names : List (Option ℕ)) (held : List ℕ) where
 -- a type that points to a layout is no integer
 pub no_integer : (m : Module) (held : ℕ) (layout : ℕ) → referenced_layout m held ≡ Some layout → is_integer (slice_get m.types held) ≡ false
 no_integer m held layout e = by (slice_get m.types held) e where
-  by : (t : Option IrType) → layout_behind m (part_of_pointer t) ≡ Some layout → is_integer t ≡ false
+  by : (t : Option IrType) → layout_after m (part_of_pointer t) ≡ Some layout → is_integer t ≡ false
   by None e = refl
   by (Some type.Void) e = refl
   by (Some (type.Integer bits)) e = absurd cc
@@ -105,9 +105,9 @@ module _ (heap : Setup) (p : LaidOut) (f : Function) (guarded : Guarded) (log : 
         → (AllReferences p.of_module table.names table.held roots → (root : Value) (place : ℕ) → place < length (map (slot_value frame.slots) roots)
         → slice_index_or (map (slot_value frame.slots) roots) place root ≡ root → IsNullOrHeld log root)
         → IsNullOrHeld log root
-    pick false is all place lt e behind = absurd cc
-    pick true is all zero lt e behind = subst (IsNullOrHeld log) e (slot_held (held_type table slot) (slot_layout table slot) (slot_value frame.slots slot) (h.slot_types slot) is)
-    pick true is all (suc place) lt e behind = behind all root place (omega (arith, lt)) e
+    pick false is all place lt e afterwards = absurd cc
+    pick true is all zero lt e afterwards = subst (IsNullOrHeld log) e (slot_held (held_type table slot) (slot_layout table slot) (slot_value frame.slots slot) (h.slot_types slot) is)
+    pick true is all (suc place) lt e afterwards = afterwards all root place (omega (arith, lt)) e
 
   -- the roots of the frame
   pub rooted : slice_get p.of_module.functions frame.function ≡ Some f → (root : Value) → Contains (frame_roots p.of_module frame (slice_get p.of_module.functions frame.function)) root → IsNullOrHeld log root

@@ -191,15 +191,15 @@ module _ (heap : Setup) (program : LaidOut) (heap_is : IsHeapFor heap program) (
 
   -- what a step leaves after each possible answer
   abbrev Onward : Log → List Value → Action → (Answer → List Frame) → Type 0
-  Onward log roots asked behind = Keeps heap log asked × ((given : Answer) → Possible heap log asked given → IsSound heap program certs (behind given) (record { asked = asked; given = given; roots = roots } ∷ log))
+  Onward log roots asked afterwards = Keeps heap log asked × ((given : Answer) → Possible heap log asked given → IsSound heap program certs (afterwards given) (record { asked = asked; given = given; roots = roots } ∷ log))
 
-  local_onward : (log : Log) (roots : List Value) (asked : Action) (behind : List Frame) → asked ≡ Local → IsSound heap program certs behind log → Onward log roots asked (λ given. behind)
-  local_onward log roots asked behind e sound =
-      subst (λ action. Onward log roots action (λ given. behind)) (sym e) (tt, λ given p. sound_keeps heap program certs behind log (record { asked = Local; given = given; roots = roots } ∷ log) (local_grows log given roots) sound)
+  local_onward : (log : Log) (roots : List Value) (asked : Action) (afterwards : List Frame) → asked ≡ Local → IsSound heap program certs afterwards log → Onward log roots asked (λ given. afterwards)
+  local_onward log roots asked afterwards e sound =
+      subst (λ action. Onward log roots action (λ given. afterwards)) (sym e) (tt, λ given p. sound_keeps heap program certs afterwards log (record { asked = Local; given = given; roots = roots } ∷ log) (local_grows log given roots) sound)
 
-  end_onward : (log : Log) (roots : List Value) (asked : Action) (behind : List Frame) → asked ≡ End → IsSound heap program certs behind log → Onward log roots asked (λ given. behind)
-  end_onward log roots asked behind e sound =
-      subst (λ action. Onward log roots action (λ given. behind)) (sym e) (tt, λ given p. sound_keeps heap program certs behind log (record { asked = End; given = given; roots = roots } ∷ log) (end_grows log given roots) sound)
+  end_onward : (log : Log) (roots : List Value) (asked : Action) (afterwards : List Frame) → asked ≡ End → IsSound heap program certs afterwards log → Onward log roots asked (λ given. afterwards)
+  end_onward log roots asked afterwards e sound =
+      subst (λ action. Onward log roots action (λ given. afterwards)) (sym e) (tt, λ given p. sound_keeps heap program certs afterwards log (record { asked = End; given = given; roots = roots } ∷ log) (end_grows log given roots) sound)
 
   -- ---- the beginning of a function
 
@@ -306,37 +306,37 @@ module _ (heap : Setup) (program : LaidOut) (heap_is : IsHeapFor heap program) (
       allowed = unbroken (first_failing (conditions program certs f table here facts instr)) follows.1.keeps
 
       -- the rest of the block, from the next place on
-      rest_after : (behind : Frame) → SamePlace program.of_module table frame behind
-          → Follows (scene behind.function f) behind.block (phi_count (scene behind.function f) behind.block + (behind.place + 1)) (after program certs table facts instr) (drop (behind.place + 1) (body_of f behind.block)) x.standing.last
-      rest_after behind same =
+      rest_after : (afterwards : Frame) → SamePlace program.of_module table frame afterwards
+          → Follows (scene afterwards.function f) afterwards.block (phi_count (scene afterwards.function f) afterwards.block + (afterwards.place + 1)) (after program certs table facts instr) (drop (afterwards.place + 1) (body_of f afterwards.block)) x.standing.last
+      rest_after afterwards same =
           let next : Follows s frame.block (suc (phi_count s frame.block + frame.place)) (after program certs table facts instr) (drop (suc frame.place) (body_of f frame.block)) x.standing.last =
           subst (λ g. Follows s frame.block (suc (phi_count s frame.block + frame.place)) g (drop (suc frame.place) (body_of f frame.block)) x.standing.last) follows.1.facts_after follows.2 in
           let further : suc (phi_count s frame.block + frame.place) ≡ phi_count s frame.block + suc frame.place = omega arith in
-          let place : suc frame.place ≡ behind.place + 1 = omega (arith, same.place) in
-          subst (λ n. Follows (scene n f) behind.block (phi_count s behind.block + (behind.place + 1)) (after program certs table facts instr) (drop (behind.place + 1) (body_of f behind.block)) x.standing.last) (sym same.function)
-          (subst (λ b. Follows s b (phi_count s b + (behind.place + 1)) (after program certs table facts instr) (drop (behind.place + 1) (body_of f b)) x.standing.last) (sym same.block)
+          let place : suc frame.place ≡ afterwards.place + 1 = omega (arith, same.place) in
+          subst (λ n. Follows (scene n f) afterwards.block (phi_count s afterwards.block + (afterwards.place + 1)) (after program certs table facts instr) (drop (afterwards.place + 1) (body_of f afterwards.block)) x.standing.last) (sym same.function)
+          (subst (λ b. Follows s b (phi_count s b + (afterwards.place + 1)) (after program certs table facts instr) (drop (afterwards.place + 1) (body_of f b)) x.standing.last) (sym same.block)
           (subst (λ n. Follows s frame.block (phi_count s frame.block + n) (after program certs table facts instr) (drop n (body_of f frame.block)) x.standing.last) place
           (subst (λ n. Follows s frame.block n (after program certs table facts instr) (drop (suc frame.place) (body_of f frame.block)) x.standing.last) further next)))
 
       -- and its end
-      ends_after : (behind : Frame) → SamePlace program.of_module table frame behind
-          → EndPasses (scene behind.function f) behind.block (end_place (scene behind.function f) behind.block) x.standing.last (end_of f behind.block)
-      ends_after behind same =
-          subst (λ n. EndPasses (scene n f) behind.block (end_place s behind.block) x.standing.last (end_of f behind.block)) (sym same.function)
+      ends_after : (afterwards : Frame) → SamePlace program.of_module table frame afterwards
+          → EndPasses (scene afterwards.function f) afterwards.block (end_place (scene afterwards.function f) afterwards.block) x.standing.last (end_of f afterwards.block)
+      ends_after afterwards same =
+          subst (λ n. EndPasses (scene n f) afterwards.block (end_place s afterwards.block) x.standing.last (end_of f afterwards.block)) (sym same.function)
           (subst (λ b. EndPasses s b (end_place s b) x.standing.last (end_of f b)) (sym same.block) x.standing.ends)
 
       -- a frame at the next place
-      next_place : (guarded : Guarded) (later : Log) (behind : Frame) (w : Saved) (next : FactSet) → SamePlace program.of_module table frame behind → Holds heap program table guarded later w.cells w.facts behind.registers behind.slots → HaveMembers w.facts
-          → after program certs table facts instr ≡ next → IsAt heap program certs guarded later (mc.go_on behind) f w next
-      next_place guarded later behind w next same h members e = record {
+      next_place : (guarded : Guarded) (later : Log) (afterwards : Frame) (w : Saved) (next : FactSet) → SamePlace program.of_module table frame afterwards → Holds heap program table guarded later w.cells w.facts afterwards.registers afterwards.slots → HaveMembers w.facts
+          → after program certs table facts instr ≡ next → IsAt heap program certs guarded later (mc.go_on afterwards) f w next
+      next_place guarded later afterwards w next same h members e = record {
         there = ap (slice_get program.of_module.functions) same.function ∙ x.standing.there;
         size = same.size ∙ x.standing.size;
         holds = h;
         members = members;
         rooted = same.rooted x.standing.rooted;
         last = x.standing.last;
-        rest = subst (λ g. Follows (scene behind.function f) behind.block (phi_count (scene behind.function f) behind.block + (behind.place + 1)) g (drop (behind.place + 1) (body_of f behind.block)) x.standing.last) e (rest_after behind same);
-        ends = ends_after behind same;
+        rest = subst (λ g. Follows (scene afterwards.function f) afterwards.block (phi_count (scene afterwards.function f) afterwards.block + (afterwards.place + 1)) g (drop (afterwards.place + 1) (body_of f afterwards.block)) x.standing.last) e (rest_after afterwards same);
+        ends = ends_after afterwards same;
       }
 
       -- what an instruction asks for that calls no defined function, and what it leaves
@@ -348,11 +348,11 @@ module _ (heap : Setup) (program : LaidOut) (heap_is : IsHeapFor heap program) (
             g.keeps,
             λ given possible.
                 let led = g.leads given roots (all_has program.of_module asked table frame.slots roots frame_has) possible in
-                let behind = mc.after_op program f table instr.result instr.op given frame in
+                let afterwards = mc.after_op program f table instr.result instr.op given frame in
                 let same = op_place program f table (named_roots frame.function f x.standing.there) instr.result instr.op given frame in
                 let later : Log = record { asked = asked; given = given; roots = roots } ∷ log in
-                live later behind (record { facts = after program certs table facts instr; cells = led.0 }) same
-                (next_place (GuardedBy x.saves) later behind (record { facts = after program certs table facts instr; cells = led.0 }) (after program certs table facts instr) same led.1 (members_stay program certs table facts instr x.standing.members) refl)
+                live later afterwards (record { facts = after program certs table facts instr; cells = led.0 }) same
+                (next_place (GuardedBy x.saves) later afterwards (record { facts = after program certs table facts instr; cells = led.0 }) (after program certs table facts instr) same led.1 (members_stay program certs table facts instr x.standing.members) refl)
                 (elim (log_after heap log (is_may here.mark) (GuardedBy x.saves) roots asked given g.spares possible) [
                   | inl spared ↦ (below_keeps heap program certs log later frame.into frame.function f below x.saves spared x.under, λ cell y. spared.fresh cell y (x.guards cell y))
                   | inr staged ↦ (
@@ -362,14 +362,14 @@ module _ (heap : Setup) (program : LaidOut) (heap_is : IsHeapFor heap program) (
                   )
                 ]),
           ) where
-            live : (later : Log) (behind : Frame) (now : Saved) → SamePlace program.of_module table frame behind → IsAt heap program certs (GuardedBy x.saves) later (mc.go_on behind) f now now.facts
-                → Below heap program certs later frame.into frame.function f below x.saves × ((cell : ℕ) → GuardedBy x.saves cell → IsFresh later cell) → Live heap program certs (mc.go_on behind) below later
-            live later behind now same at b = record {
+            live : (later : Log) (afterwards : Frame) (now : Saved) → SamePlace program.of_module table frame afterwards → IsAt heap program certs (GuardedBy x.saves) later (mc.go_on afterwards) f now now.facts
+                → Below heap program certs later frame.into frame.function f below x.saves × ((cell : ℕ) → GuardedBy x.saves cell → IsFresh later cell) → Live heap program certs (mc.go_on afterwards) below later
+            live later afterwards now same at b = record {
               function = f;
               saves = x.saves;
               now = now;
               standing = at;
-              under = subst (λ n. Below heap program certs later behind.into n f below x.saves) (sym same.function) (subst (λ i. Below heap program certs later i frame.function f below x.saves) (sym same.into) b.0);
+              under = subst (λ n. Below heap program certs later afterwards.into n f below x.saves) (sym same.function) (subst (λ i. Below heap program certs later i frame.function f below x.saves) (sym same.into) b.0);
               guards = b.1;
             }
 
@@ -390,7 +390,7 @@ module _ (heap : Setup) (program : LaidOut) (heap_is : IsHeapFor heap program) (
 
       module _ (y : Call) (n : ℕ) (e : callee_of program.of_module y.callee (length y.arguments) ≡ OfModule n)
           (allowed : first_failing (op_conditions program certs f table here facts instr.result (op.Call y)) ≡ None)
-          (behind : after program certs table facts instr ≡ after_op program certs table instr.result (op.Call y) facts) where
+          (afterwards : after program certs table facts instr ≡ after_op program certs table instr.result (op.Call y) facts) where
         -- the function that is called
         abbrev d : IsDefined program.of_module y.callee (length y.arguments) n
         d = defined_is program.of_module y.callee (length y.arguments) n e
@@ -434,8 +434,8 @@ module _ (heap : Setup) (program : LaidOut) (heap_is : IsHeapFor heap program) (
             (arguments_given heap program certs f table (GuardedBy x.saves) log x.now.cells facts frame x.standing.holds x.standing.members y.arguments q.parameters (promises_in section) pass count types.1 (all K13))
 
         -- after the call its facts are those with the result
-        behind_is : after program certs table facts instr ≡ receive_result program.of_module instr.result q.returned (promised_in section) w.facts
-        behind_is = behind ∙ ap (λ c. after_call program certs table instr.result y.returned y.arguments c facts) e
+        after_is : after program certs table facts instr ≡ receive_result program.of_module instr.result q.returned (promised_in section) w.facts
+        after_is = afterwards ∙ ap (λ c. after_call program certs table instr.result y.returned y.arguments c facts) e
             ∙ ap (λ t. receive_result program.of_module instr.result t (promised_in section) w.facts) (test_true y.returned q.returned types.0)
 
         abbrev suspended : Suspended heap program certs (GuardedBy x.saves) log instr.result n q (mc.go_on frame) w
@@ -443,7 +443,7 @@ module _ (heap : Setup) (program : LaidOut) (heap_is : IsHeapFor heap program) (
           function = f;
           standing = next_place (GuardedBy x.saves) log frame w (receive_result program.of_module instr.result q.returned (promised_in section) w.facts)
               (record { function = refl; into = refl; block = refl; place = refl; size = refl; rooted = λ r. r }) wait.holds
-              (mark_members (callee_mark section) (drop_arguments y.arguments facts) (arguments_members y.arguments facts x.standing.members)) behind_is;
+              (mark_members (callee_mark section) (drop_arguments y.arguments facts) (arguments_members y.arguments facts x.standing.members)) after_is;
           marks = λ z. agrees here.mark (callee_mark section) (all K17) (own_called section z);
           still = λ z. wait.still (own_called section z);
           named = wait.named;

@@ -164,7 +164,7 @@ among_contained : (slots : List Value) (roots : List ℕ) (s : ℕ) → is_among
 among_contained slots [] s e = absurd cc
 among_contained slots (root ∷ roots) s e = elim (or_parts (s == root) (is_among roots s) e) [
   | inl same ↦ (0, omega arith, ap (slot_value slots) (sym (test_true s root same)))
-  | inr behind ↦ (let c = among_contained slots roots s behind in (suc c.0, omega (arith, c.1), c.2))
+  | inr afterwards ↦ (let c = among_contained slots roots s afterwards in (suc c.0, omega (arith, c.1), c.2))
 ]
 
 -- what each slot of reference type holds is null, or among the roots of the frame

@@ -112,8 +112,8 @@ module _ (heap : Setup) (p : LaidOut) (certs : List Section) (reaches : Bool) (f
   call_action arguments declared defined called = a.call_action p f table frame.registers returned arguments declared defined called
 
   -- the frame after it
-  abbrev pub behind_call : List Argument → Option Runtime → Answer → Frame
-  behind_call arguments called given = mc.after_call p f table result arguments called given frame
+  abbrev pub afterwards_call : List Argument → Option Runtime → Answer → Frame
+  afterwards_call arguments called given = mc.after_call p f table result arguments called given frame
 
   -- the defined function that a name names
   abbrev pub defined : (callee : ℕ) → Option Function
@@ -170,11 +170,11 @@ module _ (heap : Setup) (p : LaidOut) (certs : List Section) (reaches : Bool) (f
   -- of a layout with this number
   alloc_of_number : (defined : Option Function) → (n : ℕ) (d : Declare) (argument : Argument) → argument.operand ≡ operand.Constant (constant.Number n) → a.are_alloc_types p.of_module d.returned d.parameters ≡ true → a.are_alloc_types p.of_module returned (argument.written ∷ []) ≡ true
       → (nat_lt n (length p.of_module.structs) && nat_lt n 4294967296) ≡ true
-      → Goes heap p table frame.slots reaches guarded log (after_alloc_call result (argument ∷ []) facts) (call_action (argument ∷ []) (Some d) defined (Some runtime.Alloc)) (behind_call (argument ∷ []) (Some runtime.Alloc))
+      → Goes heap p table frame.slots reaches guarded log (after_alloc_call result (argument ∷ []) facts) (call_action (argument ∷ []) (Some d) defined (Some runtime.Alloc)) (afterwards_call (argument ∷ []) (Some runtime.Alloc))
   alloc_of_number defined n d argument is declared written numbered =
       let below = (and_parts (nat_lt n (length p.of_module.structs)) (nat_lt n 4294967296) numbered).1 in
       let named : a.layout_named p.of_module argument.operand ≡ Some n = rw (is, numbered) refl in
-      subst (λ a. Goes heap p table frame.slots reaches guarded log (after_alloc_call result (argument ∷ []) facts) a (behind_call (argument ∷ []) (Some runtime.Alloc))) (sym (rw (declared, written, named) refl))
+      subst (λ a. Goes heap p table frame.slots reaches guarded log (after_alloc_call result (argument ∷ []) facts) a (afterwards_call (argument ∷ []) (Some runtime.Alloc))) (sym (rw (declared, written, named) refl))
       (subst (λ l. Goes heap p table frame.slots reaches guarded log (after_alloc_call result (argument ∷ []) facts) (Alloc n) (λ given. mc.set_register result (mc.alloc_value l given) frame)) (sym named)
       (alloc_leads n (after_alloc_call result (argument ∷ []) facts) (kept below result))) where
         kept : nat_lt n 4294967296 ≡ true → (name : Option ℕ) (given : Answer) (roots : List Value) → Possible heap log (Alloc n) given
@@ -184,7 +184,7 @@ module _ (heap : Setup) (p : LaidOut) (certs : List Section) (reaches : Bool) (f
 
   -- by the argument, which the rules let be no other than a number
   alloc_by : (defined : Option Function) → (d : Declare) (argument : Argument) (x : Operand) → argument.operand ≡ x → a.are_alloc_types p.of_module d.returned d.parameters ≡ true → a.are_alloc_types p.of_module returned (argument.written ∷ []) ≡ true → numbers_layout p.of_module x ≡ true
-      → Goes heap p table frame.slots reaches guarded log (after_alloc_call result (argument ∷ []) facts) (call_action (argument ∷ []) (Some d) defined (Some runtime.Alloc)) (behind_call (argument ∷ []) (Some runtime.Alloc))
+      → Goes heap p table frame.slots reaches guarded log (after_alloc_call result (argument ∷ []) facts) (call_action (argument ∷ []) (Some d) defined (Some runtime.Alloc)) (afterwards_call (argument ∷ []) (Some runtime.Alloc))
   alloc_by defined d argument (operand.Constant (constant.Number n)) is declared written numbered = alloc_of_number defined n d argument is declared written numbered
   alloc_by defined d argument (operand.Constant (constant.Truth b)) is declared written numbered = absurd cc
   alloc_by defined d argument (operand.Constant constant.Null) is declared written numbered = absurd cc
@@ -194,13 +194,13 @@ module _ (heap : Setup) (p : LaidOut) (certs : List Section) (reaches : Bool) (f
 
   -- a call of dg_alloc that the rules allow
   pub alloc_goes : (defined : Option Function) → (d : Declare) (arguments : List Argument) → is_declared_as p.of_module d runtime.Alloc ≡ true → (length arguments == 1) ≡ true → first_failing (alloc_conditions p.of_module f table here facts returned arguments) ≡ None
-      → Goes heap p table frame.slots reaches guarded log (after_alloc_call result arguments facts) (call_action arguments (Some d) defined (Some runtime.Alloc)) (behind_call arguments (Some runtime.Alloc))
+      → Goes heap p table frame.slots reaches guarded log (after_alloc_call result arguments facts) (call_action arguments (Some d) defined (Some runtime.Alloc)) (afterwards_call arguments (Some runtime.Alloc))
   alloc_goes defined d arguments declared arity e =
       let parts = one_parameter arguments (test_true (length arguments) 1 arity) in
-      subst (λ x. Goes heap p table frame.slots reaches guarded log (after_alloc_call result x facts) (call_action x (Some d) defined (Some runtime.Alloc)) (behind_call x (Some runtime.Alloc))) (sym parts.1)
+      subst (λ x. Goes heap p table frame.slots reaches guarded log (after_alloc_call result x facts) (call_action x (Some d) defined (Some runtime.Alloc)) (afterwards_call x (Some runtime.Alloc))) (sym parts.1)
       (one parts.0 (subst (λ x. first_failing (alloc_conditions p.of_module f table here facts returned x) ≡ None) parts.1 e)) where
         one : (argument : Argument) → first_failing (alloc_conditions p.of_module f table here facts returned (argument ∷ [])) ≡ None
-            → Goes heap p table frame.slots reaches guarded log (after_alloc_call result (argument ∷ []) facts) (call_action (argument ∷ []) (Some d) defined (Some runtime.Alloc)) (behind_call (argument ∷ []) (Some runtime.Alloc))
+            → Goes heap p table frame.slots reaches guarded log (after_alloc_call result (argument ∷ []) facts) (call_action (argument ∷ []) (Some d) defined (Some runtime.Alloc)) (afterwards_call (argument ∷ []) (Some runtime.Alloc))
         one argument e =
             let all = rules_hold (alloc_conditions p.of_module f table here facts returned (argument ∷ [])) e in
             let k2 = all K2 in
@@ -254,31 +254,31 @@ module _ (heap : Setup) (p : LaidOut) (certs : List Section) (reaches : Bool) (f
   -- a gcroot of this slot, which takes null
   root_of_slot : (defined : Option Function) → (d : Declare) (place metadata : Argument) (s : ℕ) → o.slot_named table place.operand ≡ Some s → a.are_gcroot_types p.of_module d.returned d.parameters ≡ true → a.are_gcroot_types p.of_module returned (place.written ∷ metadata.written ∷ []) ≡ true
       → o.is_value p.of_module f facts place.written place.operand ≡ true → o.is_value p.of_module f facts metadata.written metadata.operand ≡ true → o.is_null metadata.operand ≡ true → is_reference (slot_kind p.of_module table s) ≡ true
-      → Goes heap p table frame.slots reaches guarded log (after_root_call table (place ∷ metadata ∷ []) facts) (call_action (place ∷ metadata ∷ []) (Some d) defined (Some runtime.GcRoot)) (behind_call (place ∷ metadata ∷ []) (Some runtime.GcRoot))
+      → Goes heap p table frame.slots reaches guarded log (after_root_call table (place ∷ metadata ∷ []) facts) (call_action (place ∷ metadata ∷ []) (Some d) defined (Some runtime.GcRoot)) (afterwards_call (place ∷ metadata ∷ []) (Some runtime.GcRoot))
   root_of_slot defined d place metadata s is declared written k2p k2m null reference =
       let there = slot_place place.written s place.operand is k2p in
       let held = root_held (held_type table s) (slot_layout table s) (slot_value frame.slots s) (h.slot_types s) reference in
-      subst (λ x. Goes heap p table frame.slots reaches guarded log (after_root x facts) (call_action (place ∷ metadata ∷ []) (Some d) defined (Some runtime.GcRoot)) (behind_call (place ∷ metadata ∷ []) (Some runtime.GcRoot))) (sym is)
+      subst (λ x. Goes heap p table frame.slots reaches guarded log (after_root x facts) (call_action (place ∷ metadata ∷ []) (Some d) defined (Some runtime.GcRoot)) (afterwards_call (place ∷ metadata ∷ []) (Some runtime.GcRoot))) (sym is)
       (subst (λ x. Goes heap p table frame.slots reaches guarded log (root_slot s facts) (call_action (place ∷ metadata ∷ []) (Some d) defined (Some runtime.GcRoot)) (λ given. mc.set_slot x value.Null frame)) (sym there)
       (goes_local heap p table frame.slots reaches guarded log _ _ _ (rw (declared, written, there, held.0, null_usable metadata.written metadata.operand null k2m) refl)
       (cells, slot_keeps heap p table guarded log cells facts frame.registers frame.slots h s _ value.Null held.1 (record { means = record { nonnull = λ z. absurd cc; holds = λ c z. absurd cc }; apart = λ v c l st is2 fr out. apart_turned value.Null (cells c) tt }))))
 
   -- a call of gcroot that the rules allow
   pub root_goes : (defined : Option Function) → (d : Declare) (arguments : List Argument) → is_declared_as p.of_module d runtime.GcRoot ≡ true → (length arguments == 2) ≡ true → first_failing (root_conditions p.of_module f table here facts returned arguments) ≡ None
-      → Goes heap p table frame.slots reaches guarded log (after_root_call table arguments facts) (call_action arguments (Some d) defined (Some runtime.GcRoot)) (behind_call arguments (Some runtime.GcRoot))
+      → Goes heap p table frame.slots reaches guarded log (after_root_call table arguments facts) (call_action arguments (Some d) defined (Some runtime.GcRoot)) (afterwards_call arguments (Some runtime.GcRoot))
   root_goes defined d arguments declared arity e =
       let parts = two_parameters arguments (test_true (length arguments) 2 arity) in
-      subst (λ x. Goes heap p table frame.slots reaches guarded log (after_root_call table x facts) (call_action x (Some d) defined (Some runtime.GcRoot)) (behind_call x (Some runtime.GcRoot))) (sym parts.2)
+      subst (λ x. Goes heap p table frame.slots reaches guarded log (after_root_call table x facts) (call_action x (Some d) defined (Some runtime.GcRoot)) (afterwards_call x (Some runtime.GcRoot))) (sym parts.2)
       (two parts.0 parts.1 (subst (λ x. first_failing (root_conditions p.of_module f table here facts returned x) ≡ None) parts.2 e)) where
         slot : (place metadata : Argument) (q : Option ℕ) → o.slot_named table place.operand ≡ q → is_unrooted p.of_module table facts q ≡ true → a.are_gcroot_types p.of_module returned (place.written ∷ metadata.written ∷ []) ≡ true
             → o.is_value p.of_module f facts place.written place.operand ≡ true → o.is_value p.of_module f facts metadata.written metadata.operand ≡ true → o.is_null metadata.operand ≡ true
-            → Goes heap p table frame.slots reaches guarded log (after_root_call table (place ∷ metadata ∷ []) facts) (call_action (place ∷ metadata ∷ []) (Some d) defined (Some runtime.GcRoot)) (behind_call (place ∷ metadata ∷ []) (Some runtime.GcRoot))
+            → Goes heap p table frame.slots reaches guarded log (after_root_call table (place ∷ metadata ∷ []) facts) (call_action (place ∷ metadata ∷ []) (Some d) defined (Some runtime.GcRoot)) (afterwards_call (place ∷ metadata ∷ []) (Some runtime.GcRoot))
         slot place metadata None is unrooted written k2p k2m null = absurd cc
         slot place metadata (Some s) is unrooted written k2p k2m null =
             root_of_slot defined d place metadata s is (root_declared p.of_module d declared) written k2p k2m null (and_parts (is_reference (slot_kind p.of_module table s)) _ unrooted).0
 
         two : (place metadata : Argument) → first_failing (root_conditions p.of_module f table here facts returned (place ∷ metadata ∷ [])) ≡ None
-            → Goes heap p table frame.slots reaches guarded log (after_root_call table (place ∷ metadata ∷ []) facts) (call_action (place ∷ metadata ∷ []) (Some d) defined (Some runtime.GcRoot)) (behind_call (place ∷ metadata ∷ []) (Some runtime.GcRoot))
+            → Goes heap p table frame.slots reaches guarded log (after_root_call table (place ∷ metadata ∷ []) facts) (call_action (place ∷ metadata ∷ []) (Some d) defined (Some runtime.GcRoot)) (afterwards_call (place ∷ metadata ∷ []) (Some runtime.GcRoot))
         two place metadata e =
             let all = rules_hold (root_conditions p.of_module f table here facts returned (place ∷ metadata ∷ [])) e in
             let k2 = all K2 in
@@ -321,7 +321,7 @@ module _ (heap : Setup) (p : LaidOut) (certs : List Section) (reaches : Bool) (f
 
   -- a call of dg_safepoint that the rules allow
   pub safepoint_goes : (defined : Option Function) (d : Declare) (arguments : List Argument) → is_declared_as p.of_module d runtime.Safepoint ≡ true → (length arguments == 0) ≡ true → first_failing (safepoint_conditions p.of_module here returned arguments) ≡ None
-      → Goes heap p table frame.slots reaches guarded log (make_stale facts) (call_action arguments (Some d) defined (Some runtime.Safepoint)) (behind_call arguments (Some runtime.Safepoint))
+      → Goes heap p table frame.slots reaches guarded log (make_stale facts) (call_action arguments (Some d) defined (Some runtime.Safepoint)) (afterwards_call arguments (Some runtime.Safepoint))
   safepoint_goes defined d arguments declared arity e =
       let all = rules_hold (safepoint_conditions p.of_module here returned arguments) e in
       let b = and_parts (is_runtime_type p.of_module d.returned types.Void) _ declared in

@@ -15,21 +15,21 @@ use Rattle.colours.specs.Runs.{word_at_start, word_after, births_after}
 use Rattle.trace_sweep.specs.Collecting.{Collecting, plan, plan_of, begun}
 use Rattle.runs.specs.Machine.{Reference, Machine}
 use Rattle.runs.specs.Moves.{null}
-use Rattle.runs.specs.Ends.{StandsBehind}
+use Rattle.runs.specs.Ends.{StandsAfter}
 use Rattle.runs.specs.Standings.{begins}
 use Rattle.moves.specs.declared.shared.Shared.{Shared}
 use Rattle.moves.specs.declared.stand.Stand.{Stand}
 use Rattle.moves.specs.Kinds.{MayHold}
 use Rattle.moves.specs.Rows.{word_at}
-use Rattle.moves.specs.Runs.{collector_behind, run_by}
-use Rattle.moves.specs.Shared.{held_at, StandBehind}
+use Rattle.moves.specs.Runs.{collector_after, run_by}
+use Rattle.moves.specs.Shared.{held_at, StandAfter}
 use Rattle.moves.specs.Stands.{cells_to_try, phase_at, standing}
 use Rattle.stepping.specs.Reach.{IsSchemaOf}
 use Rattle.run_law.specs.Growth.{IsInHeap}
 use Rattle.stepping.specs.declared.acting.Actors.{Actors}
 use Rattle.stepping.specs.declared.beginning.NewThread.{NewThread}
 use Rattle.stepping.specs.Starts.{value_at_start, IsRowAtStart, AreRowsAtStart, stage_at_start, stance_at_start, stand_at_start}
-use Rattle.stepping.specs.Ends.{AreBehindSteps}
+use Rattle.stepping.specs.Ends.{AreAfterSteps}
 
 -- ---- late threads
 
@@ -136,11 +136,11 @@ rows-more s n rows row are is = record {
 -- ---- all words
 
 -- they are the words after no step
-pub stand-behind-none : (s : Setup) → IsSetup s → (stages zeros births : List ℕ) (rows : List (List Reference)) → length stages ≡ s.threads → length zeros ≡ cells s → length births ≡ cells s
+pub stand-afterwards-none : (s : Setup) → IsSetup s → (stages zeros births : List ℕ) (rows : List (List Reference)) → length stages ≡ s.threads → length zeros ≡ cells s → length births ≡ cells s
     → ((k : ℕ) → slice_index stages k ≡ (if is_late s k then done else 0)) → ((k : ℕ) → slice_index zeros k ≡ 0) → ((k : ℕ) → slice_index births k ≡ 0) → AreRowsAtStart s (cells s) rows
-    → StandBehind s [] (record { posted = 0; stages = stages; colours = slice_set zeros 0 1; births = births; words = rows })
+    → StandAfter s [] (record { posted = 0; stages = stages; colours = slice_set zeros 0 1; births = births; words = rows })
 unfolding births_after word_after
-stand-behind-none s setup stages zeros births rows stages_count colours_count births_count no_stages no_colours no_births are = record {
+stand-afterwards-none s setup stages zeros births rows stages_count colours_count births_count no_stages no_colours no_births are = record {
   shape = record {
     stages = stages_count;
     colours = length-set zeros 0 1 ∙ colours_count;
@@ -149,7 +149,7 @@ stand-behind-none s setup stages zeros births rows stages_count colours_count bi
     row = λ cell lt. (are.rows_are cell lt).count;
     kinds = λ cell word k lt is. (are.rows_are cell lt).kinds word k is;
   };
-  behind = record {
+  afterwards = record {
     words = words;
     word_births = word_births;
     births = λ cell. no_births cell ∙ sym (unborn cell);
@@ -200,7 +200,7 @@ phase-first cells roots true = refl
 phase-first cells roots false = refl
 
 -- a thread is in this state before its first move
-stands-first : (s : Setup) (m : Machine) (starts : ℕ → m.State) (t : ℕ) (thread : NewThread m.State) → is_late s t ≡ thread.is_late → starts t ≡ thread.machine → StandsBehind s m starts [] t (standing s m (stand_at_start (length s.pools) thread))
+stands-first : (s : Setup) (m : Machine) (starts : ℕ → m.State) (t : ℕ) (thread : NewThread m.State) → is_late s t ≡ thread.is_late → starts t ≡ thread.machine → StandsAfter s m starts [] t (standing s m (stand_at_start (length s.pools) thread))
 stands-first s m starts t thread late e =
     let first = begins s m starts t in
     record {
@@ -219,19 +219,19 @@ begun-of s threads layouts pools globals a b c d = rw (a, b, c, d) refl
 -- the actors before their first step
 pub actors-first : (s : Setup) (m : Machine) (Fits : m.State → Type 0) (starts : ℕ → m.State) (a : Actors m.State) (states : List (NewThread m.State)) → IsSchemaOf s a.schema → IsSetup s → s.late ≡ map (λ (thread : NewThread m.State). thread.is_late) states → cells s ≤ 2 ^ 32
     → s.threads ≡ length states → ((t : ℕ) (thread : NewThread m.State) → slice_get states t ≡ Some thread → (starts t ≡ thread.machine) × Fits thread.machine)
-    → a.threads.items ≡ map (stand_at_start (length s.pools)) states → StandBehind s [] a.shared → a.collector ≡ begun (plan_of s) → AreBehindSteps s m Fits starts [] a
-unfolding collector_behind run_by is_late
+    → a.threads.items ≡ map (stand_at_start (length s.pools)) states → StandAfter s [] a.shared → a.collector ≡ begun (plan_of s) → AreAfterSteps s m Fits starts [] a
+unfolding collector_after run_by is_late
 actors-first s m Fits starts a states is_schema setup late few count begin threads words collects = record {
   schema = is_schema;
   setup = setup;
-  is_behind = record {
+  is_after = record {
     are_actors = tt;
     is_end = record {
       few_cells = few;
       count = ap length threads ∙ length-map states (stand_at_start (length s.pools)) ∙ sym count;
       stands = λ t stand is.
           let o = got-start (length s.pools) states t stand (sym (ap (λ (v : List (Stand m.State)). slice_get v t) threads) ∙ is) in
-          subst (λ (v : Stand m.State). StandsBehind s m starts [] t (standing s m v)) (sym o.2) (stands-first s m starts t o.0 (ap (λ (l : List Bool). slice_index_or l t false) late ∙ lateness states t o.0 o.1) (begin t o.0 o.1).0);
+          subst (λ (v : Stand m.State). StandsAfter s m starts [] t (standing s m v)) (sym o.2) (stands-first s m starts t o.0 (ap (λ (l : List Bool). slice_index_or l t false) late ∙ lateness states t o.0 o.1) (begin t o.0 o.1).0);
       fits = λ t stand is.
           let o = got-start (length s.pools) states t stand (sym (ap (λ (v : List (Stand m.State)). slice_get v t) threads) ∙ is) in
           subst (λ (v : Stand m.State). Fits v.state) (sym o.2) (begin t o.0 o.1).1;

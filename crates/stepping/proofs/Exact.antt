@@ -13,7 +13,7 @@ use Rattle.runs.specs.Broken as broken
 use Rattle.runs.specs.Broken.{Reached, IsRoot, IsReachable, IsBlue, IsReborn, IsGone, Shows, ReachBlue, ReachBirth}
 use Rattle.moves.specs.declared.shared.Shared.{Shared}
 use Rattle.moves.specs.Rows.{word_at}
-use Rattle.moves.specs.Shared.{HasShape, StandBehind}
+use Rattle.moves.specs.Shared.{HasShape, StandAfter}
 use Rattle.stepping.specs.declared.walk.Walk.{Walk}
 use Rattle.stepping.specs.Reach.{AreRoots, IsFirstGone, gone_of}
 use Rattle.stepping.specs.Walks.{Found, globals, root, further, IsAtMost, IsSeen, IsFound, IsFoundReborn, IsWhole}
@@ -56,12 +56,12 @@ module _ (s : Setup) (h : Shared) (roots : List Reference) (shape : HasShape s h
 -- ---- as after the run
 
 module _ (s : Setup) (m : Machine) (starts : ℕ → m.State) (run : List Happening) (h : Shared) (roots : List Reference)
-    (stand : StandBehind s run h) (are : AreRoots s m starts run roots) where
+    (stand : StandAfter s run h) (are : AreRoots s m starts run roots) where
   -- what a word holds
   word-is : (cell word : ℕ) → (record { cell = word_after s (heap_of run) (Word cell word); birth = birth_in run cell word }) ≡ word_at h.words cell word
   word-is cell word =
-      sym (ap (λ c. record { cell = c; birth = birth_in run cell word }) (stand.behind.words (Word cell word)))
-      ∙ ap (λ b. record { cell = (word_at h.words cell word).cell; birth = b }) (sym (stand.behind.word_births cell word))
+      sym (ap (λ c. record { cell = c; birth = birth_in run cell word }) (stand.afterwards.words (Word cell word)))
+      ∙ ap (λ b. record { cell = (word_at h.words cell word).cell; birth = b }) (sym (stand.afterwards.word_births cell word))
 
   -- what is found can be reached
   reachable : (r : Reference) → Found s h roots r → IsReachable s m starts run r
@@ -69,7 +69,7 @@ module _ (s : Setup) (m : Machine) (starts : ℕ → m.State) (run : List Happen
   reachable _ (root r is_in n) = broken.from r (are.are_roots r is_in n) n
   reachable _ (further r word found is n) =
       subst (λ (q : Reference). IsReachable s m starts run q) (word-is r.cell word)
-      (broken.further r word (reachable r found) is (λ z. n (stand.behind.words (Word r.cell word) ∙ z)))
+      (broken.further r word (reachable r found) is (λ z. n (stand.afterwards.words (Word r.cell word) ∙ z)))
 
   -- and what can be reached is found
   found-all : (r : Reference) → IsReachable s m starts run r → Found s h roots r
@@ -77,7 +77,7 @@ module _ (s : Setup) (m : Machine) (starts : ℕ → m.State) (run : List Happen
   found-all _ (broken.from r is_root n) = root r (are.all r is_root n) n
   found-all _ (broken.further r word reached is n) =
       subst (λ (q : Reference). Found s h roots q) (sym (word-is r.cell word))
-      (further r word (found-all r reached) is (λ z. n (sym (stand.behind.words (Word r.cell word)) ∙ z)))
+      (further r word (found-all r reached) is (λ z. n (sym (stand.afterwards.words (Word r.cell word)) ∙ z)))
 
   -- the first that is gone, by the least of what was met
   abbrev IsFreeCell : ℕ → Type 0
@@ -88,22 +88,22 @@ module _ (s : Setup) (m : Machine) (starts : ℕ → m.State) (run : List Happen
       → ((r : Reference) → Found s h roots r → slice_index h.births r.cell ≢ r.birth → IsAtMost reborn r.cell)
       → IsFirstGone s m starts run (gone_of blue reborn)
   first-of (Some cell) reborn free claimed blues reborns = (
-    (record { cell = cell; birth = free.1.birth }, reachable (record { cell = cell; birth = free.1.birth }) free.1.is_found, refl, sym (stand.behind.words (Colour cell)) ∙ free.0),
+    (record { cell = cell; birth = free.1.birth }, reachable (record { cell = cell; birth = free.1.birth }) free.1.is_found, refl, sym (stand.afterwards.words (Colour cell)) ∙ free.0),
     λ other lt shown.
-        let most = blues shown.0 (found-all shown.0 shown.1) (stand.behind.words (Colour shown.0.cell) ∙ shown.3) in
+        let most = blues shown.0 (found-all shown.0 shown.1) (stand.afterwards.words (Colour shown.0.cell) ∙ shown.3) in
         absurd (omega (arith, lt, most, shown.2)),
   )
   first-of None (Some cell) free claimed blues reborns = (
-    λ other shown. blues shown.0 (found-all shown.0 shown.1) (stand.behind.words (Colour shown.0.cell) ∙ shown.3),
-    (record { cell = cell; birth = claimed.birth }, reachable (record { cell = cell; birth = claimed.birth }) claimed.is_found, refl, λ z. claimed.is_reborn (stand.behind.births cell ∙ z)),
+    λ other shown. blues shown.0 (found-all shown.0 shown.1) (stand.afterwards.words (Colour shown.0.cell) ∙ shown.3),
+    (record { cell = cell; birth = claimed.birth }, reachable (record { cell = cell; birth = claimed.birth }) claimed.is_found, refl, λ z. claimed.is_reborn (stand.afterwards.births cell ∙ z)),
     λ other lt shown.
-        let most = reborns shown.0 (found-all shown.0 shown.1) (λ z. shown.3 (sym (stand.behind.births shown.0.cell) ∙ z)) in
+        let most = reborns shown.0 (found-all shown.0 shown.1) (λ z. shown.3 (sym (stand.afterwards.births shown.0.cell) ∙ z)) in
         absurd (omega (arith, lt, most, shown.2)),
   )
   first-of None None free claimed blues reborns = λ r reached gone.
       elim gone [
-        | inl blue ↦ blues r (found-all r reached) (stand.behind.words (Colour r.cell) ∙ blue)
-        | inr reborn ↦ reborns r (found-all r reached) (λ z. reborn (sym (stand.behind.births r.cell) ∙ z))
+        | inl blue ↦ blues r (found-all r reached) (stand.afterwards.words (Colour r.cell) ∙ blue)
+        | inr reborn ↦ reborns r (found-all r reached) (λ z. reborn (sym (stand.afterwards.births r.cell) ∙ z))
       ]
 
   -- a walk that looked at all that it met finds it

@@ -11,7 +11,7 @@ use Rattle.colours.specs.Mutator.{Phase, Ended, Absent, Arriving, Entering, Leav
 use Rattle.colours.specs.Collector.{posted_of}
 use Rattle.colours.specs.Runs.{word_after, births_after, log_of, turns_of}
 use Rattle.runs.specs.Machine.{Reference, Machine}
-use Rattle.runs.specs.Moves.{Move, Marks, StoresBehindBarrier, StoresPlain, Claims, ReadsPostedAgain, IsIn, step_of, logged, steps_of, state_after, Follows}
+use Rattle.runs.specs.Moves.{Move, Marks, StoresAfterBarrier, StoresPlain, Claims, ReadsPostedAgain, IsIn, step_of, logged, steps_of, state_after, Follows}
 use Rattle.runs.specs.ModuleRuns.{Happening, OfThread, OfCollector, share_of, heap_of, birth_of, birth_in, IsNext, IsModuleRun}
 use Rattle.runs.specs.Broken.{IsUnderWay, IsRoot, globals, from, further, IsReachable, IsGone}
 use Rattle.stepping.specs.Reach.{AddsNothing, LosesNothing}
@@ -42,7 +42,7 @@ stored-none false value was birth other z n = (refl, refl)
 
 word-stays : (s : Setup) (run : List Happening) (happening : Happening) → IsQuiet happening → (cell word : ℕ) → IsAsItWas s run happening cell word
 unfolding word_after
-word-stays s run (OfThread t (StoresBehindBarrier base place value)) quiet cell word n =
+word-stays s run (OfThread t (StoresAfterBarrier base place value)) quiet cell word n =
     stored-none ((base.cell == cell) && (place == word)) value.cell (word_after s (heap_of run) (Word cell word)) value.birth (birth_in run cell word) quiet n
 word-stays s run (OfThread t (StoresPlain base place value)) quiet cell word n =
     stored-none ((base.cell == cell) && (place == word)) value.cell (word_after s (heap_of run) (Word cell word)) value.birth (birth_in run cell word) quiet n

@@ -16,7 +16,7 @@ use Rattle.moves.specs.Runs.{run_by}
 use Rattle.moves.specs.Stands.{cells_to_try, phase_at}
 use Rattle.stepping.specs.Reach.{AreRoots}
 use Rattle.stepping.specs.declared.acting.Actors.{Actors}
-use Rattle.stepping.specs.Ends.{AreBehindSteps, IsEnd}
+use Rattle.stepping.specs.Ends.{AreAfterSteps, IsEnd}
 use Rattle.stepping.specs.Roots.{under_way, own_roots, roots_of}
 
 -- ---- lists
@@ -105,7 +105,7 @@ under-way-is-own cells rs others stance.Leaving r way e = absurd way
 -- ---- the run's
 
 -- they are the roots of the run
-pub are-roots : (s : Setup) (m : Machine) (Fits : m.State → Type 0) (starts : ℕ → m.State) (before : List Actor) (a : Actors m.State) → AreBehindSteps s m Fits starts before a
+pub are-roots : (s : Setup) (m : Machine) (Fits : m.State → Type 0) (starts : ℕ → m.State) (before : List Actor) (a : Actors m.State) → AreAfterSteps s m Fits starts before a
     → ((state : m.State) → Fits state → KeepsKinds s m.action m.after_answer m.roots Fits state) → AreRoots s m starts (run_by s m starts before) (roots_of m.roots a.threads.items)
 are-roots s m Fits starts before a b keeps = record {
   are_roots = λ r e some.
@@ -129,7 +129,7 @@ are-roots s m Fits starts before a b keeps = record {
 }
   where
     end : IsEnd s m Fits starts (run_by s m starts before) a.threads.items a.shared a.collector
-    end = b.is_behind.is_end
+    end = b.is_after.is_end
 
     there-is : (t : ℕ) → t < s.threads → (stand : Stand m.State) × (slice_get a.threads.items t ≡ Some stand)
     there-is t lt = go a.threads.items t (subst (λ n. t < n) (sym end.count) lt)

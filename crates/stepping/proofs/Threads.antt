@@ -8,7 +8,7 @@ use Rattle.runs.specs.Machine.{Reference, Action, Machine}
 use Rattle.runs.specs.Moves as moves
 use Rattle.runs.specs.Moves.{step_of, state_after}
 use Rattle.runs.specs.ModuleRuns.{Happening, OfThread, share_of, heap_of}
-use Rattle.runs.specs.Ends.{Standing, StandsBehind, moved, next_move_of}
+use Rattle.runs.specs.Ends.{Standing, StandsAfter, moved, next_move_of}
 use Rattle.runs.specs.Standings.{goes_on}
 use Rattle.moves.specs.declared.actor.Actor.{Actor}
 use Rattle.moves.specs.declared.actor.Actor.TheVariants.{Thread}
@@ -19,7 +19,7 @@ use Rattle.moves.specs.declared.moves.Move.{Move}
 use Rattle.moves.specs.declared.stand.Stand.{Stand}
 use Rattle.moves.specs.Calls.{action_of, move_in}
 use Rattle.moves.specs.Causes.{Breaks}
-use Rattle.moves.specs.Runs.{collector_behind, by_thread, next_by, run_by}
+use Rattle.moves.specs.Runs.{collector_after, by_thread, next_by, run_by}
 use Rattle.moves.specs.Shared.{with_move}
 use Rattle.moves.specs.Stands.{standing, sight_in}
 use Rattle.moves.specs.Drawn.{drawn, turns-with}
@@ -29,10 +29,10 @@ use Rattle.stepping.specs.Reach.{AddsNothing, LosesNothing}
 use Rattle.stepping.specs.Loss.{IsTold}
 use Rattle.stepping.specs.declared.loss.Loss.{Loss}
 use Rattle.stepping.specs.declared.loss.Loss.TheVariants.{Nothing, Possible, Unseen}
-use Rattle.run_law.specs.Growth.{ThreadIsBehind, MoveGrows}
+use Rattle.run_law.specs.Growth.{ThreadIsAfter, MoveGrows}
 use Rattle.stepping.specs.declared.acting.Actors.{Actors}
 use Rattle.stepping.specs.declared.happening.Happening.TheVariants as happening
-use Rattle.stepping.specs.Ends.{AreBehindSteps, IsEnd, IsOneStep}
+use Rattle.stepping.specs.Ends.{AreAfterSteps, IsEnd, IsOneStep}
 use Rattle.stepping.proofs.Lists.{got-set, put-back}
 use Rattle.stepping.proofs.Ends.{run_more, run_same, KeepsAll, is_longer_run}
 
@@ -64,11 +64,11 @@ asks-for machine.Wrong = refl
 -- ---- where it is
 
 -- where the thread is
-pub thread_is_behind : (s : Setup) (m : Machine) (Fits : m.State → Type 0) (starts : ℕ → m.State) (before : List Actor) (a : Actors m.State) → AreBehindSteps s m Fits starts before a
-    → (t : ℕ) → t < s.threads → (stand : Stand m.State) → slice_get a.threads.items t ≡ Some stand → ThreadIsBehind s m Fits starts (run_by s m starts before) t stand a.shared
-thread_is_behind s m Fits starts before a b t lt stand is =
-    let end = b.is_behind.is_end in
-    let d = drawn s m starts before b.is_behind.are_actors in
+pub thread_is_after : (s : Setup) (m : Machine) (Fits : m.State → Type 0) (starts : ℕ → m.State) (before : List Actor) (a : Actors m.State) → AreAfterSteps s m Fits starts before a
+    → (t : ℕ) → t < s.threads → (stand : Stand m.State) → slice_get a.threads.items t ≡ Some stand → ThreadIsAfter s m Fits starts (run_by s m starts before) t stand a.shared
+thread_is_after s m Fits starts before a b t lt stand is =
+    let end = b.is_after.is_end in
+    let d = drawn s m starts before b.is_after.are_actors in
     record {
       few_cells = end.few_cells;
       is_run = d.is_run;
@@ -81,12 +81,12 @@ thread_is_behind s m Fits starts before a b t lt stand is =
     }
 
 -- its next happening, by where it is and the words as they are
-next-by-thread : (s : Setup) (m : Machine) (Fits : m.State → Type 0) (starts : ℕ → m.State) (before : List Actor) (a : Actors m.State) → AreBehindSteps s m Fits starts before a
+next-by-thread : (s : Setup) (m : Machine) (Fits : m.State → Type 0) (starts : ℕ → m.State) (before : List Actor) (a : Actors m.State) → AreAfterSteps s m Fits starts before a
     → (t : ℕ) (stand : Stand m.State) → slice_get a.threads.items t ≡ Some stand
     → next_by s m starts (run_by s m starts before) (Thread t) ≡ by_thread t (next_move_of s m (sight_in s a.shared stand.hints) (standing s m stand))
 next-by-thread s m Fits starts before a b t stand is =
-    let end = b.is_behind.is_end in
-    next_in_words s m starts (run_by s m starts before) t (standing s m stand) a.shared end.words.behind (end.stands t stand is)
+    let end = b.is_after.is_end in
+    next_in_words s m starts (run_by s m starts before) t (standing s m stand) a.shared end.words.afterwards (end.stands t stand is)
 
 -- the actors with a thread put back that was there
 pub same-actors : {State : Type 0} (a : Actors State) (t : ℕ) (stand : Stand State) → slice_set a.threads.items t stand ≡ a.threads.items
@@ -98,19 +98,19 @@ same-actors {State} a t stand e =
 -- ---- a thread that has ended
 
 -- nothing happens
-pub moved-none : (s : Setup) (m : Machine) (Fits : m.State → Type 0) (starts : ℕ → m.State) (before : List Actor) (a : Actors m.State) → AreBehindSteps s m Fits starts before a
+pub moved-none : (s : Setup) (m : Machine) (Fits : m.State → Type 0) (starts : ℕ → m.State) (before : List Actor) (a : Actors m.State) → AreAfterSteps s m Fits starts before a
     → (t : ℕ) → t < s.threads → (stand : Stand m.State) → slice_get a.threads.items t ≡ Some stand
     → next_move_of s m (sight_in s a.shared stand.hints) (standing s m stand) ≡ None → IsOneStep s m Fits starts before (Thread t) None a
 moved-none s m Fits starts before a b t lt stand is ended =
     let none = next-by-thread s m Fits starts before a b t stand is ∙ ap (by_thread t) ended in
     record {
       made_is = none;
-      behind = record {
+      afterwards = record {
         schema = b.schema;
         setup = b.setup;
-        is_behind = record {
-          are_actors = (lt, b.is_behind.are_actors);
-          is_end = subst (λ (run : List Happening). IsEnd s m Fits starts run a.threads.items a.shared a.collector) (sym (run_same s m starts before (Thread t) none)) b.is_behind.is_end;
+        is_after = record {
+          are_actors = (lt, b.is_after.are_actors);
+          is_end = subst (λ (run : List Happening). IsEnd s m Fits starts run a.threads.items a.shared a.collector) (sym (run_same s m starts before (Thread t) none)) b.is_after.is_end;
         };
       };
     }
@@ -122,10 +122,10 @@ share-with : (t : ℕ) (move : moves.Move) (run : List Happening) → share_of t
 share-with t move run = ap (λ (b : Bool). if b then move ∷ share_of t run else share_of t run) (test_yes t t refl)
 
 -- a step that stores nothing and leaves the roots unchanged loses nothing
-loses-none : (s : Setup) (m : Machine) (starts : ℕ → m.State) (run : List Happening) (t : ℕ) (stand : Stand m.State) (move : moves.Move) (behind : Stand m.State)
-    → StandsBehind s m starts run t (standing s m stand) → standing s m behind ≡ moved s m (standing s m stand) move
-    → AddsNothing move × (m.roots behind.state ≡ m.roots stand.state) → LosesNothing s m starts run (OfThread t move)
-loses-none s m starts run t stand move behind stands is loses = (
+loses-none : (s : Setup) (m : Machine) (starts : ℕ → m.State) (run : List Happening) (t : ℕ) (stand : Stand m.State) (move : moves.Move) (afterwards : Stand m.State)
+    → StandsAfter s m starts run t (standing s m stand) → standing s m afterwards ≡ moved s m (standing s m stand) move
+    → AddsNothing move × (m.roots afterwards.state ≡ m.roots stand.state) → LosesNothing s m starts run (OfThread t move)
+loses-none s m starts run t stand move afterwards stands is loses = (
   loses.0,
   ap (λ (share : List moves.Move). m.roots (state_after s m t (starts t) share)) (sym (share-with t move run))
       ∙ ap m.roots (sym ((goes_on s m starts run t (standing s m stand) stands).own move).state)
@@ -135,10 +135,10 @@ loses-none s m starts run t stand move behind stands is loses = (
 )
 
 -- and one that loses nothing stores nothing and leaves the roots unchanged
-loses-back : (s : Setup) (m : Machine) (starts : ℕ → m.State) (run : List Happening) (t : ℕ) (stand : Stand m.State) (move : moves.Move) (behind : Stand m.State)
-    → StandsBehind s m starts run t (standing s m stand) → standing s m behind ≡ moved s m (standing s m stand) move
-    → LosesNothing s m starts run (OfThread t move) → AddsNothing move × (m.roots behind.state ≡ m.roots stand.state)
-loses-back s m starts run t stand move behind stands is loses = (
+loses-back : (s : Setup) (m : Machine) (starts : ℕ → m.State) (run : List Happening) (t : ℕ) (stand : Stand m.State) (move : moves.Move) (afterwards : Stand m.State)
+    → StandsAfter s m starts run t (standing s m stand) → standing s m afterwards ≡ moved s m (standing s m stand) move
+    → LosesNothing s m starts run (OfThread t move) → AddsNothing move × (m.roots afterwards.state ≡ m.roots stand.state)
+loses-back s m starts run t stand move afterwards stands is loses = (
   loses.0,
   ap (λ (st : Standing m.State). m.roots st.state) is
       ∙ ap m.roots ((goes_on s m starts run t (standing s m stand) stands).own move).state
@@ -157,26 +157,26 @@ told-so Unseen P Q to back told = tt
 moves-on : (s : Setup) (m : Machine) (Fits : m.State → Type 0) (starts : ℕ → m.State) (run : List Happening) (a : Actors m.State) → IsEnd s m Fits starts run a.threads.items a.shared a.collector
     → (t : ℕ) (stand : Stand m.State) → slice_get a.threads.items t ≡ Some stand
     → (made : Move) → MoveGrows s m Fits run t stand a.shared made
-    → (behind : Stand m.State) → standing s m behind ≡ moved s m (standing s m stand) (move_in (m.roots stand.state) made)
-    → IsEnd s m Fits starts (OfThread t (move_in (m.roots stand.state) made) ∷ run) (slice_set a.threads.items t behind) (with_move a.shared t stand.stage made) a.collector
-moves-on s m Fits starts run a end t stand is made grows behind behind_is = record {
+    → (afterwards : Stand m.State) → standing s m afterwards ≡ moved s m (standing s m stand) (move_in (m.roots stand.state) made)
+    → IsEnd s m Fits starts (OfThread t (move_in (m.roots stand.state) made) ∷ run) (slice_set a.threads.items t afterwards) (with_move a.shared t stand.stage made) a.collector
+moves-on s m Fits starts run a end t stand is made grows afterwards after_is = record {
   few_cells = end.few_cells;
-  count = length-set a.threads.items t behind ∙ end.count;
-  stands = λ u other got. elim (got-set a.threads.items t u behind other got) [
-    | inl h ↦ subst (λ (v : ℕ). StandsBehind s m starts (OfThread t move ∷ run) v (standing s m other)) (sym h.0)
-        (subst (λ (v : Standing m.State). StandsBehind s m starts (OfThread t move ∷ run) t v) (sym (ap (standing s m) h.1 ∙ behind_is))
+  count = length-set a.threads.items t afterwards ∙ end.count;
+  stands = λ u other got. elim (got-set a.threads.items t u afterwards other got) [
+    | inl h ↦ subst (λ (v : ℕ). StandsAfter s m starts (OfThread t move ∷ run) v (standing s m other)) (sym h.0)
+        (subst (λ (v : Standing m.State). StandsAfter s m starts (OfThread t move ∷ run) t v) (sym (ap (standing s m) h.1 ∙ after_is))
         ((goes_on s m starts run t (standing s m stand) (end.stands t stand is)).own move))
     | inr h ↦ (goes_on s m starts run u (standing s m other) (end.stands u other h.1)).other t move (λ q. h.0 (sym q))
   ];
-  fits = λ u other got. elim (got-set a.threads.items t u behind other got) [
-    | inl h ↦ subst (λ (v : m.State). Fits v) (sym (ap (λ (v : Stand m.State). v.state) h.1 ∙ ap (λ (v : Standing m.State). v.state) behind_is)) grows.fits
+  fits = λ u other got. elim (got-set a.threads.items t u afterwards other got) [
+    | inl h ↦ subst (λ (v : m.State). Fits v) (sym (ap (λ (v : Stand m.State). v.state) h.1 ∙ ap (λ (v : Standing m.State). v.state) after_is)) grows.fits
     | inr h ↦ end.fits u other h.1
   ];
-  replaced = λ u other got. elim (got-set a.threads.items t u behind other got) [
-    | inl h ↦ subst (λ (v : Reference). v.cell < cells s) (sym (ap (λ (v : Stand m.State). v.replaced) h.1 ∙ ap (λ (v : Standing m.State). v.old) behind_is)) grows.replaced
+  replaced = λ u other got. elim (got-set a.threads.items t u afterwards other got) [
+    | inl h ↦ subst (λ (v : Reference). v.cell < cells s) (sym (ap (λ (v : Stand m.State). v.replaced) h.1 ∙ ap (λ (v : Standing m.State). v.old) after_is)) grows.replaced
     | inr h ↦ end.replaced u other h.1
   ];
-  collects = end.collects ∙ ap (collector_behind s) (sym (turns-with t (step_of move) (heap_of run)));
+  collects = end.collects ∙ ap (collector_after s) (sym (turns-with t (step_of move) (heap_of run)));
   in_heap = end.in_heap;
   words = grows.words;
 }
@@ -185,40 +185,40 @@ moves-on s m Fits starts run a end t stand is made grows behind behind_is = reco
     move = move_in (m.roots stand.state) made
 
 -- what the move is reported as, and the actors after it
-pub moved-on : (s : Setup) (m : Machine) (Fits : m.State → Type 0) (starts : ℕ → m.State) (before : List Actor) (a : Actors m.State) → AreBehindSteps s m Fits starts before a
+pub moved-on : (s : Setup) (m : Machine) (Fits : m.State → Type 0) (starts : ℕ → m.State) (before : List Actor) (a : Actors m.State) → AreAfterSteps s m Fits starts before a
     → (t : ℕ) → t < s.threads → (stand : Stand m.State) → slice_get a.threads.items t ≡ Some stand
     → (made : Move) → next_move_of s m (sight_in s a.shared stand.hints) (standing s m stand) ≡ Some (move_in (m.roots stand.state) made) → MoveGrows s m Fits (run_by s m starts before) t stand a.shared made
-    → (behind : Stand m.State) → standing s m behind ≡ moved s m (standing s m stand) (move_in (m.roots stand.state) made)
+    → (afterwards : Stand m.State) → standing s m afterwards ≡ moved s m (standing s m stand) (move_in (m.roots stand.state) made)
     → (broke : Option Cause) → Breaks a.shared made broke
-    → KeepsAll s m starts → (loss : Loss) → IsTold loss (AddsNothing (move_in (m.roots stand.state) made) × (m.roots behind.state ≡ m.roots stand.state))
+    → KeepsAll s m starts → (loss : Loss) → IsTold loss (AddsNothing (move_in (m.roots stand.state) made) × (m.roots afterwards.state ≡ m.roots stand.state))
     → IsOneStep s m Fits starts before (Thread t) (Some (record { happening = happening.Thread t made; broke = broke; loss = loss }))
-    (record { schema = a.schema; threads = with_item a.threads t behind; shared = with_move a.shared t stand.stage made; collector = a.collector })
-moved-on s m Fits starts before a b t lt stand is made asked grows behind behind_is broke breaks keeps loss told =
-    let end = b.is_behind.is_end in
+    (record { schema = a.schema; threads = with_item a.threads t afterwards; shared = with_move a.shared t stand.stage made; collector = a.collector })
+moved-on s m Fits starts before a b t lt stand is made asked grows afterwards after_is broke breaks keeps loss told =
+    let end = b.is_after.is_end in
     let run = run_by s m starts before in
     let move = move_in (m.roots stand.state) made in
     let next : next_by s m starts run (Thread t) ≡ Some (OfThread t move) = next-by-thread s m Fits starts before a b t stand is ∙ ap (by_thread t) asked in
     let stands = end.stands t stand is in
     let told_of : IsTold loss (LosesNothing s m starts run (OfThread t move)) =
-    told-so loss (AddsNothing move × (m.roots behind.state ≡ m.roots stand.state)) (LosesNothing s m starts run (OfThread t move))
-    (loses-none s m starts run t stand move behind stands behind_is) (loses-back s m starts run t stand move behind stands behind_is) told in
+    told-so loss (AddsNothing move × (m.roots afterwards.state ≡ m.roots stand.state)) (LosesNothing s m starts run (OfThread t move))
+    (loses-none s m starts run t stand move afterwards stands after_is) (loses-back s m starts run t stand move afterwards stands after_is) told in
     record {
       made_is = record {
         happening = OfThread t move;
         next = next;
         tells = ap (λ (state : m.State). OfThread t (move_in (m.roots state) made)) (end.stands t stand is).state;
-        broke = first_cause s m starts run t (m.roots stand.state) a.shared made broke end.words.behind breaks;
+        broke = first_cause s m starts run t (m.roots stand.state) a.shared made broke end.words.afterwards breaks;
         loss = told_of;
-        loses = λ lossless before_it. keeps run (OfThread t move) (is_longer_run s m starts before (Thread t) (OfThread t move) (lt, b.is_behind.are_actors) next)
+        loses = λ lossless before_it. keeps run (OfThread t move) (is_longer_run s m starts before (Thread t) (OfThread t move) (lt, b.is_after.are_actors) next)
             (subst (λ (l : Loss). IsTold l (LosesNothing s m starts run (OfThread t move))) lossless told_of) before_it;
       };
-      behind = record {
+      afterwards = record {
         schema = b.schema;
         setup = b.setup;
-        is_behind = record {
-          are_actors = (lt, b.is_behind.are_actors);
-          is_end = subst (λ (r : List Happening). IsEnd s m Fits starts r (slice_set a.threads.items t behind) (with_move a.shared t stand.stage made) a.collector) (sym (run_more s m starts before (Thread t) (OfThread t move) next))
-              (moves-on s m Fits starts run a end t stand is made grows behind behind_is);
+        is_after = record {
+          are_actors = (lt, b.is_after.are_actors);
+          is_end = subst (λ (r : List Happening). IsEnd s m Fits starts r (slice_set a.threads.items t afterwards) (with_move a.shared t stand.stage made) a.collector) (sym (run_more s m starts before (Thread t) (OfThread t move) next))
+              (moves-on s m Fits starts run a end t stand is made grows afterwards after_is);
         };
       };
     }

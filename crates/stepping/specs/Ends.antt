@@ -7,14 +7,14 @@ use Rattle.runs.specs.Machine.{Reference, Machine}
 use Rattle.runs.specs.Moves as moves
 use Rattle.runs.specs.ModuleRuns.{OfThread, OfCollector, share_of, heap_of}
 use Rattle.runs.specs.ModuleRuns as runs
-use Rattle.runs.specs.Ends.{StandsBehind}
+use Rattle.runs.specs.Ends.{StandsAfter}
 use Rattle.moves.specs.declared.actor.Actor.{Actor}
 use Rattle.moves.specs.declared.shared.Shared.{Shared}
 use Rattle.moves.specs.declared.stand.Stand.{Stand}
 use Rattle.moves.specs.Calls.{move_in}
 use Rattle.moves.specs.Causes.{IsStepCause}
-use Rattle.moves.specs.Runs.{collector_behind, next_by, run_by, AreActors}
-use Rattle.moves.specs.Shared.{StandBehind}
+use Rattle.moves.specs.Runs.{collector_after, next_by, run_by, AreActors}
+use Rattle.moves.specs.Shared.{StandAfter}
 use Rattle.moves.specs.Stands.{standing}
 use Rattle.stepping.specs.Reach.{IsSchemaOf, IsFirstGone, LosesNothing}
 use Rattle.stepping.specs.Loss.{IsTold}
@@ -29,24 +29,24 @@ use Rattle.stepping.specs.declared.loss.Loss.TheVariants.{Nothing}
 pub record IsEnd (s : Setup) (m : Machine) (Fits : m.State → Type 0) (starts : ℕ → m.State) (run : List runs.Happening) (threads : List (Stand m.State)) (shared : Shared) (collector : Collecting) : Type 0 where
   pub few_cells : cells s ≤ 2 ^ 32
   pub count : length threads ≡ s.threads
-  pub stands : (t : ℕ) (stand : Stand m.State) → slice_get threads t ≡ Some stand → StandsBehind s m starts run t (standing s m stand)
+  pub stands : (t : ℕ) (stand : Stand m.State) → slice_get threads t ≡ Some stand → StandsAfter s m starts run t (standing s m stand)
   pub fits : (t : ℕ) (stand : Stand m.State) → slice_get threads t ≡ Some stand → Fits stand.state
   -- what a write under way has read is a cell
   pub replaced : (t : ℕ) (stand : Stand m.State) → slice_get threads t ≡ Some stand → stand.replaced.cell < cells s
-  pub collects : collector ≡ collector_behind s (turns_of (heap_of run))
+  pub collects : collector ≡ collector_after s (turns_of (heap_of run))
   pub in_heap : IsInHeap s collector
-  pub words : StandBehind s run shared
+  pub words : StandAfter s run shared
 
 -- they are what these actors, the newest first, make of their starts
-pub record IsBehind (s : Setup) (m : Machine) (Fits : m.State → Type 0) (starts : ℕ → m.State) (actors : List Actor) (threads : List (Stand m.State)) (shared : Shared) (collector : Collecting) : Type 0 where
+pub record IsAfter (s : Setup) (m : Machine) (Fits : m.State → Type 0) (starts : ℕ → m.State) (actors : List Actor) (threads : List (Stand m.State)) (shared : Shared) (collector : Collecting) : Type 0 where
   pub are_actors : AreActors s.threads actors
   pub is_end : IsEnd s m Fits starts (run_by s m starts actors) threads shared collector
 
 -- the same for the actors of the code
-pub record AreBehindSteps (s : Setup) (m : Machine) (Fits : m.State → Type 0) (starts : ℕ → m.State) (before : List Actor) (actors : Actors m.State) : Type 0 where
+pub record AreAfterSteps (s : Setup) (m : Machine) (Fits : m.State → Type 0) (starts : ℕ → m.State) (before : List Actor) (actors : Actors m.State) : Type 0 where
   pub schema : IsSchemaOf s actors.schema
   pub setup : IsSetup s
-  pub is_behind : IsBehind s m Fits starts before actors.threads.items actors.shared actors.collector
+  pub is_after : IsAfter s m Fits starts before actors.threads.items actors.shared actors.collector
 
 -- ---- one step
 
@@ -74,4 +74,4 @@ IsStepOrNone s m starts run actor (Some step) = IsStep s m starts run actor step
 -- what the actor made after these is returned, and the actors are those after it
 pub record IsOneStep (s : Setup) (m : Machine) (Fits : m.State → Type 0) (starts : ℕ → m.State) (before : List Actor) (actor : Actor) (made : Option MadeStep) (actors : Actors m.State) : Type 0 where
   pub made_is : IsStepOrNone s m starts (run_by s m starts before) actor made
-  pub behind : AreBehindSteps s m Fits starts (actor ∷ before) actors
+  pub afterwards : AreAfterSteps s m Fits starts (actor ∷ before) actors

@@ -4,7 +4,7 @@ use Rattle.pools.specs.Heap.{Setup, cells}
 use Rattle.colours.specs.declared.turn.Turn.{Turn}
 use Rattle.colours.specs.declared.turn.Turn.TheVariants.{Free}
 use Rattle.runs.specs.Machine.{Reference, Machine}
-use Rattle.runs.specs.Moves.{Move, StoresBehindBarrier, StoresPlain, ReadsPostedAgain, IsIn, state_after}
+use Rattle.runs.specs.Moves.{Move, StoresAfterBarrier, StoresPlain, ReadsPostedAgain, IsIn, state_after}
 use Rattle.runs.specs.ModuleRuns.{Happening, OfThread, OfCollector, share_of}
 use Rattle.runs.specs.Broken.{IsRoot, IsReachable, IsGone, Shows, ReachBlue, ReachBirth}
 use Rattle.stepping.specs.declared.gone.Gone.{Gone}
@@ -38,7 +38,7 @@ gone_of None None = None
 
 -- the move puts nothing but null or 0 into a word, and is not the one after which a late thread has begun
 abbrev pub AddsNothing : Move → Type 0
-AddsNothing (StoresBehindBarrier base word value) = value.cell ≡ 0
+AddsNothing (StoresAfterBarrier base word value) = value.cell ≡ 0
 AddsNothing (StoresPlain base word value) = value.cell ≡ 0
 AddsNothing (ReadsPostedAgain stage) = ⊥
 AddsNothing move = Unit {0}

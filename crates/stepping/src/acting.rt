@@ -6,7 +6,7 @@ ghost use Rattle.moves.specs.declared.actor.Actor.{Actor as AnActor};
 ghost use Rattle.moves.specs.declared.actor.Actor.TheVariants as actor;
 ghost use Rattle.moves.specs.Runs.{run_by, IsActor};
 ghost use Rattle.stepping.specs.Reach.{IsSchemaOf, IsFirstGone};
-ghost use Rattle.stepping.specs.Ends.{AreBehindSteps, IsOneStep};
+ghost use Rattle.stepping.specs.Ends.{AreAfterSteps, IsOneStep};
 
 use crate::beginning::{NewThread, shared_at_start, stands_at_start};
 use crate::gone::{Gone, HeapSchema, first_gone};
@@ -41,7 +41,7 @@ impl<'a, M: Runner + Drop> Actors<'a, M> {
         requires pools { length schema.pools.now ≡ length schema.layouts.now }
         ensures { (s : Setup) (starts : ℕ → M) → IsSchemaOf s schema.entry → IsSetup s → s.late ≡ map (λ (thread : NewThread M). thread.is_late) threads.items → s.threads ≡ length threads.items → s.values ≡ values.now
             → ((t : ℕ) (thread : NewThread M) → slice_get threads.items t ≡ Some thread → (starts t ≡ thread.machine) × M.fits s thread.machine)
-            → IfOk result (AreBehindSteps s (machine_of M.action M.after_answer M.roots) (M.fits s) starts []) }
+            → IfOk result (AreAfterSteps s (machine_of M.action M.after_answer M.roots) (M.fits s) starts []) }
     {
         let shared = shared_at_start(alloc, schema, values, threads.as_slice())?;
         let collector = Collector::new(schema.pools, schema.layouts, schema.globals, threads.len());
@@ -77,8 +77,8 @@ impl<'a, M: Runner + Drop> Actors<'a, M> {
 
     /// The actor makes its one next step, if it has one. Without memory nothing changes.
     pub fn step(&mut self, actor: Actor) -> Result<Option<MadeStep>, AllocError>
-        requires { (s : Setup) × (starts : ℕ → M) × (before : List AnActor) × AreBehindSteps s (machine_of M.action M.after_answer M.roots) (M.fits s) starts before self.old × IsActor s.threads actor }
-        ensures ok { (s : Setup) (starts : ℕ → M) (before : List AnActor) → AreBehindSteps s (machine_of M.action M.after_answer M.roots) (M.fits s) starts before self.old
+        requires { (s : Setup) × (starts : ℕ → M) × (before : List AnActor) × AreAfterSteps s (machine_of M.action M.after_answer M.roots) (M.fits s) starts before self.old × IsActor s.threads actor }
+        ensures ok { (s : Setup) (starts : ℕ → M) (before : List AnActor) → AreAfterSteps s (machine_of M.action M.after_answer M.roots) (M.fits s) starts before self.old
             → IsActor s.threads actor
             → IfOk result (λ made. IsOneStep s (machine_of M.action M.after_answer M.roots) (M.fits s) starts before actor made self.new) }
         ensures err { OnErr result (self.new ≡ self.old) }
@@ -91,8 +91,8 @@ impl<'a, M: Runner + Drop> Actors<'a, M> {
 
     /// The collector makes its next step; none at the limit of the cycles.
     fn step_of_collector(&mut self) -> Option<MadeStep>
-        requires { (s : Setup) × (starts : ℕ → M) × (before : List AnActor) × AreBehindSteps s (machine_of M.action M.after_answer M.roots) (M.fits s) starts before self.old }
-        ensures { (s : Setup) (starts : ℕ → M) (before : List AnActor) → AreBehindSteps s (machine_of M.action M.after_answer M.roots) (M.fits s) starts before self.old
+        requires { (s : Setup) × (starts : ℕ → M) × (before : List AnActor) × AreAfterSteps s (machine_of M.action M.after_answer M.roots) (M.fits s) starts before self.old }
+        ensures { (s : Setup) (starts : ℕ → M) (before : List AnActor) → AreAfterSteps s (machine_of M.action M.after_answer M.roots) (M.fits s) starts before self.old
             → IsOneStep s (machine_of M.action M.after_answer M.roots) (M.fits s) starts before actor.Collector result self.new }
     {
         growth_law::<M>();
@@ -111,8 +111,8 @@ impl<'a, M: Runner + Drop> Actors<'a, M> {
 
     /// The thread makes its next step; none where it has ended. Without memory nothing changes.
     fn step_of_thread(&mut self, thread: u32) -> Result<Option<MadeStep>, AllocError>
-        requires { (s : Setup) × (starts : ℕ → M) × (before : List AnActor) × AreBehindSteps s (machine_of M.action M.after_answer M.roots) (M.fits s) starts before self.old × (thread < s.threads) }
-        ensures ok { (s : Setup) (starts : ℕ → M) (before : List AnActor) → AreBehindSteps s (machine_of M.action M.after_answer M.roots) (M.fits s) starts before self.old
+        requires { (s : Setup) × (starts : ℕ → M) × (before : List AnActor) × AreAfterSteps s (machine_of M.action M.after_answer M.roots) (M.fits s) starts before self.old × (thread < s.threads) }
+        ensures ok { (s : Setup) (starts : ℕ → M) (before : List AnActor) → AreAfterSteps s (machine_of M.action M.after_answer M.roots) (M.fits s) starts before self.old
             → thread < s.threads
             → IfOk result (λ made. IsOneStep s (machine_of M.action M.after_answer M.roots) (M.fits s) starts before (actor.Thread thread) made self.new) }
         ensures err { OnErr result (self.new ≡ self.old) }
@@ -138,7 +138,7 @@ impl<'a, M: Runner + Drop> Actors<'a, M> {
 
     /// The first thing that is gone and can be reached from the globals or a root of a thread under way.
     pub fn first_gone(&self, alloc: Global) -> Result<Option<Gone>, AllocError>
-        ensures { (s : Setup) (starts : ℕ → M) (before : List AnActor) → AreBehindSteps s (machine_of M.action M.after_answer M.roots) (M.fits s) starts before self.now
+        ensures { (s : Setup) (starts : ℕ → M) (before : List AnActor) → AreAfterSteps s (machine_of M.action M.after_answer M.roots) (M.fits s) starts before self.now
             → IfOk result (IsFirstGone s (machine_of M.action M.after_answer M.roots) starts (run_by s (machine_of M.action M.after_answer M.roots) starts before)) }
     {
         let roots = roots_under_way(alloc, self.threads.as_slice())?;

@@ -1,7 +1,7 @@
 ghost use Rattle.std.specs.Prelude.{ℕ, ◌≡◌, ◌<◌, ◌≤◌, ◌^◌, [], length, map, slice_index, IfOk};
 ghost use Rattle.pools.specs.Heap.{Setup, IsSetup, cells_in, cells};
 ghost use Rattle.stepping.specs.Reach.{IsSchemaOf};
-ghost use Rattle.moves.specs.Shared.{StandBehind};
+ghost use Rattle.moves.specs.Shared.{StandAfter};
 ghost use Rattle.stepping.specs.Starts as starts;
 ghost use Rattle.stepping.specs.Starts.{IsRowAtStart, AreRowsAtStart};
 
@@ -27,7 +27,7 @@ pub(crate) fn shared_at_start<M>(
     values: &[u64],
     threads: &[NewThread<M>],
 ) -> Result<Shared, AllocError>
-    ensures behind { (s : Setup) → IsSchemaOf s schema.entry → IsSetup s → s.late ≡ map (λ (thread : NewThread M). thread.is_late) threads.now → s.threads ≡ length threads.now → s.values ≡ values.now → IfOk result (StandBehind s []) }
+    ensures afterwards { (s : Setup) → IsSchemaOf s schema.entry → IsSetup s → s.late ≡ map (λ (thread : NewThread M). thread.is_late) threads.now → s.threads ≡ length threads.now → s.values ≡ values.now → IfOk result (StandAfter s []) }
     ensures limit { cells_in schema.entry.pools.now ≤ 2 ^ 20 }
 {
     let cells = schema.pools.cells();

@@ -2,7 +2,7 @@ ghost use Rattle.std.specs.Prelude.{ℕ, ◌≡◌, ◌<◌, List, IfOk};
 ghost use Rattle.pools.specs.Heap.{Setup, cells_in, words_of_cell};
 ghost use Rattle.runs.specs.Machine.{machine_of};
 ghost use Rattle.runs.specs.ModuleRuns.{Happening};
-ghost use Rattle.moves.specs.Shared.{StandBehind};
+ghost use Rattle.moves.specs.Shared.{StandAfter};
 ghost use Rattle.stepping.specs.Reach.{IsSchemaOf, AreRoots, IsFirstGone, gone_of};
 
 use crate::walk::walk_from;
@@ -50,7 +50,7 @@ pub fn first_gone<M: Machine>(
     shared: &Shared,
     roots: &[Reference],
 ) -> Result<Option<Gone>, AllocError>
-    ensures { (s : Setup) (starts : ℕ → M) (run : List Happening) → IsSchemaOf s schema.entry → StandBehind s run shared.now
+    ensures { (s : Setup) (starts : ℕ → M) (run : List Happening) → IsSchemaOf s schema.entry → StandAfter s run shared.now
         → AreRoots s (machine_of M.action M.after_answer M.roots) starts run roots.now
         → IfOk result (IsFirstGone s (machine_of M.action M.after_answer M.roots) starts run) }
 {

@@ -49,8 +49,7 @@ fn adds(made: &Move) -> bool
     ensures adds_nothing { (roots : List AReference) → result ≡ false → AddsNothing (move_in roots made.now) }
 {
     match made {
-        Move::StoresBehindBarrier { value, .. } | Move::StoresPlain { value, .. } => value.cell
-            != 0,
+        Move::StoresAfterBarrier { value, .. } | Move::StoresPlain { value, .. } => value.cell != 0,
         Move::ReadsPostedAgain(_) => true,
         _ => false,
     }

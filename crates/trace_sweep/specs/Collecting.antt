@@ -10,7 +10,7 @@ use Rattle.colours.specs.declared.ask.Ask.TheVariants.{Load, Store, FetchMax, Co
 use Rattle.colours.specs.declared.turn.Turn.{Turn}
 use Rattle.colours.specs.declared.turn.Turn.TheVariants.{PostStage, ScanWord}
 use Rattle.colours.specs.Collector.{Collection, Posting, Passing, Scanning, Shading, Pass}
-use Rattle.trace_sweep.specs.Turns.{asked, turn_in, behind, list_after, kept_list}
+use Rattle.trace_sweep.specs.Turns.{asked, turn_in, afterwards, list_after, kept_list}
 
 -- what the collector knows of a heap: its threads, layouts, pools and globals
 abbrev pub plan : (threads : ℕ) (layouts : List (List WordKind)) (pools : List ℕ) (globals : List WordKind) → Setup
@@ -70,8 +70,8 @@ abbrev pub moved : Collecting → (found : ℕ) → Collecting
 moved c found = record {
   heap = c.heap;
   posted = posted_by (turn_of c found) c.posted;
-  at = in_order (behind c.heap c.posted c.listed c.at found);
-  listed = kept_list (in_order (behind c.heap c.posted c.listed c.at found)) (list_after c.posted c.listed c.at found);
+  at = in_order (afterwards c.heap c.posted c.listed c.at found);
+  listed = kept_list (in_order (afterwards c.heap c.posted c.listed c.at found)) (list_after c.posted c.listed c.at found);
 }
 
 -- a reference is read next: it is the number of a cell

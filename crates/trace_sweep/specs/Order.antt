@@ -14,10 +14,10 @@ use Rattle.lemmas.specs.Numbers.{lt_true, lt_false, lt_yes, lt_no, test_yes}
 use Rattle.lemmas.specs.Bools.{yes_or_no}
 use Rattle.colours.specs.Collector.{Collection, Posting, Waiting, ShadingGlobals, Passing, Scanning, Shading, Sweeping, Clearing, Pass, posted_of, Turns, wait_from, sweep_from, pass_from, has_answered, looked, without, shaded_too, is_white, reference_from, Collects}
 use Rattle.collector_law.specs.Theorems.{skip_found}
-use Rattle.trace_sweep.specs.Turns.{is_at_limit, turn_in, behind, TurnsInOrder, IsPartOf, shaded_at, kept_list, list_after, list_after_look, list_limit, pass_after_look, next_cell}
+use Rattle.trace_sweep.specs.Turns.{is_at_limit, turn_in, afterwards, TurnsInOrder, IsPartOf, shaded_at, kept_list, list_after, list_after_look, list_limit, pass_after_look, next_cell}
 use Rattle.trace_sweep.specs.Collecting.{Collecting, plan_of, in_order, without_list, scans, posted_by, moved, NamesCells}
 use Rattle.trace_sweep.specs.Collecting as machine
-use Rattle.trace_sweep.specs.Stands.{StandsBehind, IsStepOn, ExtendsLogs}
+use Rattle.trace_sweep.specs.Stands.{StandsAfter, IsStepOn, ExtendsLogs}
 
 -- before the limit the next cycle is within it
 further : (stage : ℕ) → is_at_limit stage Posting ≡ false → cycle_of (stage + 1) < 2 ^ 60
@@ -82,7 +82,7 @@ look-turns s stage p found (suc next) e (cell ∷ listed) part =
     inr (subst (λ n. 0 < n) (sym e) past_first, among cell listed p.shaded part, refl)
 
 -- in the grammar it leads to the place after it
-pub turns-turn_in : (s : Setup) (stage : ℕ) (listed : List ℕ) (c : Collection) (found : ℕ) → is_at_limit stage c ≡ false → IsPartOf listed (shaded_at c) → Turns s stage c (turn_in s stage listed c found) (behind s stage listed c found)
+pub turns-turn_in : (s : Setup) (stage : ℕ) (listed : List ℕ) (c : Collection) (found : ℕ) → is_at_limit stage c ≡ false → IsPartOf listed (shaded_at c) → Turns s stage c (turn_in s stage listed c found) (afterwards s stage listed c found)
 turns-turn_in s stage listed Posting found e part = (next_is stage, further stage e, refl)
 turns-turn_in s stage listed (Waiting thread) found e part = (refl, ap (λ n. if has_answered stage found then wait_from s stage n else Waiting thread) (next_is thread))
 turns-turn_in s stage listed ShadingGlobals found e part = (refl, refl)
@@ -143,7 +143,7 @@ part-shade stage p value found listed part = elim (yes_or_no (nat_lt found (grey
 
 -- after every step
 pub part-after : (s : Setup) (stage : ℕ) (listed : List ℕ) (c : Collection) (found : ℕ) → IsPartOf listed (shaded_at c)
-    → IsPartOf (kept_list (behind s stage listed c found) (list_after stage listed c found)) (shaded_at (behind s stage listed c found))
+    → IsPartOf (kept_list (afterwards s stage listed c found) (list_after stage listed c found)) (shaded_at (afterwards s stage listed c found))
 part-after s stage listed (Passing p) found part =
     part-looked s stage (pass_after_look p p.next listed) (next_cell p.next listed) found (list_after_look p.next listed) (part-look p p.next listed part)
 part-after s stage listed (Scanning cell word p) found part = elim (yes_or_no (nat_lt (reference_from s cell word) (length (words_of_cell s cell)))) [
@@ -151,11 +151,11 @@ part-after s stage listed (Scanning cell word p) found part = elim (yes_or_no (n
   | inr e ↦ rw e (part-pass s p listed part)
 ]
 part-after s stage listed (Shading value cell word p) found part = part-shade stage p value found listed part
-part-after s stage [] Posting found part = kept-none (behind s stage [] Posting found)
-part-after s stage [] (Waiting thread) found part = kept-none (behind s stage [] (Waiting thread) found)
+part-after s stage [] Posting found part = kept-none (afterwards s stage [] Posting found)
+part-after s stage [] (Waiting thread) found part = kept-none (afterwards s stage [] (Waiting thread) found)
 part-after s stage [] ShadingGlobals found part = tt
-part-after s stage [] (Sweeping cell) found part = kept-none (behind s stage [] (Sweeping cell) found)
-part-after s stage [] (Clearing cell word) found part = kept-none (behind s stage [] (Clearing cell word) found)
+part-after s stage [] (Sweeping cell) found part = kept-none (afterwards s stage [] (Sweeping cell) found)
+part-after s stage [] (Clearing cell word) found part = kept-none (afterwards s stage [] (Clearing cell word) found)
 part-after s stage (d ∷ ds) c found part = absurd part
 
 -- it says what its word holds
@@ -196,7 +196,7 @@ turn_of-turn_in cycle s stage listed (Clearing cell word) found other = elim (ye
 
 -- a step that the list asks for and that says what its word holds is this one, and leads to the place after it
 pub turn_in-only : (s : Setup) (stage : ℕ) (listed : List ℕ) (c : Collection) (turn : Turn) (d : Collection) (found : ℕ) → TurnsInOrder s stage listed c turn d → FoundBy turn found
-    → (is_at_limit stage c ≡ false) × (turn ≡ turn_in s stage listed c found) × (d ≡ behind s stage listed c found)
+    → (is_at_limit stage c ≡ false) × (turn ≡ turn_in s stage listed c found) × (d ≡ afterwards s stage listed c found)
 turn_in-only s stage listed Posting (PostStage to) d found x f = (limit, ap PostStage is, x.2 ∙ ap (λ n. wait_from s n 0) is)
   where
     is : to ≡ stage + 1
@@ -286,19 +286,19 @@ same_looked s stage p q cell found e = elim (yes_or_no (found == grey (cycle_of 
 ]
 
 -- and the place after the step
-same_behind : (s : Setup) (stage : ℕ) (listed : List ℕ) (c : Collection) (found : ℕ) → in_order (behind s stage listed (in_order c) found) ≡ in_order (behind s stage listed c found)
-same_behind s stage listed Posting found = refl
-same_behind s stage listed (Waiting thread) found = refl
-same_behind s stage listed ShadingGlobals found = refl
-same_behind s stage listed (Passing p) found =
+same_after : (s : Setup) (stage : ℕ) (listed : List ℕ) (c : Collection) (found : ℕ) → in_order (afterwards s stage listed (in_order c) found) ≡ in_order (afterwards s stage listed c found)
+same_after s stage listed Posting found = refl
+same_after s stage listed (Waiting thread) found = refl
+same_after s stage listed ShadingGlobals found = refl
+same_after s stage listed (Passing p) found =
     same_looked s stage (pass_after_look (without_list p) p.next listed) (pass_after_look p p.next listed) (next_cell p.next listed) found (same_look p p.next listed)
-same_behind s stage listed (Scanning cell word p) found = elim (yes_or_no (nat_lt (reference_from s cell word) (length (words_of_cell s cell)))) [
+same_after s stage listed (Scanning cell word p) found = elim (yes_or_no (nat_lt (reference_from s cell word) (length (words_of_cell s cell)))) [
   | inl e ↦ rw e (elim (yes_or_no (found == 0)) [ inl z ↦ rw z refl | inr n ↦ rw n refl ])
   | inr e ↦ rw e (same_pass s p)
 ]
-same_behind s stage listed (Shading value cell word p) found = elim (yes_or_no (nat_lt found (grey (cycle_of stage)))) [ inl e ↦ rw e refl | inr e ↦ rw e refl ]
-same_behind s stage listed (Sweeping cell) found = refl
-same_behind s stage listed (Clearing cell word) found = refl
+same_after s stage listed (Shading value cell word p) found = elim (yes_or_no (nat_lt found (grey (cycle_of stage)))) [ inl e ↦ rw e refl | inr e ↦ rw e refl ]
+same_after s stage listed (Sweeping cell) found = refl
+same_after s stage listed (Clearing cell word) found = refl
 
 -- the list after it
 same_list : (stage : ℕ) (listed : List ℕ) (c : Collection) (found : ℕ) → list_after stage listed (in_order c) found ≡ list_after stage listed c found
@@ -324,11 +324,11 @@ same_kept (Clearing cell word) listed = refl
 
 -- and the list that is kept
 same_kept_after : (s : Setup) (stage : ℕ) (listed : List ℕ) (c : Collection) (found : ℕ)
-    → kept_list (in_order (behind s stage listed (in_order c) found)) (list_after stage listed (in_order c) found) ≡ kept_list (behind s stage listed c found) (list_after stage listed c found)
+    → kept_list (in_order (afterwards s stage listed (in_order c) found)) (list_after stage listed (in_order c) found) ≡ kept_list (afterwards s stage listed c found) (list_after stage listed c found)
 same_kept_after s stage listed c found =
-    ap (λ (d : Collection). kept_list d (list_after stage listed (in_order c) found)) (same_behind s stage listed c found)
-    ∙ same_kept (behind s stage listed c found) (list_after stage listed (in_order c) found)
-    ∙ ap (kept_list (behind s stage listed c found)) (same_list stage listed c found)
+    ap (λ (d : Collection). kept_list d (list_after stage listed (in_order c) found)) (same_after s stage listed c found)
+    ∙ same_kept (afterwards s stage listed c found) (list_after stage listed (in_order c) found)
+    ∙ ap (kept_list (afterwards s stage listed c found)) (same_list stage listed c found)
 
 -- ---- what the collector does not know of a heap does not change the order
 
@@ -353,29 +353,29 @@ posted_by-posted_of (Free c) log = refl
 -- after its step a collector is at the end of the longer log, where it is seen at this place
 stands_as : (s : Setup) (stage : ℕ) (listed : List ℕ) (log : List Turn) (place : Collection) (found : ℕ) → stage ≡ posted_of log → Collects s log place → IsPartOf listed (shaded_at place)
     → is_at_limit stage (in_order place) ≡ false
-    → StandsBehind s (turn_in (plan_of s) stage listed (in_order place) found ∷ log) (moved (record { heap = plan_of s; posted = stage; at = in_order place; listed = listed }) found)
+    → StandsAfter s (turn_in (plan_of s) stage listed (in_order place) found ∷ log) (moved (record { heap = plan_of s; posted = stage; at = in_order place; listed = listed }) found)
 stands_as s stage listed log place found e col part more = record {
   heap = refl;
   posted = ap (posted_by (turn_in (plan_of s) stage listed (in_order place) found)) e ∙ posted_by-posted_of (turn_in (plan_of s) stage listed (in_order place) found) log;
-  place = behind (plan_of s) stage listed place found;
-  at = same_behind (plan_of s) stage listed place found;
-  listed = subst (λ (l : List ℕ). IsPartOf l (shaded_at (behind (plan_of s) stage listed place found))) (sym (same_kept_after (plan_of s) stage listed place found))
+  place = afterwards (plan_of s) stage listed place found;
+  at = same_after (plan_of s) stage listed place found;
+  listed = subst (λ (l : List ℕ). IsPartOf l (shaded_at (afterwards (plan_of s) stage listed place found))) (sym (same_kept_after (plan_of s) stage listed place found))
       (part-after (plan_of s) stage listed place found part);
   collects = (
     place,
     col,
-    subst (λ n. Turns s n place (turn_in (plan_of s) stage listed (in_order place) found) (behind (plan_of s) stage listed place found)) e
-        (turns-plan s stage place (turn_in (plan_of s) stage listed (in_order place) found) (behind (plan_of s) stage listed place found)
-        (subst (λ (turn : Turn). Turns (plan_of s) stage place turn (behind (plan_of s) stage listed place found)) (sym (same_turn (plan_of s) stage listed place found))
+    subst (λ n. Turns s n place (turn_in (plan_of s) stage listed (in_order place) found) (afterwards (plan_of s) stage listed place found)) e
+        (turns-plan s stage place (turn_in (plan_of s) stage listed (in_order place) found) (afterwards (plan_of s) stage listed place found)
+        (subst (λ (turn : Turn). Turns (plan_of s) stage place turn (afterwards (plan_of s) stage listed place found)) (sym (same_turn (plan_of s) stage listed place found))
         (turns-turn_in (plan_of s) stage listed place found (sym (same_limit stage place) ∙ more) part))),
   );
 }
 
 -- and wherever it is
-pub moved-stands : (s : Setup) (log : List Turn) (c : Collecting) (found : ℕ) → StandsBehind s log c → is_at_limit c.posted c.at ≡ false → StandsBehind s (machine.turn_of c found ∷ log) (moved c found)
+pub moved-stands : (s : Setup) (log : List Turn) (c : Collecting) (found : ℕ) → StandsAfter s log c → is_at_limit c.posted c.at ≡ false → StandsAfter s (machine.turn_of c found ∷ log) (moved c found)
 moved-stands s log c found h more =
     let at : c ≡ record { heap = plan_of s; posted = c.posted; at = in_order h.place; listed = c.listed } = rw (sym h.heap, sym h.at) refl in
-    subst (λ (d : Collecting). StandsBehind s (machine.turn_of d found ∷ log) (moved d found)) (sym at)
+    subst (λ (d : Collecting). StandsAfter s (machine.turn_of d found ∷ log) (moved d found)) (sym at)
     (stands_as s c.posted c.listed log h.place found h.posted h.collects h.listed (subst (λ (d : Collection). is_at_limit c.posted d ≡ false) h.at more))
 
 -- ---- what is read next is a cell's number
@@ -418,7 +418,7 @@ asked-further c asked = go (is_at_limit c.posted c.at) asked
 pub took-stands : (c : Collecting) (found : ℕ) (turn : Turn) (d : Collecting) → turn ≡ machine.turn_of c found → d ≡ moved c found → IsSome (machine.ask_of c)
     → ExtendsLogs c turn d
 took-stands c found turn d is to asked s log h =
-    subst (λ (t : Turn). StandsBehind s (t ∷ log) d) (sym is) (subst (λ (e : Collecting). StandsBehind s (machine.turn_of c found ∷ log) e) (sym to) (moved-stands s log c found h (asked-further c asked)))
+    subst (λ (t : Turn). StandsAfter s (t ∷ log) d) (sym is) (subst (λ (e : Collecting). StandsAfter s (machine.turn_of c found ∷ log) e) (sym to) (moved-stands s log c found h (asked-further c asked)))
 
 -- what is asked is the operation of the step
 pub asked-some : (c : Collecting) (ask : Ask) → machine.ask_of c ≡ Some ask → (is_at_limit c.posted c.at ≡ false) × (ask ≡ turn_of (cycle_of c.posted) (turn_in c.heap c.posted c.listed c.at 0))

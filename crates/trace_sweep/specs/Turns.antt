@@ -74,18 +74,18 @@ turn_in s stage listed (Sweeping cell) found = ReadColour cell found
 turn_in s stage listed (Clearing cell word) found = if nat_lt word (length (words_of_cell s cell)) then ClearWord cell word else Free cell
 
 -- where the collector is after that step
-abbrev pub behind : Setup → (stage : ℕ) → (listed : List ℕ) → Collection → (found : ℕ) → Collection
-behind s stage listed Posting found = wait_from s (stage + 1) 0
-behind s stage listed (Waiting thread) found = if has_answered stage found then wait_from s stage (thread + 1) else Waiting thread
-behind s stage listed ShadingGlobals found = Posting
-behind s stage listed (Passing p) found = looked s stage (pass_after_look p p.next listed) (next_cell p.next listed) found
-behind s stage listed (Scanning cell word p) found =
+abbrev pub afterwards : Setup → (stage : ℕ) → (listed : List ℕ) → Collection → (found : ℕ) → Collection
+afterwards s stage listed Posting found = wait_from s (stage + 1) 0
+afterwards s stage listed (Waiting thread) found = if has_answered stage found then wait_from s stage (thread + 1) else Waiting thread
+afterwards s stage listed ShadingGlobals found = Posting
+afterwards s stage listed (Passing p) found = looked s stage (pass_after_look p p.next listed) (next_cell p.next listed) found
+afterwards s stage listed (Scanning cell word p) found =
     if nat_lt (reference_from s cell word) (length (words_of_cell s cell))
     then (if found == 0 then Scanning cell (reference_from s cell word + 1) p else Shading found cell (reference_from s cell word + 1) p)
     else pass_from s p
-behind s stage listed (Shading value cell word p) found = Scanning cell word (shaded_too stage p value found)
-behind s stage listed (Sweeping cell) found = if is_white stage found then Clearing cell 0 else sweep_from s (cell + 1)
-behind s stage listed (Clearing cell word) found = if nat_lt word (length (words_of_cell s cell)) then Clearing cell (word + 1) else sweep_from s (cell + 1)
+afterwards s stage listed (Shading value cell word p) found = Scanning cell word (shaded_too stage p value found)
+afterwards s stage listed (Sweeping cell) found = if is_white stage found then Clearing cell 0 else sweep_from s (cell + 1)
+afterwards s stage listed (Clearing cell word) found = if nat_lt word (length (words_of_cell s cell)) then Clearing cell (word + 1) else sweep_from s (cell + 1)
 
 -- the operation of the next step; it does not depend on what the word holds
 abbrev pub asked : Setup → (stage : ℕ) → (listed : List ℕ) → Collection → Option Ask

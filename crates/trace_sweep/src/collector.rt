@@ -3,9 +3,9 @@ ghost use Rattle.pools.specs.Heap.{Setup, cells, words_of_cell};
 ghost use Rattle.pools.specs.Layouts.{is_reference_kind};
 ghost use Rattle.colours.specs.Collector.{looked, in_turn, wait_from, pass_from, sweep_from};
 ghost use Rattle.colours.specs.Steps as steps;
-ghost use Rattle.trace_sweep.specs.Turns.{is_at_limit, next_reference, next_cell, pass_after_look, list_after, kept_list, behind};
+ghost use Rattle.trace_sweep.specs.Turns.{is_at_limit, next_reference, next_cell, pass_after_look, list_after, kept_list, afterwards};
 ghost use Rattle.trace_sweep.specs.Collecting.{plan, in_order, plan_of, begun, ask_of, turn_of, posted_by, moved, FitsNext, NamesCells, stored_by};
-ghost use Rattle.trace_sweep.specs.Stands.{StandsBehind, IsStepOn, ExtendsLogs, ExtendsRuns};
+ghost use Rattle.trace_sweep.specs.Stands.{StandsAfter, IsStepOn, ExtendsLogs, ExtendsRuns};
 ghost use Rattle.trace_sweep.specs.Cycles.{swept, HasSwept};
 ghost use Rattle.colours.specs.Runs.{Event, turns_of, word_after};
 ghost use Rattle.colours.specs.declared.place.Place.{Place};
@@ -66,7 +66,7 @@ impl<'a> Collector<'a> {
         ensures begun { result ≡ begun (plan threads layouts.now pools.now globals.now) }
 
         // It is after the empty log of each heap with this plan.
-        ensures stands { (s : Setup) → plan_of s ≡ result.heap → StandsBehind s [] result }
+        ensures stands { (s : Setup) → plan_of s ≡ result.heap → StandsAfter s [] result }
     {
         Collector {
             pools,
@@ -133,7 +133,7 @@ impl<'a> Collector<'a> {
         ensures count { result ≡ swept self.now.heap self.now.posted self.now.at }
 
         // After each log that led here that many sweeps are over.
-        ensures swept { (s : Setup) (log : List Turn) → StandsBehind s log self.now → HasSwept s log result }
+        ensures swept { (s : Setup) (log : List Turn) → StandsAfter s log self.now → HasSwept s log result }
     {
         let cycle = cycle_of(self.posted);
         match self.position {
@@ -151,7 +151,7 @@ impl<'a> Collector<'a> {
         ensures moved { self.new ≡ moved self.old answer }
     {
         let turn = self.turn(answer);
-        let position = self.behind(answer);
+        let position = self.afterwards(answer);
         let grey = mark_value(cycle_of(self.posted));
         keep_shades(&mut self.shades, self.position, grey, answer, position);
         if let Turn::PostStage(stage) = turn {
@@ -190,10 +190,10 @@ impl<'a> Collector<'a> {
     }
 
     /// Where the collector is after that step.
-    fn behind(&self, found: u64) -> CyclePosition
+    fn afterwards(&self, found: u64) -> CyclePosition
         requires asked { IsSome (ask_of self.now) }
         requires fits { FitsNext self.now found }
-        ensures place { collection_of result ≡ in_order (behind self.now.heap self.now.posted self.now.listed self.now.at found) }
+        ensures place { collection_of result ≡ in_order (afterwards self.now.heap self.now.posted self.now.listed self.now.at found) }
         ensures placed { IsPlacedAt self.now.heap result }
         ensures hand { hand_of result < cells self.now.heap }
     {
@@ -206,7 +206,7 @@ impl<'a> Collector<'a> {
             ),
             CyclePosition::Waiting(thread) => CyclePosition::Waiting(thread),
             CyclePosition::MarkingGlobals => CyclePosition::Posting,
-            CyclePosition::Passing(pass) => self.behind_look(pass, found),
+            CyclePosition::Passing(pass) => self.after_look(pass, found),
             CyclePosition::Scanning(cell, word, pass) => match self.reference_from(cell, word) {
                 Some(word) if found == 0 => CyclePosition::Scanning(cell, word + 1, pass),
                 Some(word) => CyclePosition::Marking(found as u32, cell, word + 1, pass),
@@ -238,7 +238,7 @@ impl<'a> Collector<'a> {
     }
 
     /// After a look of a pass: a grey cell is scanned.
-    fn behind_look(&self, pass: Pass, colour: u64) -> CyclePosition
+    fn after_look(&self, pass: Pass, colour: u64) -> CyclePosition
         requires { pass.next < cells self.now.heap }
         ensures place { collection_of result
             ≡ in_order (looked self.now.heap self.now.posted (pass_after_look (pass_of pass) pass.next self.now.listed) (next_cell pass.next self.now.listed) colour) }

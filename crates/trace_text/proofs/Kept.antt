@@ -195,9 +195,9 @@ steps_of_kept a i o u h =
     (r.0, r.1, r.2 ∙ line_end_keeps h.1 o u h.3)
 
 -- after a part that keeps all, the steps are made from what is kept
-makes_behind : (a : Actor) (i m o : Input) → kept i ≡ kept m → Makes a m o → Makes a i o
+makes_after : (a : Actor) (i m o : Input) → kept i ≡ kept m → Makes a m o → Makes a i o
 unfolding with_steps
-makes_behind a i m o same r =
+makes_after a i m o same r =
     let made : i.read.made ≡ m.read.made = ap (λ (j : Input). j.read.made) same in
     (r.0, (let few = r.1 in omega (arith, made, few)), ap (λ (j : Input). kept (noted (with_steps a r.0) j)) same ∙ r.2)
 
@@ -211,9 +211,9 @@ line_by_kept i o u true h =
     let first = skip_keeps i h.1 h.0 h.2 in
     let t = thread_keeps h.1 h.3.1 (count_of_word (word h.1)) h.3.0 h.3.2 in
     let begun : h.3.0 < length i.read.starts = (let same = ap (λ (j : Input). length j.read.starts) first in let less = t.0 in omega (arith, same, less)) in
-    (actor.Thread h.3.0, begun, makes_behind (actor.Thread h.3.0) i h.3.1 o (first ∙ t.1) (steps_of_kept (actor.Thread h.3.0) h.3.1 o u h.3.3))
+    (actor.Thread h.3.0, begun, makes_after (actor.Thread h.3.0) i h.3.1 o (first ∙ t.1) (steps_of_kept (actor.Thread h.3.0) h.3.1 o u h.3.3))
 line_by_kept i o u false h =
-    (actor.Collector, tt, makes_behind actor.Collector i h.1 o (expect_keeps _ i h.1 h.0 h.2) (steps_of_kept actor.Collector h.1 o u h.3))
+    (actor.Collector, tt, makes_after actor.Collector i h.1 o (expect_keeps _ i h.1 h.0 h.2) (steps_of_kept actor.Collector h.1 o u h.3))
 
 sum_with : (steps : List Steps) (s : Steps) → step_sum (steps ++ s ∷ []) ≡ step_sum steps + s.count
 sum_with [] s = sum_by-cons (λ (n : ℕ). n) s.count [] ∙ omega arith
@@ -280,8 +280,8 @@ module _ (p : LaidOut) (bytes : Text) (trace : Trace) where
       let before_steps : kept second.1 ≡ kept f.1 = expect_keeps _ second.1 e.1 e.0 e.2 ∙ line_end_keeps e.1 f.1 f.0 f.2 in
       let no_step : AreSteps second.1.read.starts second.1 = (refl, subst (AllByRecursion (λ (s : Steps). IsActorOf (length second.1.read.starts) s.actor)) (sym begun.2) tt, (begun.3 ∙ ap step_sum (sym begun.2)), omega (arith, begun.3)) in
       let made : AreSteps second.1.read.starts g.1 = subst (AreSteps second.1.read.starts) lines.3.1 (lines_kept second.1.read.starts lines.0 f.1 lines.1 lines.2 (subst (AreSteps second.1.read.starts) before_steps no_step)) in
-      let behind_steps : kept g.1 ≡ kept third.1 = expect_keeps _ g.1 l.1 l.0 l.2 ∙ line_end_keeps l.1 n.1 n.0 n.2 ∙ ap kept n.3.1 in
-      let at_end : AreSteps second.1.read.starts third.1 = subst (AreSteps second.1.read.starts) behind_steps made in
+      let after_steps : kept g.1 ≡ kept third.1 = expect_keeps _ g.1 l.1 l.0 l.2 ∙ line_end_keeps l.1 n.1 n.0 n.2 ∙ ap kept n.3.1 in
+      let at_end : AreSteps second.1.read.starts third.1 = subst (AreSteps second.1.read.starts) after_steps made in
       let counts = counts_of (length p.layouts) third.1.read.counts in
       let given = finished_by_kept counts third.1 r.0 trace (nat_le (cells_in counts) 1048576) refl third.3 in
       let same_starts = at_end.0 in

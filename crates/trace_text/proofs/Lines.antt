@@ -78,15 +78,15 @@ module _ (m : Module) (more : Text) (fresh : IsFresh more) (i : Input) where
   unfolding pool put_pool with_pool
   pool_says layout count named small free =
       let name = struct_name m (slice_get m.structs layout) in
-      let behind = 32 ∷ (decimal count ++ 10 ∷ more) in
+      let afterwards = 32 ∷ (decimal count ++ 10 ∷ more) in
       let wide : count < 2 ^ 64 = omega (arith, small) in (
         tt,
-        at (layout_text m layout ++ behind) i,
-        expected (codes "pool") (32 ∷ (layout_text m layout ++ behind)) (layout_text m layout ++ behind) (inner_word (codes "pool") refl) refl (name_stays name behind) i,
+        at (layout_text m layout ++ afterwards) i,
+        expected (codes "pool") (32 ∷ (layout_text m layout ++ afterwards)) (layout_text m layout ++ afterwards) (inner_word (codes "pool") refl) refl (name_stays name afterwards) i,
         (
           layout,
           at (decimal count ++ 10 ∷ more) i,
-          layout_says (layout_text m layout) behind (decimal count ++ 10 ∷ more) (name_word name) refl
+          layout_says (layout_text m layout) afterwards (decimal count ++ 10 ∷ more) (name_word name) refl
               (inner_stays (decimal count) (10 ∷ more) (number_has_bytes count wide) (number_is_inner count wide)) i m layout named free,
           (
             count,
@@ -108,20 +108,20 @@ module _ (m : Module) (more : Text) (fresh : IsFresh more) (i : Input) where
   unfolding start put_start with_start arguments
   start_says v s allowed named all room =
       let is_word = function_by (slice_get m.functions s.function) s.function named in
-      let behind = arguments_text s.arguments ++ 10 ∷ more in
+      let afterwards = arguments_text s.arguments ++ 10 ∷ more in
       let name = function_text m s.function in
       let has : nat_lt (length i.read.starts) 64 ≡ true = grind (arith, nat_tests) in (
         tt,
-        at (start_word s.arrival ++ 32 ∷ (name ++ behind)) i,
+        at (start_word s.arrival ++ 32 ∷ (name ++ afterwards)) i,
         (has, refl),
         (
           s.arrival,
-          at (name ++ behind) i,
-          arrival_says (start_word s.arrival) (32 ∷ (name ++ behind)) (name ++ behind) (start_is_word s.arrival) refl (is_word.1 behind) i v s.arrival allowed,
+          at (name ++ afterwards) i,
+          arrival_says (start_word s.arrival) (32 ∷ (name ++ afterwards)) (name ++ afterwards) (start_is_word s.arrival) refl (is_word.1 afterwards) i v s.arrival allowed,
           (
             s.function,
             at (at_argument s.arguments more) i,
-            function_says name behind (at_argument s.arguments more) is_word.0 (arguments_end s.arguments more) (arguments_stand s.arguments more all) i m s.function named,
+            function_says name afterwards (at_argument s.arguments more) is_word.0 (arguments_end s.arguments more) (arguments_stand s.arguments more all) i m s.function named,
             (
               s.arguments,
               at (10 ∷ more) i,
@@ -136,10 +136,10 @@ module _ (m : Module) (more : Text) (fresh : IsFresh more) (i : Input) where
   pub start_begins : (s : Start) → function_of_word m (function_text m s.function) ≡ Some s.function
       → word (at (start_word s.arrival ++ 32 ∷ (function_text m s.function ++ (arguments_text s.arguments ++ 10 ∷ more))) i) ≡ start_word s.arrival
   start_begins s named =
-      let behind = arguments_text s.arguments ++ 10 ∷ more in
+      let afterwards = arguments_text s.arguments ++ 10 ∷ more in
       let name = function_text m s.function in
       let is_word = function_by (slice_get m.functions s.function) s.function named in
-      word_is (start_word s.arrival) (32 ∷ (name ++ behind)) (name ++ behind) (start_is_word s.arrival) refl (is_word.1 behind) i
+      word_is (start_word s.arrival) (32 ∷ (name ++ afterwards)) (name ++ afterwards) (start_is_word s.arrival) refl (is_word.1 afterwards) i
 
 module _ (more : Text) (fresh : IsFresh more) (i : Input) where
   count_says : (actor : Actor) (count : ℕ) → i.read.made + count ≤ 10000000
@@ -158,19 +158,19 @@ module _ (more : Text) (fresh : IsFresh more) (i : Input) where
   thread_steps_say thread count begun few_threads few =
       let narrow : thread < 2 ^ 32 = omega (arith, begun, few_threads) in
       let wide : thread < 2 ^ 64 = omega (arith, begun, few_threads) in
-      let behind = 32 ∷ (decimal count ++ 10 ∷ more) in
-      let text = codes "t " ++ (decimal thread ++ behind) in
-      let here = inner_stays (decimal thread) behind (number_has_bytes thread wide) (number_is_inner thread wide) in
+      let afterwards = 32 ∷ (decimal count ++ 10 ∷ more) in
+      let text = codes "t " ++ (decimal thread ++ afterwards) in
+      let here = inner_stays (decimal thread) afterwards (number_has_bytes thread wide) (number_is_inner thread wide) in
       let word = inner_word (codes "t") refl in
       looked (begins (codes "t")) steps_by (at text i) true tt (at more (noted (with_steps (actor.Thread thread) count) i))
-      (begins_so (codes "t") (32 ∷ (decimal thread ++ behind)) (decimal thread ++ behind) word refl here i (codes "t")) (
+      (begins_so (codes "t") (32 ∷ (decimal thread ++ afterwards)) (decimal thread ++ afterwards) word refl here i (codes "t")) (
         tt,
-        at (decimal thread ++ behind) i,
-        skipped (codes "t") (32 ∷ (decimal thread ++ behind)) (decimal thread ++ behind) word refl here i,
+        at (decimal thread ++ afterwards) i,
+        skipped (codes "t") (32 ∷ (decimal thread ++ afterwards)) (decimal thread ++ afterwards) word refl here i,
         (
           thread,
           at (decimal count ++ 10 ∷ more) i,
-          thread_says thread behind (decimal count ++ 10 ∷ more) wide refl (stands count few) i narrow begun,
+          thread_says thread afterwards (decimal count ++ 10 ∷ more) wide refl (stands count few) i narrow begun,
           count_says (actor.Thread thread) count few,
         ),
       )
@@ -190,8 +190,8 @@ module _ (more : Text) (fresh : IsFresh more) (i : Input) where
       → begins wanted (at (codes "t " ++ (decimal thread ++ 32 ∷ (decimal count ++ 10 ∷ more))) i) ≡ bytes_eq (codes "t") wanted
   thread_begins thread count begun few_threads wanted =
       let wide : thread < 2 ^ 64 = omega (arith, begun, few_threads) in
-      let behind = 32 ∷ (decimal count ++ 10 ∷ more) in
-      begins_so (codes "t") (32 ∷ (decimal thread ++ behind)) (decimal thread ++ behind) (inner_word (codes "t") refl) refl (inner_stays (decimal thread) behind (number_has_bytes thread wide) (number_is_inner thread wide)) i wanted
+      let afterwards = 32 ∷ (decimal count ++ 10 ∷ more) in
+      begins_so (codes "t") (32 ∷ (decimal thread ++ afterwards)) (decimal thread ++ afterwards) (inner_word (codes "t") refl) refl (inner_stays (decimal thread) afterwards (number_has_bytes thread wide) (number_is_inner thread wide)) i wanted
 
   pub collector_begins : (count : ℕ) → i.read.made + count ≤ 10000000 → (wanted : Text) → begins wanted (at (codes "c " ++ (decimal count ++ 10 ∷ more)) i) ≡ bytes_eq (codes "c") wanted
   collector_begins count few wanted =

@@ -94,7 +94,7 @@ module _ (m : Module) (layouts : ℕ) (named : (layout : ℕ) → layout < layou
       rest x r = (
         r.0,
         subst (λ (before : List (Option ℕ)). Listed past_pools (pool m).says (with_counts others before i) r.0 (with_counts tail (done ++ x ∷ map listed_count counts) i)) (append_assoc done (x ∷ []) (no_counts counts))
-            (subst (λ (behind : List (Option ℕ)). Listed past_pools (pool m).says (with_counts others ((done ++ x ∷ []) ++ no_counts counts) i) r.0 (with_counts tail behind i)) (append_assoc done (x ∷ []) (map listed_count counts)) r.1),
+            (subst (λ (afterwards : List (Option ℕ)). Listed past_pools (pool m).says (with_counts others ((done ++ x ∷ []) ++ no_counts counts) i) r.0 (with_counts tail afterwards i)) (append_assoc done (x ∷ []) (map listed_count counts)) r.1),
       )
 
       by : ((x : Option ℕ) → Rest x) → (t : Bool) → count == 0 ≡ t
@@ -104,19 +104,19 @@ module _ (m : Module) (layouts : ℕ) (named : (layout : ℕ) → layout < layou
       by rests false e =
           let before = with_counts others (done ++ None ∷ no_counts counts) i in
           let name = layout_text m layout in
-          let behind = 32 ∷ (decimal count ++ 10 ∷ others) in
+          let afterwards = 32 ∷ (decimal count ++ 10 ∷ others) in
           let free : slice_get (done ++ None ∷ no_counts counts) layout ≡ Some None = ap (slice_get (done ++ None ∷ no_counts counts)) (sym long) ∙ get_seam done None (no_counts counts) in
           let set : slice_set (done ++ None ∷ no_counts counts) layout (Some count) ≡ done ++ Some count ∷ no_counts counts =
           ap (λ (n : ℕ). slice_set (done ++ None ∷ no_counts counts) n (Some count)) (sym long) ∙ set-append_seam done None (no_counts counts) (Some count) in
           let said = pool_says m others (fresh_pools m (layout + 1) counts tail fresh) before layout count (named layout (omega (arith, within))) (omega (arith, small, sum_by-cons (λ (n : ℕ). n) count counts)) free in
           let r = rest (Some count) (rests (Some count)) in
-          let here = begins_so (codes "pool") (32 ∷ (name ++ behind)) (name ++ behind) (inner_word (codes "pool") refl) refl (name_stays (struct_name m (slice_get m.structs layout)) behind) before (codes "pool") in (
+          let here = begins_so (codes "pool") (32 ∷ (name ++ afterwards)) (name ++ afterwards) (inner_word (codes "pool") refl) refl (name_stays (struct_name m (slice_get m.structs layout)) afterwards) before (codes "pool") in (
             tt ∷ r.0,
             subst (λ (text : Text). Listed past_pools (pool m).says (with_counts text (done ++ None ∷ no_counts counts) i) (tt ∷ r.0) (with_counts tail (done ++ Some count ∷ map listed_count counts) i))
                 (sym (pool_seam m layout count (pools_from m (layout + 1) counts) tail)) (
                   ap not here,
                   with_counts others (done ++ Some count ∷ no_counts counts) i,
-                  subst (λ (set_counts : List (Option ℕ)). (pool m).says (with_counts (codes "pool " ++ (name ++ behind)) (done ++ None ∷ no_counts counts) i) tt (with_counts others set_counts i)) set said,
+                  subst (λ (set_counts : List (Option ℕ)). (pool m).says (with_counts (codes "pool " ++ (name ++ afterwards)) (done ++ None ∷ no_counts counts) i) tt (with_counts others set_counts i)) set said,
                   r.1,
                 ),
           )
@@ -165,7 +165,7 @@ module _ (p : LaidOut) (named : AreRead p) (v : Version) (tail : Text) (past : (
       let m = p.of_module in
       let others = flat_map (start_text m) starts ++ tail in
       let before = with_starts others done i in
-      let behind = function_text m s.function ++ (arguments_text s.arguments ++ 10 ∷ others) in
+      let afterwards = function_text m s.function ++ (arguments_text s.arguments ++ 10 ∷ others) in
       let is_named = named.functions s.function all.0.0 in
       let said = start_says m others (fresh_starts m starts tail fresh) before v s allowed.0 is_named all.0.1 (omega (arith, few)) in
       let here = ap (arrival_of_word v) (start_begins m others (fresh_starts m starts tail fresh) before s is_named) ∙ allowed.0 in
@@ -233,13 +233,13 @@ module _ (threads : ℕ) (few_threads : threads ≤ 64) (tail : Text) (past : (i
       let read = line_is_read s.actor s.count others before (fresh_steps steps tail fresh) own (omega (arith, few_threads, begun)) (omega (arith, few, parts)) in
       let r = steps_listed steps (done ++ s ∷ []) (made + s.count) all.1 (omega (arith, few, parts)) in
       let count : made + s.count + step_sum steps ≡ made + step_sum (s ∷ steps) = omega (arith, parts) in
-      let behind = ap (λ (all_steps : List Steps). with_all tail all_steps (made + s.count + step_sum steps) i) (append_assoc done (s ∷ []) steps) ∙ ap (λ (n : ℕ). with_all tail (done ++ s ∷ steps) n i) count in (
+      let afterwards = ap (λ (all_steps : List Steps). with_all tail all_steps (made + s.count + step_sum steps) i) (append_assoc done (s ∷ []) steps) ∙ ap (λ (n : ℕ). with_all tail (done ++ s ∷ steps) n i) count in (
         tt ∷ r.0,
         subst (λ (text : Text). Listed past_steps steps_line.says (with_all text done made i) (tt ∷ r.0) (with_all tail (done ++ s ∷ steps) (made + step_sum (s ∷ steps)) i))
             (sym (append_assoc (print.steps_line s) (flat_map print.steps_line steps) tail)) (
               read.0,
               with_all others (done ++ s ∷ []) (made + s.count) i,
               read.1,
-              subst (λ (o : Input). Listed past_steps steps_line.says (with_all others (done ++ s ∷ []) (made + s.count) i) r.0 o) behind r.1,
+              subst (λ (o : Input). Listed past_steps steps_line.says (with_all others (done ++ s ∷ []) (made + s.count) i) r.0 o) afterwards r.1,
             ),
       )

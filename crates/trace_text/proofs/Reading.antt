@@ -38,16 +38,16 @@ abbrev pub IsFresh : Text → Type 0
 IsFresh text = past_lines false text ≡ text
 
 module _ (w rest next : Text) (is_word : IsWord w) (ends : stops rest ≡ true) (blanks : past_blanks rest ≡ next) (i : Input) where
-  behind : after (at (w ++ rest) i) ≡ at next i
+  afterwards : after (at (w ++ rest) i) ≡ at next i
   unfolding after
-  behind = ap (λ (text : Text). at (past_blanks text) i) (is_word rest ends) ∙ ap (λ (text : Text). at text i) blanks
+  afterwards = ap (λ (text : Text). at (past_blanks text) i) (is_word rest ends) ∙ ap (λ (text : Text). at text i) blanks
 
   pub word_is : word (at (w ++ rest) i) ≡ w
   word_is = word_before w rest is_word ends
 
   pub skipped : (skip {M = TraceMistake}).says (at (w ++ rest) i) tt (at next i)
   unfolding skip
-  skipped = (refl, behind)
+  skipped = (refl, afterwards)
 
   pub taken_says : {A : Type 0} (a : A) → (taken {M = TraceMistake} a).says (at (w ++ rest) i) a (at next i)
   taken_says a = (tt, at next i, skipped, (refl, refl))

@@ -97,49 +97,49 @@ no_pool AtStart = refl
 no_pool Late = refl
 
 -- no pool comes where threads begin, or after them
-past_all_pools : (p : LaidOut) → AreRead p → (all : List Start) → AllByRecursion (IsStartOf p) all → (behind : Text) → IsFresh (codes "steps" ++ 10 ∷ behind) → (i : Input)
-    → past_pools (at (flat_map (start_text p.of_module) all ++ (codes "steps" ++ 10 ∷ behind)) i) ≡ true
-past_all_pools p named [] own behind fresh i = ap not (begins_so (codes "steps") (10 ∷ behind) (10 ∷ behind) (inner_word (codes "steps") refl) refl refl i (codes "pool"))
-past_all_pools p named (s ∷ all) own behind fresh i =
+past_all_pools : (p : LaidOut) → AreRead p → (all : List Start) → AllByRecursion (IsStartOf p) all → (afterwards : Text) → IsFresh (codes "steps" ++ 10 ∷ afterwards) → (i : Input)
+    → past_pools (at (flat_map (start_text p.of_module) all ++ (codes "steps" ++ 10 ∷ afterwards)) i) ≡ true
+past_all_pools p named [] own afterwards fresh i = ap not (begins_so (codes "steps") (10 ∷ afterwards) (10 ∷ afterwards) (inner_word (codes "steps") refl) refl refl i (codes "pool"))
+past_all_pools p named (s ∷ all) own afterwards fresh i =
     let m = p.of_module in
-    let tail = codes "steps" ++ 10 ∷ behind in
+    let tail = codes "steps" ++ 10 ∷ afterwards in
     let here = start_begins m (flat_map (start_text m) all ++ tail) (fresh_starts m all tail fresh) i s (named.functions s.function own.0.0) in
     ap (λ (text : Text). past_pools (at text i)) (start_seam m s (flat_map (start_text m) all) tail)
     ∙ ap (λ (word : Text). not (bytes_eq word (codes "pool"))) here
     ∙ ap not (no_pool s.arrival)
 
 -- no thread begins after the others
-past_all_starts : (v : Version) (behind : Text) (i : Input) → past_starts v (at (codes "steps" ++ 10 ∷ behind) i) ≡ true
-past_all_starts v behind i =
-    ap (λ (word : Text). is_none (arrival_of_word v word)) (word_is (codes "steps") (10 ∷ behind) (10 ∷ behind) (inner_word (codes "steps") refl) refl refl i)
+past_all_starts : (v : Version) (afterwards : Text) (i : Input) → past_starts v (at (codes "steps" ++ 10 ∷ afterwards) i) ≡ true
+past_all_starts v afterwards i =
+    ap (λ (word : Text). is_none (arrival_of_word v word)) (word_is (codes "steps") (10 ∷ afterwards) (10 ∷ afterwards) (inner_word (codes "steps") refl) refl refl i)
 
 -- the first line
-fresh_heading : (v : Version) (behind : Text) → IsFresh (heading_text v ++ behind)
-fresh_heading One behind = refl
-fresh_heading Two behind = refl
+fresh_heading : (v : Version) (afterwards : Text) → IsFresh (heading_text v ++ afterwards)
+fresh_heading One afterwards = refl
+fresh_heading Two afterwards = refl
 
-heading_by : (v : Version) (behind : Text) (i : Input) → IsFresh behind → heading.says (at (heading_text v ++ behind) i) v (at behind i)
+heading_by : (v : Version) (afterwards : Text) (i : Input) → IsFresh afterwards → heading.says (at (heading_text v ++ afterwards) i) v (at afterwards i)
 unfolding heading
-heading_by One behind i fresh = (
+heading_by One afterwards i fresh = (
   tt,
-  at (codes "1" ++ 10 ∷ behind) i,
-  expected (codes "trace") (32 ∷ (codes "1" ++ 10 ∷ behind)) (codes "1" ++ 10 ∷ behind) (inner_word (codes "trace") refl) refl refl i,
+  at (codes "1" ++ 10 ∷ afterwards) i,
+  expected (codes "trace") (32 ∷ (codes "1" ++ 10 ∷ afterwards)) (codes "1" ++ 10 ∷ afterwards) (inner_word (codes "trace") refl) refl refl i,
   (
     One,
-    at (10 ∷ behind) i,
-    version_says (codes "1") (10 ∷ behind) (10 ∷ behind) (inner_word (codes "1") refl) refl refl i One refl,
-    (tt, at behind i, line_ended behind i fresh, (refl, refl)),
+    at (10 ∷ afterwards) i,
+    version_says (codes "1") (10 ∷ afterwards) (10 ∷ afterwards) (inner_word (codes "1") refl) refl refl i One refl,
+    (tt, at afterwards i, line_ended afterwards i fresh, (refl, refl)),
   ),
 )
-heading_by Two behind i fresh = (
+heading_by Two afterwards i fresh = (
   tt,
-  at (codes "2" ++ 10 ∷ behind) i,
-  expected (codes "trace") (32 ∷ (codes "2" ++ 10 ∷ behind)) (codes "2" ++ 10 ∷ behind) (inner_word (codes "trace") refl) refl refl i,
+  at (codes "2" ++ 10 ∷ afterwards) i,
+  expected (codes "trace") (32 ∷ (codes "2" ++ 10 ∷ afterwards)) (codes "2" ++ 10 ∷ afterwards) (inner_word (codes "trace") refl) refl refl i,
   (
     Two,
-    at (10 ∷ behind) i,
-    version_says (codes "2") (10 ∷ behind) (10 ∷ behind) (inner_word (codes "2") refl) refl refl i Two refl,
-    (tt, at behind i, line_ended behind i fresh, (refl, refl)),
+    at (10 ∷ afterwards) i,
+    version_says (codes "2") (10 ∷ afterwards) (10 ∷ afterwards) (inner_word (codes "2") refl) refl refl i Two refl,
+    (tt, at afterwards i, line_ended afterwards i fresh, (refl, refl)),
   ),
 )
 
@@ -153,17 +153,17 @@ module _ (p : LaidOut) (trace : Trace) (named : AreRead p) (own : IsTraceOf p tr
   abbrev of_steps : Text
   of_steps = flat_map print.steps_line trace.steps ++ last
 
-  abbrev behind_starts : Text
-  behind_starts = codes "steps" ++ 10 ∷ of_steps
+  abbrev after_starts : Text
+  after_starts = codes "steps" ++ 10 ∷ of_steps
 
-  abbrev behind_pools : Text
-  behind_pools = flat_map (start_text p.of_module) trace.setup.starts ++ behind_starts
+  abbrev after_pools : Text
+  after_pools = flat_map (start_text p.of_module) trace.setup.starts ++ after_starts
 
-  abbrev behind_heading : Text
-  behind_heading = pools_from p.of_module 0 trace.setup.pools ++ behind_pools
+  abbrev after_heading : Text
+  after_heading = pools_from p.of_module 0 trace.setup.pools ++ after_pools
 
   abbrev whole : Text
-  whole = heading_text written_in ++ behind_heading
+  whole = heading_text written_in ++ after_heading
 
   all_shown : trace_shown p trace ≡ whole
   all_shown =
@@ -172,36 +172,36 @@ module _ (p : LaidOut) (trace : Trace) (named : AreRead p) (own : IsTraceOf p tr
       ap (λ (n : ℕ). pools_text p.of_module n counts) (sym own.one_each) ∙ pools_are p.of_module counts counts 0 (λ n. (let same : 0 + n ≡ n = omega arith in ap (slice_get counts) same)) in
       let of_starts = flat_map (start_text p.of_module) trace.setup.starts in
       append_assoc ((heading_text written_in ++ pools_text p.of_module (length p.layouts) counts) ++ of_starts) (codes "steps" ++ 10 ∷ flat_map print.steps_line trace.steps) last
-      ∙ append_assoc (heading_text written_in ++ pools_text p.of_module (length p.layouts) counts) of_starts behind_starts
-      ∙ append_assoc (heading_text written_in) (pools_text p.of_module (length p.layouts) counts) behind_pools
-      ∙ ap (λ (text : Text). heading_text written_in ++ (text ++ behind_pools)) lines
+      ∙ append_assoc (heading_text written_in ++ pools_text p.of_module (length p.layouts) counts) of_starts after_starts
+      ∙ append_assoc (heading_text written_in) (pools_text p.of_module (length p.layouts) counts) after_pools
+      ∙ ap (λ (text : Text). heading_text written_in ++ (text ++ after_pools)) lines
 
   abbrev counts_read : List (Option ℕ)
   counts_read = map listed_count trace.setup.pools
 
-  fresh_behind : IsFresh behind_pools
-  fresh_behind = fresh_starts p.of_module trace.setup.starts behind_starts refl
+  fresh_afterwards : IsFresh after_pools
+  fresh_afterwards = fresh_starts p.of_module trace.setup.starts after_starts refl
 
-  heading_says : (i : Input) → heading.says (at whole i) written_in (at behind_heading i)
-  heading_says i = heading_by written_in behind_heading i (fresh_pools p.of_module 0 trace.setup.pools behind_pools fresh_behind)
+  heading_says : (i : Input) → heading.says (at whole i) written_in (at after_heading i)
+  heading_says i = heading_by written_in after_heading i (fresh_pools p.of_module 0 trace.setup.pools after_pools fresh_afterwards)
 
-  setup_says : (setup p.of_module written_in).says (state behind_heading (no_counts trace.setup.pools) [] [] 0) tt (state behind_starts counts_read trace.setup.starts [] 0)
+  setup_says : (setup p.of_module written_in).says (state after_heading (no_counts trace.setup.pools) [] [] 0) tt (state after_starts counts_read trace.setup.starts [] 0)
   unfolding setup pools starts
   setup_says =
-      let before = state behind_heading (no_counts trace.setup.pools) [] [] 0 in
-      let between = state behind_pools counts_read [] [] 0 in
+      let before = state after_heading (no_counts trace.setup.pools) [] [] 0 in
+      let between = state after_pools counts_read [] [] 0 in
       let small : sum trace.setup.pools < 2 ^ 32 = omega (arith, own.cells) in
       let all_pools =
-      pools_listed p.of_module (length p.layouts) named.layouts behind_pools (past_all_pools p named trace.setup.starts own.starts of_steps refl) fresh_behind before trace.setup.pools 0 [] refl
+      pools_listed p.of_module (length p.layouts) named.layouts after_pools (past_all_pools p named trace.setup.starts own.starts of_steps refl) fresh_afterwards before trace.setup.pools 0 [] refl
       (omega (arith, own.one_each)) small in
-      let all_starts = starts_listed p named written_in behind_starts (past_all_starts written_in of_steps) refl between trace.setup.starts [] own.starts (all_allowed trace.setup.starts) (omega (arith, own.threads)) in
-      (tt, between, (all_pools.0, between, all_pools.1, (refl, refl)), (all_starts.0, state behind_starts counts_read trace.setup.starts [] 0, all_starts.1, (refl, refl)))
+      let all_starts = starts_listed p named written_in after_starts (past_all_starts written_in of_steps) refl between trace.setup.starts [] own.starts (all_allowed trace.setup.starts) (omega (arith, own.threads)) in
+      (tt, between, (all_pools.0, between, all_pools.1, (refl, refl)), (all_starts.0, state after_starts counts_read trace.setup.starts [] 0, all_starts.1, (refl, refl)))
 
-  steps_are_said : steps.says (state behind_starts counts_read trace.setup.starts [] 0) tt (state [] counts_read trace.setup.starts trace.steps (0 + step_sum trace.steps))
+  steps_are_said : steps.says (state after_starts counts_read trace.setup.starts [] 0) tt (state [] counts_read trace.setup.starts trace.steps (0 + step_sum trace.steps))
   unfolding steps all_steps
   steps_are_said =
-      let before = state behind_starts counts_read trace.setup.starts [] 0 in
-      let behind = state last counts_read trace.setup.starts trace.steps (0 + step_sum trace.steps) in
+      let before = state after_starts counts_read trace.setup.starts [] 0 in
+      let afterwards = state last counts_read trace.setup.starts trace.steps (0 + step_sum trace.steps) in
       let past_them = λ (i : Input). begins_so (codes "end") (10 ∷ []) (10 ∷ []) (inner_word (codes "end") refl) refl refl i (codes "end") in
       let all_lines =
       steps_listed (length trace.setup.starts) own.threads last past_them refl before refl trace.steps [] 0 own.actors
@@ -215,13 +215,13 @@ module _ (p : LaidOut) (trace : Trace) (named : AreRead p) (own : IsTraceOf p tr
           line_ended of_steps before (fresh_steps trace.steps last refl),
           (
             tt,
-            behind,
-            (all_lines.0, behind, all_lines.1, (refl, refl)),
+            afterwards,
+            (all_lines.0, afterwards, all_lines.1, (refl, refl)),
             (
               tt,
-              at (10 ∷ []) behind,
-              expected (codes "end") (10 ∷ []) (10 ∷ []) (inner_word (codes "end") refl) refl refl behind,
-              (tt, at [] behind, line_ended [] behind refl, (refl, refl)),
+              at (10 ∷ []) afterwards,
+              expected (codes "end") (10 ∷ []) (10 ∷ []) (inner_word (codes "end") refl) refl refl afterwards,
+              (tt, at [] afterwards, line_ended [] afterwards refl, (refl, refl)),
             ),
           ),
         ),
@@ -238,24 +238,24 @@ module _ (p : LaidOut) (trace : Trace) (named : AreRead p) (own : IsTraceOf p tr
   unfolding file
   file_says =
       let before = state whole (no_counts trace.setup.pools) [] [] 0 in
-      let behind = state [] counts_read trace.setup.starts trace.steps (0 + step_sum trace.steps) in (
+      let afterwards = state [] counts_read trace.setup.starts trace.steps (0 + step_sum trace.steps) in (
         written_in,
-        at behind_heading before,
+        at after_heading before,
         heading_says before,
         (
           tt,
-          state behind_starts counts_read trace.setup.starts [] 0,
+          state after_starts counts_read trace.setup.starts [] 0,
           setup_says,
-          (tt, behind, steps_are_said, finished_says behind refl refl refl),
+          (tt, afterwards, steps_are_said, finished_says afterwards refl refl refl),
         ),
       )
 
   pub round_trip : IsTrace (trace_shown p trace) p trace
   round_trip =
-      let behind = noted emptied (state [] counts_read trace.setup.starts trace.steps (0 + step_sum trace.steps)) in
+      let afterwards = noted emptied (state [] counts_read trace.setup.starts trace.steps (0 + step_sum trace.steps)) in
       let none : replicate (length p.layouts) None ≡ no_counts trace.setup.pools = ap (λ (n : ℕ). replicate n None) (sym own.one_each) ∙ no_counts_are trace.setup.pools in
       subst (λ (text : Text). IsTrace text p trace) (sym all_shown) (
-        behind,
-        subst (λ (text : Text). (file p).says (state text (replicate (length p.layouts) None) [] [] 0) trace behind) (sym (fresh_heading written_in behind_heading))
-            (subst (λ (counts : List (Option ℕ)). (file p).says (state whole counts [] [] 0) trace behind) (sym none) file_says),
+        afterwards,
+        subst (λ (text : Text). (file p).says (state text (replicate (length p.layouts) None) [] [] 0) trace afterwards) (sym (fresh_heading written_in after_heading))
+            (subst (λ (counts : List (Option ℕ)). (file p).says (state whole counts [] [] 0) trace afterwards) (sym none) file_says),
       )

@@ -32,8 +32,8 @@ use Rattle.trace_text.specs.declared.fault.TraceFault.TheVariants as fault
 -- ---- pools
 
 -- a pool after its first word
-abbrev pub pool_behind : Module → Form (Unit {0})
-pool_behind m = do
+abbrev pub pool_after : Module → Form (Unit {0})
+pool_after m = do
   layout ← new_layout m
   count ← cell_count
   line_end
@@ -41,12 +41,12 @@ pool_behind m = do
 
 -- how many cells a layout has
 unfoldable pub pool : Module → Form (Unit {0})
-pool m = expect (codes "pool") >> pool_behind m
+pool m = expect (codes "pool") >> pool_after m
 
 -- a pool takes bytes
 pub pool_takes : (m : Module) → Takes (pool m)
 unfolding pool
-pool_takes m = first_takes (expect (codes "pool")) (λ _. pool_behind m) (expect_takes TraceProgress TraceMistake (codes "pool") (lit< tt))
+pool_takes m = first_takes (expect (codes "pool")) (λ _. pool_after m) (expect_takes TraceProgress TraceMistake (codes "pool") (lit< tt))
 
 -- no pool comes here
 abbrev pub past_pools : Input → Bool
@@ -67,8 +67,8 @@ abbrev pub has_room : Input → Bool
 has_room i = nat_lt (length i.read.starts) 64
 
 -- a start after its first word
-abbrev pub start_behind : Module → Arrival → Form (Unit {0})
-start_behind m begun = do
+abbrev pub start_after : Module → Arrival → Form (Unit {0})
+start_after m begun = do
   function ← function_name m
   arguments ← arguments
   line_end
@@ -76,14 +76,14 @@ start_behind m begun = do
 
 -- how a thread begins, if there are not 64 of them
 unfoldable pub start : Module → Version → Form (Unit {0})
-start m v = checked has_room (λ i. Syntax (left i)) >> (arrival v >>= start_behind m)
+start m v = checked has_room (λ i. Syntax (left i)) >> (arrival v >>= start_after m)
 
 -- a start takes bytes
 pub start_takes : (m : Module) (v : Version) → Takes (start m v)
 unfolding start
 start_takes m v =
-    second_takes (checked has_room (λ i. Syntax (left i))) (λ _. arrival v >>= start_behind m)
-    (λ _. first_takes (arrival v) (start_behind m) (arrival_takes v))
+    second_takes (checked has_room (λ i. Syntax (left i))) (λ _. arrival v >>= start_after m)
+    (λ _. first_takes (arrival v) (start_after m) (arrival_takes v))
 
 -- how the threads begin
 unfoldable pub starts : Module → Version → Form (Unit {0})

@@ -80,12 +80,12 @@ abbrev pub part_at : Module → (written : ℕ) → Argument → Option ℕ
 part_at m written index = part_of m written (slice_get m.types written) index
 
 -- the part of a type that some indices select, one after the other
-abbrev pub part_behind : Module → Option ℕ → List Argument → Option ℕ
-part_behind m None indices = None
-part_behind m (Some written) [] = Some written
-part_behind m (Some written) (index ∷ indices) = part_behind m (part_at m written index) indices
+abbrev pub part_after : Module → Option ℕ → List Argument → Option ℕ
+part_after m None indices = None
+part_after m (Some written) [] = Some written
+part_after m (Some written) (index ∷ indices) = part_after m (part_at m written index) indices
 
 -- The type that the indices of a getelementptr select. The first steps over the pointer itself, the others into its parts.
 abbrev pub element_type : Module → (source : ℕ) → List Argument → Option ℕ
 element_type m source [] = None
-element_type m source (first ∷ indices) = part_behind m (Some source) indices
+element_type m source (first ∷ indices) = part_after m (Some source) indices

@@ -45,10 +45,10 @@ layout_of_struct m (Some (Struct first rest)) = None
 layout_of_struct m (Some (Named name)) = struct_named m name
 
 -- the layout of the struct that a pointer points to
-abbrev pub layout_behind : Module → Option ℕ → Option ℕ
-layout_behind m None = None
-layout_behind m (Some part) = layout_of_struct m (slice_get m.types part)
+abbrev pub layout_after : Module → Option ℕ → Option ℕ
+layout_after m None = None
+layout_after m (Some part) = layout_of_struct m (slice_get m.types part)
 
 -- the layout to whose cells a type refers, if it is a pointer to a named struct
 abbrev pub referenced_layout : Module → (written : ℕ) → Option ℕ
-referenced_layout m written = layout_behind m (pointee m written)
+referenced_layout m written = layout_after m (pointee m written)

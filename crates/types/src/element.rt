@@ -1,5 +1,5 @@
 ghost use Rattle.std.specs.Prelude.{◌≡◌, Some, slice_get};
-ghost use Rattle.types.specs.Elements.{body_named, field_in, written_out, field_at, index_number, part_at, part_behind, element_type};
+ghost use Rattle.types.specs.Elements.{body_named, field_in, written_out, field_at, index_number, part_at, part_after, element_type};
 
 use crate::reference::struct_named;
 use ir_ast::{Argument, Constant, IrType, Module, Operand, StructNameId, TypeId};
@@ -74,8 +74,8 @@ pub fn part_at(module: &Module, written: TypeId, index: Argument) -> Option<Type
     }
 }
 
-fn part_behind(module: &Module, written: TypeId, indices: &[Argument]) -> Option<TypeId>
-    ensures { result ≡ part_behind «module».now (Some written) indices.now }
+fn part_after(module: &Module, written: TypeId, indices: &[Argument]) -> Option<TypeId>
+    ensures { result ≡ part_after «module».now (Some written) indices.now }
 {
     let mut part = written;
     for index in indices {
@@ -90,6 +90,6 @@ pub fn element_type(module: &Module, source: TypeId, indices: &[Argument]) -> Op
 {
     match indices {
         [] => None,
-        [_, parts @ ..] => part_behind(module, source, parts),
+        [_, parts @ ..] => part_after(module, source, parts),
     }
 }

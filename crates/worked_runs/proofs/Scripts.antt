@@ -17,14 +17,14 @@ abbrev pub next_call : List (List Reference → Action) → List Reference → A
 next_call [] values = End
 next_call (call ∷ code) values = call values
 
-abbrev pub behind_call : List (List Reference → Action) → List (List Reference → Action)
-behind_call [] = []
-behind_call (call ∷ code) = code
+abbrev pub afterwards_call : List (List Reference → Action) → List (List Reference → Action)
+afterwards_call [] = []
+afterwards_call (call ∷ code) = code
 
 abbrev pub after_call : Script → Answer → Script
-after_call script (Got r) = record { code = behind_call script.code; values = r ∷ script.values }
-after_call script Done = record { code = behind_call script.code; values = script.values }
-after_call script (Answered stage) = record { code = behind_call script.code; values = script.values }
+after_call script (Got r) = record { code = afterwards_call script.code; values = r ∷ script.values }
+after_call script Done = record { code = afterwards_call script.code; values = script.values }
+after_call script (Answered stage) = record { code = afterwards_call script.code; values = script.values }
 
 -- all references are roots
 abbrev pub scripts : Machine

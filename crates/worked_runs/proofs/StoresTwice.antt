@@ -8,7 +8,7 @@ use Rattle.colours.specs.Colours.{done}
 use Rattle.colours.specs.Collector.{Collection, Posting, Collects}
 use Rattle.colours.specs.Runs.{turns_of, word_after, births_after}
 use Rattle.runs.specs.Machine.{Reference, Alloc, Write, Safepoint}
-use Rattle.runs.specs.Moves.{Works, ReadsOldValue, Marks, StoresBehindBarrier, Claims, ReadsPosted, StoresStage, null}
+use Rattle.runs.specs.Moves.{Works, ReadsOldValue, Marks, StoresAfterBarrier, Claims, ReadsPosted, StoresStage, null}
 use Rattle.runs.specs.ModuleRuns.{Happening, OfThread, OfCollector, heap_of, IsModuleRun}
 use Rattle.worked_runs.proofs.Scripts.{Script, first, scripts}
 
@@ -42,7 +42,7 @@ unfolding word_after births_after layout_of kind_of is_late
 is_run2 = (is_run1, (lit< tt, (tt, inr (refl, refl)), (lit< tt, tt, refl), refl))
 
 abbrev run3 : List Happening
-run3 = OfThread 0 (StoresBehindBarrier null 0 cell) ∷ run2
+run3 = OfThread 0 (StoresAfterBarrier null 0 cell) ∷ run2
 
 is_run3 : IsModuleRun heap scripts starts run3
 unfolding word_after births_after layout_of kind_of is_late
@@ -106,7 +106,7 @@ unfolding word_after births_after layout_of kind_of is_late
 is_run10 = (is_run9, (lit< tt, ((refl, λ e. absurd cc), inr refl), (lit< tt, (refl, λ e. absurd cc), tt), tt))
 
 abbrev run11 : List Happening
-run11 = OfThread 0 (StoresBehindBarrier null 0 cell) ∷ run10
+run11 = OfThread 0 (StoresAfterBarrier null 0 cell) ∷ run10
 
 is_run11 : IsModuleRun heap scripts starts run11
 unfolding word_after births_after layout_of kind_of is_late

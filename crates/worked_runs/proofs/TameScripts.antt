@@ -8,7 +8,7 @@ use Rattle.runs.specs.Soundness.{EndsCall, IsSound}
 use Rattle.runs.specs.Promises.{HeapLaw, IsSafe}
 use Rattle.runs.specs.Calls.{all_careful}
 use Rattle.runs.specs.Theorems.{safe}
-use Rattle.worked_runs.proofs.Scripts.{Script, scripts, next_call, after_call, behind_call}
+use Rattle.worked_runs.proofs.Scripts.{Script, scripts, next_call, after_call, afterwards_call}
 
 -- each call allocates or is a safepoint
 abbrev IsTame : List (List Reference → Action) → Type 0
@@ -20,7 +20,7 @@ record Sound (s : Setup) (share : List Move) (script : Script) : Type 0 where
   tame : IsTame script.code
   named : (r : Reference) → IsIn r script.values → MayName s share r
 
-tame_rest : (code : List (List Reference → Action)) → IsTame code → IsTame (behind_call code)
+tame_rest : (code : List (List Reference → Action)) → IsTame code → IsTame (afterwards_call code)
 tame_rest [] t = tt
 tame_rest (call ∷ code) t = t.1
 
@@ -40,7 +40,7 @@ goes_on : (s : Setup) (share : List Move) (script : Script) (move : Move) → So
     → Sound s (move ∷ share) (after_call script (answer_of (next_call script.code script.values) move))
 goes_on s share script move h e = go (next_call script.code script.values) (kinds script.code script.values h.tame) move e
   where
-    code_next : IsTame (behind_call script.code)
+    code_next : IsTame (afterwards_call script.code)
     code_next = tame_rest script.code h.tame
 
     keep : (move : Move) → ((r : Reference) → Holds s share r → Holds s (move ∷ share) r) → (r : Reference) → IsIn r script.values → MayName s (move ∷ share) r

@@ -8,7 +8,7 @@ use Rattle.colours.specs.declared.turn.Turn.TheVariants.{PostStage, ReadStage, M
 use Rattle.colours.specs.Collector.{Collection, Posting, Collects}
 use Rattle.colours.specs.Runs.{turns_of, word_after, births_after}
 use Rattle.runs.specs.Machine.{Reference, Action, Alloc, Read, Write, Safepoint}
-use Rattle.runs.specs.Moves.{ReadsWord, ReadsOldValue, StoresBehindBarrier, Claims, ReadsPosted, StoresStage, null}
+use Rattle.runs.specs.Moves.{ReadsWord, ReadsOldValue, StoresAfterBarrier, Claims, ReadsPosted, StoresStage, null}
 use Rattle.runs.specs.ModuleRuns.{Happening, OfThread, OfCollector, heap_of, birth_in, IsModuleRun}
 use Rattle.runs.specs.Broken as broken
 use Rattle.runs.specs.Broken.{IsRoot, Reached, IsReachable, IsGone, IsBroken, Cause, Wrong, TouchBlue, TouchBirth, ReachBlue, ReachBirth, Shows, GoesBefore, IsCause}
@@ -416,7 +416,7 @@ abbrev reads_old : List Happening
 reads_old = OfThread 0 (ReadsOldValue null 0 null) ∷ run34
 
 abbrev stored : List Happening
-stored = OfThread 0 (StoresBehindBarrier null 0 old) ∷ reads_old
+stored = OfThread 0 (StoresAfterBarrier null 0 old) ∷ reads_old
 
 is_reading_old : IsModuleRun heap forgetful (starts store_it) reads_old
 unfolding word_after births_after layout_of kind_of is_late

@@ -1,8 +1,8 @@
 -- The thread after its move, by whether its call ends.
 use Rattle.std.proofs.Common.{◌≡◌, sym, ap, ◌∙◌, subst}
 use Rattle.runs.specs.Machine.{Action, machine_of}
-use Rattle.runs.specs.Moves.{answer_of, phase_behind, step_of}
-use Rattle.runs.specs.Ends.{stage_behind}
+use Rattle.runs.specs.Moves.{answer_of, phase_afterwards, step_of}
+use Rattle.runs.specs.Ends.{stage_afterwards}
 use Rattle.runs.specs.Tries.{hints_by}
 use Rattle.moves.specs.declared.call.Call.{Call}
 use Rattle.moves.specs.declared.stand.Stand.{Stand}
@@ -22,19 +22,19 @@ returns-clause-ok g c s call e asked may =
     let cells = cells_to_try s c.args.stand.now.hints (g.M.Machine.action c.args.stand.now.state) in
     let phase =
     subst
-    (λ (a : Action). phase_at (cells_to_try s c.args.stand.now.hints a) roots c.stance_behind-stance.result ≡ phase_behind s c.args.stand.now.stage (phase_at (cells_to_try s c.args.stand.now.hints a) roots c.args.stand.now.stance) (step_of (move_in roots c.args.made.now)))
-    c.call-call.ensures (c.stance_behind-stance.ensures s c.args.stand.now.hints roots e here) in
+    (λ (a : Action). phase_at (cells_to_try s c.args.stand.now.hints a) roots c.stance_after-stance.result ≡ phase_afterwards s c.args.stand.now.stage (phase_at (cells_to_try s c.args.stand.now.hints a) roots c.args.stand.now.stance) (step_of (move_in roots c.args.made.now)))
+    c.call-call.ensures (c.stance_after-stance.ensures s c.args.stand.now.hints roots e here) in
     let noted = c.note_win.ensures s roots e (wins-of-layout s c.args.stand.now.hints roots c.call-call.result c.args.stand.now.stance c.args.made.now here) in
     elim c.if-ends_call.branch [
       | then-ends_call+in_ok-roots_after w ↦
           rw w.stand-is
-          (moved-between s m c.args.stand.now c.args.made.now w.end_call.new.state c.stage_behind-stand.result c.stance_behind-stance.result c.old_by-stand.result c.note_win.new.hints (answer_in w.answer_of.result)
+          (moved-between s m c.args.stand.now c.args.made.now w.end_call.new.state c.stage_afterwards-stand.result c.stance_after-stance.result c.old_by-stand.result c.note_win.new.hints (answer_in w.answer_of.result)
           phase (sym (c.ends_call.ensures cells roots) ∙ w.if-ends_call.true) w.in_ok-roots_after.ensures.ok
-          (w.answer_of.ensures roots ∙ ap (λ a. answer_of a (move_in roots c.args.made.now)) c.call-call.ensures) (c.stage_behind-stand.ensures roots ∙ ap (λ (v : Stand g.row.M.Denot). stage_behind v.stage (move_in roots c.args.made.now)) w.stand-is) (c.old_by-stand.ensures roots)
+          (w.answer_of.ensures roots ∙ ap (λ a. answer_of a (move_in roots c.args.made.now)) c.call-call.ensures) (c.stage_afterwards-stand.ensures roots ∙ ap (λ (v : Stand g.row.M.Denot). stage_afterwards v.stage (move_in roots c.args.made.now)) w.stand-is) (c.old_by-stand.ensures roots)
           (noted ∙ ap (λ (v : Stand g.row.M.Denot). hints_by s v.hints (step_of (move_in roots c.args.made.now))) w.stand-is))
       | else-ends_call w ↦
           rw w.stand-is
-          (moved-within s m c.args.stand.now c.args.made.now c.stage_behind-stand.result c.stance_behind-stance.result c.old_by-stand.result c.note_win.new.hints
-          phase (sym (c.ends_call.ensures cells roots) ∙ w.if-ends_call.false) (c.stage_behind-stand.ensures roots ∙ ap (λ (v : Stand g.row.M.Denot). stage_behind v.stage (move_in roots c.args.made.now)) w.stand-is) (c.old_by-stand.ensures roots)
+          (moved-within s m c.args.stand.now c.args.made.now c.stage_afterwards-stand.result c.stance_after-stance.result c.old_by-stand.result c.note_win.new.hints
+          phase (sym (c.ends_call.ensures cells roots) ∙ w.if-ends_call.false) (c.stage_afterwards-stand.ensures roots ∙ ap (λ (v : Stand g.row.M.Denot). stage_afterwards v.stage (move_in roots c.args.made.now)) w.stand-is) (c.old_by-stand.ensures roots)
           (noted ∙ ap (λ (v : Stand g.row.M.Denot). hints_by s v.hints (step_of (move_in roots c.args.made.now))) w.stand-is))
     ]

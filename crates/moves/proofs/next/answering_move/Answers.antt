@@ -12,7 +12,7 @@ pub returns-clause-next : goal.returns-clause-next
 returns-clause-next g c s h own old =
     let roots = g.M.Machine.roots c.args.state.now in
     let async : is_async c.args.stage ≡ true = search rules in
-    let found : c.root_behind.result ≡ slice_get (not_null roots) c.args.marked =
-    c.root_behind.ensures.root ∙ ap (λ (rs : List Reference). slice_get (not_null rs) c.args.marked) (c.as_slice.ensures.value ∙ c.in_ok-roots.ensures) in
+    let found : c.root_after.result ≡ slice_get (not_null roots) c.args.marked =
+    c.root_after.ensures.root ∙ ap (λ (rs : List Reference). slice_get (not_null rs) c.args.marked) (c.as_slice.ensures.value ∙ c.in_ok-roots.ensures) in
     rw async (ap (λ (m : moves.Move). Some m)
     (ap (mark_or_answer c.args.stage roots) (next_root-marked roots c.args.marked ∙ sym found) ∙ sym (c.mark_or_answer.ensures.next roots)))

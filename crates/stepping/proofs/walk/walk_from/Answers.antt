@@ -36,7 +36,7 @@ loop-root-preserved c =
 pub loop-cell-init : goal.loop-cell-init
 loop-cell-init c = record {
   shaped = c.loop-root.invariant.shaped;
-  behind = omega arith;
+  afterwards = omega arith;
   walked = λ s fits. walked-begin s c.args.shared.now c.args.roots.now c.loop-root.walk c.loop-root.root-index c.loop-root-test.false (c.loop-root.invariant.rooted s fits);
 }
 
@@ -70,7 +70,7 @@ loop-cell-preserved c =
     let longer : length c.loop-cell.walk.order ≤ length c.look_into.new.self.order = looking-longer h words row c.loop-cell.walk c.look_into.new.self (length words) is in
     record {
       shaped = subst (λ (w : Walk). IsShaped cells w) (sym is) (shaped-looking cells h words row c.loop-cell.walk (length words) c.loop-cell.invariant.shaped);
-      behind = omega (arith, longer, lt);
+      afterwards = omega (arith, longer, lt);
       walked = λ s fits. subst (λ (w : Walk). IsWalked s h c.args.roots.now w (c.loop-cell.looked + 1)) (sym (c.in_ok-look_into.ensures s fits))
           (walked-more s h c.args.roots.now c.loop-cell.walk c.loop-cell.looked cell lt at (c.loop-cell.invariant.walked s fits));
     }
@@ -78,7 +78,7 @@ loop-cell-preserved c =
 pub returns : goal.returns
 returns c = λ s fits.
     let all : length c.loop-cell.walk.order ≤ c.loop-cell.looked = none-past c.loop-cell.walk.order c.loop-cell.looked (sym c.get.ensures.value ∙ sym c.copied.ensures ∙ c.in_default.is) in
-    let done : c.loop-cell.looked ≡ length c.loop-cell.walk.order = omega (arith, all, c.loop-cell.invariant.behind) in (
+    let done : c.loop-cell.looked ≡ length c.loop-cell.walk.order = omega (arith, all, c.loop-cell.invariant.afterwards) in (
       c.loop-cell.invariant.shaped.wide ∙ cells-of_schema s c.args.schema fits,
       subst (λ n. IsWalked s c.args.shared.now c.args.roots.now c.loop-cell.walk n) done (c.loop-cell.invariant.walked s fits),
     )

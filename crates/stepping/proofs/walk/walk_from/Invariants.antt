@@ -18,7 +18,7 @@ invariant-loop-root l = Rooted l
 -- the cells
 pub record Walked (l : goal.Live-loop-cell) : Type 0 where
   pub shaped : IsShaped (cells_in l.schema.pools.now) l.walk
-  pub behind : l.looked ≤ length l.walk.order
+  pub afterwards : l.looked ≤ length l.walk.order
   pub walked : (s : Setup) → IsSchemaOf s l.schema → IsWalked s l.shared l.roots l.walk l.looked
 
 abbrev pub invariant-loop-cell : goal.invariant-loop-cell

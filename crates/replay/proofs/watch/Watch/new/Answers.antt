@@ -9,7 +9,7 @@ unfolding run_by
 returns-clause-ok c = record {
   program = c.in_ok-new.ensures.ok.0;
   setup_is = c.in_ok-new.ensures.ok.1;
-  behind = c.in_ok-new.ensures.ok.2;
+  afterwards = c.in_ok-new.ensures.ok.2;
   unbroken = unbroken_start c.args.program.now c.args.setup.now;
   steps = refl;
   claims_are = refl;

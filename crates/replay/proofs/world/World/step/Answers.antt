@@ -4,14 +4,14 @@ use Rattle.trace_text.specs.declared.trace.Actor.TheVariants.{Thread, Collector}
 use Rattle.replay.specs.Keeping.{ending_after}
 use Rattle.setups.specs.Setups.{starts_of}
 use Rattle.replay.specs.WorldView.{world_seen}
-use Rattle.replay.proofs.WorldSteps.{are_behind, is_thread, keeps, tells, stays_safe}
+use Rattle.replay.proofs.WorldSteps.{are_after, is_thread, keeps, tells, stays_safe}
 use Rattle.replay.proofs.world.World.step.Goals as goal
 
 pub step-requires : goal.step-requires
 step-requires c =
     let i = c.self.inside in
     let made = c.self.invariant.made in
-    (heap_of i.program.now i.setup.now, starts_of i.program.now i.setup.now, made.0, are_behind i (world_seen i) made.0 refl c.self.invariant made.1, tt)
+    (heap_of i.program.now i.setup.now, starts_of i.program.now i.setup.now, made.0, are_after i (world_seen i) made.0 refl c.self.invariant made.1, tt)
 
 pub step-requires-in-Thread : goal.step-requires-in-Thread
 step-requires-in-Thread c =
@@ -20,7 +20,7 @@ step-requires-in-Thread c =
       heap_of i.program.now i.setup.now,
       starts_of i.program.now i.setup.now,
       made.0,
-      are_behind i (world_seen i) made.0 refl c.self.invariant made.1,
+      are_after i (world_seen i) made.0 refl c.self.invariant made.1,
       is_thread i c.args.self.now c.args.actor c.in-Thread.thread c.self.view_is c.in-Thread.is c.requires,
     )
 

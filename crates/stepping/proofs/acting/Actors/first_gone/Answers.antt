@@ -13,5 +13,5 @@ returns g c s starts before b =
     let run = run_by s m starts before in
     let a = c.args.self.now in
     let found : c.as_slice-2.result.now ≡ roots_of m.roots a.threads.items = c.as_slice-2.ensures.value ∙ c.in_ok-roots.ensures ∙ ap (roots_of m.roots) c.as_slice.ensures.value in
-    c.first_gone.ensures s starts run b.schema b.is_behind.is_end.words
+    c.first_gone.ensures s starts run b.schema b.is_after.is_end.words
     (subst (λ (rs : List Reference). AreRoots s m starts run rs) (sym found) (are-roots s m (g.M.Runner.fits s) starts before a b (g.met.M.Runner.keeps_kinds s)))

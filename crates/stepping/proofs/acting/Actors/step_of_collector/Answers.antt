@@ -3,7 +3,7 @@ use Rattle.std.proofs.Common.{false, refl, sym, ap, ◌∙◌}
 use Rattle.runs.specs.Machine.{machine_of}
 use Rattle.moves.specs.Runs.{run_by}
 use Rattle.run_law.specs.Growth.{with_stored}
-use Rattle.stepping.proofs.Collects.{collector_is_behind, collected-none, collected, stored-none, with-words}
+use Rattle.stepping.proofs.Collects.{collector_is_after, collected-none, collected, stored-none, with-words}
 use Rattle.stepping.proofs.acting.Actors.step_of_collector.Goals as goal
 use Rattle.stepping.proofs.acting.Actors.step_of_collector.Goals.{in-Some, in_default}
 
@@ -11,7 +11,7 @@ pub next-requires : goal.next-requires
 next-requires g c =
     let m = machine_of g.M.Machine.action g.M.Machine.after_answer g.M.Machine.roots in
     let r = c.requires in
-    (c.growth_law.ensures.collector r.0 (run_by r.0 m r.1 r.2) c.args.self.now.collector c.args.self.now.shared (collector_is_behind r.0 m (g.M.Runner.fits r.0) r.1 r.2 c.args.self.now r.3)).0
+    (c.growth_law.ensures.collector r.0 (run_by r.0 m r.1 r.2) c.args.self.now.collector c.args.self.now.shared (collector_is_after r.0 m (g.M.Runner.fits r.0) r.1 r.2 c.args.self.now r.3)).0
 
 pub returns-in_err-motion : goal.returns-in_err-motion
 returns-in_err-motion g c s starts before b =
@@ -22,7 +22,7 @@ pub put-requires : goal.put-requires
 put-requires g c =
     let m = machine_of g.M.Machine.action g.M.Machine.after_answer g.M.Machine.roots in
     let r = c.requires in
-    ((c.growth_law.ensures.collector r.0 (run_by r.0 m r.1 r.2) c.args.self.now.collector c.args.self.now.shared (collector_is_behind r.0 m (g.M.Runner.fits r.0) r.1 r.2 c.args.self.now r.3)).1 c.in_ok-motion.motion c.next.new.self c.in_ok-motion.ensures.step).can_hold
+    ((c.growth_law.ensures.collector r.0 (run_by r.0 m r.1 r.2) c.args.self.now.collector c.args.self.now.shared (collector_is_after r.0 m (g.M.Runner.fits r.0) r.1 r.2 c.args.self.now r.3)).1 c.in_ok-motion.motion c.next.new.self c.in_ok-motion.ensures.step).can_hold
 
 pub returns : goal.returns
 returns g c s starts before b =
@@ -30,7 +30,7 @@ returns g c s starts before b =
     let run = run_by s m starts before in
     let a = c.args.self.now in
     let motion = c.in_ok-motion.motion in
-    let grows = (c.growth_law.ensures.collector s run a.collector a.shared (collector_is_behind s m (g.M.Runner.fits s) starts before a b)).1 motion c.next.new.self c.in_ok-motion.ensures.step in
+    let grows = (c.growth_law.ensures.collector s run a.collector a.shared (collector_is_after s m (g.M.Runner.fits s) starts before a b)).1 motion c.next.new.self c.in_ok-motion.ensures.step in
     let done = collected s m (g.M.Runner.fits s) starts before a b motion c.next.new.self c.in_ok-motion.ensures.step grows (c.loss_law.ensures s starts) c.loss_of_turn-loss.result c.loss_of_turn-loss.ensures in
     elim c.match-motion.branch [
       | in-Some w ↦

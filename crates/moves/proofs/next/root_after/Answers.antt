@@ -1,6 +1,6 @@
 -- A list has fewer than 2^63 roots.
 use Rattle.std.proofs.Common.{arith}
-use Rattle.moves.proofs.next.root_behind.Goals as goal
+use Rattle.moves.proofs.next.root_after.Goals as goal
 
 pub returns-then-left-eq0-clause-few : goal.returns-then-left-eq0-clause-few
 returns-then-left-eq0-clause-few c =

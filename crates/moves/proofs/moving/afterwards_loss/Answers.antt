@@ -4,7 +4,7 @@ use Rattle.moves.specs.Calls.{action_of}
 use Rattle.moves.specs.Moving.{tried_in}
 use Rattle.moves.specs.Stands.{cells_to_try}
 use Rattle.moves.proofs.Losses.{after-loss, none-tried}
-use Rattle.moves.proofs.moving.behind_loss.Goals as goal
+use Rattle.moves.proofs.moving.afterwards_loss.Goals as goal
 
 pub returns-in-Trying : goal.returns-in-Trying
 returns-in-Trying c s stage hints roots cell e next =

@@ -1,6 +1,0 @@
-use Rattle.std.proofs.Common.{◌≡◌, drop}
-use Rattle.certs.specs.Roots.{source_behind_blocks, nowhere}
-use Rattle.certs.proofs.roots.source_behind_blocks.Given as goal
-
-abbrev pub invariant-loop-block : goal.invariant-loop-block
-invariant-loop-block l = source_behind_blocks l.value l.fn.blocks nowhere ≡ source_behind_blocks l.value (drop l.block-index l.fn.blocks) l.source

@@ -1,6 +1,0 @@
-use Rattle.std.proofs.Common.{◌≡◌, Some, drop}
-use Rattle.types.specs.Elements.{part_behind}
-use Rattle.types.proofs.element.part_behind.Given as goal
-
-abbrev pub invariant-loop-index : goal.invariant-loop-index
-invariant-loop-index l = part_behind l.«module» (Some l.part) (drop l.index-index l.indices) ≡ part_behind l.«module» (Some l.fn.written) l.indices
