@@ -14,6 +14,18 @@ use Rattle.facts.specs.Facts.{FactSet, known_at, class_at}
 use Rattle.facts.specs.Lines.{implied, covers, is_fresh_in, covers_known, is_same, shows_reference, shows_line}
 use Rattle.facts.specs.Covered.{both_classes, classes_listed, unfresh, IsNoted, AreCovered}
 
+-- what is asked is implied where it is so
+pub implied_asked : (asked holds : Bool) → asked ≡ true → implied asked holds ≡ holds
+implied_asked true true e = refl
+implied_asked true false e = refl
+implied_asked false holds e = absurd cc
+
+-- what is not asked is implied
+pub implied_unasked : (asked holds : Bool) → asked ≡ false → implied asked holds ≡ true
+implied_unasked false true e = refl
+implied_unasked false false e = refl
+implied_unasked true holds e = absurd cc
+
 -- what is so is implied, asked or not
 asked_or_not : (holds : Bool) → holds ≡ true → implied false holds ≡ implied true holds
 asked_or_not true e = refl

@@ -1,7 +1,7 @@
 //! Whether what is known shows the lines of a target.
 ghost use Rattle.std.specs.Prelude.{◌≡◌};
 ghost use Rattle.std.specs.List.{list_all, zip};
-ghost use Rattle.facts.specs.Lines.{implied, is_below, covers_value, covers_slot, covers, covers_known, is_fresh_in, is_same, is_alone, shows_reference, shows_number, shows_address, shows_global, shows_fact, holds_known, holds_value, shows_slot, shows_line};
+ghost use Rattle.facts.specs.Lines.{is_fresh, implied, is_below, covers_value, covers_slot, covers, covers_known, is_fresh_in, is_same, is_alone, shows_reference, shows_number, shows_address, shows_global, shows_fact, holds_known, holds_value, shows_slot, shows_line};
 
 use crate::class_id::ClassId;
 use crate::facts::Facts;
@@ -77,16 +77,25 @@ impl Facts {
                 layout == asked.layout
                     && implied(asked.nonnull, self.class(class).nonnull)
                     && implied(!is_stale(asked.age), !stale)
-                    && implied(
-                        is_fresh(asked.age),
-                        self.is_fresh_in(there, class, asked.value),
-                    )
+                    && self.is_as_fresh(there, class, asked.value, asked.age)
                     && self.is_same(class, asked.same)
             }
             Known::Null => {
                 !asked.nonnull && !is_fresh(asked.age) && is_alone(asked.value, asked.same)
             }
             _ => false,
+        }
+    }
+
+    /// Whether a value may be listed with this age, by what is fresh.
+    #[tactic(auto, using(crate::proofs::Unfresh::implied_asked, crate::proofs::Unfresh::implied_unasked))]
+    fn is_as_fresh(&self, there: &Facts, c: ClassId, v: ValueId, age: Age) -> bool
+        ensures { result ≡ implied (is_fresh age) (is_fresh_in self.now there.now c v) }
+    {
+        if is_fresh(age) {
+            self.is_fresh_in(there, c, v)
+        } else {
+            true
         }
     }
 
