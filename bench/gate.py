@@ -87,7 +87,7 @@ def main():
     cores = len(os.sched_getaffinity(0))
     text = f"""# The gate
 
-The gate is `rt ci`. It proves each crate from nothing, tries the edits that the prover has to refuse, and runs the tests and
+The gate is `rt ci`. It proves each crate, tries the edits that the prover has to refuse, and runs the tests and
 the programs as two compilers build them. This page is written by `bench/gate.py`, which runs the gate.
 
 - Last line: `{last}`, status {status}.

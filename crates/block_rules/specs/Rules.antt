@@ -251,8 +251,3 @@ after_op p certs slots (Some v) x facts = after_named p slots v x facts
 -- what is known after an instruction
 abbrev pub after : LaidOut → (certs : List Section) → SlotTable → FactSet → Instr → FactSet
 after p certs slots facts instr = after_op p certs slots instr.result instr.op facts
-
--- the rule relation: an instruction is allowed where each of its conditions holds, and these are the facts after it
-pub record Allows (p : LaidOut) (certs : List Section) (f : Function) (slots : SlotTable) (here : Standing) (facts : FactSet) (instr : Instr) (next : FactSet) : Type 0 where
-  pub conditions_hold : first_failing (conditions p certs f slots here facts instr) ≡ None
-  pub facts_after : next ≡ after p certs slots facts instr

@@ -1,4 +1,5 @@
-//! Law of printed certificates: what is printed of the certificates of a module that is read is a text of them.
+//! Law of printed certificates: what is printed of the certificates of a module that is read is a text of them, if the
+//! module's names are short when they are printed.
 #![tactic(auto)]
 
 ghost use Rattle.cert_print_law.specs.Printed.{AreNamed, AreReadAgain};

@@ -1,4 +1,4 @@
-//! Certificates as text: the reader, the printer, and why what is printed is read as them again.
+//! Certificates as text: the reader, the printer, and when what is printed is read as them again.
 #![tactic(auto)]
 
 mod anew;

@@ -1,4 +1,4 @@
--- The rows on which facts stand, as what is known.
+-- The rows of which facts are made, as what is known.
 use Rattle.facts.specs.declared.contents.Contents.{Contents}
 use Rattle.std.specs.Prelude.{ℕ, Bool, false, [], ◌∷◌, ◌++◌, length, None}
 use Rattle.facts.specs.declared.known.Known.TheVariants.{Cell}

@@ -1,4 +1,4 @@
-//! The rows on which facts stand.
+//! The rows of which facts are made.
 ghost use Rattle.std.specs.Prelude.{◌≡◌, List, length, IfOk, OnOk, OnErr};
 ghost use Rattle.facts.specs.declared.known.Class.{Class};
 ghost use Rattle.facts.specs.declared.known.Known.TheVariants.{Cell};

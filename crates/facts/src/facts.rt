@@ -19,7 +19,7 @@ use std::marker::Model;
 use std::rc::Rc;
 
 /// What is known at a place of a function. A value names its class, and what is known of a class is kept there once.
-/// Sharers stand on one list of rows, until one of them is written: that one gets rows of its own first.
+/// Sharers use one list of rows, until one of them is written: that one gets rows of its own first.
 #[derive(Drop)]
 pub struct Facts {
     contents: Rc<Contents>,

@@ -11,8 +11,8 @@ pub fn safepoint_law()
     ensures { (s : Setup) (thread stage : ℕ) (roots : List ℕ) → MakesExactly thread stage (Polling roots) (IsSafepoint s stage roots) }
 {}
 
-/// The law of the threads, for every run in which the collector makes no step: what is kept is alive, what a step touches
-/// is alive, and each answer is a possible one.
+/// The law of the threads, for every run of threads that obey the discipline in which the collector makes no step: what is
+/// kept is alive, what a step touches is alive, and each answer is a possible one.
 pub fn mutator_law()
     ensures kept { (s : Setup) (run : List Event) → IsMutatorRun s run → KeptIsAlive s run }
     ensures touched { (s : Setup) (run : List Event) (t : ℕ) (step : Step) → IsMutatorRun s (ByThread t step ∷ run) → TouchesAlive s run t step }

@@ -1,4 +1,4 @@
--- The collector's token, as contracts see it; and where the collector may stand.
+-- The collector's token, as contracts see it; and where the collector may be.
 use Rattle.std.specs.Prelude.{ℕ, ◌<◌, ◌≡◌, List}
 use Rattle.atomic_table.specs.Seated.{TableId}
 use Rattle.pools.specs.Heap.{Setup, cells}

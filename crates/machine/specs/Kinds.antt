@@ -123,11 +123,6 @@ abbrev pub number_in : Value → ℕ
 number_in (value.Number n) = n
 number_in _ = 0
 
--- null
-abbrev pub is_null : Value → Bool
-is_null value.Null = true
-is_null _ = false
-
 -- null, or a reference
 abbrev pub is_reference : Value → Bool
 is_reference value.Null = true

@@ -1,6 +1,6 @@
 //! Kinds of types and of values.
 ghost use Rattle.std.specs.Prelude.{◌≡◌, slice_get};
-ghost use Rattle.machine.specs.Kinds.{is_integer, is_integer_of, is_void, bits_at, leads_to, is_byte_pointer, is_place_of_bytes, may_refer, is_scalar, may_lead, is_layout, refers_to, may_cast_word, is_set, is_plain, is_number, number_in, is_null, is_reference, fits_layout, fits_layout_of, are_of_one_layout, address_in};
+ghost use Rattle.machine.specs.Kinds.{is_integer, is_integer_of, is_void, bits_at, leads_to, is_byte_pointer, is_place_of_bytes, may_refer, is_scalar, may_lead, is_layout, refers_to, may_cast_word, is_set, is_plain, is_number, number_in, is_reference, fits_layout, fits_layout_of, are_of_one_layout, address_in};
 
 use crate::value::{Pointee, Value};
 use ir_ast::{IrType, Module, TypeId};

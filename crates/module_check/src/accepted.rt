@@ -40,7 +40,8 @@ impl Accepted {
         Accepted { program, certs }
     }
 
-    /// The module with its layouts. Its threads obey the discipline, and all runs of them and the collector are safe.
+    /// The module with its layouts. Its threads obey the discipline, if they start with arguments that fit and meet what is
+    /// promised, and all runs of such threads and the collector are safe.
     pub fn program(&self) -> &Program
         ensures program { result.now ≡ self.now.program }
         ensures certified { IsModuleCertified result.now self.now.certs (length result.now.of_module.functions) }

@@ -88,9 +88,10 @@ fn fault_in_module(alloc: Global, program: &Program, certs: &Certs) -> Option<Bl
 /// Checks a module against its certificates. Where it is not accepted, the verdict is the first refusal in the order of
 /// functions, blocks, instructions and targets, or the fault of its layouts; module and certificates are given back.
 /// A thread of an accepted module is never wrong, its roots are null or held, and its steps on the heap obey the discipline,
-/// whatever possible answers it gets, in whole calls and at each atomic step of a call. So for every number of threads that begin at its functions and every list of atomic steps
-/// of theirs and the collector's: no cell that is reachable from a global or a root slot is freed, no instruction touches a
-/// freed cell, and none is wrong.
+/// whatever possible answers it gets, in whole calls and at each atomic step of a call. So for every number of threads that
+/// begin at its functions, with arguments that fit their types and meet what is promised of the parameters, and every list of
+/// atomic steps of theirs and the collector's: no cell that is reachable from a global or a root slot is freed, no instruction
+/// touches a freed cell, and none is wrong.
 pub fn check(alloc: Global, of_module: Module, certs: Certs) -> Result<Accepted, NotAccepted>
     ensures kept { IfOk result (λ accepted. (accepted.program.of_module ≡ of_module) × (accepted.certs ≡ certs)) }
     ensures accepted { OnOk result (IsAccepted of_module certs) }

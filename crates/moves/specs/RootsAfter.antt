@@ -9,3 +9,9 @@ abbrev pub IsToldOfRoots : RootsAfter → (before after : List Reference) → Ty
 IsToldOfRoots Same before after = after ≡ before
 IsToldOfRoots Others before after = after ≢ before
 IsToldOfRoots Unseen before after = Unit {0}
+
+-- what is found of these roots, after those before, is so
+abbrev pub IsFoundOfRoots : RootsAfter → (before after : List Reference) → Type 0
+IsFoundOfRoots Same before after = after ≡ before
+IsFoundOfRoots Others before after = after ≢ before
+IsFoundOfRoots Unseen before after = ⊥

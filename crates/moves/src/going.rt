@@ -8,7 +8,7 @@ ghost use Rattle.moves.specs.declared.call.Call.{Call as ACall};
 ghost use Rattle.moves.specs.Kinds.{MayAnswer};
 ghost use Rattle.moves.specs.Moving.{HasHint, HasRoom, MayMake};
 ghost use Rattle.moves.specs.Stands.{standing};
-ghost use Rattle.moves.specs.RootsAfter.{IsToldOfRoots};
+ghost use Rattle.moves.specs.RootsAfter.{IsFoundOfRoots, IsToldOfRoots};
 
 use crate::call::Answer;
 use crate::hints::note_win;
@@ -67,7 +67,7 @@ fn end_call<M: Runner>(state: &mut M, answer: Answer) -> Result<RootsAfter, Allo
 
 /// What these roots are to those before.
 fn compared(before: &[Reference], after: &[Reference]) -> RootsAfter
-    ensures { IsToldOfRoots result before.now after.now }
+    ensures { IsFoundOfRoots result before.now after.now }
 {
     if after == before {
         return RootsAfter::Same;

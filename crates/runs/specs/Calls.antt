@@ -27,7 +27,7 @@ Stands s m Sound share state action phase move =
     (phase ≡ Ended)
     ⊎ (Sound (move ∷ share) (if ends_call move phase then m.after_answer state (answer_of action move) else state) × Old s (move ∷ share) phase × HasBegun phase)
 
--- a step that keeps all roots and stores nothing leaves what was held held, and what was fresh fresh
+-- a step that keeps all roots and stores nothing changes neither what is held nor what is fresh
 abbrev IsQuiet : Move → Type 0
 IsQuiet (ReadsOldValue b w v) = Unit {0}
 IsQuiet (Marks r) = Unit {0}

@@ -22,7 +22,7 @@ pub record IsAbsentAfter (s : Setup) (m : Machine) (thread : ℕ) (start : m.Sta
   pub long : moves ≤ length real.share
   pub absent : phase_of s thread log ≡ Absent
 
--- a thread that ended asked for its end in this state, and its share is whole. One that stopped, or never began, made as many moves as its limit says
+-- a thread that ended asked for its end in this state, and its share is whole. One that stopped, or never began, made at least as many moves as its limit says
 abbrev pub EndsSo : (s : Setup) (m : Machine) (thread : ℕ) (start : m.State) (limit : ℕ) → ServingEnd → (state : m.State) → List Step → Type 0
 EndsSo s m thread start limit Ended state log =
     (m.action state ≡ End) × IsFinishedAfter s m thread start 0 state log × IsWholeShare s m thread start log (m.after_answer state (Answered (Some done)))

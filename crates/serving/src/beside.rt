@@ -26,7 +26,7 @@ pub struct Job<R> {
     pub outcome: ServingEnd,
 }
 
-/// How many turns the collector makes at most, and how many steps each thread.
+/// How many turns the collector makes at most, and after how many steps a thread is stopped.
 #[derive(Clone, Copy, Debug, PartialEq, Eq)]
 pub struct Limits {
     pub turns: u32,

@@ -2,7 +2,9 @@ ghost use Rattle.std.specs.Prelude.{◌≡◌, List, true, false};
 ghost use Rattle.runs.specs.Machine.{Reference as AReference};
 ghost use Rattle.moves.specs.Calls.{move_in};
 ghost use Rattle.moves.specs.RootsAfter.{IsToldOfRoots};
-ghost use Rattle.stepping.specs.Loss.{IsTold};
+ghost use Rattle.moves.specs.declared.roots_after.RootsAfter.TheVariants as known;
+ghost use Rattle.stepping.specs.declared.loss.Loss.TheVariants as loss;
+ghost use Rattle.stepping.specs.Loss.{IsFound, IsTold};
 ghost use Rattle.stepping.specs.Reach.{AddsNothing, FreesNothing};
 
 use colours::Turn;
@@ -21,7 +23,7 @@ pub enum Loss {
 
 /// Whether a step of the collector may lose something: only where it frees a cell.
 pub(crate) fn loss_of_turn(turn: Turn) -> Loss
-    ensures { IsTold result (FreesNothing turn) }
+    ensures { IsFound result (FreesNothing turn) }
 {
     match turn {
         Turn::Free(_) => Loss::Possible,
@@ -31,7 +33,8 @@ pub(crate) fn loss_of_turn(turn: Turn) -> Loss
 
 /// Whether a move may lose something, after which this is known of its thread's roots.
 pub(crate) fn loss_of_move(made: &Move, roots_after: RootsAfter) -> Loss
-    ensures { (before after : List AReference) → IsToldOfRoots roots_after before after → IsTold result (AddsNothing (move_in before made.now) × (after ≡ before)) }
+    ensures told { (before after : List AReference) → IsToldOfRoots roots_after before after → IsTold result (AddsNothing (move_in before made.now) × (after ≡ before)) }
+    ensures seen { result ≡ loss.Unseen → roots_after ≡ known.Unseen }
 {
     if adds(made) {
         return Loss::Possible;

@@ -29,7 +29,7 @@ pub fn word_law()
     ensures { (s : Setup) (run : List Event) → IsHeapRun s run → EachWordFits s run }
 {}
 
-/// From the end of a trace to the next post, each kept cell is black.
+/// Where threads obey the discipline: from the end of a trace to the next post, each kept cell is black.
 pub fn trace_law()
     ensures { (s : Setup) (run : List Event) → IsHeapRun s run → IsPastTrace s run → KeptIsBlack s run }
 {}
