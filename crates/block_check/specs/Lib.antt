@@ -9,3 +9,4 @@ pub mod Entries
 pub mod BlockWalk
 pub mod Follows
 pub mod Exact
+pub mod Refills

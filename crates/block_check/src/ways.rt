@@ -6,6 +6,7 @@ ghost use Rattle.block_rules.specs.Ways.{open_way, branch_ways, ways, decided_fa
 ghost use Rattle.block_check.specs.Subject.{seen, IsReady};
 ghost use Rattle.block_check.specs.Decided.{decided_by};
 ghost use Rattle.block_check.specs.Shown.{AreShown};
+ghost use Rattle.block_check.specs.Refills.{CanRefill, refill_after};
 
 use crate::block_set::BlockSet;
 use crate::given::begin_lines;
@@ -25,10 +26,19 @@ pub struct Exit<'a> {
     pub facts: &'a Facts,
 }
 
+/// How the room for an edge gets what is known at the end of the block.
+#[derive(Clone, Copy)]
+pub enum Refill {
+    /// What was copied before is there but for what phis changed.
+    TakeBack,
+    Copy,
+}
+
 /// Room for what is known on an edge, and for what its target begins with.
 #[derive(Drop)]
 pub struct Rooms {
     way: Facts,
+    refill: Refill,
     there: Facts,
     entries: Items<Entry>,
 }
@@ -44,6 +54,7 @@ impl Rooms {
         let there = Facts::new(alloc, 0, 0)?;
         Ok(Rooms {
             way,
+            refill: Refill::Copy,
             there,
             entries: Items::new(alloc),
         })
@@ -60,6 +71,7 @@ impl Rooms {
         requires { IsReady subject.now }
         ensures { IfOk result (λ found. found ≡ unshown_on (seen subject.now) exit.now.block exit.now.facts.now (ways end.now)) }
     {
+        self.refill = Refill::Copy;
         match end {
             End::Jump(target) => self.unshown_at(alloc, subject, exit, *target, None),
             End::Branch {
@@ -91,7 +103,8 @@ impl Rooms {
         taken: ValueId,
         other: ValueId,
     ) -> Result<Option<Detail>, AllocError>
-        requires { IsReady subject.now }
+        requires ready { IsReady subject.now }
+        requires refill { CanRefill exit.now.facts.now self.old }
         ensures { IfOk result (λ found. found ≡ unshown_on (seen subject.now) exit.now.block exit.now.facts.now (branch_ways condition.now taken other)) }
     {
         let on = decided_by(condition, true);
@@ -109,7 +122,8 @@ impl Rooms {
         exit: &Exit,
         cases: &[Case],
     ) -> Result<Option<Detail>, AllocError>
-        requires { IsReady subject.now }
+        requires ready { IsReady subject.now }
+        requires refill { CanRefill exit.now.facts.now self.old }
         ensures { IfOk result (λ found. found ≡ unshown_on (seen subject.now) exit.now.block exit.now.facts.now (map (λ case. open_way case.target) cases.now)) }
     {
         let mut shown = BlockSet::new(alloc);
@@ -138,8 +152,10 @@ impl Rooms {
     ) -> Result<Option<Detail>, AllocError>
         requires ready { IsReady subject.now }
         requires shown { AreShown (seen subject.now) exit.now.block exit.now.facts.now shown.old }
+        requires refill { CanRefill exit.now.facts.now self.old }
         ensures found { IfOk result (λ found. found ≡ unshown_at (seen subject.now) exit.now.block exit.now.facts.now (target_of subject.now.scene.function.now target)) }
         ensures shown { OnOk result (AreShown (seen subject.now) exit.now.block exit.now.facts.now shown.new) }
+        ensures refill { OnOk result (CanRefill exit.now.facts.now self.new) }
     {
         let Some(to) = target_of(subject.scene.function, target) else {
             return Ok(None);
@@ -165,8 +181,10 @@ impl Rooms {
         target: ValueId,
         decided: Option<(ValueId, bool)>,
     ) -> Result<Option<Detail>, AllocError>
-        requires { IsReady subject.now }
-        ensures { IfOk result (λ found. found ≡ unshown_at (seen subject.now) exit.now.block (decided_facts decided exit.now.facts.now) (target_of subject.now.scene.function.now target)) }
+        requires ready { IsReady subject.now }
+        requires refill { CanRefill exit.now.facts.now self.old }
+        ensures found { IfOk result (λ found. found ≡ unshown_at (seen subject.now) exit.now.block (decided_facts decided exit.now.facts.now) (target_of subject.now.scene.function.now target)) }
+        ensures refill { OnOk result (CanRefill exit.now.facts.now self.new) }
     {
         match target_of(subject.scene.function, target) {
             Some(to) => self.unshown_in(alloc, subject, exit, decided, to),
@@ -182,8 +200,10 @@ impl Rooms {
         decided: Option<(ValueId, bool)>,
         to: BlockId,
     ) -> Result<Option<Detail>, AllocError>
-        requires { IsReady subject.now }
-        ensures { IfOk result (λ found. found ≡ unshown_at (seen subject.now) exit.now.block (decided_facts decided exit.now.facts.now) (Some to)) }
+        requires ready { IsReady subject.now }
+        requires refill { CanRefill exit.now.facts.now self.old }
+        ensures found { IfOk result (λ found. found ≡ unshown_at (seen subject.now) exit.now.block (decided_facts decided exit.now.facts.now) (Some to)) }
+        ensures refill { OnOk result (CanRefill exit.now.facts.now self.new) }
     {
         if subject.lines(to).is_empty() {
             return Ok(None);
@@ -207,7 +227,9 @@ impl Rooms {
     ) -> Result<Option<usize>, AllocError>
         requires ready { IsReady subject.now }
         requires there { self.old.there ≡ line_facts (seen subject.now) to }
-        ensures { IfOk result (λ found. found ≡ unshown_line (seen subject.now) to (entered (seen subject.now) exit.now.block to (decided_facts decided exit.now.facts.now))) }
+        requires refill { CanRefill exit.now.facts.now self.old }
+        ensures refill { OnOk result (CanRefill exit.now.facts.now self.new) }
+        ensures found { IfOk result (λ found. found ≡ unshown_line (seen subject.now) to (entered (seen subject.now) exit.now.block to (decided_facts decided exit.now.facts.now))) }
     {
         if decided.is_none() && phis_of(subject.scene.function, to).is_empty() {
             return Ok(self.unshown_line(alloc, subject, exit.facts, to));
@@ -239,14 +261,43 @@ impl Rooms {
         decided: Option<(ValueId, bool)>,
         to: BlockId,
     ) -> Result<(), AllocError>
-        requires { IsReady subject.now }
+        requires ready { IsReady subject.now }
+        requires refill { CanRefill exit.now.facts.now self.old }
         ensures way { OnOk result (self.new.way ≡ entered (seen subject.now) exit.now.block to (decided_facts decided exit.now.facts.now)) }
+        ensures refill { OnOk result (CanRefill exit.now.facts.now self.new) }
         ensures there { self.new.there ≡ self.old.there }
     {
-        self.way.set_from(alloc, exit.facts)?;
+        let undecided = decided.is_none();
+        self.fill(alloc, exit)?;
         learn(&mut self.way, decided)?;
         note_entries(subject, exit.block, &self.way, to, &mut self.entries)?;
-        self.way.after_phis(self.entries.as_slice())
+        let back = self.way.try_phis(self.entries.as_slice())?;
+        self.refill = refill_after(back, undecided);
+        Ok(())
+    }
+
+    /// What is known at the end of the block.
+    fn fill(&mut self, alloc: Global, exit: &Exit) -> Result<(), AllocError>
+        requires { CanRefill exit.now.facts.now self.old }
+        ensures way { OnOk result (self.new.way ≡ exit.now.facts.now) }
+        ensures there { self.new.there ≡ self.old.there }
+    {
+        match self.refill {
+            Refill::TakeBack => self.way.take_back(self.entries.as_slice(), exit.facts),
+            Refill::Copy => self.way.set_from(alloc, exit.facts),
+        }
+    }
+}
+
+/// How the room for an edge is filled again: what the phis changed may be such that it can be taken back, and what decides
+/// the edge cannot.
+fn refill_after(back: bool, undecided: bool) -> Refill
+    ensures { result ≡ refill_after back undecided }
+{
+    if back && undecided {
+        Refill::TakeBack
+    } else {
+        Refill::Copy
     }
 }
 

@@ -26,3 +26,4 @@ mod Defines
 mod Learns
 mod Loads
 mod Parts
+mod TakenBack

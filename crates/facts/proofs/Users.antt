@@ -149,7 +149,7 @@ pub chain_none : (count : ℕ) (uses : List Use) (at : Option ℕ) → use_at us
 chain_none zero uses at e = refl
 chain_none (suc count) uses at e = ap (λ (found : Option Use). users_of found (chain count uses)) e
 
-off_same : (v : ℕ) (row : Row) → names v row ≡ false → off_row v row ≡ row
+pub off_same : (v : ℕ) (row : Row) → names v row ≡ false → off_row v row ≡ row
 off_same v row e = let parts = or_neither (is_on v row.known) (tests v row.test) e in ap (λ (b : Bool). record row { known = if b then Nothing else row.known; test = off_test v row.test }) parts.0 ∙ ap (λ (t : Option Test). record row { test = t }) (same row.test parts.1) where
   same : (test : Option Test) → tests v test ≡ false → off_test v test ≡ test
   same None e = refl

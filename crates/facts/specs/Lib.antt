@@ -14,3 +14,4 @@ pub mod Chains
 pub mod Statements
 pub mod Covered
 pub mod Shown
+pub mod TakenBack

@@ -1,10 +1,12 @@
 //! The rows of which facts are made.
-ghost use Rattle.std.specs.Prelude.{◌≡◌, List, length, IfOk, OnOk, OnErr};
+ghost use Rattle.std.specs.Prelude.{◌≡◌, true, false, List, length, IfOk, OnOk, OnErr};
 ghost use Rattle.facts.specs.declared.known.Class.{Class};
+ghost use Rattle.facts.specs.declared.known.Known.{Known};
 ghost use Rattle.facts.specs.declared.known.Known.TheVariants.{Cell};
 ghost use Rattle.facts.specs.Facts.{known_at, slot_at, nothing_known, values_without, forget, define, define_test, add_class, set_slot, end_slot, load_slot, make_stale, slots_of_class, slots_without, held_nonnull};
 ghost use Rattle.facts.specs.Contents.{set_of};
 ghost use Rattle.facts.specs.SlotRows.{let_go_last};
+ghost use Rattle.facts.specs.TakenBack.{EndsAlone};
 
 use crate::class_id::ClassId;
 use crate::kept::KeptFacts;
@@ -215,6 +217,23 @@ impl Contents {
             None
         } else {
             Some(c)
+        }
+    }
+
+    /// Whether the end of what is known of a value is seen to end nothing else.
+    pub fn ends_alone(&self, v: ValueId) -> bool
+        ensures { result ≡ true → EndsAlone v (set_of self.now) }
+    {
+        self.values.is_unnamed(v) && !self.may_be_held(self.values.known(v))
+    }
+
+    /// Whether a slot may hold the class of what is known of a value.
+    fn may_be_held(&self, known: Known) -> bool
+        ensures { result ≡ false → (values : List Known) (classes : List Class) → slots_without known values classes self.now.slots ≡ self.now.slots }
+    {
+        match known {
+            Known::Cell { class, .. } => self.slots.may_hold(class),
+            _ => false,
         }
     }
 

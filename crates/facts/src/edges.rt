@@ -1,8 +1,9 @@
 //! What an edge adds: what the comparison that decides it says, and what the phis take.
-ghost use Rattle.std.specs.Prelude.{◌≡◌, OnOk, OnErr};
-ghost use Rattle.facts.specs.Facts.{below_both, known_below, learn_below, learn_known_nonnull, learn_up_to, learn_null_test, learn_number_test, learn_constant_test, learn_test, drop_fresh_of, drop_fresh_all, enter_phi, enter_phis, after_phis};
+ghost use Rattle.std.specs.Prelude.{◌≡◌, true, IfOk, OnOk, OnErr};
+ghost use Rattle.facts.specs.Facts.{FactSet, below_both, known_below, learn_below, learn_known_nonnull, learn_up_to, learn_null_test, learn_number_test, learn_constant_test, learn_test, drop_fresh_of, drop_fresh_all, enter_phi, enter_phis, after_phis};
 ghost use Rattle.facts.specs.Contents.{set_of};
 ghost use Rattle.facts.specs.Parts.{AreFirst, IsFirstPart};
+ghost use Rattle.facts.specs.TakenBack.{DifferBy};
 
 use crate::contents::Contents;
 use crate::facts::Facts;
@@ -27,18 +28,31 @@ impl Facts {
         ensures ok { OnOk result (self.new ≡ after_phis entries.now self.old) }
         ensures err { OnErr result (IsFirstPart entries.now self.old self.new) }
     {
+        self.try_phis(entries)?;
+        Ok(())
+    }
+
+    /// The same as `after_phis`. If this is true, `take_back` takes back what the phis changed.
+    pub fn try_phis(&mut self, entries: &[Entry]) -> Result<bool, AllocError>
+        ensures ok { OnOk result (self.new ≡ after_phis entries.now self.old) }
+        ensures err { OnErr result (IsFirstPart entries.now self.old self.new) }
+        ensures back { IfOk result (λ back. back ≡ true → DifferBy entries.now self.old self.new) }
+    {
         self.drop_fresh_all(entries)?;
         self.enter_phis(entries)
     }
 
-    fn enter_phis(&mut self, entries: &[Entry]) -> Result<(), AllocError>
+    fn enter_phis(&mut self, entries: &[Entry]) -> Result<bool, AllocError>
         ensures ok { OnOk result (self.new ≡ enter_phis entries.now self.old) }
         ensures err { OnErr result (AreFirst entries.now self.old self.new) }
+        ensures back { IfOk result (λ back. back ≡ true → (before : FactSet) → DifferBy entries.now before self.old → DifferBy entries.now before self.new) }
     {
+        let mut back = true;
         for entry in entries {
+            back = back && self.ends_alone(entry.phi);
             self.enter_phi(entry.phi, entry.known)?;
         }
-        Ok(())
+        Ok(back)
     }
 
     fn enter_phi(&mut self, v: ValueId, known: Known) -> Result<(), AllocError>

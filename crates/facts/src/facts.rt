@@ -3,6 +3,7 @@ ghost use Rattle.facts.specs.declared.known.Known.TheVariants.{Cell};
 ghost use Rattle.facts.specs.Facts.{FactSet, AreFacts, known_at, slot_at, class_at, test_at, is_of, nothing_known, forget, define, define_new, define_test, set_known, add_class, set_class, drop_fresh, drop_fresh_of, drop_fresh_all, learn_nonnull, set_slot, clear_slot, end_slot, root_slot, hold, store_slot, load_held, load_slot, make_stale, slot_nonnull};
 ghost use Rattle.facts.specs.Lines.{join, covers};
 ghost use Rattle.facts.specs.Parts.{AreAsMany};
+ghost use Rattle.facts.specs.TakenBack.{EndsAlone, first_classes};
 ghost use Rattle.facts.specs.Ties.{AreOwn, AreTies, class_now, class_of_both, facts_now, settle_value};
 
 use crate::class_id::ClassId;
@@ -398,6 +399,24 @@ impl Facts {
     {
         let known = ties.known(self.known(v));
         self.set_known(v, known)
+    }
+
+    /// Whether the end of what is known of a value is seen to end nothing else.
+    pub(crate) fn ends_alone(&self, v: ValueId) -> bool
+        ensures { result ≡ true → EndsAlone v self.now }
+    {
+        self.contents.ends_alone(v)
+    }
+
+    /// There are no more classes than elsewhere.
+    pub(crate) fn drop_classes(&mut self, other: &Facts) -> Result<(), AllocError>
+        requires { length self.old.values ≡ length other.now.values }
+        ensures ok { OnOk result (self.new ≡ first_classes (length other.now.classes) self.old) }
+        ensures err { OnErr result (self.new ≡ self.old) }
+    {
+        let values = &other.contents.values;
+        Rc::make_mut(&mut self.contents)?.values.drop_classes(values);
+        Ok(())
     }
 
     /// Whether all that is of a class here is listed there as of another.

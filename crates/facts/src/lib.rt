@@ -20,6 +20,7 @@ mod shown;
 mod slot_rows;
 mod slot_sweeps;
 mod sweeps;
+mod taken_back;
 mod ties;
 mod uses;
 mod values;

@@ -1,7 +1,7 @@
-ghost use Rattle.std.specs.Prelude.{◌≡◌, ◌<◌, ◌≤◌, ℕ, true, false, List, None, is_none, ◌||◌, ◌∷◌, [], ◌++◌, map, length, slice_set, IfOk, OnOk, OnErr};
+ghost use Rattle.std.specs.Prelude.{◌≡◌, ◌<◌, ◌≤◌, ℕ, true, false, List, None, is_none, ◌||◌, ◌∷◌, [], ◌++◌, map, length, take, slice_set, IfOk, OnOk, OnErr};
 ghost use Rattle.std.specs.List.{list_any, list_all, enumerate_from, zip};
 ghost use Rattle.facts.specs.declared.known.Class.{Class};
-ghost use Rattle.facts.specs.declared.known.Known.TheVariants.{Number, Cell};
+ghost use Rattle.facts.specs.declared.known.Known.TheVariants.{Nothing, Number, Cell};
 ghost use Rattle.facts.specs.declared.uses.Use.{Use};
 ghost use Rattle.facts.specs.Facts.{known_at, class_at, test_at, is_of, is_on, values_without, tests_without, stale_of, stale_class};
 ghost use Rattle.facts.specs.Lines.{covers_value};
@@ -315,6 +315,14 @@ impl Values {
         }
     }
 
+    /// There are no more classes than elsewhere, where there are as many values.
+    pub fn drop_classes(&mut self, other: &Values)
+        requires { length self.old.values ≡ length other.now.values }
+        ensures { self.new ≡ record self.old { classes = take (length other.now.classes) self.old.classes } }
+    {
+        self.added.truncate(other.added.len());
+    }
+
     /// Each reference is stale, and of the class that its value has for itself.
     pub fn make_stale(&mut self)
         ensures { self.new ≡ record self.old { values = map stale_of (enumerate_from 0 self.old.values); classes = map (stale_class self.old.classes) (zip self.old.classes self.old.values) } }
@@ -335,6 +343,16 @@ impl Values {
         ensures { result ≡ list_any (is_of c) (values_without v self.now.values) }
     {
         self.sheet.any_other(v, c)
+    }
+
+    /// Whether a value is seen to be no comparison, and nothing to name it.
+    pub fn is_unnamed(&self, v: ValueId) -> bool
+        ensures values { result ≡ true → values_without v self.now.values ≡ slice_set self.now.values v Nothing }
+        ensures tests { result ≡ true → tests_without v self.now.tests ≡ self.now.tests }
+    {
+        let at = v.number() as usize;
+        let row = self.sheet.row(at);
+        at < self.sheet.len() && row.used.is_none() && row.test.is_none()
     }
 
     /// Whether all values of a class here are listed there as of another.

@@ -6,8 +6,8 @@ use Rattle.block_check.specs.Subject.{seen}
 use Rattle.block_check.proofs.Undecided.{entered_plain}
 use Rattle.block_check.proofs.ways.Rooms.unshown_entered.Goals as goal
 
-pub returns-then-is_empty : goal.returns-then-is_empty
-returns-then-is_empty c =
+pub returns-then-is_empty-clause-found : goal.returns-then-is_empty-clause-found
+returns-then-is_empty-clause-found c =
     let s = seen c.args.subject.now in
     let undecided : is_some c.args.decided ≡ false = c.is_none.ensures ∙ ap not c.if-is_none.true in
     let none : (length (phis_of s.function c.args.to) == 0) ≡ true = ap (λ phis. length phis == 0) (sym c.phis_of.ensures) ∙ sym c.is_empty.ensures ∙ c.if-is_empty.true in

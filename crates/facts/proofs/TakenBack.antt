@@ -1,0 +1,203 @@
+-- What phis change, and how it is taken back.
+use Rattle.std.proofs.Common.{◌≡◌, ◌<◌, ◌≤◌, ◌⊎◌, inl, inr, ℕ, zero, suc, List, [], ◌∷◌, ◌++◌, ◌+◌, length, get_or, take, map, refl, sym, ap, subst, arith, ◌∙◌, true, Bool, Option, None, slice_set}
+use Rattle.std.proofs.lemmas.Bool.{cases_lt}
+use Rattle.std.proofs.lemmas.List.{ext_get_or, get_or_past, get_or-set_same, get_or-take, get_or_append_left, length-append, length-map, length-set, length-take-le, map-set}
+use Rattle.std.proofs.Math.Seq.{map-set_same, take-append-add}
+use Rattle.std.specs.Prelude.{false, ◌==◌}
+use Rattle.lemmas.specs.Bools.{yes_or_no}
+use Rattle.lemmas.specs.Numbers.{test_true, test_yes}
+use Rattle.facts.specs.declared.known.Class.{Class}
+use Rattle.facts.specs.declared.known.Entry.{Entry}
+use Rattle.facts.specs.declared.known.Known.{Known}
+use Rattle.facts.specs.declared.known.Known.TheVariants.{Nothing, Number, Cell, Null, Address, GlobalAddress}
+use Rattle.facts.specs.declared.known.SlotFact.{SlotFact}
+use Rattle.facts.specs.declared.known.Test.{Test}
+use Rattle.facts.specs.declared.row.Row.{Row}
+use Rattle.facts.specs.declared.sweeps.Change.TheVariants.{Off}
+use Rattle.facts.specs.declared.uses.Use.{Use}
+use Rattle.facts.specs.Facts.{FactSet, known_at, class_at, lost_class, is_of, off_base, off_test, values_without, tests_without, set_known, define, drop_fresh_of, drop_fresh_all, enter_phi}
+use Rattle.facts.specs.Sheets.{blank, row_at, known_of, class_of, test_of, names, IsOne, EachRow, changed}
+use Rattle.facts.specs.Uses.{chain, IsUser, OnlyUsers}
+use Rattle.facts.specs.TakenBack.{IsPhi, ComesIn, DifferBy, EndsAlone, class_back, entry_back, first_classes}
+use Rattle.facts.proofs.Says.{each_mapped}
+use Rattle.facts.proofs.Sets.{set_other}
+use Rattle.facts.proofs.Sheets.{same_or_not}
+use Rattle.facts.proofs.Users.{chain_none, off_same}
+
+-- ---- a value that nothing names
+
+module _ (v : ℕ) (uses : List Use) (rows : List Row) (only : OnlyUsers uses rows) (lt : v < length rows) (unused : (row_at rows v).used ≡ None) where
+  unnamed : (u : ℕ) → names v (row_at rows u) ≡ false
+  unnamed u = elim (yes_or_no (names v (row_at rows u))) [ inl e ↦ absurd (none (only u v e lt)) | inr e ↦ e ] where
+    none : IsUser uses rows u v → ⊥
+    none one = subst (IsOne u) (ap (chain (length uses) uses) unused ∙ chain_none (length uses) uses None refl) one
+
+  unchanged : EachRow (changed (Off v)) rows rows
+  unchanged = (refl, λ u at. sym (off_same v (row_at rows u) (unnamed u)))
+
+  pub values_alone : values_without v (map known_of rows) ≡ slice_set (map known_of rows) v Nothing
+  values_alone = ap (λ (l : List Known). slice_set l v Nothing) (sym (each_mapped known_of (changed (Off v)) rows rows unchanged (off_base v) (λ u row. refl)))
+
+  pub tests_alone : (row_at rows v).test ≡ None → tests_without v (map test_of rows) ≡ map test_of rows
+  tests_alone untested = ap (λ (l : List (Option Test)). slice_set l v None) (sym (each_mapped test_of (changed (Off v)) rows rows unchanged (off_test v) (λ u row. refl)))
+      ∙ sym (map-set test_of rows v row) ∙ map-set_same test_of rows v row blank (sym untested)
+    where
+      row : Row
+      row = record (row_at rows v) { test = None }
+
+-- the classes that are left of those of rows and those that were added
+pub classes_left : (rows others : List Row) (added more : List Class) → length (map known_of rows) ≡ length (map known_of others) → map class_of rows ++ take (length more) added ≡ take (length (map class_of others ++ more)) (map class_of rows ++ added)
+classes_left rows others added more e = sym (ap (λ (n : ℕ). take n (map class_of rows ++ added)) long ∙ take-append-add (map class_of rows) added (length more)) where
+  long : length (map class_of others ++ more) ≡ length (map class_of rows) + length more
+  long = omega (arith, e, length-append (map class_of others) more, length-map others class_of, length-map rows class_of, length-map others known_of, length-map rows known_of)
+
+-- ---- what phis change
+
+module _ (entries : List Entry) where
+  pub no_difference : (f : FactSet) → DifferBy entries f f
+  no_difference f = record {
+    slots = refl;
+    tests = refl;
+    many = refl;
+    values = λ v. inr refl;
+    more = omega arith;
+    classes = λ c lt. inr refl;
+  }
+
+  module _ (before : FactSet) where
+    dropped : (known : Known) → ((c : ℕ) → is_of c known ≡ true → ComesIn c entries) → (f : FactSet) → DifferBy entries before f → DifferBy entries before (drop_fresh_of known f)
+    dropped (Cell c layout stale) comes f d = record {
+      slots = d.slots;
+      tests = d.tests;
+      many = d.many;
+      values = d.values;
+      more = rw length-set d.more;
+      classes = λ b lt. elim (same_or_not c b) [
+        | inl same ↦ inl (comes b (test_yes c b same))
+        | inr ne ↦ elim (d.classes b lt) [ inl one ↦ inl one | inr e ↦ inr (set_other f.classes c b (record (class_at f.classes c) { fresh = false }) lost_class ne ∙ e) ]
+      ];
+    }
+    dropped Nothing comes f d = d
+    dropped (Number bits below) comes f d = d
+    dropped Null comes f d = d
+    dropped (Address base words) comes f d = d
+    dropped (GlobalAddress g) comes f d = d
+
+    all_dropped : (rest : List Entry) → ((c : ℕ) → ComesIn c rest → ComesIn c entries) → (f : FactSet) → DifferBy entries before f → DifferBy entries before (drop_fresh_all rest f)
+    all_dropped [] within f d = d
+    all_dropped (entry ∷ rest) within f d = all_dropped rest (λ c there. within c (inr there)) (drop_fresh_of entry.known f) (dropped entry.known (λ c e. within c (inl e)) f d)
+
+    -- a phi whose last meaning ends alone is defined
+    module _ (v : ℕ) (phi : IsPhi v entries) (f : FactSet) (alone : EndsAlone v f) (d : DifferBy entries before f) where
+      defined_alone : (known : Known) (classes : List Class) → length f.classes ≤ length classes → ((c : ℕ) → c < length f.classes → class_at classes c ≡ class_at f.classes c) → DifferBy entries before (define v known (record f { classes = classes }))
+      defined_alone known classes longer kept = subst (DifferBy entries before) (sym (ap (set_known v known) (alone classes))) (record {
+        slots = d.slots;
+        tests = d.tests;
+        many = length-set (slice_set f.values v Nothing) v known ∙ length-set f.values v Nothing ∙ d.many;
+        values = λ u. elim (same_or_not v u) [
+          | inl same ↦ inl (subst (λ x. IsPhi x entries) same phi)
+          | inr ne ↦ elim (d.values u) [ inl one ↦ inl one | inr e ↦ inr (set_other (slice_set f.values v Nothing) v u known Nothing ne ∙ set_other f.values v u Nothing Nothing ne ∙ e) ]
+        ];
+        more = omega (arith, d.more, longer);
+        classes = λ c lt. elim (d.classes c lt) [ inl one ↦ inl one | inr e ↦ inr (kept c (omega (arith, lt, d.more)) ∙ e) ];
+      })
+
+      defined_plain : (known : Known) → DifferBy entries before (define v known f)
+      defined_plain known = defined_alone known f.classes (omega arith) (λ c lt. refl)
+
+      pub entered : (known : Known) → DifferBy entries before (enter_phi v known f)
+      entered (Cell c layout stale) = defined_alone (Cell (length f.classes) layout stale) (f.classes ++ class ∷ []) (omega (arith, length-append f.classes (class ∷ []))) (λ b lt. get_or_append_left f.classes (class ∷ []) lost_class b lt) where
+        class : Class
+        class = record { nonnull = (class_at f.classes c).nonnull; fresh = false }
+      entered Nothing = defined_plain Nothing
+      entered (Number bits below) = defined_plain (Number bits below)
+      entered Null = defined_plain Null
+      entered (Address base words) = defined_plain Nothing
+      entered (GlobalAddress g) = defined_plain Nothing
+
+  -- where the classes of all that comes in are fresh no more
+  pub dropped_all : (f : FactSet) → DifferBy entries f (drop_fresh_all entries f)
+  dropped_all f = all_dropped f entries (λ c there. there) f (no_difference f)
+
+-- an entry is one of the entries
+pub phi_there : (entries : List Entry) (i : ℕ) → i < length entries → (entry : Entry) → entry ≡ get_or entries i entry → IsPhi entry.phi entries
+phi_there [] i lt entry is = absurd (omega (arith, lt))
+phi_there (first ∷ entries) zero lt entry is = inl (ap (λ (e : Entry). e.phi) (sym is))
+phi_there (first ∷ entries) (suc i) lt entry is = inr (phi_there entries i (omega (arith, lt)) entry is)
+
+-- ---- it is taken back
+
+module _ (rest : List Entry) (before : FactSet) where
+  module _ (g : FactSet) (slots : g.slots ≡ before.slots) (tests : g.tests ≡ before.tests) (many : length g.values ≡ length before.values) (values : (v : ℕ) → IsPhi v rest ⊎ (known_at g.values v ≡ known_at before.values v)) (more : length before.classes ≤ length g.classes) where
+    plain : (known : Known) → ((c : ℕ) → is_of c known ≡ true → ⊥) → ((c : ℕ) → c < length before.classes → ((is_of c known ≡ true) ⊎ ComesIn c rest) ⊎ (class_at g.classes c ≡ class_at before.classes c)) → DifferBy rest before g
+    plain known none classes = record {
+      slots = slots;
+      tests = tests;
+      many = many;
+      values = values;
+      more = more;
+      classes = λ c lt. elim (classes c lt) [ inl one ↦ elim one [ inl of ↦ absurd (none c of) | inr there ↦ inl there ] | inr e ↦ inr e ];
+    }
+
+    class_is_back : (known : Known) → ((c : ℕ) → c < length before.classes → ((is_of c known ≡ true) ⊎ ComesIn c rest) ⊎ (class_at g.classes c ≡ class_at before.classes c)) → DifferBy rest before (class_back known before g)
+    class_is_back (Cell c layout stale) classes = record {
+      slots = slots;
+      tests = tests;
+      many = many;
+      values = values;
+      more = rw length-set more;
+      classes = λ b lt. elim (same_or_not c b) [
+        | inl same ↦ inr (subst (λ (x : ℕ). class_at (slice_set g.classes c (class_at before.classes c)) x ≡ class_at before.classes x) same (get_or-set_same g.classes c (class_at before.classes c) lost_class (within b lt same)))
+        | inr ne ↦ elim (classes b lt) [
+          | inl one ↦ elim one [ inl of ↦ absurd (ne (test_true c b of)) | inr there ↦ inl there ]
+          | inr e ↦ inr (set_other g.classes c b (class_at before.classes c) lost_class ne ∙ e)
+        ]
+      ];
+    } where
+      within : (b : ℕ) → b < length before.classes → c ≡ b → c < length g.classes
+      within b lt same = omega (arith, lt, same, more)
+    class_is_back Nothing classes = plain Nothing (λ c e. absurd cc) classes
+    class_is_back (Number bits below) classes = plain (Number bits below) (λ c e. absurd cc) classes
+    class_is_back Null classes = plain Null (λ c e. absurd cc) classes
+    class_is_back (Address base words) classes = plain (Address base words) (λ c e. absurd cc) classes
+    class_is_back (GlobalAddress h) classes = plain (GlobalAddress h) (λ c e. absurd cc) classes
+
+  -- an entry less
+  pub entry_is_back : (entry : Entry) (f : FactSet) → DifferBy (entry ∷ rest) before f → DifferBy rest before (entry_back entry before f)
+  entry_is_back entry f d = class_is_back (set_known v known f) d.slots d.tests (length-set f.values v known ∙ d.many) values d.more entry.known d.classes where
+    v : ℕ
+    v = entry.phi
+
+    known : Known
+    known = known_at before.values v
+
+    here : (v < length f.values) ⊎ (length f.values ≤ v) → known_at (slice_set f.values v known) v ≡ known
+    here (inl lt) = get_or-set_same f.values v known Nothing lt
+    here (inr past) = get_or_past (slice_set f.values v known) v Nothing (rw length-set past) ∙ sym (get_or_past before.values v Nothing (rw (← d.many) past))
+
+    values : (u : ℕ) → IsPhi u rest ⊎ (known_at (slice_set f.values v known) u ≡ known_at before.values u)
+    values u = elim (same_or_not v u) [
+      | inl same ↦ inr (subst (λ (x : ℕ). known_at (slice_set f.values v known) x ≡ known_at before.values x) same (here (cases_lt v (length f.values))))
+      | inr ne ↦ elim (d.values u) [
+        | inl one ↦ elim one [ inl same ↦ absurd (ne same) | inr there ↦ inl there ]
+        | inr e ↦ inr (set_other f.values v u known Nothing ne ∙ e)
+      ]
+    ]
+
+-- where no entry is left, only classes were added
+pub all_is_back : (before f : FactSet) → DifferBy [] before f → first_classes (length before.classes) f ≡ before
+all_is_back before f d =
+    ap (λ (values : List Known). record { values = values; slots = f.slots; classes = take count f.classes; tests = f.tests }) same_values
+    ∙ ap (λ (slots : List SlotFact). record { values = before.values; slots = slots; classes = take count f.classes; tests = f.tests }) d.slots
+    ∙ ap (λ (classes : List Class). record { values = before.values; slots = before.slots; classes = classes; tests = f.tests }) same_classes
+    ∙ ap (λ (tests : List (Option Test)). record { values = before.values; slots = before.slots; classes = before.classes; tests = tests }) d.tests
+  where
+    count : ℕ
+    count = length before.classes
+
+    same_values : f.values ≡ before.values
+    same_values = ext_get_or Nothing f.values before.values d.many (λ v lt. elim (d.values v) [ inl one ↦ absurd one | inr e ↦ e ])
+
+    same_classes : take count f.classes ≡ before.classes
+    same_classes = ext_get_or lost_class (take count f.classes) before.classes (length-take-le count f.classes d.more)
+        (λ c lt. let at : c < count = rw (← length-take-le count f.classes d.more) lt in get_or-take count f.classes c lost_class at ∙ elim (d.classes c at) [ inl one ↦ absurd one | inr e ↦ e ])
