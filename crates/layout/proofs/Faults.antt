@@ -20,7 +20,7 @@ use Rattle.layout.specs.Layouts.{IsLayout, AreLayoutsOf, AreLayouts, IsFirst, Ha
 use Rattle.layout.specs.Survey.{mark_at, fields_at, IsWithin, IsLarge, MarkFits, IsSettled, is_new, is_endless, is_large, span_of, size_in, struct_is_endless, struct_is_large, struct_fields, points_nowhere, known_word, words_of, fault_by, first_fault}
 use Rattle.layout.specs.Ring.{IsFirstIfAny, at_ring}
 use Rattle.layout.specs.Rings.{one_list}
-use Rattle.layout.proofs.Searches.{order, ring_has_no_end, one_first, none_first}
+use Rattle.layout.proofs.FirstRings.{order, ring_has_no_end, one_first, none_first}
 use Rattle.layout.proofs.Turns.{length_at}
 use Rattle.types.specs.Elements.{body_in, body_of_layout}
 

@@ -2,6 +2,7 @@ pub mod Before
 pub mod Turns
 pub mod Moves
 pub mod Faults
-pub mod Searches
+pub mod FirstRings
+pub mod Tours
 pub mod Grown
 pub mod Spans
