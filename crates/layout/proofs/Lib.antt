@@ -3,6 +3,9 @@ pub mod Turns
 pub mod Moves
 pub mod Faults
 pub mod FirstRings
+pub mod TourLists
+pub mod TourParts
 pub mod Tours
+pub mod TourSteps
 pub mod Grown
 pub mod Spans

@@ -1,5 +1,6 @@
--- A tour through the types of a module, to those in a ring. Each type that is met is left after its parts, and a ring after each type in it.
-use Rattle.std.specs.Prelude.{◌≡◌, ◌*◌, ◌+◌, ◌<◌, ◌≤◌, ◌⊎◌, ℕ, suc, Bool, true, false, if◌then◌else◌, ◌==◌, min, List, [], ◌∷◌, ◌++◌, length, replicate, take, Option, Some, None, slice_get, slice_set}
+-- A tour through the types of a module, for the first struct in a ring: a type that holds itself. A type stays open until all of its parts were met and
+-- left. The types that hold a type and that it holds are its group, which is left as a whole.
+use Rattle.std.specs.Prelude.{◌≡◌, ◌*◌, ◌+◌, ◌<◌, ◌≤◌, ℕ, suc, Bool, true, false, if◌then◌else◌, ◌==◌, min, List, [], ◌∷◌, ◌++◌, length, replicate, take, Option, Some, None, slice_get, slice_set}
 use Rattle.ir_ast.specs.declared.module.Module.{Module}
 use Rattle.ir_ast.specs.declared.ir_type.IrType.{IrType}
 use Rattle.ir_ast.specs.declared.ir_type.IrType.TheVariants.{Array, Struct, Named}
@@ -11,8 +12,8 @@ use Rattle.types.specs.References.{layout_of_struct}
 
 -- ---- what a tour knows
 
--- The places of the types that were met, the types whose rings are not left, the places of those that are open, the places of some of these, and
--- the first struct in a ring.
+-- The place of each type that was met, the types whose groups are not left, the places of the open types, the places where groups begin as far as is
+-- known, and the first struct in a ring
 pub record State : Type 0 where
   pub places : List (Option ℕ)
   pub met : List ℕ
@@ -56,7 +57,7 @@ noted struct s = record s { first = least s.first struct }
 abbrev pub cut : (count : ℕ) → State → State
 cut count s = record s { bounds = take count s.bounds }
 
--- what is known after a ring was left: its types, which are those from a place on, and its bound
+-- what is known after a group was left: its types, which are those from a place on, and its bound
 abbrev pub left : (place count : ℕ) → State → State
 left place count s = record s { met = take place s.met; bounds = take count s.bounds }
 
@@ -102,20 +103,20 @@ abbrev pub place_with : List ℕ → (written : ℕ) → Option (Option ℕ) →
 place_with met written (Some (Some place)) = if is_type written (slice_get met place) then Some place else None
 place_with met written _ = None
 
--- the place of a type, if its ring is not left
+-- the place of a type, if its group is not left
 abbrev pub place_of : List (Option ℕ) → (met : List ℕ) → Option ℕ → Option ℕ
 place_of places met None = None
 place_of places met (Some written) = place_with met written (slice_get places written)
 
--- the lowest place of a part whose ring is not left
+-- the lowest place of a part whose group is not left
 abbrev pub lowest : List (Option ℕ) → (met : List ℕ) → Parts → Option ℕ
 lowest places met parts = least (place_of places met parts.first) (place_of places met parts.other)
 
 -- ---- what holds on the way
 
 -- a number is in a list
-abbrev pub Waits : List ℕ → (number : ℕ) → Type 0
-Waits list number = (i : ℕ) × (slice_get list i ≡ Some number)
+abbrev pub Has : List ℕ → (number : ℕ) → Type 0
+Has list number = (i : ℕ) × (slice_get list i ≡ Some number)
 
 -- each number is greater than those before it
 abbrev pub AreIncreasing : List ℕ → Type 0
@@ -135,27 +136,27 @@ pub record IsInRing (m : Module) (written : ℕ) : Type 0 where
 -- a type is open
 pub record IsOpen (met path : List ℕ) (written : ℕ) : Type 0 where
   pub place : ℕ
-  pub on_path : Waits path place
+  pub on_path : Has path place
   pub there : slice_get met place ≡ Some written
 
--- a type was met, and its ring is left
+-- a type was met, and its group is left
 pub record IsLeft (places : List (Option ℕ)) (met : List ℕ) (written : ℕ) : Type 0 where
   pub known : is_new places written ≡ false
-  pub gone : Waits met written → ⊥
+  pub gone : Has met written → ⊥
 
 -- a type holds one that is at a bound, no later than this place
 pub record HoldsBound (m : Module) (met bounds : List ℕ) (place written : ℕ) : Type 0 where
   pub bound : ℕ
   pub at : ℕ
-  pub is_bound : Waits bounds bound
+  pub is_bound : Has bounds bound
   pub no_later : bound ≤ place
   pub there : slice_get met bound ≡ Some at
   pub held : Holds m written at
 
--- a type was met, and where its ring is not left its place is at each bound up to this place, or after it
+-- a type was met, and where its group is not left it is not before a bound up to this place
 pub record IsWithin (places : List (Option ℕ)) (met bounds : List ℕ) (place part : ℕ) : Type 0 where
   pub known : is_new places part ≡ false
-  pub above : (at bound : ℕ) → slice_get met at ≡ Some part → Waits bounds bound → bound ≤ place → bound ≤ at
+  pub above : (at bound : ℕ) → slice_get met at ≡ Some part → Has bounds bound → bound ≤ place → bound ≤ at
 
 -- a number is there, and no greater than this one
 pub record IsUpTo (first : Option ℕ) (number : ℕ) : Type 0 where
@@ -163,26 +164,26 @@ pub record IsUpTo (first : Option ℕ) (number : ℕ) : Type 0 where
   pub is : first ≡ Some least
   pub up_to : least ≤ number
 
--- What is known on the way is so. In its words: an open type holds those after it on the path, and each type that was met holds one at a bound.
--- From a type that is not open no part leads to before a bound. So where the last bound is left, each ring is left as a whole.
+-- What is known on the way is so. An open type holds those after it on the path. Each type whose group is not left holds one at a bound, and none that is
+-- not open has a part before its bound. So each group is left as a whole: a type whose group is left has no part whose group is not.
 pub record IsTour (m : Module) (s : State) : Type 0 where
   pub one_each : length s.places ≡ length m.types
   pub places_are : (place written : ℕ) → slice_get s.met place ≡ Some written → slice_get s.places written ≡ Some (Some place)
-  pub path_met : (place : ℕ) → Waits s.path place → (written : ℕ) × (slice_get s.met place ≡ Some written)
+  pub path_met : (place : ℕ) → Has s.path place → (written : ℕ) × (slice_get s.met place ≡ Some written)
   pub path_increasing : AreIncreasing s.path
   pub path_holds : (k l lower upper one other : ℕ) → k < l → slice_get s.path k ≡ Some lower → slice_get s.path l ≡ Some upper
       → slice_get s.met lower ≡ Some one → slice_get s.met upper ≡ Some other → Holds m one other
-  pub bounds_open : (bound : ℕ) → Waits s.bounds bound → Waits s.path bound
+  pub bounds_open : (bound : ℕ) → Has s.bounds bound → Has s.path bound
   pub bounds_increasing : AreIncreasing s.bounds
   pub holds_bound : (place written : ℕ) → slice_get s.met place ≡ Some written → HoldsBound m s.met s.bounds place written
-  pub within : (place written part : ℕ) → slice_get s.met place ≡ Some written → (Waits s.path place → ⊥) → IsPart m written part → IsWithin s.places s.met s.bounds place part
+  pub within : (place written part : ℕ) → slice_get s.met place ≡ Some written → (Has s.path place → ⊥) → IsPart m written part → IsWithin s.places s.met s.bounds place part
   pub closed : (written part : ℕ) → IsLeft s.places s.met written → IsPart m written part → IsLeft s.places s.met part
   pub first_is : (struct : ℕ) → s.first ≡ Some struct → StructHoldsItself m struct
   pub no_less : (written struct : ℕ) → is_new s.places written ≡ false → (IsOpen s.met s.path written → ⊥) → IsInRing m written
       → layout_of_struct m (slice_get m.types written) ≡ Some struct → IsUpTo s.first struct
 
--- What looking back at the parts of a type does. Where the ring of a part is not left, the bounds up to the lowest place of such a part stay, and
--- the type is noted if it is a struct.
+-- What is known after looking back at the parts of a type. Where the group of one is not left, the bounds up to the lowest place of such a part are kept,
+-- and the type is noted if it is a struct.
 pub data LooksBack (m : Module) (type : Option IrType) (s later : State) : Type 0 where
   Nothing : lowest s.places s.met (parts_of m type) ≡ None → later ≡ s → LooksBack m type s later
   Ring : (place count : ℕ) → lowest s.places s.met (parts_of m type) ≡ Some place → IsCount s.bounds (place + 1) count

@@ -1,4 +1,4 @@
-ghost use Rattle.std.specs.Prelude.{◌≡◌, ◌∷◌, ◌++◌, [], suc, length, slice_get, None, Some, OnOk, IfOk};
+ghost use Rattle.std.specs.Prelude.{◌≡◌, [], slice_get, None, Some, OnOk, IfOk};
 ghost use Rattle.layout.specs.Layouts.{StructHoldsItself};
 ghost use Rattle.layout.specs.Ring.{IsFirstIfAny};
 ghost use Rattle.layout.specs.Tours.{IsTour, IsAdvance, IsSettling, AreIncreasing, IsCount, LooksBack, seen, at_start, with_top, opened, noted, parts_of, is_new, new_among, least, place_of, lowest, if_new};
@@ -21,17 +21,17 @@ const NO_PARTS: Parts = Parts {
     other: None,
 };
 
-/// A tour through the types of a module, to those in a ring: types that hold themselves.
-/// Each type that is met is left after its parts, and a ring after each type in it.
+/// A tour through the types of a module, for the first struct in a ring: a type that holds itself. A type stays open until all of its parts were
+/// met and left. The types that hold a type and that it holds are its group, which is left as a whole.
 #[derive(Drop)]
 pub struct Tour {
     /// For each type its place, once it was met.
     pub places: Items<Option<usize>>,
-    /// The types whose rings are not left, each at its place.
+    /// The types whose groups are not left, each at its place.
     pub met: Vec<TypeId>,
     /// The places of the types that are open: each of them holds the next.
     pub path: Vec<usize>,
-    /// The places of some open types: each type of `met` holds one of them.
+    /// The places where groups begin, as far as is known.
     pub bounds: Vec<usize>,
     /// The first struct in a ring, of the types that are no longer open.
     pub first: Option<usize>,
@@ -77,7 +77,7 @@ impl Tour {
         }
     }
 
-    /// The place of a type, if its ring is not left.
+    /// The place of a type, if its group is not left.
     fn place_of(&self, part: Option<TypeId>) -> Option<usize>
         ensures { result ≡ place_of self.now.places self.now.met.items part }
     {
@@ -89,7 +89,7 @@ impl Tour {
         }
     }
 
-    /// The lowest place of a part whose ring is not left.
+    /// The lowest place of a part whose group is not left.
     fn lowest(&self, parts: Parts) -> Option<usize>
         ensures { result ≡ lowest self.now.places self.now.met.items parts }
     {
@@ -125,7 +125,7 @@ impl Tour {
         self.first = least(self.first, named_struct(module, written));
     }
 
-    /// Where a type has parts whose rings are not left, it is in a ring with them, and with each type that was met after the lowest.
+    /// A type is in a ring with each part whose group is not left. One group begins no later than the lowest of them, and goes on up to here.
     fn look_back(&mut self, module: &Module, written: TypeId)
         requires increasing { AreIncreasing self.old.bounds.items }
         ensures { LooksBack «module».now (slice_get «module».now.types written) (seen self.old) (seen self.new) }
@@ -137,7 +137,7 @@ impl Tour {
         }
     }
 
-    /// Leaves the type that was on top of the path, and its ring if all of that was seen.
+    /// Leaves the type that was on top of the path, and where its group begins there, the group.
     fn close(&mut self, module: &Module, place: usize, written: TypeId)
         requires tour { IsTour «module».now (with_top place (seen self.old)) }
         requires at { slice_get self.old.met.items place ≡ Some written }

@@ -1,6 +1,6 @@
-use Rattle.std.proofs.Common.{◌≡◌, [], ap, arith}
+use Rattle.std.proofs.Common.{ap, arith}
 use Rattle.layout.specs.Tours.{State, seen}
-use Rattle.layout.proofs.Tours.{starts, arrives}
+use Rattle.layout.proofs.TourSteps.{starts, arrives}
 use Rattle.layout.proofs.ring.first_ring.Goals as goal
 
 pub loop-number-init : goal.loop-number-init

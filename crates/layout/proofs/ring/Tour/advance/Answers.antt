@@ -1,6 +1,6 @@
 use Rattle.std.proofs.Common.{◌≡◌, None, Some, slice_get, rules}
 use Rattle.layout.specs.Tours.{seen, new_among, parts_of}
-use Rattle.layout.proofs.Tours.{opens, top_there}
+use Rattle.layout.proofs.TourSteps.{opens, top_there}
 use Rattle.layout.proofs.ring.Tour.advance.Goals as goal
 
 pub returns-in_default : goal.returns-in_default

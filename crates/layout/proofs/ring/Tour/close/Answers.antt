@@ -1,6 +1,6 @@
 use Rattle.std.proofs.Common.{arith}
 use Rattle.layout.specs.Tours.{seen}
-use Rattle.layout.proofs.Tours.{leaves, leaves_ring}
+use Rattle.layout.proofs.TourSteps.{leaves, leaves_ring}
 use Rattle.layout.proofs.ring.Tour.close.Goals as goal
 
 pub returns-then-left-len : goal.returns-then-left-len

@@ -1,6 +1,6 @@
 use Rattle.std.proofs.Common.{◌≡◌, true, rules}
 use Rattle.layout.specs.Tours.{seen, is_new}
-use Rattle.layout.proofs.Tours.{opens_first}
+use Rattle.layout.proofs.TourSteps.{opens_first}
 use Rattle.layout.proofs.ring.Tour.settle.Goals as goal
 
 pub loop-place-init : goal.loop-place-init
