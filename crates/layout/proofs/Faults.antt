@@ -3,7 +3,7 @@ use Rattle.std.proofs.Common.{◌≡◌, ◌≤◌, ◌<◌, inl, inr, ℕ, Bool
 use Rattle.std.specs.List.{list_any}
 use Rattle.std.specs.Prelude.{slice_get}
 use Rattle.std.proofs.lemmas.List.Quantifiers.{position-Some}
-use Rattle.std.proofs.lemmas.Option.{slice_get-get_or, get_or_from_slice_get, slice_get_within}
+use Rattle.std.proofs.lemmas.Option.{slice_get-get_or, get_or_from_slice_get}
 use Rattle.lemmas.specs.Bools.{or_neither}
 use Rattle.ir_ast.specs.Places.{none_passes, map-length}
 use Rattle.ir_ast.specs.declared.module.Module.{Module}
@@ -20,7 +20,7 @@ use Rattle.layout.specs.Layouts.{IsLayout, AreLayoutsOf, AreLayouts, IsFirst, Ha
 use Rattle.layout.specs.Survey.{mark_at, fields_at, IsWithin, IsLarge, MarkFits, IsSettled, is_new, is_endless, is_large, span_of, size_in, struct_is_endless, struct_is_large, struct_fields, points_nowhere, known_word, words_of, fault_by, first_fault}
 use Rattle.layout.specs.Ring.{IsFirstIfAny, at_ring}
 use Rattle.layout.specs.Rings.{one_list}
-use Rattle.layout.proofs.Searches.{order, ring_has_no_end, one_first, none_first}
+use Rattle.layout.proofs.FirstRings.{order, ring_has_no_end, one_first, none_first}
 use Rattle.layout.proofs.Turns.{length_at}
 use Rattle.types.specs.Elements.{body_in, body_of_layout}
 
@@ -113,24 +113,6 @@ body_at m s body (Some st) is e = (st, (is, cc))
 body_from : (m : Module) (s : ℕ) (st : StructType) → slice_get m.structs s ≡ Some st → body_of_layout m (Some s) ≡ Some st.body
 body_from m s st is = rw is refl
 
--- a struct that holds itself is there
-pub ring_inside : (m : Module) (s : ℕ) → StructHoldsItself m s → s < length m.structs
-ring_inside m s h = let at : (st : StructType) × ((slice_get m.structs s ≡ Some st) × (st.body ≡ h.body)) = body_at m s h.body (slice_get m.structs s) refl h.body_is in slice_get_within m.structs s at.0 at.1.0
-
--- each struct is no ring where those before the last are none
-pub no_ring : (m : Module) (count last : ℕ) → last ≡ length m.structs → last ≤ count → ((p : ℕ) → p < count → StructHoldsItself m p → ⊥) → (s : ℕ) → StructHoldsItself m s → ⊥
-no_ring m count last all ended none s h = let lt = ring_inside m s h in none s (omega (arith, lt, all, ended)) h
-
-same_struct : (one other : StructType) → Some one ≡ Some other → one ≡ other
-same_struct one other e = cc
-
-is_endless_mark : (k : SizeMark) → is_endless k ≡ true → k ≡ Endless
-is_endless_mark New e = absurd cc
-is_endless_mark Open e = absurd cc
-is_endless_mark Endless e = refl
-is_endless_mark Large e = absurd cc
-is_endless_mark (Known span) e = absurd cc
-
 module _ (m : Module) (marks : List SizeMark) (fields : List ℕ) (settled : IsSettled m marks fields) where
   mark_is : (t : ℕ) (k : SizeMark) → mark_at marks t ≡ k → MarkFits m fields t k
   mark_is t k e = subst (MarkFits m fields t) e (settled.survey.fits t)
@@ -207,13 +189,6 @@ module _ (m : Module) (marks : List SizeMark) (fields : List ℕ) (settled : IsS
         let at : (st : StructType) × ((slice_get m.structs s ≡ Some st) × (st.body ≡ h.body)) = body_at m s h.body (slice_get m.structs s) refl h.body_is in
         (at.0, (at.1.0, is_endless_type at.0.body (mark_at marks at.0.body) refl (λ fs sc. h.no_end fs (subst (λ b. Scalars m b fs) at.1.1 sc))));
   }
-
-  -- a struct that holds itself is known to have no end
-  pub ring_is_endless : (s : ℕ) (named : StructType) → slice_get m.structs s ≡ Some named → StructHoldsItself m s → mark_at marks named.body ≡ Endless
-  ring_is_endless s named is h =
-      let at : (st : StructType) × ((slice_get m.structs s ≡ Some st) × (struct_is_endless marks st ≡ true)) = says_endless.back s (ring_has_no_end m s h) in
-      let same : at.0 ≡ named = same_struct at.0 named (sym at.1.0 ∙ is) in
-      is_endless_mark (mark_at marks named.body) (subst (λ st. struct_is_endless marks st ≡ true) same at.1.1)
 
   says_large : Says m.structs (struct_is_large marks) (HasTooManyWords m)
   says_large = record {

@@ -2,6 +2,10 @@ pub mod Before
 pub mod Turns
 pub mod Moves
 pub mod Faults
-pub mod Searches
+pub mod FirstRings
+pub mod TourLists
+pub mod TourParts
+pub mod Tours
+pub mod TourSteps
 pub mod Grown
 pub mod Spans

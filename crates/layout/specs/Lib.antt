@@ -3,6 +3,7 @@ pub mod Layouts
 pub mod Offsets
 pub mod Survey
 pub mod Ring
+pub mod Tours
 pub mod Globals
 pub mod Rings
 pub mod Steps

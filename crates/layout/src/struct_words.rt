@@ -167,7 +167,7 @@ fn at_ring(
 {
     match fault {
         LayoutFault::HoldsItself(number) => {
-            let ring = first_ring(alloc, survey, module)?;
+            let ring = first_ring(alloc, module)?;
             Ok(LayoutFault::HoldsItself(ring.unwrap_or(number)))
         }
         _ => Ok(fault),
