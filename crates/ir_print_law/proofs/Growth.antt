@@ -1,4 +1,5 @@
--- Where one function is read in the tables of a module, types stay at their places, and names of structs mean the same structs.
+-- Where one function is read in the tables of a module, types stay at their places and stay once each, and names of structs mean the same
+-- structs.
 use Rattle.std.proofs.Common.{◌≡◌, ℕ, zero, suc, List, [], ◌∷◌, ◌++◌, length, Option, None, Some, refl, ap, sym, subst, ◌∙◌}
 use Rattle.std.specs.Prelude.{slice_get, unwrap_or}
 use Rattle.ir_ast.specs.Names.{place_of}
@@ -21,11 +22,13 @@ use Rattle.ir_text.specs.Anew.{start_anew, is_named, named_head, ends, anew, ane
 use Rattle.ir_text.specs.ItemsOfText.{function_name_by, function_name, open_body, with_function}
 use Rattle.ir_text.specs.Replaced.{tables_of, name_of, with_replacement, IsReplaced}
 use Rattle.ir_print_law.specs.Growing.{TablesStay}
+use Rattle.ir_print_law.specs.OneTypes.{AreOnce, HasOneTypes}
 use Rattle.ir_print_law.proofs.Blocks.{blocks_keep, parameters_keep}
 use Rattle.ir_print_law.proofs.FunctionEnds.{nothing}
 use Rattle.ir_print_law.proofs.FunctionNamed.{taken, next_taken, new_value_is, new_label_is}
 use Rattle.ir_print_law.proofs.FunctionsRead.{head_end_keeps, open_body_passes}
 use Rattle.ir_print_law.proofs.ItemTypes.{defined_result_keeps}
+use Rattle.ir_print_law.proofs.OneTypes.{once_more, one_types}
 use Rattle.ir_print_law.proofs.Passes.{skip_passes, check_passes, expect_passes}
 use Rattle.ir_print_law.proofs.Reading.{Kit, Builder, Reading, within_of}
 use Rattle.ir_print_law.proofs.Tables.{Begins, begins_itself, begins_further, type_begins, stays}
@@ -42,9 +45,9 @@ mention_means None sorts name = new_means sorts name
 mention_means (Some n) sorts name = refl
 
 module _ (m : Module) where
-  -- types stay at their places, and names of structs mean what they mean in the module
+  -- types stay at their places, names of structs mean what they mean in the module, and where the module has each type once, so it is still
   abbrev HasGrown : List IrType → List (Option ℕ) → Type 0
-  HasGrown types sorts = Begins m.types types × ((name : ℕ) → unwrap_or (slice_get sorts name) None ≡ unwrap_or (slice_get m.struct_of name) None)
+  HasGrown types sorts = Begins m.types types × ((name : ℕ) → unwrap_or (slice_get sorts name) None ≡ unwrap_or (slice_get m.struct_of name) None) × (AreOnce m.types → AreOnce types)
 
   abbrev Grown : Input → Type 0
   Grown i = HasGrown i.types i.struct_names.sorts
@@ -63,9 +66,9 @@ module _ (m : Module) where
     has_locals = λ i back. absurd back;
     on_token = λ i h. h;
     from_token = λ i back. back;
-    on_type = λ i t last h. (begins_further m.types i.types (with_type_interned t i).types h.0 (type_begins t i.types), h.1);
+    on_type = λ i t last h. (begins_further m.types i.types (with_type_interned t i).types h.0 (type_begins t i.types), h.1, λ once. once_more t i.types (h.2 once));
     from_type = λ i t back. back;
-    on_struct = λ i h. (h.0, λ name. mention_means (place_of (spelled i.cursor) i.struct_names.names) i.struct_names.sorts name ∙ h.1 name);
+    on_struct = λ i h. (h.0, λ name. mention_means (place_of (spelled i.cursor) i.struct_names.names) i.struct_names.sorts name ∙ h.1 name, h.2);
     from_struct = λ i back. back;
     struct_is = λ i back. absurd back;
     on_symbol = λ i is_call h. h;
@@ -172,15 +175,29 @@ module _ (m : Module) where
       let last : said.1 ≡ o = said.3.2.1 ∙ said.3.3.1 in
       subst Grown last (subst Grown u3.3.1 a11.0)
 
+-- the state after a function that replaces one, and the module that comes of it
+replaced_grown : (m : Module) (func : ℕ) (bytes : Text) (n : Module) → IsReplaced m func bytes n
+    → (o : Input) × Grown m o × (with_replacement m func (anew_of (tables_of m) o) ≡ n)
+replaced_grown m func bytes n h =
+    let text = h.1 in
+    let read = text.3 in
+    let start = start_anew (tables_of m) func bytes text.1 in
+    (read.0, function_grown m func (name_of m func) start read.0 read.1 (begins_itself m.types, λ name. refl, λ once. once), ap (with_replacement m func) read.3 ∙ h.2)
+
 -- the tables of a module only grow where one function is replaced
 pub tables_stay : (m : Module) (func : ℕ) (bytes : Text) (n : Module) → IsReplaced m func bytes n → TablesStay m n
 tables_stay m func bytes n h =
-    let text = h.1 in
-    let read = text.3 in
-    let grown = function_grown m func (name_of m func) (start_anew (tables_of m) func bytes text.1) read.0 read.1 (begins_itself m.types, λ name. refl) in
-    let end : with_replacement m func (anew_of (tables_of m) read.0) ≡ n = ap (with_replacement m func) read.3 ∙ h.2 in
-    subst (TablesStay m) end (record {
-      types = λ written type at. stays m.types read.0.types written type grown.0 at;
+    let g = replaced_grown m func bytes n h in
+    let grown = g.1 in
+    subst (TablesStay m) g.2 (record {
+      types = λ written type at. stays m.types g.0.types written type grown.0 at;
       names = grown.1;
       structs = refl;
     })
+
+-- each type stays once in the table where one function is replaced
+pub replaced_has_one_types : (m : Module) (func : ℕ) (bytes : Text) (n : Module) → HasOneTypes m → IsReplaced m func bytes n → HasOneTypes n
+replaced_has_one_types m func bytes n one h =
+    let g = replaced_grown m func bytes n h in
+    let grown = g.1 in
+    subst HasOneTypes g.2 (one_types (with_replacement m func (anew_of (tables_of m) g.0)) (grown.2 one.once))

@@ -1,4 +1,6 @@
--- A module that is another one again: the same items in the same order, part for part. Types and names may have other numbers in its tables, so types are compared by their shapes, and names by what they are. What reading notes of names besides, their sorts, is not compared.
+-- A module that is another one again: the same items in the same order, part for part. Types and names may have other
+-- numbers in its tables, so types are compared by their shapes, and names by what they are. What reading notes of names
+-- besides, their sorts, is not compared.
 use Rattle.std.specs.Prelude.{◌≡◌, ℕ, List, Option, Some, None}
 use Rattle.ir_ast.specs.declared.block.Block.{Block}
 use Rattle.ir_ast.specs.declared.choices.Incoming.{Incoming}

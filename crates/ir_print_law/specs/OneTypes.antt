@@ -4,6 +4,7 @@ use Rattle.ir_ast.specs.declared.ir_type.IrType.{IrType}
 use Rattle.ir_ast.specs.declared.module.Module.{Module}
 use Rattle.ir_tokens.specs.Bytes.{Text}
 use Rattle.ir_text.specs.Read.{IsText}
+use Rattle.ir_text.specs.Replaced.{IsReplaced}
 use Rattle.name_text.specs.Readings.{AreBytes}
 use Rattle.ir_print_law.specs.Shapes.{Shape, HasShape}
 
@@ -20,3 +21,7 @@ pub record HasOneTypes (m : Module) : Type 0 where
 -- a module of which a text of bytes is the text has such types
 abbrev pub HaveOneTypes : Type 0
 HaveOneTypes = (bytes : Text) (m : Module) → AreBytes bytes → IsText bytes m → HasOneTypes m
+
+-- and so has each module with such types in which one function is replaced
+abbrev pub ReplacingKeepsOneTypes : Type 0
+ReplacingKeepsOneTypes = (m : Module) (func : ℕ) (bytes : Text) (n : Module) → HasOneTypes m → IsReplaced m func bytes n → HasOneTypes n

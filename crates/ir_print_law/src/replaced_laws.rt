@@ -2,7 +2,8 @@
 ghost use Rattle.ir_print_law.specs.Growing.{ReplacingKeepsTables};
 ghost use Rattle.ir_print_law.specs.Wholes.{AreReadWhole, AreReplacedWhole, AreWholeAgain};
 
-/// A module that is read from a text is whole, and what is printed of a whole module is read as that module again.
+/// A module that is read from a text is whole, and what is printed of a whole module is read as that module again, if that text
+/// is within the limit.
 pub fn whole_law()
     ensures read { AreReadWhole }
     ensures again { AreWholeAgain }

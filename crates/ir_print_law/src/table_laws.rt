@@ -1,10 +1,12 @@
 //! The tables of a module that is read.
-ghost use Rattle.ir_print_law.specs.OneTypes.{HaveOneTypes};
+ghost use Rattle.ir_print_law.specs.OneTypes.{HaveOneTypes, ReplacingKeepsOneTypes};
 ghost use Rattle.ir_print_law.specs.Within.{AreWithin, AreReplacedWithin};
 
-/// Each type is once in the table of a module that is read from a text. So two types are one exactly where they are written alike.
+/// Each type is once in the table of a module that is read from a text, and still where one function of it is replaced. So two
+/// types are one exactly where they are written alike.
 pub fn one_type_law()
-    ensures { HaveOneTypes }
+    ensures read { HaveOneTypes }
+    ensures replaced { ReplacingKeepsOneTypes }
 {}
 
 /// What items and instructions of a module that is read from a text name by number is there, and still where one function of it is replaced.
