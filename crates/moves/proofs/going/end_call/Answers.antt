@@ -14,6 +14,6 @@ told Unseen before after found = tt
 
 pub returns-in-Ok-clause-roots : goal.returns-in-Ok-clause-roots
 returns-in-Ok-clause-roots g c =
-    let so = told c.compared.result c.compared.args.before.now c.compared.args.after.now c.compared.ensures in
+    let so = told c.compared.result _ _ c.compared.ensures in
     subst (λ (rs : List Reference). IsToldOfRoots c.compared.result rs (g.M.Machine.roots c.answer.new.self)) (c.as_slice.ensures.value ∙ c.in_ok-before.ensures)
     (subst (λ (rs : List Reference). IsToldOfRoots c.compared.result c.as_slice.result.now rs) (c.as_slice-in-Ok.ensures.value ∙ c.in-Ok.ensures) so)
