@@ -40,9 +40,14 @@ IsFirstIn program certs refusal = IsFirstInModule program certs (length program.
 abbrev pub AreRefused : LaidOut → List Section → Type 0
 AreRefused program certs = (refusal : Refusal) × IsFirstIn program certs refusal
 
--- what is refused with proposed certificates, if they fit
+-- they are certificates of a program's module, and with them this is the first instruction that is refused
+pub record AreTried (program : LaidOut) (refused : Refused) : Type 0 where
+  pub fit : fits program.of_module refused.certs ≡ true
+  pub first : IsFirstIn program refused.certs refused.refusal
+
+-- where an instruction is refused with proposed certificates, they are certificates of the module and it is the first one
 abbrev pub IsTried : LaidOut → Tried → Type 0
-IsTried program (tried.Refused refused) = IsFirstIn program refused.certs refused.refusal
+IsTried program (tried.Refused refused) = AreTried program refused
 IsTried program _ = Unit {0}
 
 -- the fault of a module that has layouts
@@ -50,9 +55,10 @@ abbrev pub fault_of_lack : Lack → MakeFault
 fault_of_lack lack.NoAnswer = NoAnswer
 fault_of_lack lack.Memory = Memory
 
--- these are certificates, and the first instruction of a module that is refused with them
-abbrev pub IsRefusedWith : Module → Refused → Type 0
-IsRefusedWith m refused = IsFirstRefusal m refused.certs refused.refusal
+-- these are certificates of a module, and its first instruction that is refused with them
+pub record IsRefusedWith (m : Module) (refused : Refused) : Type 0 where
+  pub fit : fits m refused.certs ≡ true
+  pub first : IsFirstRefusal m refused.certs refused.refusal
 
 -- a module has layouts, and with its plain certificates some instruction is refused
 abbrev pub IsPlainlyRefused : Module → Type 0

@@ -3,7 +3,7 @@ ghost use Rattle.pools.specs.declared.word_kind.WordKind.{WordKind as AWord};
 ghost use Rattle.layout.specs.Layouts.{AreLayouts, IsLayoutFault};
 ghost use Rattle.certs.specs.Fits.{fits};
 ghost use Rattle.module_check.specs.Accepted.{IsAccepted};
-ghost use Rattle.cert_maker.specs.Made.{AreGood, AreRefused, IfLayout, IsFirstIn, IsPlainlyRefused, IsRefusedWith};
+ghost use Rattle.cert_maker.specs.Made.{AreGood, AreRefused, AreTried, IfLayout, IsPlainlyRefused, IsRefusedWith};
 ghost use Rattle.cert_maker.specs.Plain.{plain};
 ghost use Rattle.cert_maker.specs.declared.made.MakeFault.TheVariants as fault;
 ghost use Rattle.cert_maker.specs.declared.tried.Lack.TheVariants.{NoAnswer};
@@ -62,7 +62,7 @@ pub fn make(alloc: Global, of_module: Module) -> Result<Accepted, NotMade>
 fn certs_for(alloc: Global, program: &Program) -> Result<Certs, NoCerts>
     ensures good { IfOk result (AreGood program.now) }
     ensures lack { IfErr result (λ none. none.lack ≡ NoAnswer → AreRefused program.now (plain program.now.of_module)) }
-    ensures refused { IfErr result (λ none. IfSome none.refused (λ refused. IsFirstIn program.now refused.certs refused.refusal)) }
+    ensures refused { IfErr result (λ none. IfSome none.refused (AreTried program.now)) }
 {
     let mut boldest = None;
     for boldness in [Boldness::Bold, Boldness::Bounded, Boldness::Timid] {

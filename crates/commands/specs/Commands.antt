@@ -76,11 +76,11 @@ pub data OfCertified (Certs : Module → List Section → Said → Type 0) (modu
 -- ---- make
 
 -- what is said of a module for which certificates are made: some that fit it and with which it is accepted; that there are none, as the
--- plain ones are refused, with some and their first refusal if that was asked for; the fault of the layouts; or that memory was refused
+-- plain ones are refused, and if asked for the first refusal with some that fit it; the fault of the layouts; or that memory was refused
 pub data OfMade (why : Why) (m : Module) : Said → Type 0 where
   made : (certs : List Section) → fits m certs ≡ true → IsAccepted m certs → OfMade why m (OnOutput (made_text (cert_text certs m)))
   none_made : (IsAccepted m (plain m) → ⊥) → OfMade why m (OnOutput no_answer)
-  none_made_why : (certs : List Section) (refusal : Refusal) → why ≡ Wanted → (IsAccepted m (plain m) → ⊥) → IsFirstRefusal m certs refusal
+  none_made_why : (certs : List Section) (refusal : Refusal) → why ≡ Wanted → (IsAccepted m (plain m) → ⊥) → fits m certs ≡ true → IsFirstRefusal m certs refusal
       → OfMade why m (OnBoth no_answer (no m (line_of certs m refusal.func refusal.detail) refusal).text)
   without_layouts : (fault : LayoutFault) → IsLayoutFault m fault → OfMade why m (OnError (of_layout_fault m fault))
   not_made : OfMade why m (OnError no_memory)

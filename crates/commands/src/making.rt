@@ -1,7 +1,7 @@
 //! The command `make`.
 ghost use Rattle.std.specs.Prelude.{◌≡◌, IfOk, IfSome, true};
 ghost use Rattle.certs.specs.Fits.{fits};
-ghost use Rattle.module_check.specs.Accepted.{IsAccepted, IsFirstRefusal};
+ghost use Rattle.module_check.specs.Accepted.{IsAccepted};
 ghost use Rattle.layout.specs.Layouts.{IsLayoutFault};
 ghost use Rattle.cert_maker.specs.Made.{IfLayout, IsRefusedWith};
 ghost use Rattle.cert_maker.specs.Plain.{plain};
@@ -67,7 +67,7 @@ fn print_refused<O: Write, E: Write>(
     err: &mut E,
 ) -> io::Result<u8>
     requires plain { IsAccepted of_module.now (plain of_module.now) → ⊥ }
-    requires refused { IsFirstRefusal of_module.now tried.now.certs tried.now.refusal }
+    requires refused { IsRefusedWith of_module.now tried.now }
     ensures { IfOk result (Says (OfMade Wanted of_module.now) (O.contents out.old) (O.contents out.new) (E.contents err.old) (E.contents err.new)) }
 {
     match line_of_refusal(alloc, of_module, &tried.certs, &tried.refusal) {
@@ -90,7 +90,7 @@ fn print_tried<O: Write, E: Write>(
     err: &mut E,
 ) -> io::Result<u8>
     requires plain { IsAccepted of_module.now (plain of_module.now) → ⊥ }
-    requires refused { IsFirstRefusal of_module.now tried.now.certs tried.now.refusal }
+    requires refused { IsRefusedWith of_module.now tried.now }
     ensures { IfOk result (Says (OfMade why of_module.now) (O.contents out.old) (O.contents out.new) (E.contents err.old) (E.contents err.new)) }
 {
     match why {
