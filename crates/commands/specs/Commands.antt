@@ -76,7 +76,7 @@ pub data OfCertified (Certs : Module → List Section → Said → Type 0) (modu
 -- ---- make
 
 -- what is said of a module for which certificates are made: some that fit it and with which it is accepted; that there are none, as the
--- plain ones are refused, with the first refusal with some that fit it if that was asked for; the fault of the layouts; or that memory was refused
+-- plain ones are refused, and if asked for the first refusal with some that fit it; the fault of the layouts; or that memory was refused
 pub data OfMade (why : Why) (m : Module) : Said → Type 0 where
   made : (certs : List Section) → fits m certs ≡ true → IsAccepted m certs → OfMade why m (OnOutput (made_text (cert_text certs m)))
   none_made : (IsAccepted m (plain m) → ⊥) → OfMade why m (OnOutput no_answer)
