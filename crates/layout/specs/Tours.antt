@@ -122,7 +122,7 @@ Has list number = (i : ℕ) × (slice_get list i ≡ Some number)
 abbrev pub AreIncreasing : List ℕ → Type 0
 AreIncreasing list = (k l one other : ℕ) → k < l → slice_get list k ≡ Some one → slice_get list l ≡ Some other → one < other
 
--- so many are before a limit, at the front
+-- the numbers of a list before a limit are its first `count`
 pub record IsCount (list : List ℕ) (limit count : ℕ) : Type 0 where
   pub before : (k number : ℕ) → k < count → slice_get list k ≡ Some number → number < limit
   pub others : (k number : ℕ) → count ≤ k → slice_get list k ≡ Some number → limit ≤ number
