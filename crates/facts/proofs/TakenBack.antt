@@ -1,9 +1,9 @@
 -- What phis change, and how it is taken back.
-use Rattle.std.proofs.Common.{◌≡◌, ◌<◌, ◌≤◌, ◌⊎◌, inl, inr, ℕ, zero, suc, List, [], ◌∷◌, ◌++◌, ◌+◌, length, get_or, take, map, refl, sym, ap, subst, arith, ◌∙◌, true, Bool, Option, None, slice_set}
+use Rattle.std.proofs.Common.{◌≡◌, ◌<◌, ◌≤◌, ◌⊎◌, inl, inr, ℕ, zero, suc, List, [], ◌∷◌, ◌++◌, ◌+◌, length, get_or, take, map, refl, sym, ap, subst, arith, ◌∙◌, true, Option, None, slice_set}
 use Rattle.std.proofs.lemmas.Bool.{cases_lt}
 use Rattle.std.proofs.lemmas.List.{ext_get_or, get_or_past, get_or-set_same, get_or-take, get_or_append_left, length-append, length-map, length-set, length-take-le, map-set}
 use Rattle.std.proofs.Math.Seq.{map-set_same, take-append-add}
-use Rattle.std.specs.Prelude.{false, ◌==◌}
+use Rattle.std.specs.Prelude.{false}
 use Rattle.lemmas.specs.Bools.{yes_or_no}
 use Rattle.lemmas.specs.Numbers.{test_true, test_yes}
 use Rattle.facts.specs.declared.known.Class.{Class}

@@ -220,7 +220,7 @@ impl Contents {
         }
     }
 
-    /// Whether the end of what is known of a value is seen to end nothing else.
+    /// Whether it is seen that the end of what is known of a value ends nothing else.
     pub fn ends_alone(&self, v: ValueId) -> bool
         ensures { result ≡ true → EndsAlone v (set_of self.now) }
     {

@@ -401,7 +401,7 @@ impl Facts {
         self.set_known(v, known)
     }
 
-    /// Whether the end of what is known of a value is seen to end nothing else.
+    /// Whether it is seen that the end of what is known of a value ends nothing else.
     pub(crate) fn ends_alone(&self, v: ValueId) -> bool
         ensures { result ≡ true → EndsAlone v self.now }
     {
@@ -415,7 +415,9 @@ impl Facts {
         ensures err { OnErr result (self.new ≡ self.old) }
     {
         let values = &other.contents.values;
-        Rc::make_mut(&mut self.contents)?.values.drop_classes(values);
+        Rc::make_mut(&mut self.contents)?
+            .values
+            .drop_classes(values);
         Ok(())
     }
 

@@ -26,7 +26,8 @@ pub(crate) struct Sheet {
     marked: Vec<usize>,
     /// The rows that the next safepoint may change.
     current: Vec<usize>,
-    /// The owners of the classes that were added, in order.
+    /// The owners of the classes that were added, in order. Those of classes that were dropped stay: then a class that
+    /// comes in the place of one has its value as the second.
     class_owners: Vec<Owners>,
     /// The rows that may be of a class which their value does not own.
     non_owners: Vec<usize>,

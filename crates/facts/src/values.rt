@@ -345,7 +345,7 @@ impl Values {
         self.sheet.any_other(v, c)
     }
 
-    /// Whether a value is seen to be no comparison, and nothing to name it.
+    /// Whether it is seen that nothing names a value, and that no comparison gave it.
     pub fn is_unnamed(&self, v: ValueId) -> bool
         ensures values { result ≡ true → values_without v self.now.values ≡ slice_set self.now.values v Nothing }
         ensures tests { result ≡ true → tests_without v self.now.tests ≡ self.now.tests }

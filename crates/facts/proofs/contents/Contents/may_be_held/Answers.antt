@@ -1,5 +1,4 @@
-use Rattle.std.proofs.Common.{◌≡◌, sym, subst, List}
-use Rattle.facts.specs.declared.known.Class.{Class}
+use Rattle.std.proofs.Common.{◌≡◌, sym, subst}
 use Rattle.facts.specs.declared.known.Known.{Known}
 use Rattle.facts.specs.Facts.{slots_without}
 use Rattle.facts.proofs.Slots.{free_slots}

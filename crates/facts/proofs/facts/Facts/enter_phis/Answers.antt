@@ -13,7 +13,7 @@ loop-entry-preserved c = record {
   back = λ e. elim c.if-back.branch [
     | then-back w ↦ λ before d. subst (DifferBy c.args.entries.now before) (sym c.in_ok-enter_phi.ensures.ok)
         (entered c.args.entries.now before c.entry-item.result.phi (phi_there c.args.entries.now c.loop-entry.entry-index c.loop-entry-test.true c.entry-item.result c.entry-item.is) c.loop-entry.self
-            (w.ends_alone-back.ensures (sym w.back-is ∙ e)) (c.loop-entry.invariant.back w.if-back.true before d) c.entry-item.result.known)
+        (w.ends_alone-back.ensures (sym w.back-is ∙ e)) (c.loop-entry.invariant.back w.if-back.true before d) c.entry-item.result.known)
     | else-back w ↦ let bad = sym w.if-back.false ∙ sym w.back-is ∙ e in absurd cc
   ];
 }

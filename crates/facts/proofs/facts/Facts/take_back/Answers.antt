@@ -1,4 +1,4 @@
-use Rattle.std.proofs.Common.{◌≡◌, ◌+◌, ◌≤◌, ◌∙◌, ◌∷◌, [], ap, sym, subst, length, suc, drop, drop-cons, add-one, List, ℕ, Result, Ok, Err, OnOk}
+use Rattle.std.proofs.Common.{◌≡◌, ◌+◌, ◌∙◌, ◌∷◌, [], ap, sym, subst, suc, drop, drop-cons, add-one, List, ℕ, Result, Ok, Err, OnOk}
 use Rattle.std.proofs.lemmas.List.{drop_all}
 use Rattle.facts.specs.declared.known.Entry.{Entry}
 use Rattle.facts.specs.TakenBack.{DifferBy}
@@ -18,7 +18,7 @@ loop-entry-preserved c =
     let rest : List Entry = drop (i + 1) entries in
     let split : drop i entries ≡ entry ∷ rest = drop-cons entries i entry c.loop-entry-test.true ∙ ap (λ (x : Entry). x ∷ drop (suc i) entries) (sym c.entry-item.is) ∙ ap (λ (n : ℕ). entry ∷ drop n entries) (sym (add-one i)) in
     subst (DifferBy rest c.args.before.now) (sym c.in_ok-take_back_entry.ensures)
-        (entry_is_back rest c.args.before.now entry c.loop-entry.self (subst (λ (l : List Entry). DifferBy l c.args.before.now c.loop-entry.self) split c.loop-entry.invariant))
+    (entry_is_back rest c.args.before.now entry c.loop-entry.self (subst (λ (l : List Entry). DifferBy l c.args.before.now c.loop-entry.self) split c.loop-entry.invariant))
 
 pub returns : goal.returns
 returns c =

@@ -1,5 +1,4 @@
-use Rattle.std.proofs.Common.{sym, subst, true, Result, Ok, Err, IfOk}
-use Rattle.facts.specs.Facts.{FactSet}
+use Rattle.std.proofs.Common.{sym, subst, Result, Ok, Err, IfOk}
 use Rattle.facts.specs.TakenBack.{DifferBy}
 use Rattle.facts.proofs.TakenBack.{dropped_all}
 use Rattle.facts.proofs.facts.Facts.try_phis.Goals as goal

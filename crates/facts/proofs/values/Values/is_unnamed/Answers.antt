@@ -1,4 +1,4 @@
-use Rattle.std.proofs.Common.{◌≡◌, ◌<◌, ◌∙◌, ap, sym, subst, arith, length, true, false, ℕ, Option, Some, None, not, is_some, refl}
+use Rattle.std.proofs.Common.{◌≡◌, ◌<◌, ◌∙◌, ap, sym, subst, arith, length, true, false, Option, Some, None, not, is_some, refl}
 use Rattle.std.specs.Prelude.{slice_set}
 use Rattle.lemmas.specs.Numbers.{lt_no}
 use Rattle.facts.specs.declared.row.Row.{Row}
