@@ -25,6 +25,6 @@ AreReadWhole = (bytes : Text) (m : Module) → AreBytes bytes → IsText bytes m
 abbrev pub AreReplacedWhole : Type 0
 AreReplacedWhole = (m : Module) (func : ℕ) (bytes : Text) (n : Module) → IsWhole m → func < length m.functions → AreBytes bytes → IsReplaced m func bytes n → IsWhole n
 
--- what is printed of such a module is read as that module again
+-- what is printed of such a module, if it is within the limit, is read as that module again
 abbrev pub AreWholeAgain : Type 0
 AreWholeAgain = (m : Module) → IsWhole m → length (text_of m) ≤ text_limit → IsPrintedAgain m
