@@ -3,17 +3,15 @@
 
     workers.py DGC [--functions N] [--seed S] [--runs R] [--workers N ..]
 
-With several workers it is the time from the start of the first thread to the end of the last share, which `strace` notes. One
-share runs on the first thread: where the first thread does not wait for another after its share, the end is that of its next
-call, the write of the verdict, so the time is too long rather than too short. With one worker there is no thread to look at: it
-is the time of the whole, without the time of the same module with a function before all others that breaks a rule, since the
-check then stops there. Prints the fastest and the middle of R runs. The last column says how many times as fast N workers could
-be on this machine: N programs with one worker each run at once, and each takes longer than one alone. For use by hand, where
-nothing else runs.
+With several workers it is the time from the start of the first thread to the moment at which the last one was joined, which a
+library notes that is loaded before the program (spans.c). One share runs on the first thread, so its time is in it too. With one
+worker there is no thread to look at: it is the time of the whole, without the time of the same module with a function before all
+others that breaks a rule, since the check then stops there. The runs with one, two and more workers take turns. Prints the
+fastest and the middle of R runs. The last column says how many times as fast N workers could be on this machine: N programs with
+one worker each run at once, and each takes longer than one alone. For use by hand, where nothing else runs.
 """
 import argparse
 import os
-import re
 import statistics
 import subprocess
 import sys
@@ -43,31 +41,16 @@ def with_refused(base, path):
         file.write(first + "\n" + REFUSED_SECTION + rest)
 
 
-def by_one(dgc, base, refused, runs):
-    """The seconds that one worker takes in each run: a whole check without one that stops at the first function."""
-    pairs = [(timed([dgc, "check", base + ".ll", base + ".cert"])[0], timed([dgc, "check", refused + ".ll", refused + ".cert"])[0])
-             for _ in range(runs)]
-    rest = min(stopped for _, stopped in pairs)
-    return [whole - rest for whole, _ in pairs]
+def by_one(dgc, base, refused):
+    """The seconds of a whole check by one worker, and of one that stops at the first function."""
+    return (timed([dgc, "check", base + ".ll", base + ".cert"])[0], timed([dgc, "check", refused + ".ll", refused + ".cert"])[0])
 
 
-def span(lines):
-    """The seconds from the start of the first thread to the end of the last share."""
-    calls = [(float(when), thread, name) for thread, when, name in re.findall(r"^(\d+) +([\d.]+) (\w+)\(", "\n".join(lines), re.M)]
-    starts = [(when, thread) for when, thread, name in calls if name.startswith("clone")]
-    ends = [when for when, _, name in calls if name == "exit"]
-    first, began = starts[0][1], starts[-1][0]
-    after = [(when, name) for when, thread, name in calls if thread == first and when > began and name in ("futex", "write")]
-    return max(max(ends), after[0][0]) - starts[0][0]
-
-
-def by_threads(dgc, base, workers, runs, noted):
-    """The seconds from the start of the first thread to the end of the last share, in each run."""
-    command = ["strace", "-f", "--seccomp-bpf", "-ttt", "-e", "trace=clone3,clone,exit,futex,write", "-o", noted,
-               dgc, "check", base + ".ll", base + ".cert", "--workers", str(workers)]
-    for _ in range(runs):
-        subprocess.run(command, check=True, stdout=subprocess.DEVNULL)
-        yield span(content(noted).splitlines())
+def by_threads(dgc, base, workers, library, noted):
+    """The seconds from the start of the first thread to the moment at which the last one was joined."""
+    subprocess.run([dgc, "check", base + ".ll", base + ".cert", "--workers", str(workers)], check=True, stdout=subprocess.DEVNULL,
+                   env={**os.environ, "LD_PRELOAD": library, "SPANS": noted})
+    return int(content(noted).splitlines()[-1]) / 1e9
 
 
 def at_once(dgc, base, count, runs):
@@ -79,6 +62,19 @@ def at_once(dgc, base, count, runs):
             used = os.wait3(0)[2]
             took.append(used.ru_utime + used.ru_stime)
     return statistics.median(took)
+
+
+def measured(dgc, base, refused, options, folder):
+    """The seconds of the shared part in each run, by the number of workers."""
+    library, noted = os.path.join(folder, "spans.so"), os.path.join(folder, "spans")
+    subprocess.run(["cc", "-O2", "-shared", "-fPIC", "-o", library, os.path.join(HERE, "spans.c"), "-ldl"], check=True)
+    pairs, took = [], {workers: [] for workers in options.workers}
+    for _ in range(options.runs):
+        pairs.append(by_one(dgc, base, refused))
+        for workers in options.workers:
+            took[workers].append(by_threads(dgc, base, workers, library, noted))
+    rest = statistics.median(stopped for _, stopped in pairs)
+    return {1: [whole - rest for whole, _ in pairs], **took}
 
 
 def main():
@@ -96,13 +92,12 @@ def main():
         with_refused(base, refused)
         print(f"{options.functions} functions, {os.path.getsize(base + '.ll') / 1e6:.2f} MB of text")
         print("workers   fastest    middle  times as fast, by the fastest and by the middle, and at most")
-        alone = by_one(options.dgc, base, refused, options.runs)
-        print(f"{1:7} {min(alone) * 1000:7.1f}ms {statistics.median(alone) * 1000:7.1f}ms")
+        took = measured(options.dgc, base, refused, options, folder)
         lone = at_once(options.dgc, base, 1, options.runs)
-        for workers in options.workers:
-            took = list(by_threads(options.dgc, base, workers, options.runs, os.path.join(folder, "noted")))
-            print(f"{workers:7} {min(took) * 1000:7.1f}ms {statistics.median(took) * 1000:7.1f}ms"
-                  f"  {min(alone) / min(took):5.2f} {statistics.median(alone) / statistics.median(took):5.2f}"
+        for workers, seconds in took.items():
+            best, middle = min(seconds), statistics.median(seconds)
+            print(f"{workers:7} {best * 1000:7.1f}ms {middle * 1000:7.1f}ms"
+                  f"  {min(took[1]) / best:5.2f} {statistics.median(took[1]) / middle:5.2f}"
                   f" {workers * lone / at_once(options.dgc, base, workers, options.runs):5.2f}")
 
 
