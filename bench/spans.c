@@ -1,5 +1,5 @@
-/* A library to be loaded before a program (LD_PRELOAD): it adds the nanoseconds from the start of the program's first thread to
-   the moment at which the last one was joined to the file SPANS, on a line. */
+/* A library to be loaded before a program (LD_PRELOAD): whenever a thread was joined, it adds a line to the file SPANS, with the
+   nanoseconds since the program's first thread was started. */
 #define _GNU_SOURCE
 #include <dlfcn.h>
 #include <pthread.h>
@@ -23,19 +23,21 @@ int pthread_create(pthread_t *thread, const pthread_attr_t *attributes, void *(*
     return real(thread, attributes, run, given);
 }
 
+/* The last line counts: the program ends without a call that could be caught. */
+static void note(void) {
+    const char *path = getenv("SPANS");
+    FILE *file = path ? fopen(path, "a") : NULL;
+    if (file) {
+        fprintf(file, "%lld\n", ended - began);
+        fclose(file);
+    }
+}
+
 int pthread_join(pthread_t thread, void **result) {
     static int (*real)(pthread_t, void **);
     if (!real) real = dlsym(RTLD_NEXT, "pthread_join");
     int status = real(thread, result);
     ended = now();
+    note();
     return status;
-}
-
-__attribute__((destructor)) static void end(void) {
-    const char *path = getenv("SPANS");
-    FILE *file = path && began ? fopen(path, "a") : NULL;
-    if (file) {
-        fprintf(file, "%lld\n", ended - began);
-        fclose(file);
-    }
 }
