@@ -65,7 +65,7 @@ def at_once(dgc, base, count, runs):
 
 
 def measured(dgc, base, refused, options, folder):
-    """The seconds of the shared part in each run, by the number of workers."""
+    """The seconds of the shared part by the number of workers: the fastest run and the middle of all."""
     library, noted = os.path.join(folder, "spans.so"), os.path.join(folder, "spans")
     subprocess.run(["cc", "-O2", "-shared", "-fPIC", "-o", library, os.path.join(HERE, "spans.c"), "-ldl"], check=True)
     pairs, took = [], {workers: [] for workers in options.workers}
@@ -73,8 +73,9 @@ def measured(dgc, base, refused, options, folder):
         pairs.append(by_one(dgc, base, refused))
         for workers in options.workers:
             took[workers].append(by_threads(dgc, base, workers, library, noted))
-    rest = statistics.median(stopped for _, stopped in pairs)
-    return {1: [whole - rest for whole, _ in pairs], **took}
+    wholes, rests = zip(*pairs)
+    spans = {workers: (min(seconds), statistics.median(seconds)) for workers, seconds in took.items()}
+    return {1: (min(wholes) - min(rests), statistics.median(wholes) - statistics.median(rests)), **spans}
 
 
 def main():
@@ -94,10 +95,9 @@ def main():
         print("workers   fastest    middle  times as fast, by the fastest and by the middle, and at most")
         took = measured(options.dgc, base, refused, options, folder)
         lone = at_once(options.dgc, base, 1, options.runs)
-        for workers, seconds in took.items():
-            best, middle = min(seconds), statistics.median(seconds)
+        for workers, (best, middle) in took.items():
             print(f"{workers:7} {best * 1000:7.1f}ms {middle * 1000:7.1f}ms"
-                  f"  {min(took[1]) / best:5.2f} {statistics.median(took[1]) / middle:5.2f}"
+                  f"  {took[1][0] / best:5.2f} {took[1][1] / middle:5.2f}"
                   f" {workers * lone / at_once(options.dgc, base, workers, options.runs):5.2f}")
 
 
