@@ -1,7 +1,7 @@
 #!/usr/bin/env python3
 """Measures how the time of `dgc check` and `dgc replay` grows with the number of each kind of thing in their texts.
 
-    growth.py DGC [--only WORD ..] [--least N] [--runs R] [--seconds S] [--beside OPT] [--make] [--keep FOLDER] [--all]
+    growth.py DGC [--only WORD ..] [--least N] [--runs R] [--seconds S] [--beside OPT] [--make] [--instructions] [--keep FOLDER] [--all]
 
 For each kind (growth_modules.py, growth_bodies.py, growth_pairs.py, growth_traces.py) it writes texts with 1,000 things,
 then about three times as many, up to 100,000 or the limit of the program, and runs the command on each. Prints the
@@ -10,12 +10,14 @@ processor time of the largest, and the exponent: how the time grows with the siz
 empty module takes. A kind ends early at the first run of more than S seconds. A time under 5 ms says nothing: then the
 exponent is `-`. A kind whose exponent is over 1.1 is marked. With `--beside opt-14` the last column says how many times longer
 the check takes than that program's reader and verifier on the same module, `-` where that refuses the module. With --make it times
-`dgc make` on the modules of `check` instead. With --all the time of each size is printed. FOLDER keeps the texts. For use by
-hand.
+`dgc make` on the modules of `check` instead. With --instructions it counts, in place of the time, the instructions that the
+program makes, in thousand millions, by valgrind's callgrind. That number is the same in each run, and does not depend on caches.
+With --all the cost of each size is printed. FOLDER keeps the texts. For use by hand.
 """
 import argparse
 import math
 import os
+import re
 import resource
 import signal
 import subprocess
@@ -57,6 +59,20 @@ def run(command, runs, limit):
     return best, said
 
 
+def counted(command):
+    """The instructions that a program makes, in thousand millions, and what it prints."""
+    watched = ["valgrind", "--tool=callgrind", "--callgrind-out-file=/dev/null", *command]
+    ended = subprocess.run(watched, capture_output=True, text=True)
+    number = int(re.search(r"^==\d+== Collected : (\d+)$", ended.stderr, re.M)[1])
+    faults = re.sub(r"(?m)^==\d+==.*\n?", "", ended.stderr)
+    return number / 1e9, (ended.stdout + faults).strip() or f"status {ended.returncode}"
+
+
+def cost(command, options):
+    """What a command costs, in seconds or in thousand million instructions, and what it prints."""
+    return counted(command) if options.instructions else run(command, options.runs, 4 * options.seconds)
+
+
 def sizes(least, most):
     """Numbers of things, each about three times the one before."""
     count = float(min(least, max(most // 10, 1)))
@@ -80,7 +96,7 @@ def measure(dgc, it, options, folder):
             with open(path, "w") as out:
                 out.write(text)
         words = ["make", paths[0]] if options.make else [it.command, *paths]
-        took, said = run([dgc, *words], options.runs, 4 * options.seconds)
+        took, said = cost([dgc, *words], options)
         other_took = beside(options, it, paths[0])
         if not options.keep:
             for path in paths:
@@ -124,8 +140,9 @@ def main():
     parser.add_argument("--seconds", type=float, default=10)
     parser.add_argument("--beside", default=None, help="a program `opt` of LLVM 14 or older")
     parser.add_argument("--make", action="store_true", help="times `dgc make` on the modules of `check`")
+    parser.add_argument("--instructions", action="store_true", help="counts instructions, by valgrind, in place of the time")
     parser.add_argument("--keep", default=None)
-    parser.add_argument("--all", action="store_true", help="also prints the time of each size")
+    parser.add_argument("--all", action="store_true", help="also prints the cost of each size")
     options = parser.parse_args()
     with tempfile.TemporaryDirectory() as scratch:
         folder = options.keep or scratch
@@ -133,8 +150,10 @@ def main():
         empty_module, empty_cert = os.path.join(folder, "empty.ll"), os.path.join(folder, "empty.cert")
         with open(empty_module, "w"), open(empty_cert, "w") as out:
             out.write("cert 1\n")
-        empty, _ = run([options.dgc, "check", empty_module, empty_cert], 10, 10)
-        names = ["Kind".ljust(50), "Things".rjust(9), "Size".rjust(10), "Seconds".rjust(8), "Exponent"]
+        command = [options.dgc, "check", empty_module, empty_cert]
+        empty, _ = counted(command) if options.instructions else run(command, 10, 10)
+        unit = "10^9" if options.instructions else "Seconds"
+        names = ["Kind".ljust(50), "Things".rjust(9), "Size".rjust(10), unit.rjust(8), "Exponent"]
         names += ["By LLVM's"] if options.beside else []
         print("| " + " | ".join(names) + " |\n|" + "|".join("-" * (len(it) + 1) + ("-" if n == 0 else ":") for n, it in enumerate(names)) + "|")
         over = 0
@@ -146,7 +165,7 @@ def main():
             rows, wrong = measure(options.dgc, it, options, folder)
             if options.all:
                 for row in rows:
-                    print(f"#   {row[0]:9,} {row[1]:11,} {row[2]:9.4f} s")
+                    print(f"#   {row[0]:9,} {row[1]:11,} {row[2]:9.4f}")
             count, size, took, other = rows[-1] if rows else (0, 0, 0.0, None)
             grows = exponent(rows, empty)
             mark = " !" if grows and grows > BOUND else ""
