@@ -1,5 +1,5 @@
 -- Which rows a safepoint changes.
-use Rattle.std.proofs.Common.{◌≡◌, ◌<◌, ◌⊎◌, ℕ, length, List, [], ◌∷◌, ◌++◌, refl, sym, ap, subst, inl, inr, ◌∙◌, ◌+◌, add-one, drop-cons, drop, get_or, true, false, Bool}
+use Rattle.std.proofs.Common.{◌≡◌, ◌<◌, ◌⊎◌, ℕ, length, List, [], refl, sym, ap, subst, inl, inr, ◌∙◌, true, false, Bool}
 use Rattle.std.specs.Prelude.{not, ◌&&◌, ◌==◌, if◌then◌else◌, replicate}
 use Rattle.lemmas.specs.Bools.{not_true}
 use Rattle.lemmas.specs.Numbers.{test_true, test_same}
@@ -10,7 +10,7 @@ use Rattle.facts.specs.declared.row.Row.{Row}
 use Rattle.facts.specs.Facts.{class_at, off_base, stale_of}
 use Rattle.facts.specs.Sheets.{blank, row_at, IsOne, OnlyMarked, OnlyCurrent, EachRow, each, is_settled_as, is_settled, known_nonnull, settled_class, off_row, keep_row, settle_row, stale_row}
 use Rattle.facts.proofs.Listed.{row_after}
-use Rattle.facts.proofs.Sheets.{length_each, each_row, one_more, one_last, blank_at}
+use Rattle.facts.proofs.Sheets.{length_each, each_row, blank_at}
 
 -- ---- rows that a safepoint leaves
 

@@ -3,13 +3,8 @@ use Rattle.std.proofs.Common.{◌≡◌, ◌⊎◌, ℕ, length, List, [], ◌�
 use Rattle.std.proofs.lemmas.Bool.{cases_lt}
 use Rattle.std.proofs.lemmas.List.{get_or_past, get_or-set_other}
 use Rattle.std.specs.Prelude.{not, ◌&&◌, if◌then◌else◌}
-use Rattle.lemmas.specs.Bools.{yes_or_no}
-use Rattle.facts.specs.declared.known.Known.{Known}
-use Rattle.facts.specs.declared.known.Known.TheVariants.{Nothing, Number, Cell, Null, Address, GlobalAddress}
 use Rattle.facts.specs.declared.row.Row.{Row}
-use Rattle.facts.specs.Facts.{is_of}
-use Rattle.facts.specs.Lines.{move}
-use Rattle.facts.specs.Sheets.{blank, row_at, IsOne, OnlyMarked, EachRow, row_is_of}
+use Rattle.facts.specs.Sheets.{blank, row_at, IsOne, EachRow}
 use Rattle.facts.proofs.Sets.{set_is}
 use Rattle.facts.proofs.Sheets.{same_or_not, one_more, one_last}
 

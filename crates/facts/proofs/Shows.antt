@@ -1,8 +1,8 @@
 -- Exactly the lines are shown of which all is said.
-use Rattle.std.proofs.Common.{◌≡◌, ◌≤◌, ℕ, zero, suc, List, [], ◌∷◌, length, get_or, refl, sym, subst, arith, true, false, Bool, Option, Some, None, inl, inr}
+use Rattle.std.proofs.Common.{◌≡◌, ℕ, List, refl, sym, subst, true, false, Bool, Option, Some, None, inl, inr}
 use Rattle.std.proofs.lemmas.Bool.{leb-true, le-leb}
 use Rattle.std.specs.Prelude.{◌==◌, ◌&&◌, not, ◌↔◌, ◌⊎◌}
-use Rattle.std.specs.List.{list_all, zip}
+use Rattle.std.specs.List.{list_all, enumerate_from, zip}
 use Rattle.lemmas.specs.Numbers.{test_true, test_yes}
 use Rattle.lemmas.specs.Bools.{and_parts, not_true, and_true}
 use Rattle.pools.specs.WordSets.{has_all}
@@ -13,11 +13,11 @@ use Rattle.certs.specs.declared.section.Fact.TheVariants as fact
 use Rattle.certs.specs.declared.section.Line.TheVariants as line
 use Rattle.facts.specs.declared.known.Known.{Known}
 use Rattle.facts.specs.declared.known.Known.TheVariants.{Nothing, Number, Cell, Null, Address, GlobalAddress}
-use Rattle.facts.specs.Facts.{FactSet, known_at, slot_at, class_at, open_slot, is_of, holds_class, slot_nonnull}
+use Rattle.facts.specs.Facts.{FactSet, known_at, slot_at, class_at, is_of, holds_class, slot_nonnull}
 use Rattle.facts.specs.Lines.{is_stale, is_fresh, implied, is_below, covers_value, covers_slot, covers, covers_known, is_fresh_in, is_same, is_alone, shows_reference, shows_number, shows_address, shows_global, shows_fact, holds_known, holds_value, shows_slot}
 use Rattle.facts.specs.Statements.{NumberOf, UpTo, BelowOf, RefersOf, CurrentOf, OfClass, AddressOf, GlobalOf}
 use Rattle.facts.proofs.Marked.{all_pairs_there, all_pairs_back, none_covers}
-use Rattle.facts.proofs.Sets.{or_true}
+use Rattle.facts.proofs.SlotCovers.{slots_there, slots_back}
 use Rattle.facts.specs.Shown.{IfAsked, IfNamed, Named, FactShown, ShowsWhatIsSaid}
 
 -- ---- tests
@@ -42,12 +42,6 @@ not_false true e = absurd cc
 not_false false e = refl
 
 -- ---- all that is the same
-
-all_there : {X Y : Type 0} (p : X × Y → Bool) (xs : List X) (ys : List Y) (dx : X) (dy : Y) → length xs ≤ length ys → ((y : Y) → p (dx, y) ≡ true) → list_all p (zip xs ys) ≡ true → (u : ℕ) → p (get_or xs u dx, get_or ys u dy) ≡ true
-all_there p [] ys dx dy len ends e u = ends (get_or ys u dy)
-all_there p (x ∷ xs) [] dx dy len ends e u = absurd (omega arith)
-all_there p (x ∷ xs) (y ∷ ys) dx dy len ends e zero = (and_parts (p (x, y)) (list_all p (zip xs ys)) e).0
-all_there p (x ∷ xs) (y ∷ ys) dx dy len ends e (suc u) = all_there p xs ys dx dy (omega arith) ends (and_parts (p (x, y)) (list_all p (zip xs ys)) e).1 u
 
 -- a reference of this class
 of_there : (c : ℕ) (k : Known) → is_of c k ≡ true → OfClass (λ d. c ≡ d) k
@@ -96,7 +90,7 @@ slot_back : (a b : Bool) → (a ≡ true → b ≡ true) → implied a b ≡ tru
 slot_back true b g = implied_back true b (g refl)
 slot_back false b g = implied_back false b tt
 
-module _ (here there : FactSet) (slots : length here.slots ≤ length there.slots) where
+module _ (here there : FactSet) where
   abbrev Covered : (c d : ℕ) → Type 0
   Covered c d =
       ((u : ℕ) → OfClass (λ x. c ≡ x) (known_at here.values u) → OfClass (λ x. Unit {0}) (known_at there.values u) → OfClass (λ x. d ≡ x) (known_at there.values u))
@@ -104,16 +98,16 @@ module _ (here there : FactSet) (slots : length here.slots ≤ length there.slot
 
   covers_there : (c d : ℕ) → covers here there c d ≡ true → Covered c d
   covers_there c d e =
-      let parts = and_parts (list_all (covers_value c d) (zip here.values there.values)) (list_all (covers_slot c d) (zip here.slots there.slots)) e in (
+      let parts = and_parts (list_all (covers_value c d) (zip here.values there.values)) (list_all (covers_slot c d there.slots) (enumerate_from 0 here.slots)) e in (
         λ u. value_there c d (known_at here.values u) (known_at there.values u) (all_pairs_there (covers_value c d) here.values there.values Nothing Nothing (λ k. refl) (none_covers c d) parts.0 u),
-        λ s. slot_there (holds_class c (slot_at here.slots s).holds) (holds_class d (slot_at there.slots s).holds) (all_there (covers_slot c d) here.slots there.slots open_slot open_slot slots (λ slot. or_true (holds_class d slot.holds)) parts.1 s),
+        λ s. slot_there (holds_class c (slot_at here.slots s).holds) (holds_class d (slot_at there.slots s).holds) (slots_there c d here.slots there.slots parts.1 s),
       )
 
   covers_back : (c d : ℕ) → Covered c d → covers here there c d ≡ true
   covers_back c d h =
-      and_true (list_all (covers_value c d) (zip here.values there.values)) (list_all (covers_slot c d) (zip here.slots there.slots))
+      and_true (list_all (covers_value c d) (zip here.values there.values)) (list_all (covers_slot c d there.slots) (enumerate_from 0 here.slots))
       (all_pairs_back (covers_value c d) here.values there.values Nothing Nothing (λ u. value_back c d (known_at here.values u) (known_at there.values u) (h.0 u)))
-      (all_pairs_back (covers_slot c d) here.slots there.slots open_slot open_slot (λ s. slot_back (holds_class c (slot_at here.slots s).holds) (holds_class d (slot_at there.slots s).holds) (h.1 s)))
+      (slots_back c d here.slots there.slots (λ s. slot_back (holds_class c (slot_at here.slots s).holds) (holds_class d (slot_at there.slots s).holds) (h.1 s)))
 
   -- v, of class c here, and known there to be this, is listed with all that is the same
   abbrev Lists : (c : ℕ) → Known → Type 0
@@ -327,13 +321,13 @@ module _ (here : FactSet) where
         λ h. and_true (implied nonnull null) (holds_value here.values slot.holds holds) (implied_back nonnull null h.0) (asked_back slot.holds holds h.1),
       )
 
-fact_shown : (here there : FactSet) (v : ℕ) (fact : Fact) → length here.slots ≤ length there.slots → (shows_fact here there v fact ≡ true) ↔ FactShown here there v fact
-fact_shown here there v (fact.Number bits below) slots = (number_there bits below (known_at here.values v), number_back bits below (known_at here.values v))
-fact_shown here there v (fact.Reference layout nonnull age same) slots =
-    (reference_there here there slots v layout nonnull age same (known_at here.values v), reference_back here there slots v layout nonnull age same (known_at here.values v) refl)
-fact_shown here there v (fact.Address base words) slots = (address_there base words.members (known_at here.values v), address_back base words.members (known_at here.values v))
-fact_shown here there v (fact.GlobalAddress g) slots = (global_there g (known_at here.values v), global_back g (known_at here.values v))
+fact_shown : (here there : FactSet) (v : ℕ) (fact : Fact) → (shows_fact here there v fact ≡ true) ↔ FactShown here there v fact
+fact_shown here there v (fact.Number bits below) = (number_there bits below (known_at here.values v), number_back bits below (known_at here.values v))
+fact_shown here there v (fact.Reference layout nonnull age same) =
+    (reference_there here there v layout nonnull age same (known_at here.values v), reference_back here there v layout nonnull age same (known_at here.values v) refl)
+fact_shown here there v (fact.Address base words) = (address_there base words.members (known_at here.values v), address_back base words.members (known_at here.values v))
+fact_shown here there v (fact.GlobalAddress g) = (global_there g (known_at here.values v), global_back g (known_at here.values v))
 
 pub shows : ShowsWhatIsSaid
-shows table here there (line.Value v fact) slots = fact_shown here there v fact slots
-shows table here there (line.Slot slot nonnull holds) slots = slot_shown here (slot_of table slot) nonnull holds
+shows table here there (line.Value v fact) = fact_shown here there v fact
+shows table here there (line.Slot slot nonnull holds) = slot_shown here (slot_of table slot) nonnull holds

@@ -18,7 +18,7 @@ use Rattle.facts.specs.declared.uses.Use.{Use}
 use Rattle.facts.specs.Facts.{FactSet, known_at, class_at, lost_class, is_of, off_base, off_test, values_without, tests_without, set_known, define, drop_fresh_of, drop_fresh_all, enter_phi}
 use Rattle.facts.specs.Sheets.{blank, row_at, known_of, class_of, test_of, names, IsOne, EachRow, changed}
 use Rattle.facts.specs.Uses.{chain, IsUser, OnlyUsers}
-use Rattle.facts.specs.TakenBack.{IsPhi, ComesIn, DifferBy, EndsAlone, class_back, entry_back, first_classes}
+use Rattle.facts.specs.TakenBack.{IsPhi, ComesIn, DifferBy, EndsAlone, class_back, entry_back}
 use Rattle.facts.proofs.Says.{each_mapped}
 use Rattle.facts.proofs.Sets.{set_other}
 use Rattle.facts.proofs.Sheets.{same_or_not}
@@ -185,7 +185,7 @@ module _ (rest : List Entry) (before : FactSet) where
     ]
 
 -- where no entry is left, only classes were added
-pub all_is_back : (before f : FactSet) → DifferBy [] before f → first_classes (length before.classes) f ≡ before
+pub all_is_back : (before f : FactSet) → DifferBy [] before f → record f { classes = take (length before.classes) f.classes } ≡ before
 all_is_back before f d =
     ap (λ (values : List Known). record { values = values; slots = f.slots; classes = take count f.classes; tests = f.tests }) same_values
     ∙ ap (λ (slots : List SlotFact). record { values = before.values; slots = slots; classes = take count f.classes; tests = f.tests }) d.slots

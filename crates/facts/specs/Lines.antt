@@ -1,6 +1,6 @@
 -- What the lines of a certificate give and ask.
 use Rattle.std.specs.Prelude.{ℕ, ◌==◌, Bool, true, false, not, ◌&&◌, ◌||◌, if◌then◌else◌, List, [], ◌∷◌, map, nat_le, Option, Some, None}
-use Rattle.std.specs.List.{list_all, zip}
+use Rattle.std.specs.List.{list_all, enumerate_from, zip}
 use Rattle.pools.specs.WordSets.{has_all}
 use Rattle.shadow_stack.specs.Slots.{SlotTable, slot_of}
 use Rattle.certs.specs.declared.section.Age.{Age}
@@ -179,12 +179,12 @@ covers_value c d (here, Cell class layout stale) = implied (is_of c here) (class
 covers_value c d (here, _) = true
 
 -- a slot that holds the class here holds the other there
-abbrev pub covers_slot : (c d : ℕ) → SlotFact × SlotFact → Bool
-covers_slot c d (here, there) = implied (holds_class c here.holds) (holds_class d there.holds)
+abbrev pub covers_slot : (c d : ℕ) → (there : List SlotFact) → ℕ × SlotFact → Bool
+covers_slot c d there (s, here) = implied (holds_class c here.holds) (holds_class d (slot_at there s).holds)
 
 -- all that is listed there and is of the class here, and each slot that holds it, is listed there as of one class
 abbrev pub covers : FactSet → FactSet → (c d : ℕ) → Bool
-covers here there c d = list_all (covers_value c d) (zip here.values there.values) && list_all (covers_slot c d) (zip here.slots there.slots)
+covers here there c d = list_all (covers_value c d) (zip here.values there.values) && list_all (covers_slot c d there.slots) (enumerate_from 0 here.slots)
 
 -- and this is the class of a value there
 abbrev pub covers_known : FactSet → FactSet → (c : ℕ) → Known → Bool

@@ -1,5 +1,5 @@
 -- When a line of a target is shown, in statements.
-use Rattle.std.specs.Prelude.{◌≡◌, ◌≤◌, ◌↔◌, ◌⊎◌, ℕ, Bool, true, false, not, length, Option, Some, None}
+use Rattle.std.specs.Prelude.{◌≡◌, ◌↔◌, ◌⊎◌, ℕ, Bool, true, false, not, Option, Some, None}
 use Rattle.shadow_stack.specs.Slots.{SlotTable, slot_of}
 use Rattle.certs.specs.declared.section.Age.{Age}
 use Rattle.certs.specs.declared.section.Fact.{Fact}
@@ -61,8 +61,6 @@ abbrev pub LineShown : SlotTable → FactSet → FactSet → Line → Type 0
 LineShown table here there (line.Value v fact) = FactShown here there v fact
 LineShown table here there (line.Slot slot nonnull holds) = Named (slot_of table slot) (λ s. IfAsked nonnull (Says here (SlotNonnull s)) × IfNamed holds (λ x. Says here (SlotHolds s x)))
 
--- exactly the lines are shown of which all is said, where the target has no fewer slots
+-- exactly the lines are shown of which all is said
 abbrev pub ShowsWhatIsSaid : Type 0
-ShowsWhatIsSaid =
-    (table : SlotTable) (here there : FactSet) (line : Line) → length here.slots ≤ length there.slots
-    → (shows_line table here there line ≡ true) ↔ LineShown table here there line
+ShowsWhatIsSaid = (table : SlotTable) (here there : FactSet) (line : Line) → (shows_line table here there line ≡ true) ↔ LineShown table here there line

@@ -1,5 +1,5 @@
 -- The slots of a function, of which few are filled, and of which few hold a class.
-use Rattle.std.specs.Prelude.{◌≡◌, ◌<◌, ◌⊎◌, ℕ, Bool, true, false, not, ◌&&◌, ◌||◌, if◌then◌else◌, nat_lt, List, [], ◌∷◌, ◌++◌, map, length, slice_set, Option, Some, None}
+use Rattle.std.specs.Prelude.{◌≡◌, ◌<◌, ◌⊎◌, ℕ, Bool, true, false, not, ◌&&◌, if◌then◌else◌, List, [], ◌∷◌, ◌++◌, map, slice_set, Option, Some, None}
 use Rattle.facts.specs.declared.chains.Chains.{Chains}
 use Rattle.facts.specs.declared.known.SlotFact.{SlotFact}
 use Rattle.facts.specs.Chains.{listed}
@@ -77,6 +77,6 @@ each_let_go (Some c) nonnull keepers slots = each_slot (λ s. let_go c nonnull) 
 abbrev pub let_go_others : (s : ℕ) → (last : Option ℕ) → (nonnull : Bool) → List SlotFact → List SlotFact
 let_go_others s last nonnull slots = slice_set (let_go_last last nonnull slots) s (slot_at slots s)
 
--- a slot that holds the class here holds the other there, if there is such a slot there
+-- the slot s, if it holds the class here, holds the other there
 abbrev pub covers_at : (c d : ℕ) → (here there : List SlotFact) → (s : ℕ) → Bool
-covers_at c d here there s = not (nat_lt s (length there)) || covers_slot c d (slot_at here s, slot_at there s)
+covers_at c d here there s = covers_slot c d there (s, slot_at here s)

@@ -1,5 +1,5 @@
 -- What phis change, where it can be taken back.
-use Rattle.std.specs.Prelude.{◌≡◌, ◌<◌, ◌≤◌, ◌⊎◌, ℕ, true, List, [], ◌∷◌, length, take, slice_set}
+use Rattle.std.specs.Prelude.{◌≡◌, ◌<◌, ◌≤◌, ◌⊎◌, ℕ, true, List, [], ◌∷◌, length, slice_set}
 use Rattle.facts.specs.declared.known.Class.{Class}
 use Rattle.facts.specs.declared.known.Entry.{Entry}
 use Rattle.facts.specs.declared.known.Known.{Known}
@@ -37,7 +37,3 @@ class_back _ before f = f
 -- what is known of a phi and of the class that came in to it is as before
 abbrev pub entry_back : Entry → (before f : FactSet) → FactSet
 entry_back entry before f = class_back entry.known before (set_known entry.phi (known_at before.values entry.phi) f)
-
--- the first classes
-abbrev pub first_classes : (count : ℕ) → FactSet → FactSet
-first_classes count f = record f { classes = take count f.classes }

@@ -3,8 +3,9 @@ ghost use Rattle.std.specs.Prelude.{◌≡◌, true, false, List, length, IfOk, 
 ghost use Rattle.facts.specs.declared.known.Class.{Class};
 ghost use Rattle.facts.specs.declared.known.Known.{Known};
 ghost use Rattle.facts.specs.declared.known.Known.TheVariants.{Cell};
-ghost use Rattle.facts.specs.Facts.{known_at, slot_at, nothing_known, values_without, forget, define, define_test, add_class, set_slot, end_slot, load_slot, make_stale, slots_of_class, slots_without, held_nonnull};
+ghost use Rattle.facts.specs.Facts.{known_at, slot_at, nothing_known, values_without, forget, define, define_test, add_class, set_known, set_class, set_slot, end_slot, load_slot, make_stale, slots_of_class, slots_without, held_nonnull};
 ghost use Rattle.facts.specs.Contents.{set_of};
+ghost use Rattle.facts.specs.Parts.{AreAsMany};
 ghost use Rattle.facts.specs.SlotRows.{let_go_last};
 ghost use Rattle.facts.specs.TakenBack.{EndsAlone};
 
@@ -237,10 +238,29 @@ impl Contents {
         }
     }
 
+    /// This is known of a value besides.
+    pub fn set_known(&mut self, v: ValueId, known: Known) -> Result<(), AllocError>
+        ensures ok { OnOk result (set_of self.new ≡ set_known v known (set_of self.old)) }
+        ensures err { OnErr result (set_of self.new ≡ set_of self.old) }
+        ensures size { AreAsMany (set_of self.old) (set_of self.new) }
+    {
+        self.values.set_known(v, known)
+    }
+
+    /// This is known of a class.
+    pub fn set_class(&mut self, c: ClassId, class: Class) -> Result<(), AllocError>
+        ensures ok { OnOk result (set_of self.new ≡ set_class c class (set_of self.old)) }
+        ensures err { OnErr result (set_of self.new ≡ set_of self.old) }
+        ensures size { AreAsMany (set_of self.old) (set_of self.new) }
+    {
+        self.values.set_class(c, class)
+    }
+
     /// This is known of a slot.
     pub fn set_slot(&mut self, s: SlotId, slot: SlotFact) -> Result<(), AllocError>
         ensures ok { OnOk result (set_of self.new ≡ set_slot s slot (set_of self.old)) }
         ensures err { OnErr result (set_of self.new ≡ set_of self.old) }
+        ensures size { AreAsMany (set_of self.old) (set_of self.new) }
     {
         self.slots.set(s, slot)
     }

@@ -1,20 +1,19 @@
 ghost use Rattle.std.specs.Prelude.{◌≡◌, true, ◌==◌, ◌&&◌, length, map, slice_set, IfOk, OnOk, OnErr};
 ghost use Rattle.facts.specs.declared.known.Known.TheVariants.{Cell};
 ghost use Rattle.facts.specs.Facts.{FactSet, AreFacts, known_at, slot_at, class_at, test_at, is_of, nothing_known, forget, define, define_new, define_test, set_known, add_class, set_class, drop_fresh, drop_fresh_of, drop_fresh_all, learn_nonnull, set_slot, clear_slot, end_slot, root_slot, hold, store_slot, load_held, load_slot, make_stale, slot_nonnull};
-ghost use Rattle.facts.specs.Lines.{join, covers};
-ghost use Rattle.facts.specs.Parts.{AreAsMany};
-ghost use Rattle.facts.specs.TakenBack.{EndsAlone, first_classes};
-ghost use Rattle.facts.specs.Ties.{AreOwn, AreTies, class_now, class_of_both, facts_now, settle_value};
+ghost use Rattle.facts.specs.Lines.{covers, facts_of_lines};
+ghost use Rattle.facts.specs.Parts.{AreAsMany, IsSameOrCleared};
+ghost use Rattle.facts.specs.TakenBack.{DifferBy, EndsAlone};
 
 use crate::class_id::ClassId;
 use crate::contents::Contents;
 use crate::kept::KeptFacts;
 use crate::known::{Class, Entry, Known, SlotFact, Test};
 use crate::rows;
-use crate::ties::Ties;
+use certs::Line;
 use ir_ast::ValueId;
 use pools::LayoutId;
-use shadow_stack::SlotId;
+use shadow_stack::{SlotId, Slots};
 use std::alloc::{AllocError, Global};
 use std::marker::Model;
 use std::rc::Rc;
@@ -98,6 +97,25 @@ impl Facts {
     {
         Rc::make_mut(&mut self.contents)?.clear();
         Ok(())
+    }
+
+    /// What a block with these lines begins with, in place of what is known. Without memory it stays, or nothing is known.
+    pub fn begin(&mut self, alloc: Global, table: &Slots, lines: &[Line]) -> Result<(), AllocError>
+        ensures ok { OnOk result (self.new ≡ facts_of_lines table.now (length self.old.values) (length self.old.slots) lines.now) }
+        ensures err { OnErr result (IsSameOrCleared self.old self.new) }
+        ensures size { AreAsMany self.old self.new }
+    {
+        Rc::make_mut(&mut self.contents)?.begin(alloc, table, lines)
+    }
+
+    /// What was known before these phis took what came in, if they changed no more than this can take back. Without memory it
+    /// stays, or nothing is known.
+    pub fn take_back(&mut self, entries: &[Entry], before: &Facts) -> Result<(), AllocError>
+        requires { DifferBy entries.now before.now self.old }
+        ensures ok { OnOk result (self.new ≡ before.now) }
+        ensures err { OnErr result (IsSameOrCleared self.old self.new) }
+    {
+        Rc::make_mut(&mut self.contents)?.take_back(entries, &before.contents)
     }
 
     /// What is known elsewhere, in place of what is known here.
@@ -269,9 +287,8 @@ impl Facts {
     pub(crate) fn set_known(&mut self, v: ValueId, known: Known) -> Result<(), AllocError>
         ensures ok { OnOk result (self.new ≡ set_known v known self.old) }
         ensures err { OnErr result (self.new ≡ self.old) }
-        ensures size { AreAsMany self.old self.new }
     {
-        Rc::make_mut(&mut self.contents)?.values.set_known(v, known)
+        Rc::make_mut(&mut self.contents)?.set_known(v, known)
     }
 
     /// The classes of all that comes in are fresh no more.
@@ -319,15 +336,13 @@ impl Facts {
     pub(crate) fn set_class(&mut self, c: ClassId, class: Class) -> Result<(), AllocError>
         ensures ok { OnOk result (self.new ≡ set_class c class self.old) }
         ensures err { OnErr result (self.new ≡ self.old) }
-        ensures size { AreAsMany self.old self.new }
     {
-        Rc::make_mut(&mut self.contents)?.values.set_class(c, class)
+        Rc::make_mut(&mut self.contents)?.set_class(c, class)
     }
 
     pub(crate) fn set_slot(&mut self, s: SlotId, slot: SlotFact) -> Result<(), AllocError>
         ensures ok { OnOk result (self.new ≡ set_slot s slot self.old) }
         ensures err { OnErr result (self.new ≡ self.old) }
-        ensures size { AreAsMany self.old self.new }
     {
         Rc::make_mut(&mut self.contents)?.set_slot(s, slot)
     }
@@ -355,70 +370,11 @@ impl Facts {
         rows::slot_nonnull(&self.contents.values, slot)
     }
 
-    /// Two values are equal references: their classes are one.
-    pub(crate) fn join(
-        &mut self,
-        ties: &mut Ties,
-        v: ValueId,
-        w: ValueId,
-        from: ClassId,
-        to: ClassId,
-    ) -> Result<(), AllocError>
-        requires ties { AreTies ties.old }
-        requires from { (from == v) ≡ true }
-        requires to { (to == w) ≡ true }
-        ensures tied { OnOk result (facts_now ties.new self.new ≡ join (class_now ties.old from) (class_now ties.old to) (facts_now ties.old self.old)) }
-        ensures ties { OnOk result (AreTies ties.new) }
-        ensures values { OnOk result (self.new.values ≡ self.old.values) }
-        ensures size { AreAsMany self.old self.new }
-    {
-        let from = ties.class(from);
-        let to = ties.class(to);
-        let one = self.class(from);
-        let other = self.class(to);
-        ties.tie(v, w)?;
-        self.set_class(to, class_of_both(one, other))
-    }
-
-    /// Each value that was tied is of the class that it has now.
-    pub(crate) fn settle(&mut self, ties: &Ties) -> Result<(), AllocError>
-        requires own { AreOwn self.old.values }
-        requires ties { AreTies ties.now }
-        ensures ok { OnOk result (self.new ≡ facts_now ties.now self.old) }
-        ensures size { AreAsMany self.old self.new }
-    {
-        for v in ties.tied() {
-            self.settle_value(ties, *v)?;
-        }
-        Ok(())
-    }
-
-    fn settle_value(&mut self, ties: &Ties, v: ValueId) -> Result<(), AllocError>
-        ensures ok { OnOk result (self.new ≡ settle_value ties.now v self.old) }
-        ensures size { AreAsMany self.old self.new }
-    {
-        let known = ties.known(self.known(v));
-        self.set_known(v, known)
-    }
-
     /// Whether it is seen that the end of what is known of a value ends nothing else.
     pub(crate) fn ends_alone(&self, v: ValueId) -> bool
         ensures { result ≡ true → EndsAlone v self.now }
     {
         self.contents.ends_alone(v)
-    }
-
-    /// There are no more classes than elsewhere.
-    pub(crate) fn drop_classes(&mut self, other: &Facts) -> Result<(), AllocError>
-        requires { length self.old.values ≡ length other.now.values }
-        ensures ok { OnOk result (self.new ≡ first_classes (length other.now.classes) self.old) }
-        ensures err { OnErr result (self.new ≡ self.old) }
-    {
-        let values = &other.contents.values;
-        Rc::make_mut(&mut self.contents)?
-            .values
-            .drop_classes(values);
-        Ok(())
     }
 
     /// Whether all that is of a class here is listed there as of another.
@@ -428,13 +384,4 @@ impl Facts {
         let (here, there) = (&self.contents, &there.contents);
         here.values.covers(&there.values, c, d) && here.slots.covers(&there.slots, c, d)
     }
-}
-
-/// What is known of a class that two became.
-fn class_of_both(one: Class, other: Class) -> Class
-    ensures { result ≡ class_of_both one other }
-{
-    let nonnull = one.nonnull || other.nonnull;
-    let fresh = one.fresh || other.fresh;
-    Class { nonnull, fresh }
 }

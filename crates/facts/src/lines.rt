@@ -1,11 +1,13 @@
 //! What the lines of a block give where it begins.
 ghost use Rattle.std.specs.Prelude.{◌≡◌, ◌==◌, true, length, OnOk, OnErr};
-ghost use Rattle.facts.specs.Facts.{nothing_known, set_known};
-ghost use Rattle.facts.specs.Lines.{is_stale, is_fresh, list_value, list_slot, list_line, list_lines, join_known, join_values, tie_value, tie_fact, tie_line, tie_lines, hold_known, hold_value, hold_line, hold_lines, facts_of_lines, promised_below, promised_nonnull, promised_layout, receive_reference, receive};
+ghost use Rattle.facts.specs.Contents.{set_of};
+ghost use Rattle.facts.specs.Facts.{nothing_known};
+ghost use Rattle.facts.specs.Lines.{is_stale, is_fresh, list_value, list_slot, list_line, list_lines, join, join_known, join_values, tie_value, tie_fact, tie_line, tie_lines, hold_known, hold_value, hold_line, hold_lines, facts_of_lines, promised_below, promised_nonnull, promised_layout, receive_reference, receive};
 ghost use Rattle.facts.specs.Parts.{AreAsMany};
-ghost use Rattle.facts.specs.Ties.{is_own, AreOwn, AreTies, class_now, known_now, facts_now};
+ghost use Rattle.facts.specs.Ties.{is_own, AreOwn, AreTies, class_now, class_of_both, known_now, facts_now, settle_value};
 
 use crate::class_id::ClassId;
+use crate::contents::Contents;
 use crate::facts::Facts;
 use crate::known::{Class, Given, Known, SlotFact};
 use crate::ties::Ties;
@@ -16,18 +18,6 @@ use shadow_stack::{SlotId, Slots};
 use std::alloc::{AllocError, Global};
 
 impl Facts {
-    /// What a block with these lines begins with, in place of what is known. Without memory something else may be known then, of
-    /// as many values and slots: so the facts may be begun anew.
-    pub fn begin(&mut self, alloc: Global, table: &Slots, lines: &[Line]) -> Result<(), AllocError>
-        ensures ok { OnOk result (self.new ≡ facts_of_lines table.now (length self.old.values) (length self.old.slots) lines.now) }
-        ensures size { AreAsMany self.old self.new }
-    {
-        self.clear(alloc)?;
-        self.list_lines(table, lines)?;
-        self.tie_lines(alloc, lines)?;
-        self.hold_lines(table, lines)
-    }
-
     /// A parameter, or the result of a call, with what its type gives and what is promised of it.
     pub fn receive(
         &mut self,
@@ -77,10 +67,36 @@ impl Facts {
             None => self.define(v, Known::Nothing),
         }
     }
+}
+
+impl Contents {
+    /// What a block with these lines begins with, in place of what is known. Without memory nothing is known then.
+    pub fn begin(&mut self, alloc: Global, table: &Slots, lines: &[Line]) -> Result<(), AllocError>
+        ensures ok { OnOk result (set_of self.new ≡ facts_of_lines table.now (length self.old.values.values) (length self.old.slots) lines.now) }
+        ensures err { OnErr result (set_of self.new ≡ nothing_known (length self.old.values.values) (length self.old.slots)) }
+        ensures size { AreAsMany (set_of self.old) (set_of self.new) }
+    {
+        self.clear();
+        let result = self.add_lines(alloc, table, lines);
+        if result.is_err() {
+            self.clear();
+        }
+        result
+    }
+
+    fn add_lines(&mut self, alloc: Global, table: &Slots, lines: &[Line]) -> Result<(), AllocError>
+        requires { AreOwn self.old.values.values }
+        ensures ok { OnOk result (set_of self.new ≡ hold_lines table.now lines.now (tie_lines lines.now (list_lines table.now lines.now (set_of self.old)))) }
+        ensures size { AreAsMany (set_of self.old) (set_of self.new) }
+    {
+        self.list_lines(table, lines)?;
+        self.tie_lines(alloc, lines)?;
+        self.hold_lines(table, lines)
+    }
 
     fn list_lines(&mut self, table: &Slots, lines: &[Line]) -> Result<(), AllocError>
-        ensures ok { OnOk result (self.new ≡ list_lines table.now lines.now self.old) }
-        ensures size { AreAsMany self.old self.new }
+        ensures ok { OnOk result (set_of self.new ≡ list_lines table.now lines.now (set_of self.old)) }
+        ensures size { AreAsMany (set_of self.old) (set_of self.new) }
     {
         for line in lines {
             self.list_line(table, *line)?;
@@ -89,8 +105,8 @@ impl Facts {
     }
 
     fn list_line(&mut self, table: &Slots, line: Line) -> Result<(), AllocError>
-        ensures ok { OnOk result (self.new ≡ list_line table.now line self.old) }
-        ensures size { AreAsMany self.old self.new }
+        ensures ok { OnOk result (set_of self.new ≡ list_line table.now line (set_of self.old)) }
+        ensures size { AreAsMany (set_of self.old) (set_of self.new) }
     {
         match line {
             Line::Value { value, fact } => self.list_value(value, fact),
@@ -99,8 +115,8 @@ impl Facts {
     }
 
     fn list_value(&mut self, v: ValueId, fact: Fact) -> Result<(), AllocError>
-        ensures ok { OnOk result (self.new ≡ list_value v fact self.old) }
-        ensures size { AreAsMany self.old self.new }
+        ensures ok { OnOk result (set_of self.new ≡ list_value v fact (set_of self.old)) }
+        ensures size { AreAsMany (set_of self.old) (set_of self.new) }
     {
         match fact {
             Fact::Number { bits, below } => self.set_known(v, Known::Number { bits, below }),
@@ -129,8 +145,8 @@ impl Facts {
     }
 
     fn list_slot(&mut self, slot: Option<SlotId>, nonnull: bool) -> Result<(), AllocError>
-        ensures ok { OnOk result (self.new ≡ list_slot slot nonnull self.old) }
-        ensures size { AreAsMany self.old self.new }
+        ensures ok { OnOk result (set_of self.new ≡ list_slot slot nonnull (set_of self.old)) }
+        ensures size { AreAsMany (set_of self.old) (set_of self.new) }
     {
         match slot {
             Some(s) => self.set_slot(
@@ -146,9 +162,9 @@ impl Facts {
     }
 
     fn tie_lines(&mut self, alloc: Global, lines: &[Line]) -> Result<(), AllocError>
-        requires { AreOwn self.old.values }
-        ensures ok { OnOk result (self.new ≡ tie_lines lines.now self.old) }
-        ensures size { AreAsMany self.old self.new }
+        requires { AreOwn self.old.values.values }
+        ensures ok { OnOk result (set_of self.new ≡ tie_lines lines.now (set_of self.old)) }
+        ensures size { AreAsMany (set_of self.old) (set_of self.new) }
     {
         let mut ties = Ties::new(alloc);
         for line in lines {
@@ -158,12 +174,12 @@ impl Facts {
     }
 
     fn tie_line(&mut self, ties: &mut Ties, line: Line) -> Result<(), AllocError>
-        requires own { AreOwn self.old.values }
+        requires own { AreOwn self.old.values.values }
         requires ties { AreTies ties.old }
-        ensures tied { OnOk result (facts_now ties.new self.new ≡ tie_line line (facts_now ties.old self.old)) }
+        ensures tied { OnOk result (facts_now ties.new (set_of self.new) ≡ tie_line line (facts_now ties.old (set_of self.old))) }
         ensures ties { OnOk result (AreTies ties.new) }
-        ensures values { OnOk result (self.new.values ≡ self.old.values) }
-        ensures size { AreAsMany self.old self.new }
+        ensures values { OnOk result (self.new.values.values ≡ self.old.values.values) }
+        ensures size { AreAsMany (set_of self.old) (set_of self.new) }
     {
         match line {
             Line::Value { value, fact } => self.tie_fact(ties, value, fact),
@@ -172,12 +188,12 @@ impl Facts {
     }
 
     fn tie_fact(&mut self, ties: &mut Ties, v: ValueId, fact: Fact) -> Result<(), AllocError>
-        requires own { AreOwn self.old.values }
+        requires own { AreOwn self.old.values.values }
         requires ties { AreTies ties.old }
-        ensures tied { OnOk result (facts_now ties.new self.new ≡ tie_fact v fact (facts_now ties.old self.old)) }
+        ensures tied { OnOk result (facts_now ties.new (set_of self.new) ≡ tie_fact v fact (facts_now ties.old (set_of self.old))) }
         ensures ties { OnOk result (AreTies ties.new) }
-        ensures values { OnOk result (self.new.values ≡ self.old.values) }
-        ensures size { AreAsMany self.old self.new }
+        ensures values { OnOk result (self.new.values.values ≡ self.old.values.values) }
+        ensures size { AreAsMany (set_of self.old) (set_of self.new) }
     {
         match fact {
             Fact::Reference { same, .. } => self.tie_value(ties, v, same),
@@ -191,17 +207,17 @@ impl Facts {
         v: ValueId,
         same: Option<ValueId>,
     ) -> Result<(), AllocError>
-        requires own { AreOwn self.old.values }
+        requires own { AreOwn self.old.values.values }
         requires ties { AreTies ties.old }
-        ensures tied { OnOk result (facts_now ties.new self.new ≡ tie_value v same (facts_now ties.old self.old)) }
+        ensures tied { OnOk result (facts_now ties.new (set_of self.new) ≡ tie_value v same (facts_now ties.old (set_of self.old))) }
         ensures ties { OnOk result (AreTies ties.new) }
-        ensures values { OnOk result (self.new.values ≡ self.old.values) }
-        ensures size { AreAsMany self.old self.new }
+        ensures values { OnOk result (self.new.values.values ≡ self.old.values.values) }
+        ensures size { AreAsMany (set_of self.old) (set_of self.new) }
     {
         match same {
             Some(w) => {
-                let known = self.known(v);
-                let other = self.known(w);
+                let known = self.values.known(v);
+                let other = self.values.known(w);
                 self.join_values(ties, v, w, known, other)
             }
             None => Ok(()),
@@ -220,10 +236,10 @@ impl Facts {
         requires ties { AreTies ties.old }
         requires known { is_own v known ≡ true }
         requires other { is_own w other ≡ true }
-        ensures tied { OnOk result (facts_now ties.new self.new ≡ join_values (known_now ties.old known) (known_now ties.old other) (facts_now ties.old self.old)) }
+        ensures tied { OnOk result (facts_now ties.new (set_of self.new) ≡ join_values (known_now ties.old known) (known_now ties.old other) (facts_now ties.old (set_of self.old))) }
         ensures ties { OnOk result (AreTies ties.new) }
-        ensures values { OnOk result (self.new.values ≡ self.old.values) }
-        ensures size { AreAsMany self.old self.new }
+        ensures values { OnOk result (self.new.values.values ≡ self.old.values.values) }
+        ensures size { AreAsMany (set_of self.old) (set_of self.new) }
     {
         match known {
             Known::Cell { class, .. } => self.join_known(ties, v, w, class, other),
@@ -243,10 +259,10 @@ impl Facts {
         requires ties { AreTies ties.old }
         requires from { (from == v) ≡ true }
         requires other { is_own w other ≡ true }
-        ensures tied { OnOk result (facts_now ties.new self.new ≡ join_known (class_now ties.old from) (known_now ties.old other) (facts_now ties.old self.old)) }
+        ensures tied { OnOk result (facts_now ties.new (set_of self.new) ≡ join_known (class_now ties.old from) (known_now ties.old other) (facts_now ties.old (set_of self.old))) }
         ensures ties { OnOk result (AreTies ties.new) }
-        ensures values { OnOk result (self.new.values ≡ self.old.values) }
-        ensures size { AreAsMany self.old self.new }
+        ensures values { OnOk result (self.new.values.values ≡ self.old.values.values) }
+        ensures size { AreAsMany (set_of self.old) (set_of self.new) }
     {
         match other {
             Known::Cell { class, .. } => self.join(ties, v, w, from, class),
@@ -255,8 +271,8 @@ impl Facts {
     }
 
     fn hold_lines(&mut self, table: &Slots, lines: &[Line]) -> Result<(), AllocError>
-        ensures ok { OnOk result (self.new ≡ hold_lines table.now lines.now self.old) }
-        ensures size { AreAsMany self.old self.new }
+        ensures ok { OnOk result (set_of self.new ≡ hold_lines table.now lines.now (set_of self.old)) }
+        ensures size { AreAsMany (set_of self.old) (set_of self.new) }
     {
         for line in lines {
             self.hold_line(table, *line)?;
@@ -265,8 +281,8 @@ impl Facts {
     }
 
     fn hold_line(&mut self, table: &Slots, line: Line) -> Result<(), AllocError>
-        ensures ok { OnOk result (self.new ≡ hold_line table.now line self.old) }
-        ensures size { AreAsMany self.old self.new }
+        ensures ok { OnOk result (set_of self.new ≡ hold_line table.now line (set_of self.old)) }
+        ensures size { AreAsMany (set_of self.old) (set_of self.new) }
     {
         match line {
             Line::Slot { slot, holds, .. } => self.hold_value(table.slot_of(slot), holds),
@@ -275,12 +291,12 @@ impl Facts {
     }
 
     fn hold_value(&mut self, slot: Option<SlotId>, holds: Option<ValueId>) -> Result<(), AllocError>
-        ensures ok { OnOk result (self.new ≡ hold_value slot holds self.old) }
-        ensures size { AreAsMany self.old self.new }
+        ensures ok { OnOk result (set_of self.new ≡ hold_value slot holds (set_of self.old)) }
+        ensures size { AreAsMany (set_of self.old) (set_of self.new) }
     {
         match (slot, holds) {
             (Some(s), Some(x)) => {
-                let known = self.known(x);
+                let known = self.values.known(x);
                 self.hold_known(s, known)
             }
             _ => Ok(()),
@@ -288,8 +304,8 @@ impl Facts {
     }
 
     fn hold_known(&mut self, s: SlotId, known: Known) -> Result<(), AllocError>
-        ensures ok { OnOk result (self.new ≡ hold_known s known self.old) }
-        ensures size { AreAsMany self.old self.new }
+        ensures ok { OnOk result (set_of self.new ≡ hold_known s known (set_of self.old)) }
+        ensures size { AreAsMany (set_of self.old) (set_of self.new) }
     {
         match known {
             Known::Cell { class, .. } => {
@@ -304,6 +320,52 @@ impl Facts {
             }
             _ => Ok(()),
         }
+    }
+
+    /// Two values are equal references: their classes are one.
+    fn join(
+        &mut self,
+        ties: &mut Ties,
+        v: ValueId,
+        w: ValueId,
+        from: ClassId,
+        to: ClassId,
+    ) -> Result<(), AllocError>
+        requires ties { AreTies ties.old }
+        requires from { (from == v) ≡ true }
+        requires to { (to == w) ≡ true }
+        ensures tied { OnOk result (facts_now ties.new (set_of self.new) ≡ join (class_now ties.old from) (class_now ties.old to) (facts_now ties.old (set_of self.old))) }
+        ensures ties { OnOk result (AreTies ties.new) }
+        ensures values { OnOk result (self.new.values.values ≡ self.old.values.values) }
+        ensures size { AreAsMany (set_of self.old) (set_of self.new) }
+    {
+        let from = ties.class(from);
+        let to = ties.class(to);
+        let one = self.values.class(from);
+        let other = self.values.class(to);
+        ties.tie(v, w)?;
+        self.set_class(to, class_of_both(one, other))
+    }
+
+    /// Each value that was tied is of the class that it has now.
+    fn settle(&mut self, ties: &Ties) -> Result<(), AllocError>
+        requires own { AreOwn self.old.values.values }
+        requires ties { AreTies ties.now }
+        ensures ok { OnOk result (set_of self.new ≡ facts_now ties.now (set_of self.old)) }
+        ensures size { AreAsMany (set_of self.old) (set_of self.new) }
+    {
+        for v in ties.tied() {
+            self.settle_value(ties, *v)?;
+        }
+        Ok(())
+    }
+
+    fn settle_value(&mut self, ties: &Ties, v: ValueId) -> Result<(), AllocError>
+        ensures ok { OnOk result (set_of self.new ≡ settle_value ties.now v (set_of self.old)) }
+        ensures size { AreAsMany (set_of self.old) (set_of self.new) }
+    {
+        let known = ties.known(self.values.known(v));
+        self.set_known(v, known)
     }
 }
 
@@ -346,4 +408,13 @@ fn promised_layout(promise: &Option<Promise>) -> Option<LayoutId>
         Some(promise) => promise.layout,
         None => None,
     }
+}
+
+/// What is known of a class that two became.
+fn class_of_both(one: Class, other: Class) -> Class
+    ensures { result ≡ class_of_both one other }
+{
+    let nonnull = one.nonnull || other.nonnull;
+    let fresh = one.fresh || other.fresh;
+    Class { nonnull, fresh }
 }

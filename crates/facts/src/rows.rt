@@ -2,7 +2,7 @@
 ghost use Rattle.std.specs.Prelude.{◌≡◌, replicate, IfOk};
 ghost use Rattle.facts.specs.Facts.{open_slot, class_at, is_of, let_go, is_on, off_base, off_test, slot_nonnull, held_nonnull, stale_of, end_hold, holds_class};
 ghost use Rattle.facts.specs.SlotRows.{let_go_slot};
-ghost use Rattle.facts.specs.Lines.{covers_value, covers_slot};
+ghost use Rattle.facts.specs.Lines.{covers_value};
 
 use crate::class_id::ClassId;
 use crate::known::{Class, Known, SlotFact, Test};
@@ -154,11 +154,4 @@ pub fn covers_value(c: ClassId, d: ClassId, here: Known, there: Known) -> bool
         Known::Cell { class, .. } => class == d || !is_of(c, here),
         _ => true,
     }
-}
-
-/// Whether a slot that holds a class here holds another there.
-pub fn covers_slot(c: ClassId, d: ClassId, here: SlotFact, there: SlotFact) -> bool
-    ensures { result ≡ covers_slot c d (here, there) }
-{
-    holds_class(d, there.holds) || !holds_class(c, here.holds)
 }

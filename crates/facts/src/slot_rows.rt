@@ -1,6 +1,6 @@
 //! The slots of a function, of which few are filled, and of which few hold a class.
 ghost use Rattle.std.specs.Prelude.{◌≡◌, false, map, length, replicate, slice_set, Some, IfOk, OnOk, OnErr};
-ghost use Rattle.std.specs.List.{list_any, list_all, zip};
+ghost use Rattle.std.specs.List.{list_any, list_all, enumerate_from};
 ghost use Rattle.facts.specs.Facts.{open_slot, slot_at, holds, let_go, end_hold};
 ghost use Rattle.facts.specs.Contents.{new_of};
 ghost use Rattle.facts.specs.Lines.{covers_slot};
@@ -249,7 +249,7 @@ impl SlotRows {
 
     /// Whether all slots that hold a class here hold another there.
     pub fn covers(&self, there: &SlotRows, c: ClassId, d: ClassId) -> bool
-        ensures { result ≡ list_all (covers_slot c d) (zip self.now there.now) }
+        ensures { result ≡ list_all (covers_slot c d there.now) (enumerate_from 0 self.now) }
     {
         slot_sweeps::covers(&self.slots, &self.keepers, &there.slots, c, d)
     }

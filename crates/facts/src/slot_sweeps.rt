@@ -207,5 +207,5 @@ pub fn covers(
 fn covers_at(c: ClassId, d: ClassId, here: &[SlotFact], there: &[SlotFact], at: usize) -> bool
     ensures { result ≡ covers_at c d here.now there.now at }
 {
-    at >= there.len() || rows::covers_slot(c, d, slot_at(here, at), slot_at(there, at))
+    rows::holds_class(d, slot_at(there, at).holds) || !rows::holds_class(c, slot_at(here, at).holds)
 }

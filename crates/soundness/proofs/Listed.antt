@@ -1,8 +1,10 @@
 -- What the lines of a block give holds where each of them is shown.
-use Rattle.std.proofs.Common.{◌≡◌, ◌≢◌, ℕ, ◌<◌, ◌≤◌, List, [], ◌∷◌, length, map, refl, sym, ap, ◌∙◌, subst, arith, true, false, Bool, Option, Some, None, slice_set, inl, inr}
+use Rattle.std.proofs.Common.{◌≡◌, ◌≢◌, ℕ, ◌+◌, ◌<◌, ◌≤◌, List, [], ◌∷◌, length, map, refl, sym, ap, ◌∙◌, subst, arith, true, false, Bool, Option, Some, None, slice_set, inl, inr}
 use Rattle.std.proofs.lemmas.List.{length-map, length-set, length-replicate}
+use Rattle.std.proofs.lemmas.List.FromFn.{length-enumerate_from, get_or-enumerate_from}
+use Rattle.std.proofs.lemmas.List.Sums.{AllPass-from_list_all}
 use Rattle.std.specs.Prelude.{◌==◌, ◌||◌, ◌&&◌, ◌⊎◌, not, if◌then◌else◌, replicate}
-use Rattle.std.specs.List.{list_all, zip}
+use Rattle.std.specs.List.{list_all, enumerate_from, zip}
 use Rattle.lemmas.specs.Lists.{at_map}
 use Rattle.lemmas.specs.Numbers.{test_true, test_yes}
 use Rattle.lemmas.specs.Bools.{and_parts, not_true, or_parts}
@@ -575,7 +577,7 @@ module _ (heap : Setup) (p : LaidOut) (table : SlotTable) (guarded : Guarded) (l
     -- a value that is listed as a reference of another class than a fresh one is not of the class that is fresh here
     covered_value : (q c w d k : ℕ) (st : Bool) (hc hl : ℕ) (hs : Bool) → covers here there q c ≡ true → known_at here.values w ≡ Cell hc hl hs → known_at there.values w ≡ Cell d k st → hc ≡ q → d ≡ c
     covered_value q c w d k st hc hl hs cover hw tw e =
-        let b = and_parts (list_all (covers_value q c) (zip here.values there.values)) (list_all (covers_slot q c) (zip here.slots there.slots)) cover in
+        let b = and_parts (list_all (covers_value q c) (zip here.values there.values)) (list_all (covers_slot q c there.slots) (enumerate_from 0 here.slots)) cover in
         let lh : w < length here.values = within_list here.values w Nothing (λ z. let y = sym hw ∙ z in absurd cc) in
         let lt : w < length there.values = within_list there.values w Nothing (λ z. let y = sym tw ∙ z in absurd cc) in
         let at = all_zip (covers_value q c) here.values there.values w Nothing Nothing lh lt b.0 in
@@ -619,9 +621,13 @@ module _ (heap : Setup) (p : LaidOut) (table : SlotTable) (guarded : Guarded) (l
           pick : {u : ℕ} (q : FreshHere u) → covers here there q.class c ≡ true → (b : Bool) → holds_class q.class (slot_at here.slots s).holds ≡ b → AreApart (cells q.class) (slot_value slots s)
           pick q cover false e = h.alone_in_slots _ s q.class q.layout q.stale q.is q.fresh e
           pick q cover true e =
-              let b = and_parts (list_all (covers_value q.class c) (zip here.values there.values)) (list_all (covers_slot q.class c) (zip here.slots there.slots)) cover in
+              let b = and_parts (list_all (covers_value q.class c) (zip here.values there.values)) (list_all (covers_slot q.class c there.slots) (enumerate_from 0 here.slots)) cover in
               let lh : s < length here.slots = within_list here.slots s open_slot (λ z. let y = ap (λ x. holds_class q.class x.holds) (sym z) ∙ e in absurd cc) in
-              let at = all_zip (covers_slot q.class c) here.slots there.slots s open_slot open_slot lh (omega (arith, lh, given.slots_size, h.slots_size)) b.1 in
+              let in_list = subst (λ (n : ℕ). s < n) (sym (length-enumerate_from 0 here.slots)) lh in
+              let numbered = subst (λ x. covers_slot q.class c there.slots x ≡ true) (get_or-enumerate_from 0 here.slots s (0, open_slot) lh)
+              (AllPass-from_list_all (covers_slot q.class c there.slots) (enumerate_from 0 here.slots) b.1 s (0, open_slot) in_list) in
+              let is : 0 + s ≡ s = omega arith in
+              let at = subst (λ (n : ℕ). covers_slot q.class c there.slots (n, slot_at here.slots s) ≡ true) is numbered in
               absurd (not_both (holds_class c (slot_at there.slots s).holds) (as_implied (holds_class q.class (slot_at here.slots s).holds) _ at e) out)
 
     -- what is shown on an edge holds after it

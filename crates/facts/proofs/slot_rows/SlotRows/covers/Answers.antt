@@ -1,5 +1,5 @@
 use Rattle.std.proofs.Common.{◌∙◌, ap, List}
-use Rattle.std.specs.List.{list_all, zip}
+use Rattle.std.specs.List.{list_all, enumerate_from}
 use Rattle.facts.specs.declared.known.SlotFact.{SlotFact}
 use Rattle.facts.specs.Chains.{listed}
 use Rattle.facts.specs.Lines.{covers_slot}
@@ -14,4 +14,4 @@ returns c =
     c.covers.ensures ∙ ap (λ (l : List SlotFact). list_all (covers_at c.args.c c.args.d l c.deref-2.result.now) (listed c.self.inside.keepers c.args.c)) c.deref.ensures.value
     ∙ ap (λ (l : List SlotFact). list_all (covers_at c.args.c c.args.d here l) (listed c.self.inside.keepers c.args.c)) c.deref-2.ensures.value
     ∙ keepers_cover c.args.c c.args.d here there c.self.inside.keepers c.self.invariant.2
-    ∙ ap (λ (l : List SlotFact). list_all (covers_slot c.args.c c.args.d) (zip l there)) c.self.view_is ∙ ap (λ (l : List SlotFact). list_all (covers_slot c.args.c c.args.d) (zip c.args.self.now l)) c.there.view_is
+    ∙ ap (λ (l : List SlotFact). list_all (covers_slot c.args.c c.args.d there) (enumerate_from 0 l)) c.self.view_is ∙ ap (λ (l : List SlotFact). list_all (covers_slot c.args.c c.args.d l) (enumerate_from 0 c.args.self.now)) c.there.view_is

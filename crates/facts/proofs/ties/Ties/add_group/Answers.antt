@@ -1,4 +1,4 @@
-use Rattle.std.proofs.Common.{◌≡◌, ◌∙◌, ◌++◌, ◌∷◌, [], ap, arith, cond, sym, subst, length, List, ℕ, Option, Some}
+use Rattle.std.proofs.Common.{◌≡◌, ◌∙◌, ap, arith, cond, sym, subst, length, List, ℕ, Option, Some}
 use Rattle.std.specs.Prelude.{◌==◌, nat_eq}
 use Rattle.indexmap.specs.IndexMap.{get}
 use Rattle.facts.specs.declared.ties.Group.{Group}

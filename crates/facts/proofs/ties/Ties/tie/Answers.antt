@@ -1,6 +1,6 @@
 use Rattle.std.proofs.Common.{◌≡◌, ◌∙◌, ap, inl, inr, refl, List, ℕ, Some}
 use Rattle.facts.specs.declared.ties.Group.{Group}
-use Rattle.facts.specs.Ties.{group_of, class_now, class_in}
+use Rattle.facts.specs.Ties.{group_of, class_in}
 use Rattle.facts.proofs.Settled.{on_ok_two, class_tied, class_through}
 use Rattle.facts.proofs.ties.Ties.tie.Goals as goal
 

@@ -3,18 +3,19 @@ use Rattle.std.proofs.lemmas.Result.{on_ok_weaker}
 use Rattle.lemmas.specs.Numbers.{test_true}
 use Rattle.facts.specs.declared.known.Class.{Class}
 use Rattle.facts.specs.declared.ties.Ties.{Ties}
+use Rattle.facts.specs.Contents.{set_of}
 use Rattle.facts.specs.Facts.{FactSet, class_at, set_class}
 use Rattle.facts.specs.Lines.{moved}
 use Rattle.facts.specs.Ties.{class_now}
 use Rattle.facts.proofs.Settled.{joined_facts}
-use Rattle.facts.proofs.facts.Facts.join.Goals as goal
+use Rattle.facts.proofs.contents.Contents.join.Goals as goal
 
 module _ (c : goal.After-set_class) where
   abbrev ties : Ties
   ties = c.args.ties.now
 
   abbrev f : FactSet
-  f = c.args.self.now
+  f = set_of c.args.self.now
 
   moves : (q : ℕ) → class_now c.tie.new.self q ≡ moved (class_now ties c.args.from) (class_now ties c.args.to) (class_now ties q)
   moves q = c.in_ok-tie.ensures.moved q ∙ ap (λ (n : ℕ). moved (class_now ties n) (class_now ties c.args.w) (class_now ties q)) (sym (test_true c.args.from c.args.v c.requires.from))
@@ -22,6 +23,6 @@ module _ (c : goal.After-set_class) where
 
 pub returns-clause-tied : goal.returns-clause-tied
 returns-clause-tied c = on_ok_weaker c.set_class.result
-    (λ e. joined_facts (ties c) c.tie.new.self (class_now (ties c) c.args.from) (class_now (ties c) c.args.to) (moves c) (f c) c.set_class.new.self c.class-one.result c.class-other.result
+    (λ e. joined_facts (ties c) c.tie.new.self (class_now (ties c) c.args.from) (class_now (ties c) c.args.to) (moves c) (f c) (set_of c.set_class.new.self) c.class-one.result c.class-other.result
     (c.class-one.ensures ∙ ap (class_at (f c).classes) c.class-from.ensures) (c.class-other.ensures ∙ ap (class_at (f c).classes) c.class-to.ensures)
     (e ∙ ap (λ (n : ℕ). set_class n c.class_of_both.result (f c)) c.class-to.ensures ∙ ap (λ (x : Class). set_class (class_now (ties c) c.args.to) x (f c)) c.class_of_both.ensures)) c.set_class.ensures.ok
