@@ -5,6 +5,7 @@ mod fault;
 mod laws;
 mod program;
 mod ring;
+mod sizes;
 mod step;
 mod struct_words;
 mod survey;
