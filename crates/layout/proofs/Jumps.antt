@@ -61,10 +61,10 @@ two_more types sizes jumps written first rest next after longer (Some longest) a
     let step = over_first sizes first rest in
     let one : IsJump types sizes written (joined step next) = both written step next (LeadsOver.One written first rest is) (are rest next at) in
     let two : IsJump types sizes written (joined longer after) =
-      subst (λ j. IsJump types sizes written (joined j after)) (sym same) (both written (joined step next) after one (are next.to after at_next)) in
+    subst (λ j. IsJump types sizes written (joined j after)) (sym same) (both written (joined step next) after one (are next.to after at_next)) in
     subst (IsJump types sizes written) (sym e) two where
-  both : (from : ℕ) (a b : Jump) → IsJump types sizes from a → IsJump types sizes a.to b → IsJump types sizes from (joined a b)
-  both from a b h g = LeadsOver.Others from a.fields a.words a.to b.fields b.words b.to h g
+      both : (from : ℕ) (a b : Jump) → IsJump types sizes from a → IsJump types sizes a.to b → IsJump types sizes from (joined a b)
+      both from a b h g = LeadsOver.Others from a.fields a.words a.to b.fields b.words b.to h g
 
 -- ---- fields after a jump
 
@@ -121,17 +121,17 @@ module _ (p : LaidOut) where
       → ((first rest : ℕ) → slice_get p.of_module.types to ≡ Some (Struct first rest) → ⊥)
       → (None ≡ field_in p.of_module (slice_get p.of_module.types written) number) × (None ≡ words_before p (slice_get p.of_module.types written) number)
   nothing_here written n words to number h le none =
-      let split : number ≡ n + (number - n) = omega (arith, le) in
-      (
+      let split : number ≡ n + (number - n) = omega (arith, le) in (
         sym (ap (field_in p.of_module (slice_get p.of_module.types written)) split ∙ field_there written n words to h (number - n) ∙ no_field (slice_get p.of_module.types to) none (number - n)),
         sym (ap (words_before p (slice_get p.of_module.types written)) split ∙ words_there written n words to h (number - n) ∙ ap (sum_of words) (no_words (slice_get p.of_module.types to) none (number - n)) ∙ none_right words),
       ) where
-    no_field : (type : Option IrType) → ((first rest : ℕ) → type ≡ Some (Struct first rest) → ⊥) → (k : ℕ) → field_in p.of_module type k ≡ None
-    no_field (Some (Struct first rest)) none k = absurd (none first rest refl)
-    no_field _ none k = refl
-    no_words : (type : Option IrType) → ((first rest : ℕ) → type ≡ Some (Struct first rest) → ⊥) → (k : ℕ) → words_before p type k ≡ None
-    no_words (Some (Struct first rest)) none k = absurd (none first rest refl)
-    no_words _ none k = refl
+        no_field : (type : Option IrType) → ((first rest : ℕ) → type ≡ Some (Struct first rest) → ⊥) → (k : ℕ) → field_in p.of_module type k ≡ None
+        no_field (Some (Struct first rest)) none k = absurd (none first rest refl)
+        no_field _ none k = refl
+
+        no_words : (type : Option IrType) → ((first rest : ℕ) → type ≡ Some (Struct first rest) → ⊥) → (k : ℕ) → words_before p type k ≡ None
+        no_words (Some (Struct first rest)) none k = absurd (none first rest refl)
+        no_words _ none k = refl
 
 -- one more jump of a table, or one over the first field
 pub jumps_on : (types : List IrType) (sizes : List (Option ℕ)) (jumps : List Jump) (written n : ℕ) (words : Option ℕ) (to first rest : ℕ) (jump : Jump) → AreJumps types sizes jumps

@@ -1,6 +1,7 @@
 //! The words of a module's structs, and a module with its layouts.
 #![tactic(auto)]
 
+mod element;
 mod fault;
 mod laws;
 mod program;

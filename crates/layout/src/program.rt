@@ -162,7 +162,10 @@ impl Program {
             }
         }
         match self.of_module.types.get(to)? {
-            IrType::Struct { first, .. } => Some(Field { part: first, before: words }),
+            IrType::Struct { first, .. } => Some(Field {
+                part: first,
+                before: words,
+            }),
             _ => None,
         }
     }

@@ -38,11 +38,7 @@ pub struct Sizes {
 
 impl Sizes {
     /// These sizes, with the jumps over the fields of the types. Of a struct with n fields each is found by about log n of them.
-    pub fn of(
-        alloc: Global,
-        types: &Types,
-        each: Items<Option<u32>>,
-    ) -> Result<Self, AllocError>
+    pub fn of(alloc: Global, types: &Types, each: Items<Option<u32>>) -> Result<Self, AllocError>
         ensures each { IfOk result (λ sizes. sizes.each ≡ each) }
         ensures jumps { IfOk result (λ sizes. AreJumps types.now sizes.each sizes.jumps) }
     {
@@ -130,13 +126,7 @@ impl Sizes {
     }
 
     /// The longest jump that is known over at least one field of a struct and at most these.
-    pub fn jump_over(
-        &self,
-        written: TypeId,
-        first: TypeId,
-        rest: TypeId,
-        most: u64,
-    ) -> Jump
+    pub fn jump_over(&self, written: TypeId, first: TypeId, rest: TypeId, most: u64) -> Jump
         requires { 0 < most }
         ensures jump { (slice_get self.now.jumps written ≡ Some result) ⊎ (result ≡ over_first self.now.each first rest) }
         ensures within { (0 < result.fields) × (result.fields ≤ most) }

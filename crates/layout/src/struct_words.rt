@@ -217,10 +217,7 @@ fn sizes_of(alloc: Global, survey: &Survey) -> Result<Items<Option<u32>>, AllocE
 
 /// The words of each struct of a module, and how many words each type of its table has.
 #[tactic(auto, using(crate::proofs::Faults::are_sizes))]
-pub(crate) fn table(
-    alloc: Global,
-    module: &Module,
-) -> Result<(Layouts, Sizes), LayoutFault>
+pub(crate) fn table(alloc: Global, module: &Module) -> Result<(Layouts, Sizes), LayoutFault>
     ensures found { IfOk result (λ table. AreLayouts «module».now table.0 × AreSizes «module».now table.1.each × AreJumps «module».now.types table.1.each table.1.jumps) }
     ensures fault { IfErr result (λ fault. fault ≢ Memory → IsLayoutFault «module».now fault) }
     ensures refused_only_so { (words : List (List AWord)) → AreLayouts «module».now words → IfErr result (λ fault. fault ≡ Memory) }

@@ -1,4 +1,4 @@
-use Rattle.std.proofs.Common.{rules, ◌≡◌, ◌∙◌, ap, Some, slice_get}
+use Rattle.std.proofs.Common.{rules, ◌≡◌, Some, slice_get}
 use Rattle.layout.proofs.Jumps.{two_more}
 use Rattle.layout.proofs.sizes.Sizes.over_two_more.Goals as goal
 
@@ -7,4 +7,4 @@ returns c types written are is =
     let at : slice_get c.args.self.now.jumps c.args.rest ≡ Some c.in_ok-next.next.now = search rules in
     let at_next : slice_get c.args.self.now.jumps c.in_ok-next.next.now.to ≡ Some c.in_ok-after.after.now = search rules in
     two_more types c.args.self.now.each c.args.self.now.jumps written c.args.first c.args.rest c.in_ok-next.next.now c.in_ok-after.after.now c.in_ok-longer.longer c.join-2.result are is at at_next
-        (search rules) c.join-2.ensures
+    (search rules) c.join-2.ensures
