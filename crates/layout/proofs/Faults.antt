@@ -21,6 +21,7 @@ use Rattle.layout.specs.Survey.{mark_at, fields_at, IsWithin, IsLarge, MarkFits,
 use Rattle.layout.specs.Ring.{IsFirstIfAny, at_ring}
 use Rattle.layout.specs.Rings.{one_list}
 use Rattle.layout.proofs.FirstRings.{order, ring_has_no_end, one_first, none_first}
+use Rattle.layout.proofs.TourLists.{not_both}
 use Rattle.layout.proofs.Turns.{length_at}
 use Rattle.types.specs.Elements.{body_in, body_of_layout}
 
@@ -28,9 +29,6 @@ none_at : {A : Type 0} (p : A → Bool) (xs : List A) (i : ℕ) (x : A) → list
 none_at p [] i x e at = absurd cc
 none_at p (y ∷ xs) zero x e at = let same : y ≡ x = cc in subst (λ z. p z ≡ false) same (or_neither (p y) (list_any p xs) e).0
 none_at p (y ∷ xs) (suc i) x e at = none_at p xs i x (or_neither (p y) (list_any p xs) e).1 at
-
-true_or_false : (b : Bool) → b ≡ true → b ≡ false → ⊥
-true_or_false b e f = cc
 
 some_same : (a b : LayoutFault) → Some a ≡ Some b → a ≡ b
 some_same a b e = cc
@@ -44,7 +42,7 @@ no_place p (x ∷ xs) e = cases (position p (x ∷ xs)) refl where
   cases (Some i) is =
       let found = position-Some p (x ∷ xs) i x is in
       let here = slice_get-get_or (x ∷ xs) i x found.0 in
-      absurd (true_or_false (p (get_or (x ∷ xs) i x)) found.1 (none_at p (x ∷ xs) i (get_or (x ∷ xs) i x) e here))
+      absurd (not_both (p (get_or (x ∷ xs) i x)) found.1 (none_at p (x ∷ xs) i (get_or (x ∷ xs) i x) e here))
 
 -- a test of structs that says of which numbers something holds
 record Says (structs : List StructType) (p : StructType → Bool) (P : ℕ → Type 0) : Type 0 where
@@ -61,13 +59,13 @@ module _ (structs : List StructType) (p : StructType → Bool) (P : ℕ → Type
         none_before = λ other lt h.
             let there : (st : StructType) × ((slice_get structs other ≡ Some st) × (p st ≡ true)) = says.back other h in
             let same : get_or structs other d ≡ there.0 = get_or_from_slice_get structs other there.0 d there.1.0 in
-            true_or_false (p there.0) there.1.1 (subst (λ z. p z ≡ false) same (found.2 other lt));
+            not_both (p there.0) there.1.1 (subst (λ z. p z ≡ false) same (found.2 other lt));
       }
 
   is_none_of : position p structs ≡ None → (s : ℕ) → P s → ⊥
   is_none_of e s h =
       let there : (st : StructType) × ((slice_get structs s ≡ Some st) × (p st ≡ true)) = says.back s h in
-      true_or_false (p there.0) there.1.1 (none_at p structs s there.0 (none_passes p structs e) there.1.0)
+      not_both (p there.0) there.1.1 (none_at p structs s there.0 (none_passes p structs e) there.1.0)
 
   only_first : (n : ℕ) → IsFirst P n → position p structs ≡ Some n
   only_first n h = cases (position p structs) refl where
@@ -118,7 +116,7 @@ module _ (m : Module) (marks : List SizeMark) (fields : List ℕ) (settled : IsS
   mark_is t k e = subst (MarkFits m fields t) e (settled.survey.fits t)
 
   never_new : (t : ℕ) → mark_at marks t ≡ New → ⊥
-  never_new t e = true_or_false (is_new (mark_at marks t)) (ap is_new e) (settled.met t)
+  never_new t e = not_both (is_new (mark_at marks t)) (ap is_new e) (settled.met t)
 
   never_open : (t : ℕ) → mark_at marks t ≡ Open → ⊥
   never_open t e = let at : (i : ℕ) × (slice_get [] i ≡ Some t) = settled.survey.open_in t e in no_such at.0 at.1 where

@@ -1,4 +1,4 @@
-pub mod Before
+pub mod Jumps
 pub mod Turns
 pub mod Moves
 pub mod Faults

@@ -65,11 +65,6 @@ get_take (x ∷ xs) (suc n) (suc i) p lt e = get_take xs n i p (omega (arith, lt
 pub taken : (xs : List ℕ) (n p : ℕ) → Has (take n xs) p → Has xs p
 taken xs n p w = (w.0, (take_get xs n w.0 p w.1).1)
 
-pub get_some : (xs : List ℕ) (i : ℕ) → i < length xs → (q : ℕ) × (slice_get xs i ≡ Some q)
-get_some [] i lt = absurd (omega (arith, lt))
-get_some (x ∷ xs) zero lt = (x, refl)
-get_some (x ∷ xs) (suc i) lt = get_some xs i (omega (arith, lt))
-
 pub increasing_with : (xs : List ℕ) (n : ℕ) → AreIncreasing xs → ((x : ℕ) → Has xs x → x < n) → AreIncreasing (xs ++ n ∷ [])
 increasing_with xs n up below k l one other lt ek el = by (get_either xs n k one ek) (get_either xs n l other el) where
   by : (slice_get xs k ≡ Some one) ⊎ ((k ≡ length xs) × (one ≡ n)) → (slice_get xs l ≡ Some other) ⊎ ((l ≡ length xs) × (other ≡ n)) → one < other

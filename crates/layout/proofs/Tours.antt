@@ -1,6 +1,7 @@
 -- What is known on a tour stays so, where a type is met, where the tour looks back from it, and where it is left.
 use Rattle.std.proofs.Common.{◌≡◌, ◌≢◌, ◌⊎◌, inl, inr, ◌<◌, ◌≤◌, ◌+◌, ℕ, false, [], ◌∷◌, ◌++◌, length, take, Option, Some, None, refl, sym, ap, ◌∙◌, subst, arith}
 use Rattle.std.specs.Prelude.{slice_get, slice_set}
+use Rattle.lemmas.specs.Lists.{get_some}
 use Rattle.lemmas.specs.Numbers.{some_same}
 use Rattle.ir_ast.specs.declared.module.Module.{Module}
 use Rattle.ir_ast.specs.declared.ir_type.IrType.{IrType}
@@ -10,7 +11,7 @@ use Rattle.layout.specs.Steps.{get_front, get_last, get_either, get_inside}
 use Rattle.layout.specs.Tours.{State, with_top, opened, noted, cut, left, is_placeless, is_new, Has, IsCount, IsInRing, IsOpen, IsLeft, HoldsBound, IsWithin, IsUpTo, IsTour}
 use Rattle.types.specs.Elements.{body_of_layout}
 use Rattle.types.specs.References.{layout_of_struct}
-use Rattle.layout.proofs.TourLists.{same_or_not, below_or_not, not_both, has_front, has_last, has_either, has_or_not, take_get, get_take, taken, get_some, increasing_with, increasing_take, increasing_front, set_other, set_here, set_length, not_there, least_is, least_up_to}
+use Rattle.layout.proofs.TourLists.{same_or_not, below_or_not, not_both, has_front, has_last, has_either, has_or_not, take_get, get_take, taken, increasing_with, increasing_take, increasing_front, set_other, set_here, set_length, not_there, least_is, least_up_to}
 
 holds_trans : (m : Module) (a b c : ℕ) → Holds m a b → Holds m b c → Holds m a c
 holds_trans m a b c (Itself v) h = h

@@ -1,6 +1,7 @@
 pub mod Words
 pub mod Layouts
 pub mod Offsets
+pub mod Jumps
 pub mod Survey
 pub mod Ring
 pub mod Tours

@@ -3,6 +3,7 @@ use Rattle.std.proofs.Common.{◌≡◌, ◌≢◌, ◌⊎◌, inl, inr, ◌<◌
 use Rattle.std.proofs.lemmas.List.{take-append-le, drop-append-le}
 use Rattle.std.proofs.Math.Seq.{drop-append_seam, take-length}
 use Rattle.std.specs.Prelude.{slice_get, slice_set}
+use Rattle.lemmas.specs.Lists.{get_some}
 use Rattle.lemmas.specs.Numbers.{some_same}
 use Rattle.ir_ast.specs.declared.module.Module.{Module}
 use Rattle.layout.specs.Words.{Scalars}
@@ -23,7 +24,7 @@ pub get_last : (s : List ℕ) (x : ℕ) → slice_get (s ++ x ∷ []) (length s)
 get_last [] x = refl
 get_last (y ∷ s) x = get_last s x
 
-pub get_either : (s : List ℕ) (x i p : ℕ) → slice_get (s ++ x ∷ []) i ≡ Some p → (slice_get s i ≡ Some p) ⊎ ((i ≡ length s) × (p ≡ x))
+pub get_either : {X : Type 0} (s : List X) (x : X) (i : ℕ) (p : X) → slice_get (s ++ x ∷ []) i ≡ Some p → (slice_get s i ≡ Some p) ⊎ ((i ≡ length s) × (p ≡ x))
 get_either [] x zero p e = inr (refl, cc)
 get_either [] x (suc i) p e = absurd cc
 get_either (y ∷ s) x zero p e = inl e
@@ -34,11 +35,6 @@ pub get_inside : {X : Type 0} (s : List X) (i : ℕ) (p : X) → slice_get s i �
 get_inside [] i p e = absurd cc
 get_inside (y ∷ s) zero p e = omega arith
 get_inside (y ∷ s) (suc i) p e = let h = get_inside s i p e in omega arith
-
-get_some : (xs : List ℕ) (i : ℕ) → i < length xs → (q : ℕ) × (slice_get xs i ≡ Some q)
-get_some [] i lt = absurd (omega arith)
-get_some (x ∷ xs) zero lt = (x, refl)
-get_some (x ∷ xs) (suc i) lt = get_some xs i (omega arith)
 
 -- ---- marks
 

@@ -1,10 +1,12 @@
 //! The words of a module's structs, and a module with its layouts.
 #![tactic(auto)]
 
+mod element;
 mod fault;
 mod laws;
 mod program;
 mod ring;
+mod sizes;
 mod step;
 mod struct_words;
 mod survey;

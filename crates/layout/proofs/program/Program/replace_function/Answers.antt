@@ -7,4 +7,4 @@ invariant_of-self c =
     let m = c.self.inside.of_module in
     let fs = c.replace.new.self in
     let old = c.self.invariant in
-    (layouts_with m fs c.self.inside.layouts old.0, sizes_with m fs c.self.inside.sizes old.1, old.2 ∙ sym (globals_with m fs))
+    (layouts_with m fs c.self.inside.layouts old.0, sizes_with m fs c.self.inside.sizes.each old.1, old.2, old.3 ∙ sym (globals_with m fs))
