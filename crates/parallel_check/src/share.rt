@@ -11,8 +11,8 @@ use ir_ast::FuncId;
 use layout::Program;
 use std::alloc::Global;
 
-/// How many neighbouring functions a worker takes at a time. Neighbours of the text are neighbours in memory too, so two workers
-/// on them would wait for one another's cache lines. Each worker gets some 16 stretches at least, where it gets as many functions.
+/// How many neighbouring functions a worker takes at a time. Neighbours of the text are neighbours in memory too: two workers on
+/// them would each read the cache lines and pages of both. Where a worker gets as many functions, it gets some 16 stretches at least.
 fn stretch_of(workers: u32, count: u32) -> u32
     requires { 1 ≤ workers }
     ensures value { result ≡ spec.stretch_of workers count }
