@@ -24,7 +24,6 @@ use layout::{Program, Step};
 use pools::{CELL_WORDS, LayoutId, Layouts, WordSet};
 use shadow_stack::Slots;
 use std::alloc::AllocError;
-use types::part_at;
 
 /// No index has more bits.
 const WORD_BITS: u32 = 64;
@@ -225,7 +224,7 @@ fn part_led(program: &Program, facts: &Facts, written: TypeId, index: &Argument)
 {
     match program.module().types.get(written) {
         Some(whole) if !leads_into(program, facts, whole, index) => None,
-        _ => part_at(program.module(), written, *index),
+        _ => program.part_at(written, *index),
     }
 }
 
