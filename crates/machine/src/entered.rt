@@ -8,6 +8,7 @@ ghost use Rattle.machine.specs.Entered.{WasEntered};
 
 use crate::entry::{all_unset, most_phis};
 use crate::frame::Frame;
+use crate::frame_roots::FrameRoots;
 use crate::memory::slot_value;
 use crate::value::Value;
 use ir_ast::{BlockId, FuncId, Function, Module};
@@ -121,6 +122,16 @@ impl<'a> Entered<'a> {
             roots.push(slot_value(frame.slots.as_slice(), *slot))?;
         }
         Ok(())
+    }
+
+    /// The roots of a frame.
+    pub fn frame_roots<'f>(&'f self, frame: &'f Frame) -> FrameRoots<'f>
+        requires { WasEntered self.now.tables frame.now.function }
+        ensures { result ≡ frame_roots self.now.program.of_module frame.now (slice_get self.now.program.of_module.functions frame.now.function) }
+    {
+        let _ = &self.program;
+        let roots = self.slots(frame.function).root_slots();
+        FrameRoots::new(roots, frame.slots.as_slice())
     }
 }
 

@@ -1,8 +1,11 @@
-ghost use Rattle.std.specs.Prelude.{◌≡◌, ◌+◌, ◌<◌, ◌^◌, ◌↔◌, length, slice_get, Err, IfOk, OnOk, OnErr, OnSome, Some};
+ghost use Rattle.std.specs.Prelude.{◌≡◌, ◌+◌, ◌<◌, ◌≤◌, ◌^◌, ◌↔◌, ◌∷◌, length, reverse, slice_get, Err, List, Option, IfOk, OnOk, OnErr, OnSome, Some};
 ghost use Rattle.std.specs.Option.{option_copied};
 ghost use Rattle.machine.specs.Endings.{ending};
-ghost use Rattle.machine.specs.Machine.{action, after_answer, start, roots, instr_in, end_of};
+ghost use Rattle.machine.specs.Machine.{action, after_answer, start, roots, frame_roots, instr_in, end_of};
 ghost use Rattle.machine.specs.Start.{takes_reference, argument_fits, arguments_fit, argument_values, StartsByReference, StartsWrongly};
+ghost use Rattle.machine.specs.declared.frame.Frame.{Frame as AFrame};
+ghost use Rattle.machine.specs.Entered.{WasEntered, WereEntered};
+ghost use Rattle.shadow_stack.specs.Slots.{SlotTable};
 ghost use Rattle.machine.specs.declared.thread.StartFault.TheVariants.{ReferenceParameter, WrongArguments};
 
 use crate::action::Action;
@@ -14,6 +17,7 @@ use crate::ends::end_action;
 use crate::entered::{Entered, function_of};
 use crate::entry::entry_frame;
 use crate::frame::Frame;
+use crate::frame_roots::FrameRoots;
 use crate::frames::{above_callers, after_end, after_instr, with_room};
 use crate::integers::wrapped;
 use crate::kinds::{bits_at, is_integer};
@@ -179,6 +183,25 @@ impl<'a> Thread<'a> {
         Ok(all)
     }
 
+    /// How many frames there are.
+    pub fn frames(&self) -> usize
+        ensures { result ≡ length self.now.state.frames }
+    {
+        if self.ended {
+            return 0;
+        }
+        self.below.len() + 1
+    }
+
+    /// The values of the gcroot slots of a frame, the newest frame being number 0.
+    pub fn frame_roots(&self, frame: usize) -> FrameRoots<'_>
+        requires { frame < length self.now.state.frames }
+        ensures { (of : AFrame) → slice_get self.now.state.frames frame ≡ Some of → result ≡ frame_roots self.now.program.of_module of (slice_get self.now.program.of_module.functions of.function) }
+    {
+        let frame = frame_at(&self.running, self.below.as_slice(), frame);
+        self.entered.frame_roots(frame)
+    }
+
     /// The thread goes on with the answer to what it asked for. Without memory it stays as it was.
     pub fn resume(&mut self, answer: Answer) -> Result<(), AllocError>
         ensures ok { OnOk result (self.new ≡ record self.old { state = after_answer self.old.program self.old.state answer }) }
@@ -205,6 +228,18 @@ impl<'a> Thread<'a> {
         self.ended = !goes_on;
         Ok(())
     }
+}
+
+/// A frame of those that run, the newest being number 0.
+fn frame_at<'a>(running: &'a Frame, below: &'a [Frame], frame: usize) -> &'a Frame
+    requires { frame ≤ length below.now }
+    ensures frame { slice_get (running.now ∷ reverse below.now) frame ≡ Some result.now }
+    ensures entered { (tables : List (Option SlotTable)) → WereEntered tables (running.now ∷ below.now) → WasEntered tables result.now.function }
+{
+    if frame == 0 {
+        return running;
+    }
+    &below[below.len() - frame]
 }
 
 fn instr_at(function: &Function, block: usize, place: usize) -> Option<&Instr>

@@ -2,16 +2,9 @@
 use Rattle.std.specs.Prelude.{◌≡◌, ◌≢◌, List}
 use Rattle.runs.specs.Machine.{Reference}
 use Rattle.moves.specs.declared.roots_after.RootsAfter.{RootsAfter}
-use Rattle.moves.specs.declared.roots_after.RootsAfter.TheVariants.{Same, Others, Unseen}
+use Rattle.moves.specs.declared.roots_after.RootsAfter.TheVariants.{Same, Others}
 
 -- what is told of these roots, after those before, is so
 abbrev pub IsToldOfRoots : RootsAfter → (before after : List Reference) → Type 0
 IsToldOfRoots Same before after = after ≡ before
 IsToldOfRoots Others before after = after ≢ before
-IsToldOfRoots Unseen before after = Unit {0}
-
--- what is found of these roots, after those before, is so
-abbrev pub IsFoundOfRoots : RootsAfter → (before after : List Reference) → Type 0
-IsFoundOfRoots Same before after = after ≡ before
-IsFoundOfRoots Others before after = after ≢ before
-IsFoundOfRoots Unseen before after = ⊥

@@ -8,7 +8,7 @@ ghost use Rattle.moves.specs.declared.call.Call.{Call as ACall};
 ghost use Rattle.moves.specs.Kinds.{MayAnswer};
 ghost use Rattle.moves.specs.Moving.{HasHint, HasRoom, MayMake};
 ghost use Rattle.moves.specs.Stands.{standing};
-ghost use Rattle.moves.specs.RootsAfter.{IsFoundOfRoots, IsToldOfRoots};
+ghost use Rattle.moves.specs.RootsAfter.{IsToldOfRoots};
 
 use crate::call::Answer;
 use crate::hints::note_win;
@@ -59,17 +59,14 @@ fn end_call<M: Runner>(state: &mut M, answer: Answer) -> Result<RootsAfter, Allo
 {
     let before = state.root_references()?;
     state.answer(answer)?;
-    match state.root_references() {
-        Ok(after) => Ok(compared(before.as_slice(), after.as_slice())),
-        Err(_) => Ok(RootsAfter::Unseen),
-    }
+    Ok(compared(before.as_slice(), state))
 }
 
-/// What these roots are to those before.
-fn compared(before: &[Reference], after: &[Reference]) -> RootsAfter
-    ensures { IsFoundOfRoots result before.now after.now }
+/// What the roots are to those before.
+fn compared<M: Runner>(before: &[Reference], state: &M) -> RootsAfter
+    ensures { IsToldOfRoots result before.now (M.roots state.now) }
 {
-    if after == before {
+    if state.has_roots(before) {
         return RootsAfter::Same;
     }
     RootsAfter::Others

@@ -1,10 +1,8 @@
-/// What is known of a thread's roots after its move.
+/// What a thread's roots are after its move.
 #[derive(Clone, Copy, PartialEq, Eq)]
 pub enum RootsAfter {
     /// They are those before it.
     Same,
     /// They are others.
     Others,
-    /// No memory was left to look at them.
-    Unseen,
 }

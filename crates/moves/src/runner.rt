@@ -1,4 +1,4 @@
-ghost use Rattle.std.specs.Prelude.{◌≡◌, IfOk, OnOk, OnErr};
+ghost use Rattle.std.specs.Prelude.{◌≡◌, ◌↔◌, IfOk, IsTrue, OnOk, OnErr};
 ghost use Rattle.pools.specs.Heap.{Setup};
 ghost use Rattle.moves.specs.Calls.{action_of, answer_in};
 ghost use Rattle.moves.specs.Kinds.{KeepsKinds, MayAnswer};
@@ -21,6 +21,10 @@ pub trait Runner: Machine {
     /// What the root slots of all frames hold, the oldest frame's first.
     fn root_references(&self) -> Result<Vec<Reference>, AllocError>
         ensures { IfOk result (λ roots. roots.items ≡ Self.roots self.now) };
+
+    /// Whether they hold these, the oldest frame's first. It takes no memory.
+    fn has_roots(&self, roots: &[Reference]) -> bool
+        ensures { IsTrue result ↔ (Self.roots self.now ≡ roots.now) };
 
     /// The thread goes on with the answer, which fits what it asked for. Without memory it stays as it was.
     fn answer(&mut self, answer: Answer) -> Result<(), AllocError>

@@ -1,2 +1,4 @@
 pub mod Words
 pub mod CellsRead
+mod FrameNames
+mod Tails

@@ -1,16 +1,17 @@
-ghost use Rattle.std.specs.Prelude.{◌≡◌, ◌<◌, slice_get};
+ghost use Rattle.std.specs.Prelude.{◌≡◌, ◌≢◌, ◌<◌, ◌++◌, List, None, Some, map, slice_get, IfSome};
 ghost use Rattle.pools.specs.Heap.{Setup as Heap, cells, kind_of, words_of_cell};
 ghost use Rattle.machine.specs.Endings.{ending};
 ghost use Rattle.machine.specs.Machine.{action};
 ghost use Rattle.moves.specs.Calls.{answer_in};
 ghost use Rattle.moves.specs.Kinds.{MayAnswer};
-ghost use Rattle.program_safety.specs.Threads.{asks, given_as};
+ghost use Rattle.runs.specs.Machine.{Reference as AReference};
+ghost use Rattle.program_safety.specs.Threads.{asks, given_as, reference_in};
 ghost use Rattle.program_runner.specs.Kinds.{FitsThread};
 ghost use Rattle.program_runner.specs.Heaps.{heap_of};
 
 use crate::answers::{asked_as, null_or_cell, reference_in, word_read};
 use layout::Program;
-use machine::{Action, Answer as ThreadAnswer, Ending, Thread};
+use machine::{Action, Answer as ThreadAnswer, Ending, FrameRoots, Thread};
 use moves::{Answer, Call, Reference, Runner};
 use pools::WordKind;
 use runs::Machine;
@@ -126,10 +127,39 @@ impl<'a> Runner for ProgramThread<'a> {
             .collect(self.alloc)
     }
 
+    fn has_roots(&self, roots: &[Reference]) -> bool {
+        let mut rest = roots;
+        for frame in 0..self.thread.frames() {
+            match before_names(&self.thread.frame_roots(frame), rest) {
+                Some(before) => rest = before,
+                None => return false,
+            }
+        }
+        rest.is_empty()
+    }
+
     fn answer(&mut self, answer: Answer) -> Result<(), AllocError> {
         let given = self.given_as(answer);
         self.thread.resume(given)
     }
+}
+
+/// What comes before the roots of a frame, if these end with what they refer to.
+fn before_names<'a>(own: &FrameRoots<'_>, roots: &'a [Reference]) -> Option<&'a [Reference]>
+    ensures before { IfSome result (λ before. roots.now ≡ before.now ++ map reference_in own.now) }
+    ensures none { result ≡ None → (before : List AReference) → roots.now ≢ before ++ map reference_in own.now }
+{
+    let count = own.len();
+    if roots.len() < count {
+        return None;
+    }
+    let (before, last) = roots.split_at(roots.len() - count);
+    for (place, root) in last.iter().enumerate() {
+        if reference_in(own.value(place)) != *root {
+            return None;
+        }
+    }
+    Some(before)
 }
 
 /// The word with this number of a list, if there is one.

@@ -25,7 +25,7 @@ use Rattle.moves.specs.Shared.{held_at}
 use Rattle.moves.specs.Stands.{standing}
 use Rattle.moves.specs.Drawn.{drawn, moved-found}
 use Rattle.stepping.specs.Reach.{FreesNothing, LosesNothing}
-use Rattle.stepping.specs.Loss.{IsFound}
+use Rattle.stepping.specs.Loss.{IsTold}
 use Rattle.stepping.specs.declared.loss.Loss.{Loss}
 use Rattle.run_law.specs.Growth.{CollectorIsAfter, MotionGrows, with_stored}
 use Rattle.stepping.specs.declared.acting.Actors.{Actors}
@@ -105,7 +105,7 @@ collects-more s c run word_at motion afterwards e x =
 -- the actors are those after it
 pub collected : (s : Setup) (m : Machine) (Fits : m.State → Type 0) (starts : ℕ → m.State) (before : List Actor) (a : Actors m.State) → AreAfterSteps s m Fits starts before a
     → (motion : Motion) (afterwards : Collecting) → IsStepOn (held_at a.shared) a.collector motion afterwards → MotionGrows s (run_by s m starts before) a.shared motion afterwards
-    → KeepsAll s m starts → (loss : Loss) → IsFound loss (LosesNothing s m starts (run_by s m starts before) (OfCollector motion.turn))
+    → KeepsAll s m starts → (loss : Loss) → IsTold loss (LosesNothing s m starts (run_by s m starts before) (OfCollector motion.turn))
     → IsOneStep s m Fits starts before Collector (Some (record { happening = made.Collector motion.turn; broke = None; loss = loss }))
     (record { schema = a.schema; threads = a.threads; shared = with_stored a.shared motion motion.stored; collector = afterwards })
 collected s m Fits starts before a b motion afterwards x grows keeps loss told =
@@ -130,7 +130,7 @@ collected s m Fits starts before a b motion afterwards x grows keeps loss told =
         broke = (λ w. w, λ w. w);
         loss = told;
         loses = λ lossless before_it. keeps run (OfCollector motion.turn) (is_longer_run s m starts before Collector (OfCollector motion.turn) (tt, b.is_after.are_actors) next)
-            (subst (λ (l : Loss). IsFound l (LosesNothing s m starts run (OfCollector motion.turn))) lossless told) before_it;
+            (subst (λ (l : Loss). IsTold l (LosesNothing s m starts run (OfCollector motion.turn))) lossless told) before_it;
       };
       afterwards = record {
         schema = b.schema;

@@ -28,7 +28,7 @@ use Rattle.moves.specs.Breaks.{first_cause}
 use Rattle.stepping.specs.Reach.{AddsNothing, LosesNothing}
 use Rattle.stepping.specs.Loss.{IsTold}
 use Rattle.stepping.specs.declared.loss.Loss.{Loss}
-use Rattle.stepping.specs.declared.loss.Loss.TheVariants.{Nothing, Possible, Unseen}
+use Rattle.stepping.specs.declared.loss.Loss.TheVariants.{Nothing, Possible}
 use Rattle.run_law.specs.Growth.{ThreadIsAfter, MoveGrows}
 use Rattle.stepping.specs.declared.acting.Actors.{Actors}
 use Rattle.stepping.specs.declared.happening.Happening.TheVariants as happening
@@ -151,7 +151,6 @@ loses-back s m starts run t stand move afterwards stands is loses = (
 told-so : (loss : Loss) (P Q : Type 0) → (P → Q) → (Q → P) → IsTold loss P → IsTold loss Q
 told-so Nothing P Q to back told = to told
 told-so Possible P Q to back told = λ q. told (back q)
-told-so Unseen P Q to back told = tt
 
 -- the end of the run with the move
 moves-on : (s : Setup) (m : Machine) (Fits : m.State → Type 0) (starts : ℕ → m.State) (run : List Happening) (a : Actors m.State) → IsEnd s m Fits starts run a.threads.items a.shared a.collector

@@ -17,7 +17,7 @@ use Rattle.moves.specs.Runs.{collector_after, next_by, run_by, AreActors}
 use Rattle.moves.specs.Shared.{StandAfter}
 use Rattle.moves.specs.Stands.{standing}
 use Rattle.stepping.specs.Reach.{IsSchemaOf, IsFirstGone, LosesNothing}
-use Rattle.stepping.specs.Loss.{IsToldOf}
+use Rattle.stepping.specs.Loss.{IsTold}
 use Rattle.run_law.specs.Growth.{IsInHeap}
 use Rattle.stepping.specs.declared.acting.Actors.{Actors}
 use Rattle.stepping.specs.declared.happening.Happening.{Happening}
@@ -61,8 +61,8 @@ pub record IsStep (s : Setup) (m : Machine) (starts : ℕ → m.State) (run : Li
   pub next : next_by s m starts run actor ≡ Some happening
   pub tells : Tells (λ t. m.roots (moves.state_after s m t (starts t) (share_of t run))) step.happening happening
   pub broke : IsStepCause s m starts (happening ∷ run) step.broke
-  -- it is told that nothing may be lost only of a step that loses nothing, and that something may be only of another one. It is left open only of a thread's step
-  pub loss : IsToldOf happening step.loss (LosesNothing s m starts run happening)
+  -- it is told that nothing may be lost only of a step that loses nothing, and that something may be only of another one
+  pub loss : IsTold step.loss (LosesNothing s m starts run happening)
   -- where nothing that is gone could be reached before, nothing can be after a step that loses nothing
   pub loses : step.loss ≡ Nothing → IsFirstGone s m starts run None → IsFirstGone s m starts (happening ∷ run) None
 

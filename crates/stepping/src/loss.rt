@@ -2,9 +2,7 @@ ghost use Rattle.std.specs.Prelude.{◌≡◌, List, true, false};
 ghost use Rattle.runs.specs.Machine.{Reference as AReference};
 ghost use Rattle.moves.specs.Calls.{move_in};
 ghost use Rattle.moves.specs.RootsAfter.{IsToldOfRoots};
-ghost use Rattle.moves.specs.declared.roots_after.RootsAfter.TheVariants as known;
-ghost use Rattle.stepping.specs.declared.loss.Loss.TheVariants as loss;
-ghost use Rattle.stepping.specs.Loss.{IsFound, IsTold};
+ghost use Rattle.stepping.specs.Loss.{IsTold};
 ghost use Rattle.stepping.specs.Reach.{AddsNothing, FreesNothing};
 
 use colours::Turn;
@@ -17,13 +15,11 @@ pub enum Loss {
     Nothing,
     /// It does one of these.
     Possible,
-    /// It does none of the others, and no memory was left to look at the roots of its thread.
-    Unseen,
 }
 
 /// Whether a step of the collector may lose something: only where it frees a cell.
 pub(crate) fn loss_of_turn(turn: Turn) -> Loss
-    ensures { IsFound result (FreesNothing turn) }
+    ensures { IsTold result (FreesNothing turn) }
 {
     match turn {
         Turn::Free(_) => Loss::Possible,
@@ -33,8 +29,7 @@ pub(crate) fn loss_of_turn(turn: Turn) -> Loss
 
 /// Whether a move may lose something, after which this is known of its thread's roots.
 pub(crate) fn loss_of_move(made: &Move, roots_after: RootsAfter) -> Loss
-    ensures told { (before after : List AReference) → IsToldOfRoots roots_after before after → IsTold result (AddsNothing (move_in before made.now) × (after ≡ before)) }
-    ensures seen { result ≡ loss.Unseen → roots_after ≡ known.Unseen }
+    ensures { (before after : List AReference) → IsToldOfRoots roots_after before after → IsTold result (AddsNothing (move_in before made.now) × (after ≡ before)) }
 {
     if adds(made) {
         return Loss::Possible;
@@ -42,7 +37,6 @@ pub(crate) fn loss_of_move(made: &Move, roots_after: RootsAfter) -> Loss
     match roots_after {
         RootsAfter::Same => Loss::Nothing,
         RootsAfter::Others => Loss::Possible,
-        RootsAfter::Unseen => Loss::Unseen,
     }
 }
 

@@ -124,7 +124,7 @@ returns-clause-ok g c s starts before b lt =
     subst (λ (v : Stand g.row.M.Denot). standing s m c.go_on.new.stand ≡ moved s m (standing s m v) (move_in (m.roots v.state) move)) (sym same)
     (c.in_ok-roots_after.ensures.ok s (call-of (m.action c.index_mut.result.now.state)) b.schema.pools (asks-for (m.action c.index_mut.result.now.state))
     (subst (λ (v : Stand g.row.M.Denot). MayMake s v.hints (m.roots v.state) (call-of (m.action v.state)) v.stance move) same (moves.may_make (call-of (m.action stand.state)) (asks-for (m.action stand.state))))) in
-    let told = c.loss_of_move-loss.ensures.told (m.roots stand.state) (m.roots c.go_on.new.stand.state)
+    let told = c.loss_of_move-loss.ensures (m.roots stand.state) (m.roots c.go_on.new.stand.state)
     (subst (λ (v : Stand g.row.M.Denot). IsToldOfRoots c.in_ok-roots_after.roots_after (m.roots v.state) (m.roots c.go_on.new.stand.state)) (sym same) c.in_ok-roots_after.ensures.roots) in
     let done = moved-on s m (g.M.Runner.fits s) starts before a b c.args.thread lt stand is move asked moves c.go_on.new.stand afterwards c.broken_by-broke.result c.broken_by-broke.ensures
     (c.loss_law.ensures s starts) c.loss_of_move-loss.result told in
