@@ -12,15 +12,11 @@ mod anew_tests;
 #[cfg(test)]
 mod block_tests;
 #[cfg(test)]
-mod collector_tests;
-#[cfg(test)]
 mod command_tests;
 #[cfg(test)]
 mod machine_tests;
 #[cfg(test)]
 mod meeting;
-#[cfg(test)]
-mod mutator_tests;
 mod printed;
 #[cfg(test)]
 mod printing_tests;

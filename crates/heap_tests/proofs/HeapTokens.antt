@@ -1,8 +1,10 @@
--- The tokens of a new heap, and its globals and cells.
-use Rattle.std.proofs.Common.{◌≡◌, ℕ, suc, ◌+◌, false, Bool, Some, List, [], ◌∷◌, ◌++◌, length, sym, ap, subst, ◌∙◌, arith}
+-- The tokens of a new heap, its globals and cells, and what its calls find.
+use Rattle.std.proofs.Common.{◌≡◌, ◌<◌, ◌^◌, ℕ, suc, ◌+◌, false, Bool, Some, List, [], ◌∷◌, ◌++◌, length, sym, ap, subst, arith}
 use Rattle.std.specs.Prelude.{MatchBool, slice_get, slice_index_or}
+use Rattle.pools.specs.declared.word_kind.WordKind.{WordKind}
 use Rattle.pools.specs.declared.word_kind.WordKind.TheVariants.{Reference}
 use Rattle.pools.specs.Heap.{Setup, cells, cells_in, kind_of}
+use Rattle.colours.specs.Calls.{Todo, Reading, Replacing, Trying, Polling, Beginning, Arriving, Checking, Steps, IsAnswer}
 use Rattle.colours.specs.Steps.{Step}
 use Rattle.heap_words.specs.Tokens.{Shared}
 use Rattle.heap_table.specs.Holders.{Holder, IsOf, MayCall, MayBegin, IsNow}
@@ -26,11 +28,27 @@ pub are_of : (heap : Shared) (first : ℕ) (tokens : List Holder) → AreNew hea
 are_of heap first [] h = tt
 are_of heap first (token ∷ tokens) h = (h.0.of, are_of heap (suc first) tokens h.1)
 
--- a global of references, of the plan that a heap was made from
-pub global_of : (s plan : Setup) (word layout : ℕ) → s ≡ plan → layout ≡ 0 → slice_get plan.globals word ≡ Some (Reference layout) → kind_of s 0 word ≡ Some (Reference 0)
+-- the first global is a reference
+pub first_global : (s : Setup) (others : List WordKind) → s.globals ≡ Reference 0 ∷ others → kind_of s 0 0 ≡ Some (Reference 0)
 unfolding kind_of
-global_of s plan word layout e null k = ap (λ (x : Setup). slice_get x.globals word) e ∙ (k ∙ ap (λ (n : ℕ). Some (Reference n)) null)
+first_global s others e = ap (λ (globals : List WordKind). slice_get globals 0) e
+
+-- and the second
+pub second_global : (s : Setup) (first : WordKind) (others : List WordKind) → s.globals ≡ first ∷ Reference 0 ∷ others → kind_of s 0 1 ≡ Some (Reference 0)
+unfolding kind_of
+second_global s first others e = ap (λ (globals : List WordKind). slice_get globals 1) e
 
 -- the globals' cell and a pool of two
 pub three_cells : (s : Setup) → s.pools ≡ 2 ∷ [] → cells s ≡ 3
 three_cells s e = ap (λ (pools : List ℕ). cells_in pools) e
+
+-- a small number fits each operation
+pub small_fits : (todo : Todo) (found : ℕ) → found < 2 ^ 32 → IsAnswer todo found
+small_fits (Reading cell word) found small = tt
+small_fits (Replacing cell word new) found small = small
+small_fits (Trying cell cells) found small = tt
+small_fits (Polling roots) found small = tt
+small_fits Beginning found small = tt
+small_fits (Arriving stage) found small = tt
+small_fits (Checking stage) found small = tt
+small_fits (Steps steps) found small = tt

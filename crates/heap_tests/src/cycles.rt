@@ -5,7 +5,7 @@ ghost use Rattle.pools.specs.declared.word_kind.WordKind.TheVariants.{Reference}
 ghost use Rattle.heap_table.specs.Holders.{MayCall};
 ghost use Rattle.heap_table.specs.Sweepers.{IsSweeperOf};
 
-use crate::{answer, global, keep_a_cell, take, take_two};
+use crate::steps::{answer, global, keep_a_cell, take, take_two};
 use colours::Turn;
 use heap_table::{Heap, Mutator, Sweeper};
 

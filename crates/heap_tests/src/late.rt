@@ -1,13 +1,12 @@
 //! A late thread beside one that has begun, each on a real thread.
-ghost use Rattle.std.specs.Prelude.{◌≡◌, ◌<◌, [], ◌∷◌, true, false, IsTrue, length, Some, IfSome};
+ghost use Rattle.std.specs.Prelude.{◌≡◌, ◌<◌, IsTrue, length, Some};
 ghost use Rattle.pools.specs.Heap.{kind_of};
 ghost use Rattle.pools.specs.declared.word_kind.WordKind.TheVariants.{Reference};
 ghost use Rattle.heap_table.specs.Holders.{IsOf, MayCall, MayBegin};
-ghost use Rattle.heap_table.specs.Opening.{AreNew};
 ghost use Rattle.heap_table.specs.Sweepers.{IsSweeperOf};
 
 use crate::cycles::answer_each;
-use crate::{finish, global, keep_a_cell};
+use crate::steps::{finish, global, keep_a_cell};
 use heap_table::{Heap, Mutator, Sweeper};
 use std::sync::atomic::{AtomicBool, Ordering};
 use std::thread::{Threads, join_mut};
@@ -39,18 +38,6 @@ impl Signs {
             }
         }
     }
-}
-
-/// The tokens of a heap whose second thread is late.
-pub fn both_tokens(heap: &Heap<'_>, mutators: &mut Vec<Mutator>) -> Option<(Mutator, Mutator)>
-    requires late { heap.now.setup.late ≡ false ∷ true ∷ [] }
-    requires two { length mutators.old.items ≡ 2 }
-    requires tokens { AreNew heap.now 0 mutators.old.items }
-    ensures { IfSome result (λ tokens. MayCall heap.now tokens.0 × MayBegin heap.now tokens.1) }
-{
-    let late = mutators.pop()?;
-    let first = mutators.pop()?;
-    Some((first, late))
 }
 
 /// One thread writes a cell to the first global, and works on as the collector and answers it, until a late one has begun, read

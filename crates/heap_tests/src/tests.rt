@@ -1,103 +1,181 @@
-//! The shared heap, by one caller and by real threads.
+//! The shared heap, by one caller and by real threads. What is done with a new heap stands above its test.
+ghost use Rattle.std.specs.Prelude.{◌≡◌, ◌<◌, [], ◌∷◌, length};
+ghost use Rattle.pools.specs.declared.word_kind.WordKind.TheVariants.{Reference};
+ghost use Rattle.heap_table.specs.Holders.{IsOf, MayCall, MayBegin};
+ghost use Rattle.heap_table.specs.Opening.{AreNew};
+ghost use Rattle.heap_table.specs.Sweepers.{IsSweeperOf};
+
 use crate::cycles::{first_cycle, second_cycle, take_all};
-use crate::late::{both_tokens, read_late};
-use crate::{
+use crate::late::read_late;
+use crate::opening::{
+    last_token, late_token, no_globals, one_layout, one_reference, open, pool_of, present_and_late,
+    two_references, two_tokens,
+};
+use crate::steps::{
     are_looks, begin_and_take, close_new, close_one, close_two, colours_of, finish, global,
-    keep_a_cell, keep_two, last_token, late_token, one_layout, plan_of, take, take_four, take_two,
-    the_layout, turn_and_answer, turn_on, turns_are,
+    keep_a_cell, keep_two, stages_of_two, take, take_four, take_two, turn_and_answer, turn_on,
+    turns_are,
 };
 use colours::{DONE, Turn};
-use heap_table::Heap;
-use pools::{Pools, WordKind};
+use heap_table::{Heap, Mutator, Sweeper};
 use std::test::Fail;
+use std::thread::Threads;
+
+/// Two threads take a cell each and keep it in a global each. Returns each cell, and what its global holds then.
+fn kept_by_two(
+    rt: &impl Threads,
+    heap: &Heap<'_>,
+    mutators: &mut Vec<Mutator>,
+) -> Option<((u32, u64), (u32, u64))>
+    requires present { heap.now.setup.late ≡ [] }
+    requires layout { 0 < length heap.now.setup.pools }
+    requires globals { heap.now.setup.globals ≡ Reference 0 ∷ Reference 0 ∷ [] }
+    requires tokens { AreNew heap.now 0 mutators.old.items }
+{
+    let (mut first, mut second) = two_tokens(heap, mutators)?;
+    Some(keep_two(rt, heap, &mut first, &mut second))
+}
 
 #[test]
 fn two_threads_read_what_they_wrote(rt: HostRuntime) -> Result<(), Fail> {
     let alloc = rt.alloc();
     let layouts = one_layout(alloc)?;
-    let pools = Pools::new(alloc, &layouts, &[2])?;
-    let globals = [
-        WordKind::Reference(the_layout()),
-        WordKind::Reference(the_layout()),
-    ];
-    let plan = plan_of(&pools, &layouts, &globals, 2, &[]);
-    let (heap, mut mutators, _sweeper) = Heap::new(alloc, plan)?;
-    let mut second = last_token(&heap, &mut mutators).expect(&rt, "a token");
-    let mut first = last_token(&heap, &mut mutators).expect(&rt, "a token");
-    let (one, other) = keep_two(&rt, &heap, &mut first, &mut second);
+    let pools = pool_of(alloc, &layouts, 2)?;
+    let globals = two_references();
+    let (heap, mut mutators, _sweeper) = open(alloc, &layouts, &pools, &globals, 2, &[])?;
+    let kept = kept_by_two(&rt, &heap, &mut mutators);
+    let (one, other) = kept.expect(&rt, "two tokens");
     assert_eq!(rt; u64::from(one.0), one.1);
     assert_eq!(rt; u64::from(other.0), other.1);
     assert_eq!(rt; (one.0.min(other.0), one.0.max(other.0)), (1, 2));
     Ok(())
 }
 
+/// What a token reads before and after another one keeps a cell, and between them what that one got.
+fn read_beside(heap: &Heap<'_>, mutators: &mut Vec<Mutator>) -> Option<(u64, (u32, u64), u64)>
+    requires present { heap.now.setup.late ≡ [] }
+    requires layout { 0 < length heap.now.setup.pools }
+    requires globals { heap.now.setup.globals ≡ Reference 0 ∷ [] }
+    requires tokens { AreNew heap.now 0 mutators.old.items }
+{
+    let (mut reader, mut writer) = two_tokens(heap, mutators)?;
+    Some((
+        global(heap, &mut reader, 0),
+        keep_a_cell(heap, &mut writer, 0),
+        global(heap, &mut reader, 0),
+    ))
+}
+
 #[test]
 fn a_token_reads_what_another_one_wrote_since(rt: HostRuntime) -> Result<(), Fail> {
     let alloc = rt.alloc();
     let layouts = one_layout(alloc)?;
-    let pools = Pools::new(alloc, &layouts, &[1])?;
-    let globals = [WordKind::Reference(the_layout())];
-    let plan = plan_of(&pools, &layouts, &globals, 2, &[]);
-    let (heap, mut mutators, _sweeper) = Heap::new(alloc, plan)?;
-    let mut writer = last_token(&heap, &mut mutators).expect(&rt, "a token");
-    let mut reader = last_token(&heap, &mut mutators).expect(&rt, "a token");
-    assert_eq!(rt; global(&heap, &mut reader, 0), 0);
-    assert_eq!(rt; keep_a_cell(&heap, &mut writer, 0), (1, 1));
-    assert_eq!(rt; global(&heap, &mut reader, 0), 1);
+    let pools = pool_of(alloc, &layouts, 1)?;
+    let globals = one_reference();
+    let (heap, mut mutators, _sweeper) = open(alloc, &layouts, &pools, &globals, 2, &[])?;
+    assert_eq!(rt; read_beside(&heap, &mut mutators), Some((0, (1, 1), 1)));
     Ok(())
+}
+
+/// Two threads take two cells each and end. Returns the cells in their order.
+fn taken_by_two(
+    rt: &impl Threads,
+    heap: &Heap<'_>,
+    first: &mut Mutator,
+    second: &mut Mutator,
+) -> [u32; 4]
+    requires first { MayCall heap.now first.old }
+    requires second { MayCall heap.now second.old }
+    requires layout { 0 < length heap.now.setup.pools }
+    ensures first { IsOf heap.now first.new }
+    ensures second { IsOf heap.now second.new }
+{
+    let mut taken = take_four(rt, heap, first, second);
+    taken.sort_unstable();
+    finish(heap, first);
+    finish(heap, second);
+    taken
 }
 
 #[test]
 fn two_threads_share_two_cells(rt: HostRuntime) -> Result<(), Fail> {
     let alloc = rt.alloc();
     let layouts = one_layout(alloc)?;
-    let pools = Pools::new(alloc, &layouts, &[2])?;
-    let plan = plan_of(&pools, &layouts, &[], 2, &[]);
-    let (heap, mut mutators, sweeper) = Heap::new(alloc, plan)?;
-    let mut second = last_token(&heap, &mut mutators).expect(&rt, "a token");
-    let mut first = last_token(&heap, &mut mutators).expect(&rt, "a token");
-    let mut taken = take_four(&rt, &heap, &mut first, &mut second);
-    taken.sort_unstable();
+    let pools = pool_of(alloc, &layouts, 2)?;
+    let globals = no_globals();
+    let (heap, mut mutators, sweeper) = open(alloc, &layouts, &pools, &globals, 2, &[])?;
+    let tokens = two_tokens(&heap, &mut mutators);
+    let (mut first, mut second) = tokens.expect(&rt, "two tokens");
+    let taken = taken_by_two(&rt, &heap, &mut first, &mut second);
     assert_eq!(rt; taken, [0, 0, 1, 2]);
-    finish(&heap, &mut first);
-    finish(&heap, &mut second);
     let closed = close_two(alloc, heap, first, second, sweeper)?;
-    assert_eq!(rt; closed.posted(), 0);
-    assert_eq!(rt; (closed.stage(0), closed.stage(1)), (DONE, DONE));
+    assert_eq!(rt;
+        (closed.posted(), stages_of_two(&closed)),
+        (0, [DONE, DONE])
+    );
     assert_eq!(rt; colours_of(&closed), [1, 1, 1]);
     Ok(())
+}
+
+/// Whether the collector asks a thread that makes no call, and waits for it on and on; and how many sweeps it has made.
+fn waits(heap: &Heap<'_>, sweeper: &mut Sweeper<'_>) -> (bool, u64)
+    requires { IsSweeperOf heap.now sweeper.old }
+    ensures { IsSweeperOf heap.now sweeper.new }
+{
+    let has_asked = turns_are(heap, sweeper, &[Turn::PostStage(1)]);
+    let has_waited = are_looks(heap, sweeper, 9_999);
+    (has_asked && has_waited, sweeper.cycles())
 }
 
 #[test]
 fn a_thread_without_a_call_holds_up_no_turn(rt: HostRuntime) -> Result<(), Fail> {
     let alloc = rt.alloc();
     let layouts = one_layout(alloc)?;
-    let pools = Pools::new(alloc, &layouts, &[2])?;
-    let plan = plan_of(&pools, &layouts, &[], 1, &[]);
-    let (heap, mutators, mut sweeper) = Heap::new(alloc, plan)?;
-    assert!(rt; turns_are(&heap, &mut sweeper, &[Turn::PostStage(1)]));
-    assert!(rt; are_looks(&heap, &mut sweeper, 9_999));
-    assert_eq!(rt; sweeper.cycles(), 0);
+    let pools = pool_of(alloc, &layouts, 2)?;
+    let globals = no_globals();
+    let (heap, mutators, mut sweeper) = open(alloc, &layouts, &pools, &globals, 1, &[])?;
+    assert_eq!(rt; waits(&heap, &mut sweeper), (true, 0));
     let closed = close_new(heap, mutators, sweeper);
     assert_eq!(rt; (closed.posted(), closed.stage(0)), (1, 0));
     assert_eq!(rt; colours_of(&closed), [1, 0, 0]);
     Ok(())
 }
 
+/// What comes of two cycles, each as its own function tells it.
+type Cycles = (Option<([u64; 2], [u32; 3])>, ([u64; 2], u64));
+
+/// The only thread takes all cells, answers each stage of two cycles, and ends. Returns the cells, and what came of the cycles.
+fn two_cycles(heap: &Heap<'_>, me: &mut Mutator, sweeper: &mut Sweeper<'_>) -> ([u32; 3], Cycles)
+    requires token { MayCall heap.now me.old }
+    requires sweeper { IsSweeperOf heap.now sweeper.old }
+    requires layout { 0 < length heap.now.setup.pools }
+    requires globals { heap.now.setup.globals ≡ Reference 0 ∷ [] }
+    ensures token { IsOf heap.now me.new }
+    ensures sweeper { IsSweeperOf heap.now sweeper.new }
+{
+    let made = (
+        take_all(heap, me),
+        (
+            first_cycle(heap, me, sweeper),
+            second_cycle(heap, me, sweeper),
+        ),
+    );
+    finish(heap, me);
+    made
+}
+
 #[test]
 fn a_cycle_frees_the_cell_that_nothing_names(rt: HostRuntime) -> Result<(), Fail> {
     let alloc = rt.alloc();
     let layouts = one_layout(alloc)?;
-    let pools = Pools::new(alloc, &layouts, &[2])?;
-    let globals = [WordKind::Reference(the_layout())];
-    let plan = plan_of(&pools, &layouts, &globals, 1, &[]);
-    let (heap, mut mutators, mut sweeper) = Heap::new(alloc, plan)?;
+    let pools = pool_of(alloc, &layouts, 2)?;
+    let globals = one_reference();
+    let (heap, mut mutators, mut sweeper) = open(alloc, &layouts, &pools, &globals, 1, &[])?;
     let mut me = last_token(&heap, &mut mutators).expect(&rt, "a token");
-    assert_eq!(rt; take_all(&heap, &mut me), [1, 2, 0]);
-    let first = first_cycle(&heap, &mut me, &mut sweeper);
+    let (taken, (first, second)) = two_cycles(&heap, &mut me, &mut sweeper);
+    assert_eq!(rt; taken, [1, 2, 0]);
     assert_eq!(rt; first, Some(([0, 1], [0, 2, 0])));
-    assert_eq!(rt; second_cycle(&heap, &mut me, &mut sweeper), ([1, 2], 1));
-    finish(&heap, &mut me);
+    assert_eq!(rt; second, ([1, 2], 1));
     let closed = close_one(alloc, heap, me, sweeper)?;
     assert_eq!(rt; (closed.posted(), colours_of(&closed)), (6, [5, 5, 0]));
     Ok(())
@@ -123,10 +201,9 @@ const FIRST_TURNS: [Turn; 12] = [
 fn first_turns_without_threads(rt: HostRuntime) -> Result<(), Fail> {
     let alloc = rt.alloc();
     let layouts = one_layout(alloc)?;
-    let pools = Pools::new(alloc, &layouts, &[1])?;
-    let globals = [WordKind::Reference(the_layout())];
-    let plan = plan_of(&pools, &layouts, &globals, 0, &[]);
-    let (heap, mutators, mut sweeper) = Heap::new(alloc, plan)?;
+    let pools = pool_of(alloc, &layouts, 1)?;
+    let globals = one_reference();
+    let (heap, mutators, mut sweeper) = open(alloc, &layouts, &pools, &globals, 0, &[])?;
     assert!(rt; turns_are(&heap, &mut sweeper, &FIRST_TURNS));
     let closed = close_new(heap, mutators, sweeper);
     assert_eq!(rt;
@@ -136,21 +213,39 @@ fn first_turns_without_threads(rt: HostRuntime) -> Result<(), Fail> {
     Ok(())
 }
 
+/// The only thread takes a cell, answers three stages, each after four turns, and after the rest of the cycle tries three times.
+/// Returns the first cell, whether there was a question each time, and the last three cells.
+fn taken_around_a_cycle(
+    heap: &Heap<'_>,
+    me: &mut Mutator,
+    sweeper: &mut Sweeper<'_>,
+) -> (u32, [bool; 3], ([u32; 2], u32))
+    requires token { MayCall heap.now me.old }
+    requires sweeper { IsSweeperOf heap.now sweeper.old }
+    requires layout { 0 < length heap.now.setup.pools }
+{
+    let first = take(heap, me);
+    let answered = [
+        turn_and_answer(heap, me, sweeper, 4),
+        turn_and_answer(heap, me, sweeper, 4),
+        turn_and_answer(heap, me, sweeper, 4),
+    ];
+    turn_on(heap, sweeper, 100);
+    (first, answered, (take_two(heap, me), take(heap, me)))
+}
+
 #[test]
 fn tries_begin_after_the_cell_won_last(rt: HostRuntime) -> Result<(), Fail> {
     let alloc = rt.alloc();
     let layouts = one_layout(alloc)?;
-    let pools = Pools::new(alloc, &layouts, &[2])?;
-    let plan = plan_of(&pools, &layouts, &[], 1, &[]);
-    let (heap, mut mutators, mut sweeper) = Heap::new(alloc, plan)?;
+    let pools = pool_of(alloc, &layouts, 2)?;
+    let globals = no_globals();
+    let (heap, mut mutators, mut sweeper) = open(alloc, &layouts, &pools, &globals, 1, &[])?;
     let mut me = last_token(&heap, &mut mutators).expect(&rt, "a token");
-    assert_eq!(rt; take(&heap, &mut me), 1);
-    assert!(rt; turn_and_answer(&heap, &mut me, &mut sweeper, 4));
-    assert!(rt; turn_and_answer(&heap, &mut me, &mut sweeper, 4));
-    assert!(rt; turn_and_answer(&heap, &mut me, &mut sweeper, 4));
-    turn_on(&heap, &mut sweeper, 100);
-    assert_eq!(rt; take_two(&heap, &mut me), [2, 1]);
-    assert_eq!(rt; take(&heap, &mut me), 0);
+    assert_eq!(rt;
+        taken_around_a_cycle(&heap, &mut me, &mut sweeper),
+        (1, [true, true, true], ([2, 1], 0))
+    );
     Ok(())
 }
 
@@ -158,31 +253,58 @@ fn tries_begin_after_the_cell_won_last(rt: HostRuntime) -> Result<(), Fail> {
 fn a_late_thread_begins_at_the_posted_stage(rt: HostRuntime) -> Result<(), Fail> {
     let alloc = rt.alloc();
     let layouts = one_layout(alloc)?;
-    let pools = Pools::new(alloc, &layouts, &[1])?;
-    let plan = plan_of(&pools, &layouts, &[], 1, &[true]);
-    let (heap, mut mutators, mut sweeper) = Heap::new(alloc, plan)?;
+    let pools = pool_of(alloc, &layouts, 1)?;
+    let globals = no_globals();
+    let (heap, mut mutators, mut sweeper) = open(alloc, &layouts, &pools, &globals, 1, &[true])?;
     let mut me = late_token(&heap, &mut mutators).expect(&rt, "a token");
     turn_on(&heap, &mut sweeper, 3);
     assert_eq!(rt; begin_and_take(&heap, &mut me), Some((2, 1)));
     Ok(())
 }
 
+/// What `read_late` returns, where the first global is a reference.
+fn read_by_late(
+    rt: &impl Threads,
+    heap: &Heap<'_>,
+    first: &mut Mutator,
+    late: &mut Mutator,
+    sweeper: &mut Sweeper<'_>,
+) -> (u32, Option<(u64, u64)>)
+    requires first { MayCall heap.now first.old }
+    requires late { MayBegin heap.now late.old }
+    requires sweeper { IsSweeperOf heap.now sweeper.old }
+    requires layout { 0 < length heap.now.setup.pools }
+    requires globals { heap.now.setup.globals ≡ Reference 0 ∷ [] }
+    ensures first { IsOf heap.now first.new }
+    ensures late { IsOf heap.now late.new }
+    ensures sweeper { IsSweeperOf heap.now sweeper.new }
+{
+    read_late(rt, heap, first, late, sweeper)
+}
+
 #[test]
 fn a_late_thread_reads_what_another_one_wrote(rt: HostRuntime) -> Result<(), Fail> {
     let alloc = rt.alloc();
     let layouts = one_layout(alloc)?;
-    let pools = Pools::new(alloc, &layouts, &[2])?;
-    let globals = [WordKind::Reference(the_layout())];
-    let plan = plan_of(&pools, &layouts, &globals, 2, &[false, true]);
-    let (heap, mut mutators, mut sweeper) = Heap::new(alloc, plan)?;
-    let (mut first, mut late) = both_tokens(&heap, &mut mutators).expect(&rt, "two tokens");
-    let (cell, seen) = read_late(&rt, &heap, &mut first, &mut late, &mut sweeper);
+    let pools = pool_of(alloc, &layouts, 2)?;
+    let globals = one_reference();
+    let (heap, mut mutators, mut sweeper) = open(
+        alloc,
+        &layouts,
+        &pools,
+        &globals,
+        2,
+        &[false, true],
+    )?;
+    let tokens = present_and_late(&heap, &mut mutators);
+    let (mut first, mut late) = tokens.expect(&rt, "two tokens");
+    let (cell, seen) = read_by_late(&rt, &heap, &mut first, &mut late, &mut sweeper);
     let (stage, found) = seen.expect(&rt, "it has begun");
     assert_eq!(rt; (cell, found), (1, 1));
     // A cycle takes 23 turns before the late thread has begun, and the next one posts stage 4.
     assert!(rt; stage >= 4);
     let closed = close_two(alloc, heap, first, late, sweeper)?;
     assert!(rt; closed.posted() >= stage);
-    assert_eq!(rt; (closed.stage(0), closed.stage(1)), (DONE, DONE));
+    assert_eq!(rt; stages_of_two(&closed), [DONE, DONE]);
     Ok(())
 }

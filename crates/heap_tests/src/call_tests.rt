@@ -1,0 +1,134 @@
+//! The calls of a thread on the heap: each step that they ask for.
+use colours::{Ask, Colour, DONE, Op, Place, claim_at, colour, mark_at};
+use handshake::{Safepoint, answer_safepoint};
+
+/// The colours that a mark and a claim write at a stage.
+fn values_at(stage: u8) -> (u64, u64) {
+    (mark_at(u64::from(stage)), claim_at(u64::from(stage)))
+}
+
+#[test]
+fn marks_and_claims_of_the_first_stages(rt: HostRuntime) {
+    for (stage, mark, claim) in [
+        (0, 0, 1),
+        (1, 2, 1),
+        (2, 2, 1),
+        (3, 2, 3),
+        (4, 4, 3),
+        (6, 4, 5),
+    ] {
+        assert_eq!(rt; values_at(stage), (mark, claim), "at stage {stage}");
+    }
+}
+
+#[test]
+fn colours_of_the_second_cycle(rt: HostRuntime) {
+    for (word, named) in [
+        (0, Colour::Blue),
+        (3, Colour::White),
+        (4, Colour::Grey),
+        (5, Colour::Black),
+    ] {
+        assert_eq!(rt; colour(word, 2), named);
+    }
+}
+
+/// Whether a call asks for these operations, one after the other, and for none after them, where each finds the number beside it.
+#[tactic(auto, using(crate::proofs::HeapTokens::small_fits))]
+fn asks_for(op: &mut Op, operations: &[(Ask, u32)]) -> bool {
+    for (ask, found) in operations {
+        if op.ask() != Some(*ask) {
+            return false;
+        }
+        op.took(u64::from(*found));
+    }
+    op.ask().is_none()
+}
+
+#[test]
+fn a_store_marks_both_values_at_the_first_stage(rt: HostRuntime) {
+    assert!(rt;
+        asks_for(
+            &mut Op::write(1, 0, 3, 2),
+            &[
+                (Ask::Load(Place::Word(0, 3)), 5),
+                (Ask::FetchMax(Place::Colour(5), 2), 1),
+                (Ask::FetchMax(Place::Colour(2), 2), 1),
+                (Ask::Store(Place::Word(0, 3), 2), 5),
+            ]
+        )
+    );
+}
+
+#[test]
+fn an_allocation_takes_the_second_cell(rt: HostRuntime) {
+    assert!(rt;
+        asks_for(
+            &mut Op::alloc(3, 4, 2, 0),
+            &[
+                (Ask::CompareExchange(Place::Colour(4), 0, 3), 1),
+                (Ask::CompareExchange(Place::Colour(5), 0, 3), 0),
+            ]
+        )
+    );
+}
+
+#[test]
+fn an_allocation_begins_at_its_hint(rt: HostRuntime) {
+    assert!(rt;
+        asks_for(
+            &mut Op::alloc(3, 4, 3, 2),
+            &[
+                (Ask::CompareExchange(Place::Colour(6), 0, 3), 1),
+                (Ask::CompareExchange(Place::Colour(4), 0, 3), 1),
+                (Ask::CompareExchange(Place::Colour(5), 0, 3), 1),
+            ]
+        )
+    );
+}
+
+#[test]
+fn an_allocation_from_an_empty_pool_tries_nothing(rt: HostRuntime) {
+    assert!(rt; asks_for(&mut Op::alloc(3, 4, 0, 0), &[]));
+}
+
+#[test]
+fn a_late_thread_looks_twice(rt: HostRuntime) {
+    assert!(rt;
+        asks_for(
+            &mut Op::begin(2),
+            &[
+                (Ask::Load(Place::Posted), 4),
+                (Ask::Store(Place::Stage(2), 4), u32::MAX),
+                (Ask::Load(Place::Posted), 5),
+                (Ask::Store(Place::Stage(2), DONE), 4),
+            ]
+        )
+    );
+}
+
+/// Whether a safepoint asks for these operations, and for none after them.
+fn safepoint_asks_for(point: &mut Safepoint<'_>, operations: &[(Ask, u32)]) -> bool {
+    for (ask, found) in operations {
+        if point.ask() != Some(*ask) {
+            return false;
+        }
+        point.took(u64::from(*found));
+    }
+    point.ask().is_none()
+}
+
+#[test]
+fn a_safepoint_marks_the_roots_at_the_third_stage(rt: HostRuntime) {
+    assert!(rt;
+        safepoint_asks_for(
+            &mut answer_safepoint(1, 2, &[0, 4, 0, 6]),
+            &[
+                (Ask::Load(Place::Posted), 3),
+                (Ask::FetchMax(Place::Colour(4), 2), 1),
+                (Ask::FetchMax(Place::Colour(6), 2), 1),
+                (Ask::Store(Place::Stage(1), 3), 2),
+            ]
+        )
+    );
+}

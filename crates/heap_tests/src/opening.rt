@@ -1,0 +1,150 @@
+//! New heaps, with their tokens.
+ghost use Rattle.std.specs.Prelude.{◌≡◌, ◌<◌, ◌^◌, [], ◌∷◌, true, false, length, IfOk, IfSome};
+ghost use Rattle.pools.specs.Heap.{IsSetup};
+ghost use Rattle.pools.specs.declared.word_kind.WordKind.TheVariants.{Reference};
+ghost use Rattle.heap_table.specs.Holders.{MayCall, MayBegin};
+ghost use Rattle.heap_table.specs.Opening.{AreNew};
+ghost use Rattle.heap_table.specs.Sweepers.{IsSweeperOf};
+
+use heap_table::{Heap, Mutator, Plan, Sweeper};
+use items::Items;
+use pools::{LayoutId, Layouts, Pools, WordKind};
+use std::alloc::Global;
+use std::test::Fail;
+
+/// The only layout of each heap here.
+pub fn the_layout() -> LayoutId
+    ensures { result ≡ 0 }
+{
+    LayoutId::new(0)
+}
+
+/// It has no words.
+pub fn one_layout(alloc: Global) -> Result<Layouts, Fail>
+    ensures { IfOk result (λ layouts. layouts ≡ [] ∷ []) }
+{
+    let mut layouts = Layouts::new(alloc);
+    layouts.push(Items::new(alloc))?;
+    Ok(layouts)
+}
+
+/// A pool of cells of the only layout.
+pub fn pool_of(alloc: Global, layouts: &Layouts, cells: u32) -> Result<Pools, Fail>
+    requires { layouts.now ≡ [] ∷ [] }
+    ensures { IfOk result (λ pools. pools ≡ cells ∷ []) }
+{
+    Ok(Pools::new(alloc, layouts, &[cells])?)
+}
+
+/// No globals.
+pub fn no_globals() -> [WordKind; 0]
+    ensures { result ≡ [] }
+{
+    []
+}
+
+/// A global that is a reference.
+pub fn one_reference() -> [WordKind; 1]
+    ensures { result ≡ Reference 0 ∷ [] }
+{
+    [WordKind::Reference(the_layout())]
+}
+
+/// Two of them.
+pub fn two_references() -> [WordKind; 2]
+    ensures { result ≡ Reference 0 ∷ Reference 0 ∷ [] }
+{
+    [
+        WordKind::Reference(the_layout()),
+        WordKind::Reference(the_layout()),
+    ]
+}
+
+/// A heap whose globals are null.
+fn plan_of<'a>(
+    pools: &'a Pools,
+    layouts: &'a Layouts,
+    globals: &'a [WordKind],
+    threads: usize,
+    late: &'a [bool],
+) -> Plan<'a>
+    ensures plan { result ≡ record { threads = threads; late = late.now; layouts = layouts.now; pools = pools.now; globals = globals.now; values = [] } }
+    ensures setup { IsSetup result }
+{
+    Plan {
+        pools,
+        layouts,
+        globals,
+        values: &[],
+        threads,
+        late,
+    }
+}
+
+/// A new heap whose globals are null, with the tokens of its threads and of its collector.
+pub fn open<'a>(
+    alloc: Global,
+    layouts: &'a Layouts,
+    pools: &'a Pools,
+    globals: &'a [WordKind],
+    threads: usize,
+    late: &'a [bool],
+) -> Result<(Heap<'a>, Vec<Mutator>, Sweeper<'a>), Fail>
+    requires layouts { layouts.now ≡ [] ∷ [] }
+    requires threads { threads < 2 ^ 32 }
+    requires globals { length globals.now < 2 ^ 32 }
+    ensures late { IfOk result (λ made. made.0.setup.late ≡ late.now) }
+    ensures pools { IfOk result (λ made. made.0.setup.pools ≡ pools.now) }
+    ensures globals { IfOk result (λ made. made.0.setup.globals ≡ globals.now) }
+    ensures threads { IfOk result (λ made. made.0.setup.threads ≡ threads) }
+    ensures tokens { IfOk result (λ made. (length made.1.items ≡ threads) × AreNew made.0 0 made.1.items) }
+    ensures sweeper { IfOk result (λ made. IsSweeperOf made.0 made.2) }
+{
+    let plan = plan_of(pools, layouts, globals, threads, late);
+    let (heap, mutators, sweeper) = Heap::new(alloc, plan)?;
+    Ok((heap, mutators, sweeper))
+}
+
+/// The last of the tokens, where no thread is late.
+pub fn last_token(heap: &Heap<'_>, mutators: &mut Vec<Mutator>) -> Option<Mutator>
+    requires present { heap.now.setup.late ≡ [] }
+    requires tokens { AreNew heap.now 0 mutators.old.items }
+    ensures tokens { AreNew heap.now 0 mutators.new.items }
+    ensures token { IfSome result (MayCall heap.now) }
+{
+    let token = mutators.pop()?;
+    Some(token)
+}
+
+/// The last two of them, the second one last.
+pub fn two_tokens(heap: &Heap<'_>, mutators: &mut Vec<Mutator>) -> Option<(Mutator, Mutator)>
+    requires present { heap.now.setup.late ≡ [] }
+    requires tokens { AreNew heap.now 0 mutators.old.items }
+    ensures { IfSome result (λ tokens. MayCall heap.now tokens.0 × MayCall heap.now tokens.1) }
+{
+    let second = last_token(heap, mutators)?;
+    let first = last_token(heap, mutators)?;
+    Some((first, second))
+}
+
+/// The token of the only thread, which is late.
+pub fn late_token(heap: &Heap<'_>, mutators: &mut Vec<Mutator>) -> Option<Mutator>
+    requires late { heap.now.setup.late ≡ true ∷ [] }
+    requires one { length mutators.old.items ≡ 1 }
+    requires tokens { AreNew heap.now 0 mutators.old.items }
+    ensures token { IfSome result (MayBegin heap.now) }
+{
+    mutators.pop()
+}
+
+/// The tokens of two threads, of which the second is late.
+pub fn present_and_late(heap: &Heap<'_>, mutators: &mut Vec<Mutator>) -> Option<(Mutator, Mutator)>
+    requires late { heap.now.setup.late ≡ false ∷ true ∷ [] }
+    requires two { length mutators.old.items ≡ 2 }
+    requires tokens { AreNew heap.now 0 mutators.old.items }
+    ensures { IfSome result (λ tokens. MayCall heap.now tokens.0 × MayBegin heap.now tokens.1) }
+{
+    let late = mutators.pop()?;
+    let first = mutators.pop()?;
+    Some((first, late))
+}
