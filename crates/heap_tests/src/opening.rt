@@ -81,18 +81,16 @@ fn plan_of<'a>(
     }
 }
 
-/// A new heap whose globals are null, with the tokens of its threads and of its collector.
+/// A new heap with at most two globals, which are null, and the tokens of its threads and of its collector.
 pub fn open<'a>(
     alloc: Global,
     layouts: &'a Layouts,
     pools: &'a Pools,
     globals: &'a [WordKind],
-    threads: usize,
+    threads: u32,
     late: &'a [bool],
 ) -> Result<(Heap<'a>, Vec<Mutator>, Sweeper<'a>), Fail>
-    requires layouts { layouts.now ≡ [] ∷ [] }
-    requires threads { threads < 2 ^ 32 }
-    requires globals { length globals.now < 2 ^ 32 }
+    requires { layouts.now ≡ [] ∷ [] }
     ensures late { IfOk result (λ made. made.0.setup.late ≡ late.now) }
     ensures pools { IfOk result (λ made. made.0.setup.pools ≡ pools.now) }
     ensures globals { IfOk result (λ made. made.0.setup.globals ≡ globals.now) }
@@ -100,7 +98,10 @@ pub fn open<'a>(
     ensures tokens { IfOk result (λ made. (length made.1.items ≡ threads) × AreNew made.0 0 made.1.items) }
     ensures sweeper { IfOk result (λ made. IsSweeperOf made.0 made.2) }
 {
-    let plan = plan_of(pools, layouts, globals, threads, late);
+    if globals.len() > 2 {
+        return Err(Fail::new("more than two globals"));
+    }
+    let plan = plan_of(pools, layouts, globals, threads as usize, late);
     let (heap, mutators, sweeper) = Heap::new(alloc, plan)?;
     Ok((heap, mutators, sweeper))
 }
