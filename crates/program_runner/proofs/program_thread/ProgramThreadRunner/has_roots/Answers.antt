@@ -1,5 +1,5 @@
 -- The frames hold a list exactly if each ends what is left of it, the newest first.
-use Rattle.std.proofs.Common.{◌≡◌, ◌<◌, ◌++◌, ◌∙◌, ℕ, true, false, List, Some, map, slice_get, length, refl, sym, ap, subst}
+use Rattle.std.proofs.Common.{◌≡◌, ◌<◌, ◌++◌, ◌∙◌, ℕ, List, Some, map, slice_get, length, refl, sym, ap, subst}
 use Rattle.layout.specs.Layouts.{LaidOut}
 use Rattle.machine.specs.declared.frame.Frame.{Frame}
 use Rattle.machine.specs.declared.value.Value.{Value}
@@ -15,10 +15,6 @@ own_roots : (p q : LaidOut) (s t : State) (n : ℕ) (of : Frame) (own : List Val
 own_roots p q s t n of own program state is roots =
     roots of (ap (λ (x : State). slice_get x.frames n) state ∙ is) ∙ ap (λ (x : LaidOut). frame_roots x.of_module of (slice_get x.of_module.functions of.function)) program
 
--- false is not true
-untrue : false ≡ true → ⊥
-untrue e = absurd cc
-
 pub returns-in-None : goal.returns-in-None
 returns-in-None c =
     let now = c.args.self.now in
@@ -31,7 +27,7 @@ returns-in-None c =
     let own = own_roots thread.program now.program thread.state now.state n at.0 c.frame_roots.result program state at.1 c.frame_roots.ensures in
     let other = no_rest now.program.of_module now.state.frames c.args.roots.now n c.loop-frame.rest.now at.0 at.2 c.loop-frame.invariant
     (λ before is. c.in-None.ensures.none refl before (is ∙ ap (λ (l : List Value). before ++ map reference_in l) (sym own))) in
-    ((λ yes. absurd (untrue yes)), (λ same. absurd (other same)))
+    ((λ yes. absurd cc), (λ same. absurd (other same)))
 
 pub loop-frame-preserved : goal.loop-frame-preserved
 loop-frame-preserved c =
