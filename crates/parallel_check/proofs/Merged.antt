@@ -1,5 +1,5 @@
 -- The first fault of all workers is the first fault of the module.
-use Rattle.std.proofs.Common.{◌≡◌, ◌⊎◌, ◌<◌, ◌≤◌, ℕ, zero, suc, ◌+◌, ◌/◌, nat_lt, Bool, true, false, List, [], ◌∷◌, length, fold, slice_index_or, Option, Some, None, MatchOption, if◌then◌else◌, arith, inl, inr, refl, subst, ltb-true, ltb-false}
+use Rattle.std.proofs.Common.{◌≡◌, ◌⊎◌, ◌<◌, ◌≤◌, ℕ, zero, suc, ◌+◌, ◌%◌, nat_lt, Bool, true, false, List, [], ◌∷◌, length, fold, slice_index_or, Option, Some, None, MatchOption, if◌then◌else◌, arith, inl, inr, refl, subst, ltb-true, ltb-false}
 use Rattle.std.proofs.lemmas.Bool.{cases_lt}
 use Rattle.std.proofs.lemmas.Nat.{mod_below}
 use Rattle.certs.specs.declared.section.Section.{Section}
@@ -9,7 +9,7 @@ use Rattle.block_rules.specs.declared.block_fault.BlockFault.{BlockFault}
 use Rattle.block_rules.specs.declared.block_fault.BlockFault.TheVariants.{Refused, Memory}
 use Rattle.block_rules.specs.declared.block_fault.Refusal.{Refusal}
 use Rattle.module_check.specs.Accepted.{IsModuleCertified, IsModuleFault}
-use Rattle.parallel_check.specs.Shares.{IsFirstFault, IsFirstInShare, IsOf, IsOfFirst, IsShareCertified, earlier, worker_of}
+use Rattle.parallel_check.specs.Shares.{IsFirstFault, IsFirstInShare, IsOf, IsOfFirst, IsShareCertified, earlier}
 
 module _ (program : LaidOut) (certs : List Section) (count : ℕ) where
   module _ (One Other Both : ℕ → Type 0) (divided : (func : ℕ) → Both func → One func ⊎ Other func) where
@@ -50,37 +50,37 @@ module _ (program : LaidOut) (certs : List Section) (count : ℕ) where
     merged (Some Memory) (Some other) first second = tt
 
   -- of one worker more
-  divided : (workers stretch some func : ℕ) → IsOfFirst workers stretch (some + 1) func → IsOfFirst workers stretch some func ⊎ IsOf workers stretch some func
-  divided workers stretch some func within = pick (cases_lt (worker_of workers stretch func) some)
+  divided : (workers some func : ℕ) → IsOfFirst workers (some + 1) func → IsOfFirst workers some func ⊎ IsOf workers some func
+  divided workers some func within = pick (cases_lt (func % workers) some)
     where
-      pick : (worker_of workers stretch func < some) ⊎ (some ≤ worker_of workers stretch func) → IsOfFirst workers stretch some func ⊎ IsOf workers stretch some func
+      pick : (func % workers < some) ⊎ (some ≤ func % workers) → IsOfFirst workers some func ⊎ IsOf workers some func
       pick (inl before) = inl before
       pick (inr last) = inr (omega (arith, within, last))
 
   -- the first of the faults of some workers and of those after them
-  folded : (workers stretch some all : ℕ) (first : Option BlockFault) (faults : List (Option BlockFault)) → some + length faults ≡ all → IsFirstFault program certs (IsOfFirst workers stretch some) count first
-      → ((i : ℕ) (d : Option BlockFault) → i < length faults → IsFirstFault program certs (IsOf workers stretch (some + i)) count (slice_index_or faults i d)) → IsFirstFault program certs (IsOfFirst workers stretch all) count (fold earlier first faults)
-  folded workers stretch some all first [] as_many so_far each = subst (λ n. IsFirstFault program certs (IsOfFirst workers stretch n) count first) (omega (arith, as_many)) so_far
-  folded workers stretch some all first (fault ∷ faults) as_many so_far each =
-      let here : IsFirstFault program certs (IsOf workers stretch some) count fault = subst (λ n. IsFirstFault program certs (IsOf workers stretch n) count fault) (omega arith) (each zero fault (omega arith)) in
-      let next = merged (IsOfFirst workers stretch some) (IsOf workers stretch some) (IsOfFirst workers stretch (some + 1)) (divided workers stretch some) first fault so_far here in
-      folded workers stretch (some + 1) all (earlier first fault) faults (omega (arith, as_many)) next
-      (λ i d less. subst (λ n. IsFirstFault program certs (IsOf workers stretch n) count (slice_index_or faults i d)) (omega arith) (each (suc i) d (omega (arith, less))))
+  folded : (workers some all : ℕ) (first : Option BlockFault) (faults : List (Option BlockFault)) → some + length faults ≡ all → IsFirstFault program certs (IsOfFirst workers some) count first
+      → ((i : ℕ) (d : Option BlockFault) → i < length faults → IsFirstFault program certs (IsOf workers (some + i)) count (slice_index_or faults i d)) → IsFirstFault program certs (IsOfFirst workers all) count (fold earlier first faults)
+  folded workers some all first [] as_many so_far each = subst (λ n. IsFirstFault program certs (IsOfFirst workers n) count first) (omega (arith, as_many)) so_far
+  folded workers some all first (fault ∷ faults) as_many so_far each =
+      let here : IsFirstFault program certs (IsOf workers some) count fault = subst (λ n. IsFirstFault program certs (IsOf workers n) count fault) (omega arith) (each zero fault (omega arith)) in
+      let next = merged (IsOfFirst workers some) (IsOf workers some) (IsOfFirst workers (some + 1)) (divided workers some) first fault so_far here in
+      folded workers (some + 1) all (earlier first fault) faults (omega (arith, as_many)) next
+      (λ i d less. subst (λ n. IsFirstFault program certs (IsOf workers n) count (slice_index_or faults i d)) (omega arith) (each (suc i) d (omega (arith, less))))
 
   -- before the first worker there is no function
-  none_first : (workers stretch : ℕ) → IsFirstFault program certs (IsOfFirst workers stretch 0) count None
-  none_first workers stretch func before of_none = absurd (omega (arith, of_none))
+  none_first : (workers : ℕ) → IsFirstFault program certs (IsOfFirst workers 0) count None
+  none_first workers func before of_none = absurd (omega (arith, of_none))
 
   -- all workers have all functions
-  all_have_all : (workers stretch : ℕ) (fault : Option BlockFault) → 1 ≤ workers → IsFirstFault program certs (IsOfFirst workers stretch workers) count fault → MatchOption fault (IsModuleCertified program certs count) (IsModuleFault program certs count)
-  all_have_all workers stretch None some all = λ func before. all func before (mod_below (func / stretch) workers (omega (arith, some)))
-  all_have_all workers stretch (Some (Refused refusal)) some first =
-      record { within = first.within; refused = first.refused; before = λ func before. first.before func before (mod_below (func / stretch) workers (omega (arith, some))) }
-  all_have_all workers stretch (Some Memory) some first = tt
+  all_have_all : (workers : ℕ) (fault : Option BlockFault) → 1 ≤ workers → IsFirstFault program certs (IsOfFirst workers workers) count fault → MatchOption fault (IsModuleCertified program certs count) (IsModuleFault program certs count)
+  all_have_all workers None some all = λ func before. all func before (mod_below func workers (omega (arith, some)))
+  all_have_all workers (Some (Refused refusal)) some first =
+      record { within = first.within; refused = first.refused; before = λ func before. first.before func before (mod_below func workers (omega (arith, some))) }
+  all_have_all workers (Some Memory) some first = tt
 
   -- the first of the faults of all workers is the first in the module
-  pub first_in_module : (workers stretch : ℕ) (faults : List (Option BlockFault)) → 1 ≤ workers → length faults ≡ workers → ((i : ℕ) (d : Option BlockFault) → i < workers → IsFirstFault program certs (IsOf workers stretch i) count (slice_index_or faults i d))
+  pub first_in_module : (workers : ℕ) (faults : List (Option BlockFault)) → 1 ≤ workers → length faults ≡ workers → ((i : ℕ) (d : Option BlockFault) → i < workers → IsFirstFault program certs (IsOf workers i) count (slice_index_or faults i d))
       → MatchOption (fold earlier None faults) (IsModuleCertified program certs count) (IsModuleFault program certs count)
-  first_in_module workers stretch faults some as_many each =
-      all_have_all workers stretch (fold earlier None faults) some (folded workers stretch 0 workers None faults (omega (arith, as_many)) (none_first workers stretch)
-      (λ i d less. subst (λ n. IsFirstFault program certs (IsOf workers stretch n) count (slice_index_or faults i d)) (omega arith) (each i d (omega (arith, less, as_many)))))
+  first_in_module workers faults some as_many each =
+      all_have_all workers (fold earlier None faults) some (folded workers 0 workers None faults (omega (arith, as_many)) (none_first workers)
+      (λ i d less. subst (λ n. IsFirstFault program certs (IsOf workers n) count (slice_index_or faults i d)) (omega arith) (each i d (omega (arith, less, as_many)))))

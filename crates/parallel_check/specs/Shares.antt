@@ -1,5 +1,5 @@
 -- The functions that each worker checks, and the first refusal among them.
-use Rattle.std.specs.Prelude.{◌≡◌, ◌<◌, ◌/◌, ◌%◌, ℕ, max, min, nat_lt, List, Option, Some, None, if◌then◌else◌, MatchOption}
+use Rattle.std.specs.Prelude.{◌≡◌, ◌<◌, ◌%◌, ℕ, nat_lt, List, Option, Some, None, if◌then◌else◌, MatchOption}
 use Rattle.certs.specs.declared.section.Section.{Section}
 use Rattle.layout.specs.Layouts.{LaidOut}
 use Rattle.block_rules.specs.Certified.{IfRefused}
@@ -8,21 +8,13 @@ use Rattle.block_rules.specs.declared.block_fault.BlockFault.{BlockFault}
 use Rattle.block_rules.specs.declared.block_fault.BlockFault.TheVariants.{Refused, Memory}
 use Rattle.block_rules.specs.declared.block_fault.Refusal.{Refusal}
 
--- how many neighbouring functions a worker takes at a time: as few as give each worker sixteen such stretches, up to sixteen
-abbrev pub stretch_of : (workers count : ℕ) → ℕ
-stretch_of workers count = max 1 (min (count / workers / 16) 16)
-
--- the worker of a function: stretches of neighbours go to one worker after the other, in turn
-abbrev pub worker_of : (workers stretch func : ℕ) → ℕ
-worker_of workers stretch func = func / stretch % workers
-
--- a function is one of those of this worker
-abbrev pub IsOf : (workers stretch worker func : ℕ) → Type 0
-IsOf workers stretch worker func = worker_of workers stretch func ≡ worker
+-- a function is one of those of this worker: each worker has every `workers`-th function
+abbrev pub IsOf : (workers worker func : ℕ) → Type 0
+IsOf workers worker func = func % workers ≡ worker
 
 -- a function is one of those of the first `some` workers
-abbrev pub IsOfFirst : (workers stretch some func : ℕ) → Type 0
-IsOfFirst workers stretch some func = worker_of workers stretch func < some
+abbrev pub IsOfFirst : (workers some func : ℕ) → Type 0
+IsOfFirst workers some func = func % workers < some
 
 -- of the first `count` functions, those of a share are certified
 abbrev pub IsShareCertified : LaidOut → List Section → (Share : ℕ → Type 0) → (count : ℕ) → Type 0

@@ -3,7 +3,7 @@ ghost use Rattle.std.specs.Prelude.{◌≡◌, ◌<◌, ◌≤◌, length, IfErr
 ghost use Rattle.module_check.specs.Accepted.{IsAccepted, IsModuleCertified, IsModuleFault, IsProgramCertified, IsVerdictOf};
 ghost use Rattle.module_check.specs.Discipline.{AreDisciplined};
 ghost use Rattle.program_safety.specs.Safety.{IsCarefulProgram, IsSafeProgram};
-ghost use Rattle.parallel_check.specs.Shares.{IsFirstFault, IsOf, stretch_of};
+ghost use Rattle.parallel_check.specs.Shares.{IsFirstFault, IsOf};
 
 use crate::first::first_of;
 use crate::share::fault_in_share;
@@ -37,7 +37,7 @@ fn fault_by_workers<R: Threads + Sync, G: Gate + Sync>(
         workers as usize,
         &|worker: usize| -> Option<BlockFault>
             requires { (worker < workers) × (workers ≤ 64) × (count ≤ length program.now.of_module.functions) }
-            ensures { IsFirstFault program.entry.now certs.entry.now (IsOf workers (stretch_of workers count) worker) count result }
+            ensures { IsFirstFault program.entry.now certs.entry.now (IsOf workers worker) count result }
         { fault_in_share(alloc, workers, worker as u32, gate, program, certs, count) },
     );
     match faults {
@@ -68,9 +68,9 @@ fn fault_in_module<R: Threads + Sync, G: Gate + Sync>(
 
 /// The same check as `module_check::check`, by workers, from 1 to 64: one on the caller's thread, and each other one on a thread of
 /// its own.
-/// They take stretches of up to 16 neighbouring functions in turn. Each checks its functions in the order of the text, up to its
-/// first fault, and calls the gate round the check of each, by the function's number. Whichever worker is done first, the
-/// verdict is the first refusal of the module. Memory may be refused to any of the workers.
+/// Worker `w` of `n` checks the functions `w`, `w + n`, `w + 2n` and so on, up to its first fault, and calls the gate round the
+/// check of each, by the function's number. Whichever worker is done first, the verdict is the first refusal
+/// of the module. Memory may be refused to any of the workers.
 pub fn check_with<R: Threads + Sync, G: Gate + Sync>(
     rt: &R,
     alloc: Global,

@@ -1,6 +1,5 @@
 use Rattle.std.proofs.Common.{◌≡◌, length, MatchOption, rules, subst, sym}
 use Rattle.module_check.specs.Accepted.{IsModuleCertified, IsModuleFault}
-use Rattle.parallel_check.specs.Shares.{stretch_of}
 use Rattle.parallel_check.proofs.Merged.{first_in_module}
 use Rattle.parallel_check.proofs.checking.fault_by_workers.Goals as goal
 
@@ -11,4 +10,4 @@ returns-in-Ok g c =
     let faults = c.in-Ok.faults.items in
     let as_many : length faults ≡ c.args.workers = search rules in
     subst (λ fault. MatchOption fault (IsModuleCertified program certs c.args.count) (IsModuleFault program certs c.args.count)) (sym c.first_of.ensures)
-    (first_in_module program certs c.args.count c.args.workers (stretch_of c.args.workers c.args.count) faults c.requires.some as_many (λ i d less. (c.in-Ok.ensures.each i d less).1.met))
+    (first_in_module program certs c.args.count c.args.workers faults c.requires.some as_many (λ i d less. (c.in-Ok.ensures.each i d less).1.met))

@@ -1,24 +1,29 @@
-use Rattle.std.proofs.Common.{◌∙◌, ◌≤◌, ap, rules, subst}
+use Rattle.std.proofs.Common.{◌+◌, ◌≤◌, rules, subst}
 use Rattle.block_rules.specs.Functions.{IsFunctionCertified}
-use Rattle.parallel_check.specs.Shares.{IsOf, stretch_of, worker_of}
-use Rattle.parallel_check.proofs.Turns.{one_more, up_to}
+use Rattle.parallel_check.specs.Shares.{IsOf}
+use Rattle.parallel_check.proofs.Turns.{is_first, is_next, none_yet, one_more, up_to}
+use Rattle.parallel_check.proofs.share.fault_in_share.Goals.{else-loop-number-test, then-loop-number-test+in_default+else-number-step-count}
 use Rattle.parallel_check.proofs.share.fault_in_share.Goals as goal
 
-pub loop-number-preserved-then-worker_of-worker : goal.loop-number-preserved-then-worker_of-worker
-loop-number-preserved-then-worker_of-worker g c =
-    let share = IsOf c.args.workers (stretch_of c.args.workers c.args.count) c.args.worker in
-    let number = c.loop-number.number in
-    let turn = c.worker_of.ensures ∙ ap (λ stretch. worker_of c.args.workers stretch number) c.stretch_of-stretch.ensures.value in
-    one_more c.args.program.now c.args.certs.now share number c.loop-number.invariant (λ mine. absurd (c.if-worker_of-worker.true (turn ∙ mine)))
+pub loop-number-init : goal.loop-number-init
+loop-number-init g c = (is_first c.args.workers c.args.worker c.requires.worker, none_yet c.args.program.now c.args.certs.now c.args.workers c.args.worker c.requires.worker)
 
 pub loop-number-preserved : goal.loop-number-preserved
 loop-number-preserved g c =
-    let share = IsOf c.args.workers (stretch_of c.args.workers c.args.count) c.args.worker in
+    let mine = c.loop-number.invariant.0 in
     let here = subst (λ func. IsFunctionCertified c.args.program.now c.args.certs.now func) c.new.ensures c.in_default.ensures.answer in
-    one_more c.args.program.now c.args.certs.now share c.loop-number.number c.loop-number.invariant (λ mine. here)
+    (is_next c.args.workers c.args.worker c.loop-number.number mine, one_more c.args.program.now c.args.certs.now c.args.workers c.args.worker c.loop-number.number c.requires.worker mine c.loop-number.invariant.1 here)
 
 pub returns : goal.returns
 returns g c =
-    let share = IsOf c.args.workers (stretch_of c.args.workers c.args.count) c.args.worker in
-    let past : c.args.count ≤ c.loop-number.number = search rules in
-    up_to c.args.program.now c.args.certs.now share c.args.count c.loop-number.number past c.loop-number.invariant
+    let program = c.args.program.now in
+    let certs = c.args.certs.now in
+    let mine = IsOf c.args.workers c.args.worker in
+    let number = c.loop-number.number in
+    elim c.loop-number-test.branch [
+      | else-loop-number-test w ↦ up_to program certs mine c.args.count number w.loop-number-test.false c.loop-number.invariant.1
+      | then-loop-number-test+in_default+else-number-step-count w ↦
+          let here = subst (λ func. IsFunctionCertified program certs func) w.new.ensures w.in_default.ensures.answer in
+          let past : c.args.count ≤ number + c.args.workers = search rules in
+          up_to program certs mine c.args.count (number + c.args.workers) past (one_more program certs c.args.workers c.args.worker number c.requires.worker c.loop-number.invariant.0 c.loop-number.invariant.1 here)
+    ]
