@@ -199,6 +199,15 @@ def fields_elements(n):
     return function(body, "param %x nonnull\n", "%T* %x", head=head)
 
 
+@kind("fields and lines about addresses")
+def fields_lines(n):
+    """Lines of one block about addresses of the last field of a struct whose other fields have no word."""
+    head = f"%T = type {{ {'[0 x i64], ' * n}i64 }}\n"
+    body = lines(n, lambda i: f"  %a{i} = getelementptr %T, %T* %x, i32 0, i32 {n}") + "  br label %next\nnext:\n" + RETURNS
+    listed = "block %next\n%x ref T nonnull\n" + lines(n, lambda i: f"%a{i} addr %x 0")
+    return function(body, "param %x nonnull\n" + listed, "%T* %x", head=head)
+
+
 @kind("struct levels and getelementptr")
 def levels_elements(n):
     """Addresses of the inner struct of a struct in structs, without going to its end."""
