@@ -1,7 +1,7 @@
 #!/usr/bin/env python3
 """Times the part of `dgc check` that several workers share.
 
-    workers.py DGC [--functions N] [--seed S] [--runs R] [--workers N ..]
+    workers.py DGC [--functions N] [--seed S] [--runs R] [--workers N ..] [--instructions]
 
 With several workers it is the time from the start of the first thread to the moment at which the last one was joined, which a
 library notes that is loaded before the program (spans.c). One share runs on the first thread, so its time is in it too. With one
@@ -9,9 +9,14 @@ worker there is no thread to look at: it is the time of the whole, without the t
 others that breaks a rule, since the check then stops there. The runs with one, two and more workers take turns. Prints the
 fastest and the middle of R runs. The last column says how many times as fast N workers could be on this machine: N programs with
 one worker each run at once, and each takes longer than one alone. For use by hand, where nothing else runs.
+
+With --instructions it counts, in place of the time, the instructions of the shared part by valgrind's callgrind: of one worker, and
+of the thread that makes most of them. Their ratio says how evenly the work is shared. It does not depend on the machine.
 """
 import argparse
+import glob
 import os
+import re
 import statistics
 import subprocess
 import sys
@@ -64,6 +69,29 @@ def at_once(dgc, base, count, runs):
     return statistics.median(took)
 
 
+def counted(command, folder):
+    """The instructions that each thread of a command makes, the first thread first."""
+    noted = os.path.join(folder, "calls")
+    subprocess.run(["valgrind", "--tool=callgrind", "--separate-threads=yes", "--callgrind-out-file=" + noted, *command], check=False,
+                   capture_output=True)
+    files = sorted(glob.glob(noted + "-*"))
+    threads = [int(re.findall(r"^(?:summary|totals): (\d+)", content(file), re.M)[-1]) for file in files]
+    for file in files:
+        os.remove(file)
+    return threads
+
+
+def print_instructions(dgc, base, refused, workers, folder):
+    """Prints the instructions of the shared part: of one worker, and of the thread that makes most."""
+    rest = sum(counted([dgc, "check", refused + ".ll", refused + ".cert"], folder))
+    alone = sum(counted([dgc, "check", base + ".ll", base + ".cert"], folder)) - rest
+    print(f"workers  instructions of the thread that makes most  times as few\n      1  {alone:44,}")
+    for count in workers:
+        first, *others = counted([dgc, "check", base + ".ll", base + ".cert", "--workers", str(count)], folder)
+        most = max(first - rest, *others)
+        print(f"{count:7}  {most:44,}  {alone / most:12.2f}")
+
+
 def measured(dgc, base, refused, options, folder):
     """The seconds of the shared part by the number of workers: the fastest run and the middle of all."""
     library, noted = os.path.join(folder, "spans.so"), os.path.join(folder, "spans")
@@ -85,6 +113,7 @@ def main():
     parser.add_argument("--seed", type=int, default=0)
     parser.add_argument("--runs", type=int, default=15)
     parser.add_argument("--workers", type=int, nargs="+", default=[2, 3, 4])
+    parser.add_argument("--instructions", action="store_true", help="counts instructions, by valgrind, in place of the time")
     options = parser.parse_args()
     with tempfile.TemporaryDirectory() as folder:
         base, refused = os.path.join(folder, "m"), os.path.join(folder, "refused")
@@ -92,6 +121,9 @@ def main():
                         "--seed", str(options.seed), base], check=True)
         with_refused(base, refused)
         print(f"{options.functions} functions, {os.path.getsize(base + '.ll') / 1e6:.2f} MB of text")
+        if options.instructions:
+            print_instructions(options.dgc, base, refused, options.workers, folder)
+            return
         print("workers   fastest    middle  times as fast, by the fastest and by the middle, and at most")
         took = measured(options.dgc, base, refused, options, folder)
         lone = at_once(options.dgc, base, 1, options.runs)

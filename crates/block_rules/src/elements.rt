@@ -24,6 +24,7 @@ use layout::{Program, Step};
 use pools::{CELL_WORDS, LayoutId, Layouts, WordSet};
 use shadow_stack::Slots;
 use std::alloc::AllocError;
+use types::part_at;
 
 /// No index has more bits.
 const WORD_BITS: u32 = 64;
@@ -224,7 +225,7 @@ fn part_led(program: &Program, facts: &Facts, written: TypeId, index: &Argument)
 {
     match program.module().types.get(written) {
         Some(whole) if !leads_into(program, facts, whole, index) => None,
-        _ => program.part_at(written, *index),
+        _ => part_at(program.module(), written, *index),
     }
 }
 

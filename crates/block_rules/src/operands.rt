@@ -6,7 +6,7 @@ use crate::type_kind::TypeKind;
 use facts::{Facts, Known};
 use ir_ast::{Constant, Operand, TypeId};
 use shadow_stack::{SlotId, Slots};
-use types::points_to_global;
+use types::{has_type, points_to_global};
 
 /// No integer type has more bits.
 const WORD_BITS: u32 = 64;
@@ -87,7 +87,7 @@ pub fn is_typed(scene: &Scene, written: TypeId, operand: &Operand) -> bool
         Operand::Constant(constant) => {
             constant_fits(*constant, TypeKind::of(scene.module(), written))
         }
-        Operand::Local(v) => scene.program.has_type(scene.function, written, *v),
+        Operand::Local(v) => has_type(scene.module(), scene.function, written, *v),
         Operand::Global(symbol) => points_to_global(scene.module(), written, *symbol),
         Operand::CastGlobal { from, global, to } => {
             written == *to && points_to_global(scene.module(), *from, *global)

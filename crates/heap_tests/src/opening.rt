@@ -36,6 +36,16 @@ pub fn pool_of(alloc: Global, layouts: &Layouts, cells: u32) -> Result<Pools, Fa
     Ok(Pools::new(alloc, layouts, &[cells])?)
 }
 
+/// The only layout, and a pool of cells of it.
+pub fn ground(alloc: Global, cells: u32) -> Result<(Layouts, Pools), Fail>
+    ensures layouts { IfOk result (λ made. made.0 ≡ [] ∷ []) }
+    ensures pools { IfOk result (λ made. made.1 ≡ cells ∷ []) }
+{
+    let layouts = one_layout(alloc)?;
+    let pools = pool_of(alloc, &layouts, cells)?;
+    Ok((layouts, pools))
+}
+
 /// No globals.
 pub fn no_globals() -> [WordKind; 0]
     ensures { result ≡ [] }

@@ -8,7 +8,7 @@ ghost use Rattle.heap_table.specs.Sweepers.{IsSweeperOf};
 use crate::cycles::{first_cycle, second_cycle, take_all};
 use crate::late::read_late;
 use crate::opening::{
-    last_token, late_token, no_globals, one_layout, one_reference, open, pool_of, present_and_late,
+    ground, last_token, late_token, no_globals, one_layout, one_reference, open, pool_of, present_and_late,
     two_references, two_tokens,
 };
 use crate::steps::{
@@ -18,6 +18,8 @@ use crate::steps::{
 };
 use colours::{DONE, Turn};
 use heap_table::{Heap, Mutator, Sweeper};
+use pools::{Layouts, Pools};
+use std::alloc::Global;
 use std::test::Fail;
 use std::thread::Threads;
 
@@ -127,17 +129,42 @@ fn waits(heap: &Heap<'_>, sweeper: &mut Sweeper<'_>) -> (bool, u64)
     (has_asked && has_waited, sweeper.cycles())
 }
 
+/// What `waits` returns; the posted stage and the thread's own; and the colours.
+type Waited = ((bool, u64), (u64, u64), [u64; 3]);
+
+/// What comes of a new heap of one thread, where the collector waits for it.
+fn wait_and_close(heap: Heap<'_>, mutators: Vec<Mutator>, mut sweeper: Sweeper<'_>) -> Waited
+    requires tokens { AreNew heap 0 mutators.items }
+    requires sweeper { IsSweeperOf heap sweeper }
+    requires threads { heap.setup.threads ≡ 1 }
+    requires pools { heap.setup.pools ≡ 2 ∷ [] }
+{
+    let waited = waits(&heap, &mut sweeper);
+    let closed = close_new(heap, mutators, sweeper);
+    (
+        waited,
+        (closed.posted(), closed.stage(0)),
+        colours_of(&closed),
+    )
+}
+
+/// Opens that heap.
+fn waited(alloc: Global, layouts: &Layouts, pools: &Pools) -> Result<Waited, Fail>
+    requires layouts { layouts.now ≡ [] ∷ [] }
+    requires pools { pools.now ≡ 2 ∷ [] }
+{
+    let globals = no_globals();
+    let (heap, mutators, sweeper) = open(alloc, layouts, pools, &globals, 1, &[])?;
+    Ok(wait_and_close(heap, mutators, sweeper))
+}
+
 #[test]
 fn a_thread_without_a_call_holds_up_no_turn(rt: HostRuntime) -> Result<(), Fail> {
-    let alloc = rt.alloc();
-    let layouts = one_layout(alloc)?;
-    let pools = pool_of(alloc, &layouts, 2)?;
-    let globals = no_globals();
-    let (heap, mutators, mut sweeper) = open(alloc, &layouts, &pools, &globals, 1, &[])?;
-    assert_eq!(rt; waits(&heap, &mut sweeper), (true, 0));
-    let closed = close_new(heap, mutators, sweeper);
-    assert_eq!(rt; (closed.posted(), closed.stage(0)), (1, 0));
-    assert_eq!(rt; colours_of(&closed), [1, 0, 0]);
+    let (layouts, pools) = ground(rt.alloc(), 2)?;
+    let (looks, stages, colours) = waited(rt.alloc(), &layouts, &pools)?;
+    assert_eq!(rt; looks, (true, 0));
+    assert_eq!(rt; stages, (1, 0));
+    assert_eq!(rt; colours, [1, 0, 0]);
     Ok(())
 }
 
@@ -249,16 +276,42 @@ fn tries_begin_after_the_cell_won_last(rt: HostRuntime) -> Result<(), Fail> {
     Ok(())
 }
 
+/// What `begin_and_take` gives the only thread of a new heap, which is late, after three turns of the collector.
+fn begin_after_turns(
+    heap: &Heap<'_>,
+    mutators: &mut Vec<Mutator>,
+    sweeper: &mut Sweeper<'_>,
+) -> Option<(u64, u32)>
+    requires late { heap.now.setup.late ≡ true ∷ [] }
+    requires one { length mutators.old.items ≡ 1 }
+    requires tokens { AreNew heap.now 0 mutators.old.items }
+    requires sweeper { IsSweeperOf heap.now sweeper.old }
+    requires layout { 0 < length heap.now.setup.pools }
+{
+    let mut me = late_token(heap, mutators)?;
+    turn_on(heap, sweeper, 3);
+    begin_and_take(heap, &mut me)
+}
+
+/// Opens that heap.
+fn begun_late(
+    alloc: Global,
+    layouts: &Layouts,
+    pools: &Pools,
+) -> Result<Option<(u64, u32)>, Fail>
+    requires layouts { layouts.now ≡ [] ∷ [] }
+    requires pools { 0 < length pools.now }
+{
+    let globals = no_globals();
+    let (heap, mut mutators, mut sweeper) = open(alloc, layouts, pools, &globals, 1, &[true])?;
+    Ok(begin_after_turns(&heap, &mut mutators, &mut sweeper))
+}
+
 #[test]
 fn a_late_thread_begins_at_the_posted_stage(rt: HostRuntime) -> Result<(), Fail> {
-    let alloc = rt.alloc();
-    let layouts = one_layout(alloc)?;
-    let pools = pool_of(alloc, &layouts, 1)?;
-    let globals = no_globals();
-    let (heap, mut mutators, mut sweeper) = open(alloc, &layouts, &pools, &globals, 1, &[true])?;
-    let mut me = late_token(&heap, &mut mutators).expect(&rt, "a token");
-    turn_on(&heap, &mut sweeper, 3);
-    assert_eq!(rt; begin_and_take(&heap, &mut me), Some((2, 1)));
+    let (layouts, pools) = ground(rt.alloc(), 1)?;
+    let begun = begun_late(rt.alloc(), &layouts, &pools)?;
+    assert_eq!(rt; begun, Some((2, 1)));
     Ok(())
 }
 
@@ -282,29 +335,58 @@ fn read_by_late(
     read_late(rt, heap, first, late, sweeper)
 }
 
+/// What `read_late` returns; and the stages of a heap after it: the posted one, and those of the two threads.
+type LateRead = ((u32, Option<(u64, u64)>), (u64, [u64; 2]));
+
+/// Lets the late thread read, and closes the heap.
+fn read_and_close(
+    rt: &impl Threads,
+    alloc: Global,
+    heap: Heap<'_>,
+    mut first: Mutator,
+    mut late: Mutator,
+    mut sweeper: Sweeper<'_>,
+) -> Result<LateRead, Fail>
+    requires first { MayCall heap first }
+    requires late { MayBegin heap late }
+    requires sweeper { IsSweeperOf heap sweeper }
+    requires layout { 0 < length heap.setup.pools }
+    requires globals { heap.setup.globals ≡ Reference 0 ∷ [] }
+    requires threads { heap.setup.threads ≡ 2 }
+{
+    let read = read_by_late(rt, &heap, &mut first, &mut late, &mut sweeper);
+    let closed = close_two(alloc, heap, first, late, sweeper)?;
+    Ok((read, (closed.posted(), stages_of_two(&closed))))
+}
+
+/// Opens a heap of two threads for that, of which the second is late.
+fn read_on_a_new_heap(
+    rt: &impl Threads,
+    alloc: Global,
+    layouts: &Layouts,
+    pools: &Pools,
+) -> Result<LateRead, Fail>
+    requires layouts { layouts.now ≡ [] ∷ [] }
+    requires pools { 0 < length pools.now }
+{
+    let globals = one_reference();
+    let opened = open(alloc, layouts, pools, &globals, 2, &[false, true]);
+    let (heap, mut mutators, sweeper) = opened?;
+    let Some((first, late)) = present_and_late(&heap, &mut mutators) else {
+        return Err(Fail::new("two tokens"));
+    };
+    read_and_close(rt, alloc, heap, first, late, sweeper)
+}
+
 #[test]
 fn a_late_thread_reads_what_another_one_wrote(rt: HostRuntime) -> Result<(), Fail> {
-    let alloc = rt.alloc();
-    let layouts = one_layout(alloc)?;
-    let pools = pool_of(alloc, &layouts, 2)?;
-    let globals = one_reference();
-    let (heap, mut mutators, mut sweeper) = open(
-        alloc,
-        &layouts,
-        &pools,
-        &globals,
-        2,
-        &[false, true],
-    )?;
-    let tokens = present_and_late(&heap, &mut mutators);
-    let (mut first, mut late) = tokens.expect(&rt, "two tokens");
-    let (cell, seen) = read_by_late(&rt, &heap, &mut first, &mut late, &mut sweeper);
+    let (layouts, pools) = ground(rt.alloc(), 2)?;
+    let ((cell, seen), (posted, stages)) = read_on_a_new_heap(&rt, rt.alloc(), &layouts, &pools)?;
     let (stage, found) = seen.expect(&rt, "it has begun");
     assert_eq!(rt; (cell, found), (1, 1));
     // A cycle takes 23 turns before the late thread has begun, and the next one posts stage 4.
     assert!(rt; stage >= 4);
-    let closed = close_two(alloc, heap, first, late, sweeper)?;
-    assert!(rt; closed.posted() >= stage);
-    assert_eq!(rt; stages_of_two(&closed), [DONE, DONE]);
+    assert!(rt; posted >= stage);
+    assert_eq!(rt; stages, [DONE, DONE]);
     Ok(())
 }

@@ -1,5 +1,6 @@
 pub mod Names
 pub mod Types
+pub mod Fields
 pub mod LocalKeys
 pub mod KeyNames
 pub mod StructNames

@@ -1,28 +1,33 @@
-ghost use Rattle.std.specs.Prelude.{◌≡◌, ◌<◌, ◌≤◌, ◌^◌, [], Some, None, length, slice_get, OnOk, OnErr, IfOk};
+ghost use Rattle.std.specs.Prelude.{◌≡◌, ◌<◌, ◌≤◌, ◌^◌, ◌++◌, ◌∷◌, ℕ, suc, [], Some, None, length, slice_get, OnOk, OnErr, IfOk, IfSome};
 ghost use Rattle.ir_ast.specs.Types.{place_of_type, number_of_type, numbered_type};
+ghost use Rattle.ir_ast.specs.Fields.{after_fields, IsJump};
 
 use crate::ir_type::IrType;
+use crate::jump::Jump;
 use crate::names::TABLE_LIMIT;
 use crate::type_id::TypeId;
 use indexmap::IndexSet;
 use std::alloc::{AllocError, Global};
 use std::marker::Model;
 
-/// Distinct types, numbered from 0 in the order in which they came.
+/// Distinct types, numbered from 0 in the order in which they came. Each has a jump, so that a field of a struct with n fields is
+/// found by about log n of them.
 #[derive(Drop)]
 pub struct Types {
     each: IndexSet<IrType>,
+    jumps: Vec<Jump>,
 }
 
 impl Model for Types {
-    ghost use Rattle.std.specs.Prelude.{◌≤◌, ◌^◌, List, length};
+    ghost use Rattle.std.specs.Prelude.{◌≡◌, ◌≤◌, ◌^◌, List, length};
+    ghost use Rattle.ir_ast.specs.Fields.{AreJumps};
     ghost use Rattle.ir_ast.specs.declared.ir_type.IrType.{IrType};
 
     ghost Value = { List IrType };
 
     ghost view = { λ types. types.each.keys };
 
-    ghost invariant = { λ types. length types.each.keys ≤ 2 ^ 32 };
+    ghost invariant = { λ types. (length types.each.keys ≤ 2 ^ 32) × (length types.jumps.items ≡ length types.each.keys) × AreJumps types.each.keys types.jumps.items };
 }
 
 impl Types {
@@ -31,6 +36,7 @@ impl Types {
     {
         Types {
             each: IndexSet::new(alloc),
+            jumps: Vec::new(alloc),
         }
     }
 
@@ -66,10 +72,120 @@ impl Types {
         ensures err { OnErr result (self.new ≡ self.old) }
         ensures err_only_new { OnErr result (place_of_type written self.old ≡ None) }
     {
-        if self.each.len() >= TABLE_LIMIT {
-            return self.find(written).ok_or(AllocError);
+        if let Some(number) = self.find(written) {
+            return Ok(number);
         }
-        let (number, _) = self.each.insert_full(written)?;
+        let number = self.each.len();
+        if number >= TABLE_LIMIT {
+            return Err(AllocError);
+        }
+        let jump = self.jump_from(&written);
+        self.add(written, jump)?;
         Ok(TypeId::new(number as u32))
+    }
+
+    fn add(&mut self, written: IrType, jump: Jump) -> Result<(), AllocError>
+        requires new { place_of_type written self.old ≡ None }
+        requires limit { length self.old < 2 ^ 32 }
+        requires jump { IsJump (self.old ++ written ∷ []) (length self.old) jump }
+        ensures types { OnOk result (self.new ≡ self.old ++ written ∷ []) }
+        ensures err { OnErr result (self.new ≡ self.old) }
+    {
+        self.jumps.push(jump)?;
+        match self.each.insert(written) {
+            Ok(_) => Ok(()),
+            Err(_) => {
+                self.jumps.pop();
+                Err(AllocError)
+            }
+        }
+    }
+
+    /// The struct of the fields after the first ones of a struct type, if it has as many.
+    pub fn after_fields(&self, written: TypeId, number: u64) -> Option<TypeId>
+        ensures { result ≡ after_fields self.now (Some written) number }
+    {
+        let mut to = written;
+        let mut left = number;
+        while left > 0 {
+            let jump = self.jump_within(to, left)?;
+            to = jump.to;
+            left -= u64::from(jump.fields);
+        }
+        Some(to)
+    }
+
+    /// A jump from a type, which leads over no field where it is no struct type.
+    pub fn jump(&self, written: TypeId) -> Option<Jump>
+        ensures { IfSome result (IsJump self.now written) }
+    {
+        self.jumps.get(written.number() as usize).copied()
+    }
+
+    /// The longest jump that is known over at least one field of a type and at most these.
+    fn jump_within(&self, written: TypeId, most: u64) -> Option<Jump>
+        requires { 0 < most }
+        ensures none { result ≡ None → after_fields self.now (Some written) most ≡ None }
+        ensures some { IfSome result (λ jump. IsJump self.now written jump × (0 < jump.fields) × (jump.fields ≤ most)) }
+    {
+        match self.jump(written) {
+            Some(jump) => {
+                if 0 < jump.fields && u64::from(jump.fields) <= most {
+                    Some(jump)
+                } else {
+                    self.over_first(written)
+                }
+            }
+            None => self.over_first(written),
+        }
+    }
+
+    fn over_first(&self, written: TypeId) -> Option<Jump>
+        ensures none { (n : ℕ) → result ≡ None → after_fields self.now (Some written) (suc n) ≡ None }
+        ensures some { IfSome result (λ jump. IsJump self.now written jump × (jump.fields ≡ 1)) }
+    {
+        match self.get(written)? {
+            IrType::Struct { rest, .. } => Some(Jump {
+                to: rest,
+                fields: 1,
+            }),
+            _ => None,
+        }
+    }
+
+    /// The jump of a type that is added next.
+    fn jump_from(&self, written: &IrType) -> Jump
+        requires { length self.now < 2 ^ 32 }
+        ensures { IsJump (self.now ++ written.now ∷ []) (length self.now) result }
+    {
+        match written {
+            IrType::Struct { rest, .. } => match self.over_two_more(*rest) {
+                Some(jump) => jump,
+                None => Jump {
+                    to: *rest,
+                    fields: 1,
+                },
+            },
+            _ => Jump {
+                to: TypeId::new(self.each.len() as u32),
+                fields: 0,
+            },
+        }
+    }
+
+    /// Over a field before these, and then two jumps on, where those are as long as each other.
+    fn over_two_more(&self, rest: TypeId) -> Option<Jump>
+        ensures { IfSome result (λ jump. (n : ℕ) × (jump.fields ≡ suc n) × (after_fields self.now (Some rest) n ≡ Some jump.to)) }
+    {
+        let next = self.jump(rest)?;
+        let after = self.jump(next.to)?;
+        if next.fields != after.fields {
+            return None;
+        }
+        let both = next.fields.checked_add(after.fields)?;
+        Some(Jump {
+            to: after.to,
+            fields: both.checked_add(1)?,
+        })
     }
 }

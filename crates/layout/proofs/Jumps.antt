@@ -1,15 +1,16 @@
--- Where jumps lead, and what lies before a field after them.
-use Rattle.std.proofs.Common.{◌≡◌, ◌≤◌, ◌+◌, ◌-◌, ◌⊎◌, inl, inr, ℕ, zero, suc, List, [], ◌∷◌, ◌++◌, length, Option, Some, None, refl, ap, sym, ◌∙◌, subst, arith}
-use Rattle.std.specs.Prelude.{slice_get, IfSome}
+-- How many words jumps lead over, and what lies before a field after them.
+use Rattle.std.proofs.Common.{◌≡◌, ◌+◌, ◌⊎◌, inl, inr, ℕ, zero, suc, List, [], ◌∷◌, ◌++◌, length, Option, Some, None, refl, ap, sym, ◌∙◌, subst, arith}
+use Rattle.std.specs.Prelude.{slice_get, unwrap_or}
 use Rattle.std.proofs.lemmas.Bool.Decides.{nat_tests}
+use Rattle.lemmas.specs.Lists.{get_either}
 use Rattle.ir_ast.specs.declared.ir_type.IrType.{IrType}
 use Rattle.ir_ast.specs.declared.ir_type.IrType.TheVariants.{Struct}
-use Rattle.layout.specs.Jumps.{LeadsOver, IsJump, AreJumps, over_first, joined}
+use Rattle.ir_ast.specs.Fields.{rest_of, after_fields}
+use Rattle.layout.specs.Jumps.{words_over, IsOver, AreOver}
 use Rattle.layout.specs.Layouts.{LaidOut}
-use Rattle.layout.specs.Steps.{get_either}
 use Rattle.layout.specs.Offsets.{size_of, words_before, sum_of}
-use Rattle.layout.specs.declared.sizes.Jump.{Jump}
-use Rattle.types.specs.Elements.{field_in}
+use Rattle.layout.specs.declared.sizes.Over.{Over}
+use Rattle.types.specs.Elements.{type_at}
 
 -- ---- sums
 
@@ -21,7 +22,7 @@ none_right None = refl
 none_right (Some a) = refl
 
 -- a sum may be taken from either end
-sums : (x y z : Option ℕ) → sum_of x (sum_of y z) ≡ sum_of (sum_of x y) z
+pub sums : (x y z : Option ℕ) → sum_of x (sum_of y z) ≡ sum_of (sum_of x y) z
 sums None y z = refl
 sums (Some a) None z = refl
 sums (Some a) (Some b) None = sym (none_right (sum_of (Some a) (Some b)))
@@ -46,98 +47,87 @@ none_after (Some a) (Some b) = none_after_two a b
 
 -- ---- jumps of a table
 
-pub one_more : (types : List IrType) (sizes : List (Option ℕ)) (jumps : List Jump) (jump : Jump) → AreJumps types sizes jumps → IsJump types sizes (length jumps) jump → AreJumps types sizes (jumps ++ jump ∷ [])
-one_more types sizes jumps jump are is written found at = by (get_either jumps jump written found at) where
-  by : (slice_get jumps written ≡ Some found) ⊎ ((written ≡ length jumps) × (found ≡ jump)) → IsJump types sizes written found
+pub one_more : (types : List IrType) (sizes : List (Option ℕ)) (jumps : List Over) (over : Over) → AreOver types sizes jumps → IsOver types sizes (length jumps) over → AreOver types sizes (jumps ++ over ∷ [])
+one_more types sizes jumps over are is written found at = by (get_either jumps over written found at) where
+  by : (slice_get jumps written ≡ Some found) ⊎ ((written ≡ length jumps) × (found ≡ over)) → IsOver types sizes written found
   by (inl there) = are written found there
-  by (inr here) = subst (λ w. IsJump types sizes w found) (sym here.0) (subst (IsJump types sizes (length jumps)) (sym here.1) is)
+  by (inr here) = subst (λ w. IsOver types sizes w found) (sym here.0) (subst (IsOver types sizes (length jumps)) (sym here.1) is)
 
--- over the first field, and two jumps on
-pub two_more : (types : List IrType) (sizes : List (Option ℕ)) (jumps : List Jump) (written first rest : ℕ) (next after longer : Jump) (longest : Option Jump) → AreJumps types sizes jumps
-    → slice_get types written ≡ Some (Struct first rest) → slice_get jumps rest ≡ Some next → slice_get jumps next.to ≡ Some after → longer ≡ joined (over_first sizes first rest) next
-    → IfSome longest (λ jump. jump ≡ joined longer after) → IfSome longest (IsJump types sizes written)
-two_more types sizes jumps written first rest next after longer None are is at at_next same e = tt
-two_more types sizes jumps written first rest next after longer (Some longest) are is at at_next same e =
-    let step = over_first sizes first rest in
-    let one : IsJump types sizes written (joined step next) = both written step next (LeadsOver.One written first rest is) (are rest next at) in
-    let two : IsJump types sizes written (joined longer after) =
-    subst (λ j. IsJump types sizes written (joined j after)) (sym same) (both written (joined step next) after one (are next.to after at_next)) in
-    subst (IsJump types sizes written) (sym e) two where
-      both : (from : ℕ) (a b : Jump) → IsJump types sizes from a → IsJump types sizes a.to b → IsJump types sizes from (joined a b)
-      both from a b h g = LeadsOver.Others from a.fields a.words a.to b.fields b.words b.to h g
+-- ---- words after a jump
 
--- ---- fields after a jump
+module _ (types : List IrType) (sizes : List (Option ℕ)) where
+  few : (type : Option IrType) (n : ℕ) → sum_of (Some 0) (words_over types sizes type n) ≡ words_over types sizes type n
+  few type zero = refl
+  few (Some (Struct first rest)) (suc n) = none_before (unwrap_or (slice_get sizes first) None) (words_over types sizes (slice_get types rest) n)
+  few _ (suc n) = refl
+
+  abbrev at : Option ℕ → Option IrType
+  at None = None
+  at (Some written) = slice_get types written
+
+  none_leads : (n to : ℕ) → after_fields types None n ≡ Some to → ⊥
+  none_leads zero to e = cc
+  none_leads (suc n) to e = cc
+
+  words_step : (type : Option IrType) (n k to : ℕ) → after_fields types (rest_of type) n ≡ Some to
+      → words_over types sizes (at (rest_of type)) (n + k) ≡ sum_of (words_over types sizes (at (rest_of type)) n) (words_over types sizes (slice_get types to) k)
+      → words_over types sizes type (suc (n + k)) ≡ sum_of (words_over types sizes type (suc n)) (words_over types sizes (slice_get types to) k)
+  words_step (Some (Struct first rest)) n k to e on =
+      let size = unwrap_or (slice_get sizes first) None in
+      ap (sum_of size) on ∙ sums size (words_over types sizes (slice_get types rest) n) (words_over types sizes (slice_get types to) k)
+  words_step _ n k to e on = absurd (none_leads n to e)
+
+  words_from : (written : Option ℕ) (n k to : ℕ) → after_fields types written n ≡ Some to
+      → words_over types sizes (at written) (n + k) ≡ sum_of (words_over types sizes (at written) n) (words_over types sizes (slice_get types to) k)
+  words_from written zero k to e =
+      let all : 0 + k ≡ k = omega arith in ap (words_over types sizes (at written)) all ∙ ap (λ w. words_over types sizes (at w) k) e ∙ sym (few (slice_get types to) k)
+  words_from None (suc n) k to e = absurd (none_leads (suc n) to e)
+  words_from (Some written) (suc n) k to e =
+      let all : suc n + k ≡ suc (n + k) = omega arith in
+      ap (words_over types sizes (slice_get types written)) all
+      ∙ words_step (slice_get types written) n k to e (words_from (rest_of (slice_get types written)) n k to e)
+
+  -- the words of n fields and k more are those of the n, and those of k fields from where the n lead
+  pub words_on : (written n k to : ℕ) → after_fields types (Some written) n ≡ Some to
+      → words_over types sizes (slice_get types written) (n + k) ≡ sum_of (words_over types sizes (slice_get types written) n) (words_over types sizes (slice_get types to) k)
+  words_on written n k to e = words_from (Some written) n k to e
+
+-- ---- words before a field
+
+-- these words, where the fields before lead to a struct that has a field
+abbrev pub up_to : Option IrType → (words : Option ℕ) → Option ℕ
+up_to (Some (Struct first rest)) words = words
+up_to _ words = None
+
+sum_up_to : (type : Option IrType) (size words : Option ℕ) → sum_of size (up_to type words) ≡ up_to type (sum_of size words)
+sum_up_to (Some (Struct first rest)) size words = refl
+sum_up_to _ size words = none_right size
+
+none_up_to : (type : Option IrType) → up_to type None ≡ None
+none_up_to (Some (Struct first rest)) = refl
+none_up_to _ = refl
+
+pub up_to_other : (type : Option IrType) (words : Option ℕ) → ((first rest : ℕ) → type ≡ Some (Struct first rest) → ⊥) → up_to type words ≡ None
+up_to_other (Some (Struct first rest)) words other = absurd (other first rest refl)
+up_to_other _ words other = refl
 
 module _ (p : LaidOut) where
-  words_are_few : (type : Option IrType) (n : ℕ) → sum_of (Some 0) (words_before p type n) ≡ words_before p type n
-  words_are_few (Some (Struct first rest)) zero = refl
-  words_are_few (Some (Struct first rest)) (suc n) = none_before (size_of p first) (words_before p (slice_get p.of_module.types rest) n)
-  words_are_few _ n = refl
+  before_first : (type : Option IrType) → words_before p type zero ≡ up_to type (Some 0)
+  before_first (Some (Struct first rest)) = refl
+  before_first _ = refl
 
-  after_none : (k : ℕ) → 0 + k ≡ k
-  after_none k = omega arith
+  before_more : (type : Option IrType) (n : ℕ)
+      → words_before p (type_at p.of_module (rest_of type)) n
+      ≡ up_to (type_at p.of_module (after_fields p.of_module.types (rest_of type) n)) (words_over p.of_module.types p.sizes (type_at p.of_module (rest_of type)) n)
+      → words_before p type (suc n) ≡ up_to (type_at p.of_module (after_fields p.of_module.types (rest_of type) n)) (words_over p.of_module.types p.sizes type (suc n))
+  before_more (Some (Struct first rest)) n on =
+      ap (sum_of (size_of p first)) on
+      ∙ sum_up_to (type_at p.of_module (after_fields p.of_module.types (Some rest) n)) (size_of p first) (words_over p.of_module.types p.sizes (slice_get p.of_module.types rest) n)
+  before_more type n on = sym (none_up_to (type_at p.of_module (after_fields p.of_module.types (rest_of type) n)))
 
-  after_one : (k : ℕ) → 1 + k ≡ suc k
-  after_one k = omega arith
-
-  after_both : (a b c : ℕ) → a + b + c ≡ a + (b + c)
-  after_both a b c = omega arith
-
-  pub field_there : (written n : ℕ) (words : Option ℕ) (to : ℕ) → LeadsOver p.of_module.types p.sizes written n words to
-      → (k : ℕ) → field_in p.of_module (slice_get p.of_module.types written) (n + k) ≡ field_in p.of_module (slice_get p.of_module.types to) k
-  field_there _ _ _ _ (LeadsOver.NoField written) k = ap (field_in p.of_module (slice_get p.of_module.types written)) (after_none k)
-  field_there _ _ _ _ (LeadsOver.One written first rest at) k = ap (field_in p.of_module (slice_get p.of_module.types written)) (after_one k) ∙ ap (λ type. field_in p.of_module type (suc k)) at
-  field_there _ _ _ _ (LeadsOver.Others written n words between more_fields more to h g) k =
-      ap (field_in p.of_module (slice_get p.of_module.types written)) (after_both n more_fields k)
-      ∙ field_there written n words between h (more_fields + k)
-      ∙ field_there between more_fields more to g k
-
-  pub words_there : (written n : ℕ) (words : Option ℕ) (to : ℕ) → LeadsOver p.of_module.types p.sizes written n words to
-      → (k : ℕ) → words_before p (slice_get p.of_module.types written) (n + k) ≡ sum_of words (words_before p (slice_get p.of_module.types to) k)
-  words_there _ _ _ _ (LeadsOver.NoField written) k = ap (words_before p (slice_get p.of_module.types written)) (after_none k) ∙ sym (words_are_few (slice_get p.of_module.types written) k)
-  words_there _ _ _ _ (LeadsOver.One written first rest at) k = ap (words_before p (slice_get p.of_module.types written)) (after_one k) ∙ ap (λ type. words_before p type (suc k)) at
-  words_there _ _ _ _ (LeadsOver.Others written n words between more_fields more to h g) k =
-      ap (words_before p (slice_get p.of_module.types written)) (after_both n more_fields k)
-      ∙ words_there written n words between h (more_fields + k)
-      ∙ ap (sum_of words) (words_there between more_fields more to g k)
-      ∙ sums words more (words_before p (slice_get p.of_module.types to) k)
-
-  no_fields : (n : ℕ) → n ≡ n + 0
-  no_fields n = omega arith
-
-  -- the field to which one comes
-  pub field_here : (written n : ℕ) (words : Option ℕ) (to first rest : ℕ) → LeadsOver p.of_module.types p.sizes written n words to
-      → slice_get p.of_module.types to ≡ Some (Struct first rest) → Some first ≡ field_in p.of_module (slice_get p.of_module.types written) n
-  field_here written n words to first rest h at =
-      sym (ap (field_in p.of_module (slice_get p.of_module.types written)) (no_fields n) ∙ field_there written n words to h 0 ∙ ap (λ type. field_in p.of_module type 0) at)
-
-  pub words_here : (written n : ℕ) (words : Option ℕ) (to first rest : ℕ) → LeadsOver p.of_module.types p.sizes written n words to → sum_of words (Some 0) ≡ words
-      → slice_get p.of_module.types to ≡ Some (Struct first rest) → words ≡ words_before p (slice_get p.of_module.types written) n
-  words_here written n words to first rest h few at =
-      sym (ap (words_before p (slice_get p.of_module.types written)) (no_fields n) ∙ words_there written n words to h 0 ∙ ap (λ type. sum_of words (words_before p type 0)) at ∙ few)
-
-  -- a type that is no struct has no field, so there is none after one has come to it
-  pub nothing_here : (written n : ℕ) (words : Option ℕ) (to number : ℕ) → LeadsOver p.of_module.types p.sizes written n words to → n ≤ number
-      → ((first rest : ℕ) → slice_get p.of_module.types to ≡ Some (Struct first rest) → ⊥)
-      → (None ≡ field_in p.of_module (slice_get p.of_module.types written) number) × (None ≡ words_before p (slice_get p.of_module.types written) number)
-  nothing_here written n words to number h le none =
-      let split : number ≡ n + (number - n) = omega (arith, le) in (
-        sym (ap (field_in p.of_module (slice_get p.of_module.types written)) split ∙ field_there written n words to h (number - n) ∙ no_field (slice_get p.of_module.types to) none (number - n)),
-        sym (ap (words_before p (slice_get p.of_module.types written)) split ∙ words_there written n words to h (number - n) ∙ ap (sum_of words) (no_words (slice_get p.of_module.types to) none (number - n)) ∙ none_right words),
-      ) where
-        no_field : (type : Option IrType) → ((first rest : ℕ) → type ≡ Some (Struct first rest) → ⊥) → (k : ℕ) → field_in p.of_module type k ≡ None
-        no_field (Some (Struct first rest)) none k = absurd (none first rest refl)
-        no_field _ none k = refl
-
-        no_words : (type : Option IrType) → ((first rest : ℕ) → type ≡ Some (Struct first rest) → ⊥) → (k : ℕ) → words_before p type k ≡ None
-        no_words (Some (Struct first rest)) none k = absurd (none first rest refl)
-        no_words _ none k = refl
-
--- one more jump of a table, or one over the first field
-pub jumps_on : (types : List IrType) (sizes : List (Option ℕ)) (jumps : List Jump) (written n : ℕ) (words : Option ℕ) (to first rest : ℕ) (jump : Jump) → AreJumps types sizes jumps
-    → slice_get types to ≡ Some (Struct first rest) → LeadsOver types sizes written n words to → (slice_get jumps to ≡ Some jump) ⊎ (jump ≡ over_first sizes first rest)
-    → LeadsOver types sizes written (n + jump.fields) (sum_of words jump.words) jump.to
-jumps_on types sizes jumps written n words to first rest jump are at h is = LeadsOver.Others written n words to jump.fields jump.words jump.to h (by is) where
-  by : (slice_get jumps to ≡ Some jump) ⊎ (jump ≡ over_first sizes first rest) → IsJump types sizes to jump
-  by (inl there) = are to jump there
-  by (inr same) = subst (IsJump types sizes to) (sym same) (LeadsOver.One to first rest at)
+  -- the words before the field after n others
+  pub before : (written : Option ℕ) (n : ℕ)
+      → words_before p (type_at p.of_module written) n ≡ up_to (type_at p.of_module (after_fields p.of_module.types written n)) (words_over p.of_module.types p.sizes (type_at p.of_module written) n)
+  before written zero = before_first (type_at p.of_module written)
+  before None (suc n) = refl
+  before (Some written) (suc n) = before_more (slice_get p.of_module.types written) n (before (rest_of (slice_get p.of_module.types written)) n)

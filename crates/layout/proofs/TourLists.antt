@@ -1,8 +1,9 @@
 -- Numbers, lists and places that a tour has.
 use Rattle.std.proofs.Common.{◌≡◌, ◌≢◌, ◌⊎◌, inl, inr, ◌<◌, ◌≤◌, ℕ, zero, suc, Bool, true, false, min, List, [], ◌∷◌, ◌++◌, length, take, Option, Some, None, refl, sym, ap, ◌∙◌, arith}
+use Rattle.std.proofs.lemmas.Option.{slice_get_within}
 use Rattle.std.specs.Prelude.{slice_get, slice_set}
 use Rattle.lemmas.specs.Numbers.{some_same}
-use Rattle.layout.specs.Steps.{get_front, get_last, get_either, get_inside}
+use Rattle.lemmas.specs.Lists.{get_front, get_end, get_either}
 use Rattle.layout.specs.Tours.{least, is_placeless, is_new, Has, AreIncreasing, IsUpTo, new_count}
 
 -- ---- numbers and lists
@@ -23,7 +24,7 @@ pub has_front : (xs : List ℕ) (x p : ℕ) → Has xs p → Has (xs ++ x ∷ []
 has_front xs x p w = (w.0, get_front xs (x ∷ []) w.0 p w.1)
 
 pub has_last : (xs : List ℕ) (x : ℕ) → Has (xs ++ x ∷ []) x
-has_last xs x = (length xs, get_last xs x)
+has_last xs x = (length xs, get_end xs x)
 
 pub has_either : (xs : List ℕ) (x p : ℕ) → Has (xs ++ x ∷ []) p → Has xs p ⊎ (p ≡ x)
 has_either xs x p w = elim (get_either xs x w.0 p w.1) [ inl e ↦ inl (w.0, e) | inr e ↦ inr e.1 ]
@@ -70,7 +71,7 @@ increasing_with xs n up below k l one other lt ek el = by (get_either xs n k one
   by : (slice_get xs k ≡ Some one) ⊎ ((k ≡ length xs) × (one ≡ n)) → (slice_get xs l ≡ Some other) ⊎ ((l ≡ length xs) × (other ≡ n)) → one < other
   by (inl a) (inl b) = up k l one other lt a b
   by (inl a) (inr b) = let less = below one (k, a) in omega (arith, less, b.1)
-  by (inr a) (inl b) = absurd (let inside = get_inside xs l other b in omega (arith, lt, inside, a.0))
+  by (inr a) (inl b) = absurd (let inside = slice_get_within xs l other b in omega (arith, lt, inside, a.0))
   by (inr a) (inr b) = absurd (omega (arith, lt, a.0, b.0))
 
 pub increasing_take : (xs : List ℕ) (n : ℕ) → AreIncreasing xs → AreIncreasing (take n xs)

@@ -1,13 +1,13 @@
 -- What is known on a tour stays so, where a type is met, where the tour looks back from it, and where it is left.
 use Rattle.std.proofs.Common.{◌≡◌, ◌≢◌, ◌⊎◌, inl, inr, ◌<◌, ◌≤◌, ◌+◌, ℕ, false, [], ◌∷◌, ◌++◌, length, take, Option, Some, None, refl, sym, ap, ◌∙◌, subst, arith}
+use Rattle.std.proofs.lemmas.Option.{slice_get_within}
 use Rattle.std.specs.Prelude.{slice_get, slice_set}
-use Rattle.lemmas.specs.Lists.{get_some}
 use Rattle.lemmas.specs.Numbers.{some_same}
 use Rattle.ir_ast.specs.declared.module.Module.{Module}
 use Rattle.ir_ast.specs.declared.ir_type.IrType.{IrType}
 use Rattle.ir_ast.specs.declared.ir_type.IrType.TheVariants.{Void, Integer, Pointer, Array, EmptyStruct, Struct, Named}
 use Rattle.layout.specs.Layouts.{IsPartOf, IsPart, Holds, Itself, Deeper}
-use Rattle.layout.specs.Steps.{get_front, get_last, get_either, get_inside}
+use Rattle.lemmas.specs.Lists.{get_some, get_front, get_end, get_either}
 use Rattle.layout.specs.Tours.{State, with_top, opened, noted, cut, left, is_placeless, is_new, Has, IsCount, IsInRing, IsOpen, IsLeft, HoldsBound, IsWithin, IsUpTo, IsTour}
 use Rattle.types.specs.Elements.{body_of_layout}
 use Rattle.types.specs.References.{layout_of_struct}
@@ -24,7 +24,7 @@ module _ (m : Module) (s : State) (tour : IsTour m s) (t : ℕ) (new : slice_get
   fresh i e = let f : Some None ≡ Some (Some i) = sym new ∙ tour.places_are i t e in cc
 
   path_inside : (x : ℕ) → Has s.path x → x < length s.met
-  path_inside x w = let h = tour.path_met x w in get_inside s.met x h.0 h.1
+  path_inside x w = let h = tour.path_met x w in slice_get_within s.met x h.0 h.1
 
   is_other : (q : ℕ) → is_new s.places q ≡ false → q ≢ t
   is_other q known e = not_both (is_new s.places t) (ap is_placeless new) (subst (λ x. is_new s.places x ≡ false) e known)
@@ -42,7 +42,7 @@ module _ (m : Module) (s : State) (tour : IsTour m s) (t : ℕ) (new : slice_get
   old_met i p e lt = elim (get_either s.met t i p e) [ inl h ↦ h | inr h ↦ absurd (omega (arith, lt, h.0)) ]
 
   last_met : (i p : ℕ) → slice_get (s.met ++ t ∷ []) i ≡ Some p → i ≡ length s.met → p ≡ t
-  last_met i p e at = elim (get_either s.met t i p e) [ inl h ↦ absurd (let inside = get_inside s.met i p h in omega (arith, inside, at)) | inr h ↦ h.1 ]
+  last_met i p e at = elim (get_either s.met t i p e) [ inl h ↦ absurd (let inside = slice_get_within s.met i p h in omega (arith, inside, at)) | inr h ↦ h.1 ]
 
   t_met : (q : ℕ) → q ≡ t → Has (s.met ++ t ∷ []) q
   t_met q e = subst (Has (s.met ++ t ∷ [])) (sym e) (has_last s.met t)
@@ -57,7 +57,7 @@ module _ (m : Module) (s : State) (tour : IsTour m s) (t : ℕ) (new : slice_get
   path_now : (x : ℕ) → Has (s.path ++ length s.met ∷ []) x → (u : ℕ) × (slice_get (s.met ++ t ∷ []) x ≡ Some u)
   path_now x w = elim (has_either s.path (length s.met) x w) [
     | inl k ↦ let h = tour.path_met x k in (h.0, get_front s.met (t ∷ []) x h.0 h.1)
-    | inr at ↦ (t, subst (λ y. slice_get (s.met ++ t ∷ []) y ≡ Some t) (sym at) (get_last s.met t))
+    | inr at ↦ (t, subst (λ y. slice_get (s.met ++ t ∷ []) y ≡ Some t) (sym at) (get_end s.met t))
   ]
 
   path_holds_now : (k l lower upper one other : ℕ) → k < l → slice_get (s.path ++ length s.met ∷ []) k ≡ Some lower → slice_get (s.path ++ length s.met ∷ []) l ≡ Some upper
@@ -66,7 +66,7 @@ module _ (m : Module) (s : State) (tour : IsTour m s) (t : ℕ) (new : slice_get
     by : (slice_get s.path k ≡ Some lower) ⊎ ((k ≡ length s.path) × (lower ≡ length s.met)) → (slice_get s.path l ≡ Some upper) ⊎ ((l ≡ length s.path) × (upper ≡ length s.met)) → Holds m one other
     by (inl a) (inl b) = tour.path_holds k l lower upper one other lt a b (old_met lower one e1 (path_inside lower (k, a))) (old_met upper other e2 (path_inside upper (l, b)))
     by (inl a) (inr b) = subst (Holds m one) (sym (last_met upper other e2 b.1)) (held lower one (k, a) (old_met lower one e1 (path_inside lower (k, a))))
-    by (inr a) (inl b) = absurd (let inside = get_inside s.path l upper b in omega (arith, lt, inside, a.0))
+    by (inr a) (inl b) = absurd (let inside = slice_get_within s.path l upper b in omega (arith, lt, inside, a.0))
     by (inr a) (inr b) = absurd (omega (arith, lt, a.0, b.0))
 
   bounds_now : (b : ℕ) → Has (s.bounds ++ length s.met ∷ []) b → Has (s.path ++ length s.met ∷ []) b
@@ -80,7 +80,7 @@ module _ (m : Module) (s : State) (tour : IsTour m s) (t : ℕ) (new : slice_get
     | inl h ↦ let b = tour.holds_bound i u h in
         record { bound = b.bound; at = b.at; is_bound = has_front s.bounds (length s.met) b.bound b.is_bound; no_later = b.no_later; there = get_front s.met (t ∷ []) b.bound b.at b.there; held = b.held }
     | inr h ↦ let at = h.0 in
-        record { bound = length s.met; at = t; is_bound = has_last s.bounds (length s.met); no_later = omega (arith, at); there = get_last s.met t; held = subst (λ x. Holds m x t) (sym h.1) (Itself t) }
+        record { bound = length s.met; at = t; is_bound = has_last s.bounds (length s.met); no_later = omega (arith, at); there = get_end s.met t; held = subst (λ x. Holds m x t) (sym h.1) (Itself t) }
   ]
 
   within_old : (i q : ℕ) → i < length s.met → IsWithin s.places s.met s.bounds i q → IsWithin (slice_set s.places t (Some (length s.met))) (s.met ++ t ∷ []) (s.bounds ++ length s.met ∷ []) i q
@@ -95,7 +95,7 @@ module _ (m : Module) (s : State) (tour : IsTour m s) (t : ℕ) (new : slice_get
   within_now : (i u q : ℕ) → slice_get (s.met ++ t ∷ []) i ≡ Some u → (Has (s.path ++ length s.met ∷ []) i → ⊥) → IsPart m u q
       → IsWithin (slice_set s.places t (Some (length s.met))) (s.met ++ t ∷ []) (s.bounds ++ length s.met ∷ []) i q
   within_now i u q e shut ip = elim (get_either s.met t i u e) [
-    | inl h ↦ within_old i q (get_inside s.met i u h) (tour.within i u q h (λ o. shut (has_front s.path (length s.met) i o)) ip)
+    | inl h ↦ within_old i q (slice_get_within s.met i u h) (tour.within i u q h (λ o. shut (has_front s.path (length s.met) i o)) ip)
     | inr h ↦ absurd (shut (subst (Has (s.path ++ length s.met ∷ [])) (sym h.0) (has_last s.path (length s.met))))
   ]
 
@@ -106,7 +106,7 @@ module _ (m : Module) (s : State) (tour : IsTour m s) (t : ℕ) (new : slice_get
       record { known = set_kept q part.known; gone = λ w. elim (has_either s.met t q w) [ inl k ↦ part.gone k | inr e ↦ is_other q part.known e ] }
 
   t_open : (u : ℕ) → u ≡ t → IsOpen (s.met ++ t ∷ []) (s.path ++ length s.met ∷ []) u
-  t_open u e = record { place = length s.met; on_path = has_last s.path (length s.met); there = subst (λ x. slice_get (s.met ++ t ∷ []) (length s.met) ≡ Some x) (sym e) (get_last s.met t) }
+  t_open u e = record { place = length s.met; on_path = has_last s.path (length s.met); there = subst (λ x. slice_get (s.met ++ t ∷ []) (length s.met) ≡ Some x) (sym e) (get_end s.met t) }
 
   no_less_now : (u struct : ℕ) → is_new (slice_set s.places t (Some (length s.met))) u ≡ false → (IsOpen (s.met ++ t ∷ []) (s.path ++ length s.met ∷ []) u → ⊥) → IsInRing m u
       → layout_of_struct m (slice_get m.types u) ≡ Some struct → IsUpTo s.first struct
@@ -141,7 +141,7 @@ pub record IsReady (m : Module) (s : State) (t : ℕ) : Type 0 where
 
 module _ (m : Module) (s : State) (p t : ℕ) (tour : IsTour m (with_top p s)) (at : slice_get s.met p ≡ Some t) where
   before_top : (k x : ℕ) → slice_get s.path k ≡ Some x → x < p
-  before_top k x e = tour.path_increasing k (length s.path) x p (get_inside s.path k x e) (get_front s.path (p ∷ []) k x e) (get_last s.path p)
+  before_top k x e = tour.path_increasing k (length s.path) x p (slice_get_within s.path k x e) (get_front s.path (p ∷ []) k x e) (get_end s.path p)
 
   up_to_top : (x : ℕ) → Has (s.path ++ p ∷ []) x → x ≤ p
   up_to_top x w = elim (has_either s.path p x w) [ inl k ↦ let lt = before_top k.0 x k.1 in omega (arith, lt) | inr e ↦ omega (arith, e) ]
@@ -151,7 +151,7 @@ module _ (m : Module) (s : State) (p t : ℕ) (tour : IsTour m (with_top p s)) (
 
   pub holds_top : (x u : ℕ) → Has (s.path ++ p ∷ []) x → slice_get s.met x ≡ Some u → Holds m u t
   holds_top x u w e = elim (has_either s.path p x w) [
-    | inl k ↦ tour.path_holds k.0 (length s.path) x p u t (get_inside s.path k.0 x k.1) (get_front s.path (p ∷ []) k.0 x k.1) (get_last s.path p) e at
+    | inl k ↦ tour.path_holds k.0 (length s.path) x p u t (slice_get_within s.path k.0 x k.1) (get_front s.path (p ∷ []) k.0 x k.1) (get_end s.path p) e at
     | inr same ↦ subst (λ y. Holds m y t) (sym (same_as_top x u e same)) (Itself t)
   ]
 
@@ -347,4 +347,4 @@ module _ (m : Module) (s : State) (p t : ℕ) (tour : IsTour m (with_top p s)) (
 
   -- where each bound is before the place on top, that is no bound
   pub no_bound : (n : ℕ) → IsCount s.bounds p n → length s.bounds ≤ n → Has s.bounds p → ⊥
-  no_bound n count le w = let inside = get_inside s.bounds w.0 p w.1 in let lt = count.before w.0 p (omega (arith, inside, le)) w.1 in omega (arith, lt)
+  no_bound n count le w = let inside = slice_get_within s.bounds w.0 p w.1 in let lt = count.before w.0 p (omega (arith, inside, le)) w.1 in omega (arith, lt)

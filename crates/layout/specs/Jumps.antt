@@ -1,41 +1,21 @@
--- Jumps over the fields of struct types.
-use Rattle.std.specs.Prelude.{◌≡◌, ◌+◌, ℕ, List, Option, Some, None, slice_get, unwrap_or}
+-- Jumps over the fields of struct types, with the words of those fields.
+use Rattle.std.specs.Prelude.{◌≡◌, ℕ, zero, suc, List, Option, Some, None, slice_get, unwrap_or}
+use Rattle.ir_ast.specs.Fields.{after_fields}
 use Rattle.ir_ast.specs.declared.ir_type.IrType.{IrType}
 use Rattle.ir_ast.specs.declared.ir_type.IrType.TheVariants.{Struct}
 use Rattle.layout.specs.Offsets.{sum_of}
-use Rattle.layout.specs.declared.sizes.Jump.{Jump}
-use Rattle.layout.specs.declared.sizes.Field.{Field}
+use Rattle.layout.specs.declared.sizes.Over.{Over}
 
--- Over the first n fields of a struct type, of so many words together, one comes to the type of those after them: over none, over one, or over some
--- and then others.
-pub data LeadsOver (types : List IrType) (sizes : List (Option ℕ)) : (written n : ℕ) → (words : Option ℕ) → (to : ℕ) → Type 0 where
-  NoField : (written : ℕ) → LeadsOver types sizes written 0 (Some 0) written
-  One : (written first rest : ℕ) → slice_get types written ≡ Some (Struct first rest) → LeadsOver types sizes written 1 (unwrap_or (slice_get sizes first) None) rest
-  Others : (written n : ℕ) (words : Option ℕ) (between k : ℕ) (more : Option ℕ) (to : ℕ) → LeadsOver types sizes written n words between → LeadsOver types sizes between k more to
-      → LeadsOver types sizes written (n + k) (sum_of words more) to
+-- How many words the first n fields of a struct type have together. None where it has fewer fields, or where they have more than 64 words.
+abbrev pub words_over : List IrType → List (Option ℕ) → Option IrType → (n : ℕ) → Option ℕ
+words_over types sizes type zero = Some 0
+words_over types sizes (Some (Struct first rest)) (suc n) = sum_of (unwrap_or (slice_get sizes first) None) (words_over types sizes (slice_get types rest) n)
+words_over types sizes _ (suc n) = None
 
--- a jump leads over its fields from this type
-abbrev pub IsJump : List IrType → List (Option ℕ) → (written : ℕ) → Jump → Type 0
-IsJump types sizes written jump = LeadsOver types sizes written jump.fields jump.words jump.to
+-- a jump leads from this type over as many fields and words as it says
+abbrev pub IsOver : List IrType → List (Option ℕ) → (written : ℕ) → Over → Type 0
+IsOver types sizes written over = (after_fields types (Some written) over.fields ≡ Some over.to) × (over.words ≡ words_over types sizes (slice_get types written) over.fields)
 
 -- each type has a jump of its own, as far as there are jumps
-abbrev pub AreJumps : List IrType → List (Option ℕ) → List Jump → Type 0
-AreJumps types sizes jumps = (written : ℕ) (jump : Jump) → slice_get jumps written ≡ Some jump → IsJump types sizes written jump
-
--- the jump over the first field of a struct
-abbrev pub over_first : List (Option ℕ) → (first rest : ℕ) → Jump
-over_first sizes first rest = record { to = rest; fields = 1; words = unwrap_or (slice_get sizes first) None }
-
--- a jump, and another one from where it leads
-abbrev pub joined : Jump → Jump → Jump
-joined one other = record { to = other.to; fields = one.fields + other.fields; words = sum_of one.words other.words }
-
--- the type of a field, if there is one
-abbrev pub part_of : Option Field → Option ℕ
-part_of None = None
-part_of (Some field) = Some field.part
-
--- how many words lie before a field, if there is one
-abbrev pub words_to : Option Field → Option ℕ
-words_to None = None
-words_to (Some field) = field.before
+abbrev pub AreOver : List IrType → List (Option ℕ) → List Over → Type 0
+AreOver types sizes jumps = (written : ℕ) (over : Over) → slice_get jumps written ≡ Some over → IsOver types sizes written over

@@ -1,9 +1,10 @@
 -- A turn preserves what is known.
 use Rattle.std.proofs.Common.{◌≡◌, ◌≢◌, ◌⊎◌, inl, inr, ◌<◌, ◌≤◌, ◌+◌, ◌-◌, ℕ, zero, suc, false, List, [], ◌∷◌, ◌++◌, length, take, drop, Some, refl, sym, ap, ◌∙◌, subst, arith, length-append, length-drop}
+use Rattle.std.proofs.lemmas.Option.{slice_get_within}
 use Rattle.std.proofs.lemmas.List.{take-append-le, drop-append-le}
 use Rattle.std.proofs.Math.Seq.{drop-append_seam, take-length}
 use Rattle.std.specs.Prelude.{slice_get, slice_set}
-use Rattle.lemmas.specs.Lists.{get_some}
+use Rattle.lemmas.specs.Lists.{get_some, get_front, get_end, get_either}
 use Rattle.lemmas.specs.Numbers.{some_same}
 use Rattle.ir_ast.specs.declared.module.Module.{Module}
 use Rattle.layout.specs.Words.{Scalars}
@@ -12,29 +13,6 @@ use Rattle.layout.specs.Survey.{mark_at, fields_at, IsWithin, MarkFits, IsReady,
 use Rattle.layout.specs.declared.survey.SizeMark.{SizeMark}
 use Rattle.layout.specs.declared.survey.SizeMark.TheVariants.{New, Open, Endless, Large, Known}
 use Rattle.layout.specs.declared.survey.Span.{Span}
-
--- ---- lists
-
-pub get_front : (s more : List ℕ) (i p : ℕ) → slice_get s i ≡ Some p → slice_get (s ++ more) i ≡ Some p
-get_front [] more i p e = absurd cc
-get_front (y ∷ s) more zero p e = e
-get_front (y ∷ s) more (suc i) p e = get_front s more i p e
-
-pub get_last : (s : List ℕ) (x : ℕ) → slice_get (s ++ x ∷ []) (length s) ≡ Some x
-get_last [] x = refl
-get_last (y ∷ s) x = get_last s x
-
-pub get_either : {X : Type 0} (s : List X) (x : X) (i : ℕ) (p : X) → slice_get (s ++ x ∷ []) i ≡ Some p → (slice_get s i ≡ Some p) ⊎ ((i ≡ length s) × (p ≡ x))
-get_either [] x zero p e = inr (refl, cc)
-get_either [] x (suc i) p e = absurd cc
-get_either (y ∷ s) x zero p e = inl e
-get_either (y ∷ s) x (suc i) p e = elim (get_either s x i p e) [ inl h ↦ inl h | inr h ↦ inr (ap suc h.0, h.1) ]
-
--- a place that has an element is within the list
-pub get_inside : {X : Type 0} (s : List X) (i : ℕ) (p : X) → slice_get s i ≡ Some p → i < length s
-get_inside [] i p e = absurd cc
-get_inside (y ∷ s) zero p e = omega arith
-get_inside (y ∷ s) (suc i) p e = let h = get_inside s i p e in omega arith
 
 -- ---- marks
 
@@ -113,7 +91,7 @@ module _ (m : Module) (marks : List SizeMark) (fields s : List ℕ) (top : ℕ) 
   holds_from : (n i p : ℕ) → i + n ≡ length s → slice_get (s ++ top ∷ []) i ≡ Some p → Holds m p top
   holds_from zero i p e at =
       elim (get_either s top i p at) [
-        | inl h ↦ absurd (let lt = get_inside s i p h in omega arith)
+        | inl h ↦ absurd (let lt = slice_get_within s i p h in omega arith)
         | inr h ↦ subst (λ q. Holds m q top) (sym h.1) (Itself top)
       ]
   holds_from (suc n) i p e at =
@@ -127,7 +105,7 @@ module _ (m : Module) (marks : List SizeMark) (fields s : List ℕ) (top : ℕ) 
     fits = survey.fits;
     holds = λ p waits.
         let at : (i : ℕ) × (slice_get (s ++ top ∷ []) i ≡ Some p) = survey.open_in p waits in
-        let lt : at.0 < length (s ++ top ∷ []) = get_inside (s ++ top ∷ []) at.0 p at.1 in
+        let lt : at.0 < length (s ++ top ∷ []) = slice_get_within (s ++ top ∷ []) at.0 p at.1 in
         let len : length (s ++ top ∷ []) ≡ length s + 1 = length-append s (top ∷ []) in
         holds_from (length s - at.0) at.0 p (omega arith) at.1;
   }
@@ -151,7 +129,7 @@ module _ (m : Module) (marks : List SizeMark) (fields s : List ℕ) (top : ℕ) 
 
     open_at : (p : ℕ) → mark_at (slice_set marks part Open) p ≡ Open → AfterSet marks part Open p → (i : ℕ) × (slice_get ((s ++ top ∷ []) ++ part ∷ []) i ≡ Some p)
     open_at p waits (Other ne same) = let old : (i : ℕ) × (slice_get (s ++ top ∷ []) i ≡ Some p) = survey.open_in p (sym same ∙ waits) in (old.0, get_front (s ++ top ∷ []) (part ∷ []) old.0 p old.1)
-    open_at p waits (Here at is) = (length (s ++ top ∷ []), subst (λ q. slice_get ((s ++ top ∷ []) ++ part ∷ []) (length (s ++ top ∷ [])) ≡ Some q) (sym at) (get_last (s ++ top ∷ []) part))
+    open_at p waits (Here at is) = (length (s ++ top ∷ []), subst (λ q. slice_get ((s ++ top ∷ []) ++ part ∷ []) (length (s ++ top ∷ [])) ≡ Some q) (sym at) (get_end (s ++ top ∷ []) part))
     open_at p waits (Outside at is was) = absurd (let e : Endless ≡ Open = sym is ∙ waits in cc)
 
     chain_at : (i lower upper : ℕ) → (slice_get (s ++ top ∷ []) i ≡ Some lower) ⊎ ((i ≡ length (s ++ top ∷ [])) × (lower ≡ part))
@@ -160,9 +138,9 @@ module _ (m : Module) (marks : List SizeMark) (fields s : List ℕ) (top : ℕ) 
     chain_at i lower upper (inl low) (inr up) =
         let len : length (s ++ top ∷ []) ≡ length s + 1 = length-append s (top ∷ []) in
         let at : i ≡ length s = omega (arith, up.0) in
-        let is_top : lower ≡ top = some_same lower top (sym low ∙ ap (slice_get (s ++ top ∷ [])) at ∙ get_last s top) in
+        let is_top : lower ≡ top = some_same lower top (sym low ∙ ap (slice_get (s ++ top ∷ [])) at ∙ get_end s top) in
         subst (λ l. IsPart m l upper) (sym is_top) (subst (IsPart m top) (sym up.1) ip)
-    chain_at i lower upper (inr low) (inl up) = absurd (let lt = get_inside (s ++ top ∷ []) (suc i) upper up in omega (arith, low.0, lt))
+    chain_at i lower upper (inr low) (inl up) = absurd (let lt = slice_get_within (s ++ top ∷ []) (suc i) upper up in omega (arith, low.0, lt))
     chain_at i lower upper (inr low) (inr up) = absurd (omega (arith, low.0, up.0))
 
   -- the type on top is known

@@ -1,7 +1,6 @@
 //! The words of a module's structs, and a module with its layouts.
 #![tactic(auto)]
 
-mod element;
 mod fault;
 mod laws;
 mod program;

@@ -4,12 +4,10 @@ ghost use Rattle.layout.specs.declared.fault.LayoutFault.TheVariants.{Memory};
 ghost use Rattle.layout.specs.Functions.{laid_with};
 ghost use Rattle.layout.specs.Globals.{globals_of};
 ghost use Rattle.layout.specs.Layouts.{AreLayouts, AreSizes, IsLayoutFault};
-ghost use Rattle.layout.specs.Jumps.{part_of, words_to};
 ghost use Rattle.layout.specs.Offsets.{size_of, words_before, field_offset, step_of};
-ghost use Rattle.types.specs.Elements.{field_in, field_at};
 
 use crate::fault::LayoutFault;
-use crate::sizes::{Field, Sizes, sum_within};
+use crate::sizes::Sizes;
 use crate::step::Step;
 use crate::struct_words::table;
 use crate::word::words_of_globals;
@@ -18,7 +16,7 @@ use items::Items;
 use pools::{Layouts, WordKind};
 use std::alloc::Global;
 use std::marker::Model;
-use types::{index_number, written_out};
+use types::{field_at, index_number, written_out};
 
 /// A module with its layouts, how many words each type of its table has, and the words of its globals.
 #[derive(Drop)]
@@ -32,14 +30,14 @@ pub struct Program {
 impl Model for Program {
     ghost use Rattle.std.specs.Prelude.{◌≡◌};
     ghost use Rattle.layout.specs.Globals.{globals_of};
-    ghost use Rattle.layout.specs.Jumps.{AreJumps};
+    ghost use Rattle.layout.specs.Jumps.{AreOver};
     ghost use Rattle.layout.specs.Layouts.{LaidOut, AreLayouts, AreSizes};
 
     ghost Value = { LaidOut };
 
     ghost view = { λ program. record { of_module = program.of_module; layouts = program.layouts; sizes = program.sizes.each } };
 
-    ghost invariant = { λ program. AreLayouts program.of_module program.layouts × AreSizes program.of_module program.sizes.each × AreJumps program.of_module.types program.sizes.each program.sizes.jumps × (program.globals ≡ globals_of program.of_module) };
+    ghost invariant = { λ program. AreLayouts program.of_module program.layouts × AreSizes program.of_module program.sizes.each × AreOver program.of_module.types program.sizes.each program.sizes.jumps × (program.globals ≡ globals_of program.of_module) };
 }
 
 /// A module that has no layouts, given back.
@@ -129,43 +127,15 @@ impl Program {
     pub fn field_offset(&self, written: TypeId, number: u64) -> Option<u32>
         ensures { result ≡ field_offset self.now written number }
     {
-        self.field(written_out(&self.of_module, written)?, number)?
-            .before
+        self.words_before(written_out(&self.of_module, written)?, number)
     }
 
-    /// The type of a field, numbered from 0, of a struct type, which may be a name.
-    pub fn field_at(&self, written: TypeId, number: u64) -> Option<TypeId>
-        ensures { result ≡ field_at self.now.of_module written number }
+    fn words_before(&self, written: TypeId, number: u64) -> Option<u32>
+        ensures { result ≡ words_before self.now (slice_get self.now.of_module.types written) number }
     {
-        Some(
-            self.field(written_out(&self.of_module, written)?, number)?
-                .part,
-        )
-    }
-
-    fn field(&self, written: TypeId, number: u64) -> Option<Field>
-        ensures part { part_of result ≡ field_in self.now.of_module (slice_get self.now.of_module.types written) number }
-        ensures words { words_to result ≡ words_before self.now (slice_get self.now.of_module.types written) number }
-    {
-        let mut to = written;
-        let mut passed = 0;
-        let mut words = Some(0);
-        while passed < number {
-            match self.of_module.types.get(to)? {
-                IrType::Struct { first, rest } => {
-                    let jump = self.sizes.jump_over(to, first, rest, number - passed);
-                    to = jump.to;
-                    passed += u64::from(jump.fields);
-                    words = sum_within(words, jump.words);
-                }
-                _ => return None,
-            }
-        }
-        match self.of_module.types.get(to)? {
-            IrType::Struct { first, .. } => Some(Field {
-                part: first,
-                before: words,
-            }),
+        let types = &self.of_module.types;
+        match types.get(types.after_fields(written, number)?)? {
+            IrType::Struct { .. } => self.sizes.words_over(types, written, number),
             _ => None,
         }
     }
@@ -182,10 +152,9 @@ impl Program {
             }),
             _ => {
                 let number = index_number(&self.of_module, index)?;
-                let field = self.field(written_out(&self.of_module, written)?, number)?;
                 Some(Step::Field {
-                    words: field.before?,
-                    part: field.part,
+                    words: self.field_offset(written, number)?,
+                    part: field_at(&self.of_module, written, number)?,
                 })
             }
         }

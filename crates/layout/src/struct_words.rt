@@ -1,5 +1,5 @@
 ghost use Rattle.std.specs.Prelude.{◌≡◌, ◌≢◌, ◌⊎◌, List, length, map, position, Some, Ok, Err, IfOk, IfErr};
-ghost use Rattle.layout.specs.Jumps.{AreJumps};
+ghost use Rattle.layout.specs.Jumps.{AreOver};
 ghost use Rattle.layout.specs.Layouts.{AreLayouts, AreSizes, IsLayoutFault};
 ghost use Rattle.layout.specs.Survey.{IsSettled, is_endless, is_large, struct_is_endless, struct_is_large, points_nowhere, known_word, words_of, first_fault, span_of, size_in, mark_at, fields_at, IsWithin};
 ghost use Rattle.layout.specs.declared.fault.LayoutFault.{LayoutFault as AFault};
@@ -218,7 +218,7 @@ fn sizes_of(alloc: Global, survey: &Survey) -> Result<Items<Option<u32>>, AllocE
 /// The words of each struct of a module, and how many words each type of its table has.
 #[tactic(auto, using(crate::proofs::Faults::are_sizes))]
 pub(crate) fn table(alloc: Global, module: &Module) -> Result<(Layouts, Sizes), LayoutFault>
-    ensures found { IfOk result (λ table. AreLayouts «module».now table.0 × AreSizes «module».now table.1.each × AreJumps «module».now.types table.1.each table.1.jumps) }
+    ensures found { IfOk result (λ table. AreLayouts «module».now table.0 × AreSizes «module».now table.1.each × AreOver «module».now.types table.1.each table.1.jumps) }
     ensures fault { IfErr result (λ fault. fault ≢ Memory → IsLayoutFault «module».now fault) }
     ensures refused_only_so { (words : List (List AWord)) → AreLayouts «module».now words → IfErr result (λ fault. fault ≡ Memory) }
 {

@@ -1,5 +1,5 @@
 -- Lists: what is at a place, and what holds of all elements.
-use Rattle.std.proofs.Common.{◌≡◌, ℕ, zero, suc, ◌+◌, ◌<◌, Bool, true, List, [], ◌∷◌, ◌++◌, length, get_or, map, sum, slice_get, Some, refl, sym, ap, arith}
+use Rattle.std.proofs.Common.{◌≡◌, ℕ, zero, suc, ◌+◌, ◌<◌, Bool, true, List, [], ◌∷◌, ◌++◌, ◌⊎◌, inl, inr, length, get_or, map, sum, slice_get, Some, refl, sym, ap, arith}
 use Rattle.std.specs.Prelude.{replicate}
 use Rattle.std.specs.List.{list_all}
 use Rattle.std.proofs.lemmas.List.Sums.{sum_by-cons}
@@ -15,6 +15,19 @@ get_some (x ∷ xs) (suc i) lt = get_some xs i (omega arith)
 pub get_end : {A : Type 0} (xs : List A) (x : A) → slice_get (xs ++ x ∷ []) (length xs) ≡ Some x
 get_end [] x = refl
 get_end (y ∷ xs) x = get_end xs x
+
+-- what a list held is there when it has become longer
+pub get_front : {A : Type 0} (xs more : List A) (i : ℕ) (x : A) → slice_get xs i ≡ Some x → slice_get (xs ++ more) i ≡ Some x
+get_front [] more i x e = absurd cc
+get_front (y ∷ xs) more zero x e = e
+get_front (y ∷ xs) more (suc i) x e = get_front xs more i x e
+
+-- what a list with one element more holds was there, or is that element
+pub get_either : {A : Type 0} (xs : List A) (last : A) (i : ℕ) (x : A) → slice_get (xs ++ last ∷ []) i ≡ Some x → (slice_get xs i ≡ Some x) ⊎ ((i ≡ length xs) × (x ≡ last))
+get_either [] last zero x e = inr (refl, cc)
+get_either [] last (suc i) x e = absurd cc
+get_either (y ∷ xs) last zero x e = inl e
+get_either (y ∷ xs) last (suc i) x e = elim (get_either xs last i x e) [ inl h ↦ inl h | inr h ↦ inr (ap suc h.0, h.1) ]
 
 pub at_map : {X : Type 0} (g : X → X) (xs : List X) (j : ℕ) (d : X) → g d ≡ d → get_or (map g xs) j d ≡ g (get_or xs j d)
 at_map g [] j d e = sym e

@@ -16,6 +16,7 @@ use crate::value::{Pointee, Reference, Value};
 use ir_ast::{Argument, Element, GlobalId, Module, TypeId};
 use layout::{Program, Step, word_of};
 use pools::{LayoutId, WordKind};
+use types::element_type;
 
 /// What a word of a layout holds, if the layout has it.
 pub fn kind_of_word(program: &Program, layout: LayoutId, word: u32) -> Option<WordKind>
@@ -249,10 +250,7 @@ pub fn element_action(scene: &FrameScene<'_>, element: &Element) -> Action
     only_if(
         is_typed(scene, element.base_type, &element.base)
             && (are_indices(scene, indices)
-                && (scene
-                    .program
-                    .element_type(element.source, indices)
-                    .is_some()
+                && (element_type(scene.of_module(), element.source, indices).is_some()
                     && element_place_of(
                         scene.program,
                         scene.registers,

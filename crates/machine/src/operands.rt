@@ -14,7 +14,7 @@ use crate::value::{Pointee, Value};
 use ir_ast::{Constant, GlobalId, Module, Operand, SymbolId, TypeId, ValueId};
 use layout::global_word;
 use shadow_stack::{SlotId, Slots};
-use types::{global_named, pointee, points_to_global};
+use types::{global_named, has_type, pointee, points_to_global};
 
 fn register_at(registers: &[Value], value: ValueId) -> Value
     ensures { result ≡ register_at registers.now value }
@@ -96,7 +96,7 @@ pub fn is_typed(scene: &FrameScene<'_>, written: TypeId, operand: &Operand) -> b
     match operand {
         Operand::Constant(constant) => constant_fits(scene.of_module(), written, *constant),
         Operand::Local(value) => {
-            scene.program.has_type(scene.function, written, *value)
+            has_type(scene.of_module(), scene.function, written, *value)
                 && scene.slots.slot_of(*value).is_none()
         }
         Operand::Global(global) => points_to_global(scene.of_module(), written, *global),
@@ -135,7 +135,7 @@ pub fn is_local_of(scene: &FrameScene<'_>, written: TypeId, operand: &Operand) -
     ensures { result ≡ is_local_of scene.now.program.now.of_module scene.now.function.now written operand.now }
 {
     match operand {
-        Operand::Local(value) => scene.program.has_type(scene.function, written, *value),
+        Operand::Local(value) => has_type(scene.of_module(), scene.function, written, *value),
         _ => false,
     }
 }
@@ -156,7 +156,7 @@ pub fn slot_at_place(scene: &FrameScene<'_>, written: TypeId, operand: &Operand)
 {
     match operand {
         Operand::Local(value) => {
-            if scene.program.has_type(scene.function, written, *value) {
+            if has_type(scene.of_module(), scene.function, written, *value) {
                 scene.slots.slot_of(*value)
             } else {
                 None

@@ -25,26 +25,18 @@ pub fn written_out(module: &Module, written: TypeId) -> Option<TypeId>
     }
 }
 
-#[tactic(auto, using(crate::proofs::Fields::past_first, crate::proofs::Fields::at_first))]
+#[tactic(auto, using(crate::proofs::Fields::field_after))]
 fn field_in(module: &Module, written: TypeId, number: u64) -> Option<TypeId>
     ensures { result ≡ field_in «module».now (slice_get «module».now.types written) number }
 {
-    let mut fields = written;
-    let mut before = number;
-    while before > 0 {
-        match module.types.get(fields)? {
-            IrType::Struct { rest, .. } => fields = rest,
-            _ => return None,
-        }
-        before -= 1;
-    }
+    let fields = module.types.after_fields(written, number)?;
     match module.types.get(fields)? {
         IrType::Struct { first, .. } => Some(first),
         _ => None,
     }
 }
 
-/// The type of a field, numbered from 0, of a struct type, which may be a name. The fields before it are walked over.
+/// The type of a field, numbered from 0, of a struct type, which may be a name. Of n fields it is found by some log n jumps.
 pub fn field_at(module: &Module, written: TypeId, number: u64) -> Option<TypeId>
     ensures { result ≡ field_at «module».now written number }
 {

@@ -1,24 +1,13 @@
-use Rattle.std.proofs.Common.{◌∙◌, Result, Ok, Err, OnErr}
-use Rattle.ir_ast.specs.TypePlaces.{found_stands, number-is, types-are, none-is}
+use Rattle.std.proofs.Common.{◌≡◌, ◌∙◌, length, slice_get, sym, ap}
+use Rattle.lemmas.specs.Lists.{get_end}
+use Rattle.ir_ast.specs.TypePlaces.{stands}
 use Rattle.ir_ast.proofs.types.Types.number.Goals as goal
 
-on_err : {A E P : Type 0} (r : Result A E) → P → OnErr r P
-on_err (Ok x) p = tt
-on_err (Err e) p = p
+pub returns-in-Some-clause-there : goal.returns-in-Some-clause-there
+returns-in-Some-clause-there c = stands c.args.written c.args.self.now c.in-Some.number (sym c.find.ensures ∙ c.in-Some.is)
 
-pub returns-then-len-ge-TABLE_LIMIT-clause-there :
-    goal.returns-then-len-ge-TABLE_LIMIT-clause-there
-returns-then-len-ge-TABLE_LIMIT-clause-there c =
-    rw c.ok_or.ensures.value (found_stands _ c.find.result c.args.written c.args.self.now c.find.ensures)
-
-pub returns-in_err-number-clause-err_only_new : goal.returns-in_err-number-clause-err_only_new
-returns-in_err-number-clause-err_only_new c =
-    on_err c.from_residual.result (none-is c.args.written c.self.inside.each.keys c.args.self.now c.self.view_is c.in_err-number.ensures.absent)
-
-pub returns-clause-number : goal.returns-clause-number
-returns-clause-number c =
-    c.new.ensures ∙ c.in_ok-number.ensures.index ∙ number-is c.args.written c.self.inside.each.keys c.args.self.now c.self.view_is
-
-pub returns-clause-types : goal.returns-clause-types
-returns-clause-types c =
-    c.in_ok-number.ensures.keys ∙ types-are c.args.written c.self.inside.each.keys c.args.self.now c.self.view_is
+pub returns-clause-there : goal.returns-clause-there
+returns-clause-there c =
+    let types = c.args.self.now in
+    let number : c.new.result ≡ length types = c.new.ensures ∙ c.len-number.ensures.len ∙ ap length c.self.view_is in
+    ap (slice_get c.add.new.self) number ∙ ap (λ each. slice_get each (length types)) c.in_ok-add.ensures.types ∙ get_end types c.args.written
