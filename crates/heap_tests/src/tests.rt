@@ -1,5 +1,5 @@
 //! The shared heap, by one caller and by real threads. What is done with a new heap stands above its test.
-ghost use Rattle.std.specs.Prelude.{◌≡◌, ◌<◌, [], ◌∷◌, length};
+ghost use Rattle.std.specs.Prelude.{◌≡◌, ◌<◌, [], ◌∷◌, true, length};
 ghost use Rattle.pools.specs.declared.word_kind.WordKind.TheVariants.{Reference};
 ghost use Rattle.heap_table.specs.Holders.{IsOf, MayCall, MayBegin};
 ghost use Rattle.heap_table.specs.Opening.{AreNew};
@@ -8,8 +8,8 @@ ghost use Rattle.heap_table.specs.Sweepers.{IsSweeperOf};
 use crate::cycles::{first_cycle, second_cycle, take_all};
 use crate::late::read_late;
 use crate::opening::{
-    ground, last_token, late_token, no_globals, one_layout, one_reference, open, pool_of, present_and_late,
-    two_references, two_tokens,
+    ground, last_token, late_token, no_globals, one_layout, one_reference, open, pool_of,
+    present_and_late, two_references, two_tokens,
 };
 use crate::steps::{
     are_looks, begin_and_take, close_new, close_one, close_two, colours_of, finish, global,
@@ -294,11 +294,7 @@ fn begin_after_turns(
 }
 
 /// Opens that heap.
-fn begun_late(
-    alloc: Global,
-    layouts: &Layouts,
-    pools: &Pools,
-) -> Result<Option<(u64, u32)>, Fail>
+fn begun_late(alloc: Global, layouts: &Layouts, pools: &Pools) -> Result<Option<(u64, u32)>, Fail>
     requires layouts { layouts.now ≡ [] ∷ [] }
     requires pools { 0 < length pools.now }
 {
