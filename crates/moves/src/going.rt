@@ -3,14 +3,13 @@ ghost use Rattle.pools.specs.Heap.{Setup};
 ghost use Rattle.runs.specs.Machine.{Reference as AReference, machine_of};
 ghost use Rattle.runs.specs.Moves.{answer_of};
 ghost use Rattle.runs.specs.Ends.{moved, stage_afterwards, old_by};
-ghost use Rattle.moves.specs.Calls.{action_of, answer_in, move_in};
+ghost use Rattle.moves.specs.Calls.{action_of, move_in};
 ghost use Rattle.moves.specs.declared.call.Call.{Call as ACall};
 ghost use Rattle.moves.specs.Kinds.{MayAnswer};
 ghost use Rattle.moves.specs.Moving.{HasHint, HasRoom, MayMake};
 ghost use Rattle.moves.specs.Stands.{standing};
 ghost use Rattle.moves.specs.RootsAfter.{IsToldOfRoots};
 
-use crate::call::Answer;
 use crate::hints::note_win;
 use crate::moves::Move;
 use crate::moving::{answer_of, ends_call, stance_after};
@@ -39,7 +38,7 @@ pub fn go_on<M: Runner>(
     let call = stand.state.call();
     let stance = stance_after(pools, &call, stand.stage, stand.stance, made);
     let roots_after = if ends_call(made, stance) {
-        end_call(&mut stand.state, answer_of(&call, made))?
+        stand.state.answer(answer_of(&call, made))?
     } else {
         RootsAfter::Same
     };
@@ -48,28 +47,6 @@ pub fn go_on<M: Runner>(
     stand.replaced = old_by(made);
     note_win(pools, &call, &mut stand.hints, made);
     Ok(roots_after)
-}
-
-/// A call ends with this answer. Returns what the roots are to those before.
-fn end_call<M: Runner>(state: &mut M, answer: Answer) -> Result<RootsAfter, AllocError>
-    requires { (s : Setup) × MayAnswer s (M.fits s) M.action state.old (answer_in answer) }
-    ensures ok { OnOk result (state.new ≡ M.after_answer state.old (answer_in answer)) }
-    ensures roots { IfOk result (λ after. IsToldOfRoots after (M.roots state.old) (M.roots state.new)) }
-    ensures err { OnErr result (state.new ≡ state.old) }
-{
-    let before = state.root_references()?;
-    state.answer(answer)?;
-    Ok(compared(before.as_slice(), state))
-}
-
-/// What the roots are to those before.
-fn compared<M: Runner>(before: &[Reference], state: &M) -> RootsAfter
-    ensures { IsToldOfRoots result before.now (M.roots state.now) }
-{
-    if state.has_roots(before) {
-        return RootsAfter::Same;
-    }
-    RootsAfter::Others
 }
 
 /// The stage after a move.

@@ -2,3 +2,4 @@ pub mod Words
 pub mod CellsRead
 mod FrameNames
 mod Tails
+mod Kept

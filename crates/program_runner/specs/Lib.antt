@@ -9,3 +9,5 @@ pub mod Asks
 pub mod Goes
 pub mod Roots
 pub mod Keeps
+pub mod Steps
+pub mod Newest

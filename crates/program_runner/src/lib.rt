@@ -3,6 +3,7 @@
 
 mod answers;
 mod laws;
+mod newest;
 mod program_thread;
 
 pub use laws::begun_law;

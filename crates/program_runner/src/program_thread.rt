@@ -1,18 +1,18 @@
-ghost use Rattle.std.specs.Prelude.{◌≡◌, ◌≢◌, ◌<◌, ◌++◌, List, None, Some, map, slice_get, IfSome};
+ghost use Rattle.std.specs.Prelude.{◌≡◌, ◌<◌, slice_get};
 ghost use Rattle.pools.specs.Heap.{Setup as Heap, cells, kind_of, words_of_cell};
 ghost use Rattle.machine.specs.Endings.{ending};
 ghost use Rattle.machine.specs.Machine.{action};
 ghost use Rattle.moves.specs.Calls.{answer_in};
 ghost use Rattle.moves.specs.Kinds.{MayAnswer};
-ghost use Rattle.runs.specs.Machine.{Reference as AReference};
-ghost use Rattle.program_safety.specs.Threads.{asks, given_as, reference_in};
+ghost use Rattle.program_safety.specs.Threads.{asks, given_as};
 ghost use Rattle.program_runner.specs.Kinds.{FitsThread};
 ghost use Rattle.program_runner.specs.Heaps.{heap_of};
 
 use crate::answers::{asked_as, null_or_cell, reference_in, word_read};
+use crate::newest::{CHANGED, add_newest, compared, kept};
 use layout::Program;
-use machine::{Action, Answer as ThreadAnswer, Ending, FrameRoots, Thread};
-use moves::{Answer, Call, Reference, Runner};
+use machine::{Action, Answer as ThreadAnswer, Ending, Thread};
+use moves::{Answer, Call, Reference, RootsAfter, Runner};
 use pools::WordKind;
 use runs::Machine;
 use std::alloc::{AllocError, Global};
@@ -26,6 +26,8 @@ pub struct ProgramThread<'a> {
     program: &'a Program,
     setup: &'a Setup,
     thread: Thread<'a>,
+    /// What its newest frames' roots were before the last answer; here, so that an answer seldom takes memory for it.
+    before: Vec<Reference>,
 }
 
 impl<'a> Model for ProgramThread<'a> {
@@ -61,6 +63,7 @@ impl<'a> ProgramThread<'a> {
             program,
             setup,
             thread,
+            before: Vec::new(alloc),
         }
     }
 
@@ -92,11 +95,12 @@ impl<'a> ProgramThread<'a> {
     }
 
     /// An answer to what the thread asked for, as an answer to the thread.
-    fn given_as(&self, answer: Answer) -> ThreadAnswer
-        requires { (s : Heap) × MayAnswer s (FitsThread s) asks self.now (answer_in answer) }
+    fn given_as(&self, asked: Action, answer: Answer) -> ThreadAnswer
+        requires asked { asked ≡ action self.now.program self.now.state }
+        requires may { (s : Heap) × MayAnswer s (FitsThread s) asks self.now (answer_in answer) }
         ensures { result ≡ given_as self.now.heap (action self.now.program self.now.state) (answer_in answer) }
     {
-        match (self.thread.next(), answer) {
+        match (asked, answer) {
             (Action::Read { at, word }, Answer::Got(found)) => {
                 word_read(self.kind(at.cell, word), found)
             }
@@ -110,10 +114,15 @@ impl<'a> ProgramThread<'a> {
 impl<'a> Runner for ProgramThread<'a> {
     ghost use Rattle.program_runner.specs.Kinds.{FitsThread};
     ghost use Rattle.program_runner.specs.Keeps.{thread_keeps_kinds};
+    ghost use Rattle.program_runner.specs.Newest.{newest, thread_adds_newest};
 
     ghost fits = { FitsThread };
 
+    ghost newest = { newest };
+
     ghost keeps_kinds = { thread_keeps_kinds };
+
+    ghost keeps_roots = { thread_adds_newest };
 
     fn call(&self) -> Call {
         asked_as(self.thread.next())
@@ -127,39 +136,21 @@ impl<'a> Runner for ProgramThread<'a> {
             .collect(self.alloc)
     }
 
-    fn has_roots(&self, roots: &[Reference]) -> bool {
-        let mut rest = roots;
-        for frame in 0..self.thread.frames() {
-            match before_names(&self.thread.frame_roots(frame), rest) {
-                Some(before) => rest = before,
-                None => return false,
-            }
-        }
-        rest.is_empty()
+    fn newest_roots(&self) -> Result<Vec<Reference>, AllocError> {
+        let mut newest = Vec::new(self.alloc);
+        add_newest(&self.thread, self.thread.frames().min(CHANGED), &mut newest)?;
+        Ok(newest)
     }
 
-    fn answer(&mut self, answer: Answer) -> Result<(), AllocError> {
-        let given = self.given_as(answer);
-        self.thread.resume(given)
+    fn answer(&mut self, answer: Answer) -> Result<RootsAfter, AllocError> {
+        let asked = self.thread.next();
+        let given = self.given_as(asked, answer);
+        let kept = kept(&self.thread, &asked);
+        self.before.clear();
+        add_newest(&self.thread, self.thread.frames() - kept, &mut self.before)?;
+        self.thread.resume(given)?;
+        Ok(compared(&self.thread, kept, self.before.as_slice()))
     }
-}
-
-/// What comes before the roots of a frame, if these end with what they refer to.
-fn before_names<'a>(own: &FrameRoots<'_>, roots: &'a [Reference]) -> Option<&'a [Reference]>
-    ensures before { IfSome result (λ before. roots.now ≡ before.now ++ map reference_in own.now) }
-    ensures none { result ≡ None → (before : List AReference) → roots.now ≢ before ++ map reference_in own.now }
-{
-    let count = own.len();
-    if roots.len() < count {
-        return None;
-    }
-    let (before, last) = roots.split_at(roots.len() - count);
-    for (place, root) in last.iter().enumerate() {
-        if reference_in(own.value(place)) != *root {
-            return None;
-        }
-    }
-    Some(before)
 }
 
 /// The word with this number of a list, if there is one.

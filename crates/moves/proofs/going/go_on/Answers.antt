@@ -28,7 +28,7 @@ returns-clause-ok g c s call e asked may =
     elim c.if-ends_call.branch [
       | then-ends_call+in_ok-roots_after w ↦
           rw w.stand-is
-          (moved-between s m c.args.stand.now c.args.made.now w.end_call.new.state c.stage_afterwards-stand.result c.stance_after-stance.result c.old_by-stand.result c.note_win.new.hints (answer_in w.answer_of.result)
+          (moved-between s m c.args.stand.now c.args.made.now w.answer.new.self c.stage_afterwards-stand.result c.stance_after-stance.result c.old_by-stand.result c.note_win.new.hints (answer_in w.answer_of.result)
           phase (sym (c.ends_call.ensures cells roots) ∙ w.if-ends_call.true) w.in_ok-roots_after.ensures.ok
           (w.answer_of.ensures roots ∙ ap (λ a. answer_of a (move_in roots c.args.made.now)) c.call-call.ensures) (c.stage_afterwards-stand.ensures roots ∙ ap (λ (v : Stand g.row.M.Denot). stage_afterwards v.stage (move_in roots c.args.made.now)) w.stand-is) (c.old_by-stand.ensures roots)
           (noted ∙ ap (λ (v : Stand g.row.M.Denot). hints_by s v.hints (step_of (move_in roots c.args.made.now))) w.stand-is))

@@ -1,7 +1,7 @@
 use Rattle.std.proofs.Common.{◌≡◌, ◌<◌, ◌-◌, ◌==◌, ◌&&◌, ◌∙◌, Bool, true, false, not, length, get_or, drop, sym, subst, refl, arith}
 use Rattle.program_safety.specs.Threads.{reference_in}
 use Rattle.program_runner.proofs.Tails.{one_reference, same_parts, one_more, named_at}
-use Rattle.program_runner.proofs.program_thread.before_names.Goals as goal
+use Rattle.program_runner.proofs.newest.before_names.Goals as goal
 
 -- a test that fails holds otherwise
 is_not : (b : Bool) → false ≡ not b → b ≡ true
