@@ -1,5 +1,5 @@
 -- One step of an actor after some others: what it adds to the run, and how it breaks it.
-use Rattle.std.proofs.Common.{◌≡◌, ◌<◌, ◌≤◌, ◌+◌, ◌⊎◌, inl, inr, ℕ, suc, Bool, false, cond, List, [], ◌∷◌, length, Option, Some, None, MatchOption, refl, sym, ap, subst, ◌∙◌, arith}
+use Rattle.std.proofs.Common.{◌≡◌, ◌<◌, ◌≤◌, ◌+◌, ◌⊎◌, inl, inr, ℕ, suc, Bool, cond, List, [], ◌∷◌, length, Option, Some, None, MatchOption, refl, sym, ap, subst, ◌∙◌, arith}
 use Rattle.std.specs.Prelude.{count_by}
 use Rattle.std.proofs.lemmas.List.Sums.{sum_by-cons, count_by-le-length}
 use Rattle.pools.specs.Heap.{Setup}

@@ -1,6 +1,7 @@
 -- A world that is watched: one step more, and several steps of one actor.
-use Rattle.std.proofs.Common.{◌≡◌, ◌<◌, ◌+◌, ◌^◌, ℕ, zero, suc, cond, List, [], ◌∷◌, ◌++◌, length, reverse, replicate, Option, refl, sym, ap, subst, ◌∙◌, arith, append_assoc, length-append, add-one}
+use Rattle.std.proofs.Common.{◌≡◌, ◌<◌, ◌+◌, ◌^◌, ℕ, zero, suc, cond, List, [], ◌∷◌, ◌++◌, length, reverse, replicate, Option, Some, None, IfSome, refl, sym, ap, subst, ◌∙◌, arith, append_assoc, length-append, add-one}
 use Rattle.std.proofs.lemmas.List.{reverse-append, replicate-append-replicate, length-replicate}
+use Rattle.pools.specs.Heap.{cells}
 use Rattle.layout.specs.Layouts.{LaidOut}
 use Rattle.colours.specs.declared.place.Place.TheVariants.{Posted}
 use Rattle.colours.specs.Runs.{word_after}
@@ -11,16 +12,19 @@ use Rattle.trace_text.specs.Traces.{IsActorOf}
 use Rattle.trace_text.specs.declared.trace.Actor.{Actor as TracedActor}
 use Rattle.trace_text.specs.declared.trace.Setup.{Setup}
 use Rattle.moves.specs.declared.actor.Actor.{Actor}
+use Rattle.stepping.specs.declared.cover.Cover.{Cover}
 use Rattle.stepping.specs.declared.happening.MadeStep.{MadeStep}
+use Rattle.stepping.specs.declared.walk.Walk.{Walk}
+use Rattle.stepping.specs.Covers.{IsOver, IsCoverAfter, IsCovered}
 use Rattle.stepping.specs.Ends.{IsStepOrNone}
 use Rattle.replay.specs.declared.thread_outcome.ThreadOutcome.{ThreadOutcome}
 use Rattle.setups.specs.Setups.{starts_of}
 use Rattle.replay.specs.ThreadEnds.{AreEndsOf, AreEndsAfter}
-use Rattle.replay.specs.Worlds.{World, run_of, IsAfter, IsStepAfter, IsBrokenWorld, actor_in}
+use Rattle.replay.specs.Worlds.{World, run_of, IsAfter, IsMadeAfter, IsStepAfter, IsBrokenWorld, IsCoveredWorld, IsOverIn, actor_in}
 use Rattle.replay.specs.declared.outcome.BreakCause.{BreakCause}
 use Rattle.replay.specs.declared.watch.Watch.{Watch}
 use Rattle.replay.specs.Outcomes.{Reports}
-use Rattle.replay.specs.Watched.{IsUnbroken, IsWatched, IsStepped, IsMadeAfter, IsCauseAfter, HasRoomFor, claims_cell, frees_cell}
+use Rattle.replay.specs.Watched.{IsUnbroken, IsWatched, IsStepped, IsCauseAfter, HasRoomFor, claims_cell, frees_cell}
 use Rattle.replay.proofs.StepsTaken.{claims-more, frees-more, claims-short, frees-short}
 
 -- ---- one step
@@ -31,16 +35,31 @@ unbroken_now p setup [] unbroken = unbroken
 unbroken_now p setup (actor ∷ before) unbroken = unbroken.0
 
 -- a world that made one step tells how it breaks the run
-pub cause_is : (p : LaidOut) (setup : Setup) (before : List Actor) (actor : Actor) (made : Option MadeStep) (w : World) (o : Option BreakCause) → w.program ≡ p → w.setup ≡ setup
-    → IsAfter w (actor ∷ before) → IsStepOrNone (heap_of p setup) program_machine (starts_of p setup) (run_of p setup before) actor made → IsUnbroken p setup before
-    → ((before : List Actor) (actor : Actor) → IsAfter w (actor ∷ before) → IsMadeAfter w before actor made → ¬ IsBrokenWorld w before → IsCauseAfter w.program w.setup (actor ∷ before) o)
+pub cause_is : (p : LaidOut) (setup : Setup) (before : List Actor) (actor : Actor) (made : Option MadeStep) (w : World) (cover : Cover) (o : Option BreakCause) → w.program ≡ p → w.setup ≡ setup
+    → IsAfter w (actor ∷ before) → IsStepOrNone (heap_of p setup) program_machine (starts_of p setup) (run_of p setup before) actor made → IsCovered (heap_of p setup) program_machine (starts_of p setup) (run_of p setup before) cover
+    → IsUnbroken p setup before
+    → ((before : List Actor) (actor : Actor) → IsAfter w (actor ∷ before) → IsMadeAfter w before actor made → IsCoveredWorld w before cover → ¬ IsBrokenWorld w before → IsCauseAfter w.program w.setup (actor ∷ before) o)
     → IsCauseAfter p setup (actor ∷ before) o
-cause_is p setup before actor made w o same_program same_setup afterwards is unbroken tells =
+cause_is p setup before actor made w cover o same_program same_setup afterwards is covered unbroken tells =
     let Tells : LaidOut → Setup → Type 0 = λ q begun. IsStepOrNone (heap_of q begun) program_machine (starts_of q begun) (run_of q begun before) actor made
+    → IsCovered (heap_of q begun) program_machine (starts_of q begun) (run_of q begun before) cover
     → ¬ IsBroken (heap_of q begun) program_machine (starts_of q begun) (run_of q begun before) → IsCauseAfter q begun (actor ∷ before) o in
-    let here : Tells w.program w.setup = λ made_is now. tells before actor afterwards made_is now in
+    let here : Tells w.program w.setup = λ made_is known now. tells before actor afterwards made_is known now in
     let there : Tells p setup = subst (λ q. Tells q setup) same_program (subst (λ begun. Tells w.program begun) same_setup here) in
-    there is (unbroken_now p setup before unbroken)
+    there is covered (unbroken_now p setup before unbroken)
+
+-- and has a cover after it
+pub cover_is : (p : LaidOut) (setup : Setup) (before : List Actor) (actor : Actor) (made : Option MadeStep) (w : World) (cover after : Cover) → w.program ≡ p → w.setup ≡ setup
+    → IsAfter w (actor ∷ before) → IsStepOrNone (heap_of p setup) program_machine (starts_of p setup) (run_of p setup before) actor made → IsCovered (heap_of p setup) program_machine (starts_of p setup) (run_of p setup before) cover
+    → ((before : List Actor) (actor : Actor) → IsAfter w (actor ∷ before) → IsMadeAfter w before actor made → IsCoveredWorld w before cover → IsCoveredWorld w (actor ∷ before) after)
+    → IsCovered (heap_of p setup) program_machine (starts_of p setup) (run_of p setup (actor ∷ before)) after
+cover_is p setup before actor made w cover after same_program same_setup afterwards is covered keeps =
+    let Keeps : LaidOut → Setup → Type 0 = λ q begun. IsStepOrNone (heap_of q begun) program_machine (starts_of q begun) (run_of q begun before) actor made
+    → IsCovered (heap_of q begun) program_machine (starts_of q begun) (run_of q begun before) cover
+    → IsCovered (heap_of q begun) program_machine (starts_of q begun) (run_of q begun (actor ∷ before)) after in
+    let here : Keeps w.program w.setup = λ made_is known. keeps before actor afterwards made_is known in
+    let there : Keeps p setup = subst (λ q. Keeps q setup) same_program (subst (λ begun. Keeps w.program begun) same_setup here) in
+    there is covered
 
 -- its run is a run
 pub run_is : (p : LaidOut) (setup : Setup) (actors : List Actor) (w : World) → w.program ≡ p → w.setup ≡ setup → IsAfter w actors
@@ -52,8 +71,9 @@ run_is p setup actors w same_program same_setup afterwards =
 -- a step that was counted, and breaks nothing
 pub goes_on : (p : LaidOut) (setup : Setup) (before : List Actor) (actor : Actor) (made : Option MadeStep) (w v : Watch) → IsStepped p setup before actor made w → v.world ≡ w.world
     → v.steps ≡ w.steps + 1 → v.claims ≡ w.claims + cond (claims_cell made) 1 0 → v.frees ≡ w.frees + cond (frees_cell made) 1 0
-    → ¬ IsBroken (heap_of p setup) program_machine (starts_of p setup) (run_of p setup (actor ∷ before)) → IsWatched p setup (actor ∷ before) v
-goes_on p setup before actor made w v is same steps claims frees unbroken = record {
+    → ¬ IsBroken (heap_of p setup) program_machine (starts_of p setup) (run_of p setup (actor ∷ before))
+    → IsCovered (heap_of p setup) program_machine (starts_of p setup) (run_of p setup (actor ∷ before)) v.cover → IsWatched p setup (actor ∷ before) v
+goes_on p setup before actor made w v is same steps claims frees unbroken covered = record {
   program = ap (λ (x : World). x.program) same ∙ is.program;
   setup_is = ap (λ (x : World). x.setup) same ∙ is.setup_is;
   afterwards = subst (λ (x : World). IsAfter x (actor ∷ before)) (sym same) is.afterwards;
@@ -61,6 +81,7 @@ goes_on p setup before actor made w v is same steps claims frees unbroken = reco
   steps = omega (arith, steps, is.steps);
   claims_are = claims ∙ claims-more (heap_of p setup) program_machine (starts_of p setup) actor before made w.claims is.made_is is.claims_are;
   frees_are = frees ∙ frees-more (heap_of p setup) program_machine (starts_of p setup) actor before made w.frees is.made_is is.frees_are;
+  covered = covered;
 }
 
 -- what a world with room has counted is small
@@ -69,6 +90,16 @@ counts_are_small steps w (p, setup, before, is, few) =
     let short = claims-short (heap_of p setup) program_machine (starts_of p setup) before in
     let short_too = frees-short (heap_of p setup) program_machine (starts_of p setup) before in
     (omega (arith, is.steps, few), omega (arith, is.claims_are, short, few), omega (arith, is.frees_are, short_too, few))
+
+-- the cells of its cover are cells of the world, after a step as well
+pub over_after : (steps : ℕ) (w : Watch) (world : World) → HasRoomFor steps w → (world.program ≡ w.world.program) × (world.setup ≡ w.world.setup) → IsOverIn world w.cover
+over_after steps w world (p, setup, before, is, few) same =
+    let Over : LaidOut → Setup → Type 0 = λ q begun. IfSome w.cover.walk (IsOver (cells (heap_of q begun))) in
+    subst (λ q. Over q world.setup) (sym (same.0 ∙ is.program)) (subst (λ begun. Over p begun) (sym (same.1 ∙ is.setup_is)) (known w.cover.walk is.covered))
+  where
+    known : (o : Option Walk) → IfSome o (IsCoverAfter (heap_of p setup) program_machine (starts_of p setup) (run_of p setup before)) → IfSome o (IsOver (cells (heap_of p setup)))
+    known None covered = tt
+    known (Some walk) covered = covered.over
 
 -- ---- several steps of one actor
 
@@ -132,4 +163,5 @@ stepped p setup before actor made w world is same both =
       steps = is.steps;
       claims_are = is.claims_are;
       frees_are = is.frees_are;
+      covered = is.covered;
     }

@@ -1,5 +1,7 @@
 -- A world after one more step.
 use Rattle.std.proofs.Common.{◌≡◌, ◌<◌, ℕ, Bool, Option, Some, List, [], ◌∷◌, length, map, slice_get, refl, sym, ap, ◌∙◌, subst}
+use Rattle.std.specs.Prelude.{IfSome}
+use Rattle.pools.specs.Heap.{cells_in}
 use Rattle.std.proofs.lemmas.List.{length-map}
 use Rattle.layout.specs.Layouts.{LaidOut}
 use Rattle.certs.specs.declared.section.Section.{Section}
@@ -10,7 +12,9 @@ use Rattle.moves.specs.declared.actor.Actor as run
 use Rattle.moves.specs.Runs.{IsActor}
 use Rattle.stepping.specs.declared.acting.Actors.{Actors}
 use Rattle.stepping.specs.declared.beginning.NewThread.{NewThread}
+use Rattle.stepping.specs.declared.cover.Cover.{Cover}
 use Rattle.stepping.specs.declared.happening.MadeStep.{MadeStep}
+use Rattle.stepping.specs.Covers.{IsOver}
 use Rattle.stepping.specs.Ends as stepping
 use Rattle.program_runner.specs.Threads.{CertifiedIsSafe, ProgramThread, program_machine}
 use Rattle.program_runner.specs.Heaps.{heap_of}
@@ -24,7 +28,7 @@ use Rattle.trace_text.specs.declared.trace.Start.{Start}
 use Rattle.replay.specs.declared.world.World.TheInside.{Inside}
 use Rattle.replay.specs.Keeping.{endings_after}
 use Rattle.setups.specs.Setups.{HasNoFault, IsCertifiedSetup, AreBegun, begun_at, new_thread, starts_of}
-use Rattle.replay.specs.Worlds.{World, AreEndings, IsAfter, IsStepAfter, IsBrokenWorld, actor_in, run_of}
+use Rattle.replay.specs.Worlds.{World, AreEndings, IsAfter, IsStepAfter, IsBrokenWorld, IsOverIn, actor_in, run_of}
 use Rattle.replay.specs.WorldView.{world_seen, IsKept}
 use Rattle.replay.proofs.Endings.{kept, kept_by_collector, none_ended}
 use Rattle.replay.proofs.Ends.{afterwards, from_map}
@@ -43,6 +47,11 @@ are_after i w before seen kept b =
       is_after = record { are_actors = b.are_actors; is_end = b.ends.is_end };
     })
     b
+
+-- the cells of a cover are cells of its actors' heap
+pub over_in : (i : Inside) (w : World) → world_seen i ≡ w → IsKept i → (cover : Cover) → IsOverIn w cover → IfSome cover.walk (IsOver (cells_in i.actors.schema.pools.now))
+over_in i w seen kept cover over =
+    subst (λ (count : ℕ). IfSome cover.walk (IsOver count)) (ap cells_in kept.schema.pools) (subst (λ (v : World). IsOverIn v cover) (sym seen) over)
 
 -- an actor of the trace is one of the run
 pub is_actor : (threads : ℕ) (actor : Actor) → IsActorOf threads actor → IsActor threads (actor_in actor)

@@ -6,13 +6,14 @@ use Rattle.replay.specs.Runs.{program_machine, heap_of}
 use Rattle.trace_text.specs.declared.trace.Setup.{Setup}
 use Rattle.moves.specs.declared.actor.Actor.{Actor}
 use Rattle.setups.specs.Setups.{starts_of}
-use Rattle.replay.specs.Worlds.{World, run_of, IsAfter}
+use Rattle.replay.specs.Worlds.{run_of, IsAfter}
 use Rattle.replay.specs.declared.outcome.Break.{Break}
 use Rattle.moves.specs.declared.moves.Move.TheVariants.{Claims}
 use Rattle.colours.specs.declared.turn.Turn.TheVariants.{Free}
 use Rattle.stepping.specs.declared.happening.Happening.{Happening}
 use Rattle.stepping.specs.declared.happening.Happening.TheVariants.{Thread, Collector}
 use Rattle.stepping.specs.declared.happening.MadeStep.{MadeStep}
+use Rattle.stepping.specs.Covers.{IsCovered}
 use Rattle.stepping.specs.Ends.{IsStepOrNone}
 use Rattle.replay.specs.declared.outcome.BreakCause.{BreakCause}
 use Rattle.replay.specs.declared.watch.Watch.{Watch}
@@ -33,6 +34,7 @@ pub record IsWatched (p : LaidOut) (setup : Setup) (before : List Actor) (w : Wa
   pub steps : w.steps ≡ length before
   pub claims_are : w.claims ≡ count_by claims (run_of p setup before)
   pub frees_are : w.frees ≡ count_by frees (run_of p setup before)
+  pub covered : IsCovered (heap_of p setup) program_machine (starts_of p setup) (run_of p setup before) w.cover
 
 -- these actors made their steps after others: the first of them whose step breaks the run, or where there is none, the world after all of them
 abbrev pub IsWatchedOn : LaidOut → Setup → (before actors : List Actor) → Watch → Option Break → Type 0
@@ -70,11 +72,6 @@ abbrev pub IsCauseAfter : LaidOut → Setup → List Actor → Option BreakCause
 IsCauseAfter p setup actors None = ¬ IsBroken (heap_of p setup) program_machine (starts_of p setup) (run_of p setup actors)
 IsCauseAfter p setup actors (Some c) = IsCause (heap_of p setup) program_machine (starts_of p setup) (run_of p setup actors) (cause_in c)
 
--- the step, or none, is that of this actor after those of the world, and says how it breaks the run
-abbrev pub IsMadeAfter : World → (before : List Actor) → Actor → Option MadeStep → Type 0
-IsMadeAfter w before actor made =
-    IsStepOrNone (heap_of w.program w.setup) program_machine (starts_of w.program w.setup) (run_of w.program w.setup before) actor made
-
 -- the world is the one after one more actor, whose step is not counted so far
 pub record IsStepped (p : LaidOut) (setup : Setup) (before : List Actor) (actor : Actor) (made : Option MadeStep) (w : Watch) : Type 0 where
   pub program : w.world.program ≡ p
@@ -85,3 +82,4 @@ pub record IsStepped (p : LaidOut) (setup : Setup) (before : List Actor) (actor 
   pub steps : w.steps ≡ length before
   pub claims_are : w.claims ≡ count_by claims (run_of p setup before)
   pub frees_are : w.frees ≡ count_by frees (run_of p setup before)
+  pub covered : IsCovered (heap_of p setup) program_machine (starts_of p setup) (run_of p setup before) w.cover

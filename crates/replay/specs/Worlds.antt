@@ -1,5 +1,5 @@
 -- A world of a program's threads and the collector, as the end of the run that a list of actors makes from its setup.
-use Rattle.std.specs.Prelude.{ℕ, ◌≡◌, ◌<◌, Option, Some, List, [], ◌∷◌, length, map, slice_get}
+use Rattle.std.specs.Prelude.{ℕ, ◌≡◌, ◌<◌, Option, Some, List, [], ◌∷◌, length, map, slice_get, IfSome}
 use Rattle.pools.specs.Heap as heap
 use Rattle.colours.specs.Collector.{Collection}
 use Rattle.colours.specs.Mutator.{Ended, phase_of}
@@ -25,7 +25,9 @@ use Rattle.moves.specs.declared.stand.Stand.{Stand}
 use Rattle.moves.specs.declared.shared.Shared.{Shared}
 use Rattle.moves.specs.Runs.{run_by, AreActors}
 use Rattle.moves.specs.Stands.{standing}
+use Rattle.stepping.specs.declared.cover.Cover.{Cover}
 use Rattle.stepping.specs.declared.gone.Gone.{Gone}
+use Rattle.stepping.specs.Covers.{IsOver, IsCovered}
 use Rattle.stepping.specs.Reach.{IsFirstGone}
 use Rattle.stepping.specs.declared.happening.MadeStep.{MadeStep}
 use Rattle.stepping.specs.Ends.{IsEnd, IsStepOrNone}
@@ -108,6 +110,18 @@ actor_in traced_actor.Collector = Collector
 abbrev pub IsStepAfter : World → (before : List Actor) → traced.Actor → Option MadeStep → Type 0
 IsStepAfter w before actor made =
     IsStepOrNone (heap_of w.program w.setup) program_machine (starts_of w.program w.setup) (run_of w.program w.setup before) (actor_in actor) made
+
+-- the step, or none, is that of this actor of the run
+abbrev pub IsMadeAfter : World → (before : List Actor) → Actor → Option MadeStep → Type 0
+IsMadeAfter w before actor made = IsStepOrNone (heap_of w.program w.setup) program_machine (starts_of w.program w.setup) (run_of w.program w.setup before) actor made
+
+-- the cells of a cover, where they are known, are cells of the world that a walk met, and none of them is gone
+abbrev pub IsOverIn : World → Cover → Type 0
+IsOverIn w cover = IfSome cover.walk (IsOver (heap.cells (heap_of w.program w.setup)))
+
+-- all that can be reached in the world after these is among them
+abbrev pub IsCoveredWorld : World → (before : List Actor) → Cover → Type 0
+IsCoveredWorld w before cover = IsCovered (heap_of w.program w.setup) program_machine (starts_of w.program w.setup) (run_of w.program w.setup before) cover
 
 -- the first thing that is gone in the world after these and can be reached, if there is one
 abbrev pub IsFirstGoneOf : World → (before : List Actor) → Option Gone → Type 0

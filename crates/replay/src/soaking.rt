@@ -58,7 +58,7 @@ pub fn soak(
     ensures safe { (certs : List Section) → IsCertifiedSetup program.now setup.now certs → IfOk result IsSoundSoak }
 {
     setup_law();
-    let _world = Watch::new(alloc, program, setup)?;
+    may_begin(alloc, program, setup)?;
     let mut first = 0;
     while first < seeds {
         let past = first + CHUNK.min(seeds - first);
@@ -68,6 +68,16 @@ pub fn soak(
         first = past;
     }
     Ok(SoakOutcome::Sound)
+}
+
+/// Whether the threads of a setup may begin.
+fn may_begin(alloc: Global, program: &Program, setup: &Setup) -> Result<(), SetupFault>
+    requires { IsSetupOf program.now setup.now }
+    ensures no_fault { IfOk result (λ _. HasNoFault program.now setup.now) }
+    ensures fault { IfErr result (λ e. e ≢ fault.Memory → IsSetupFault program.now setup.now e) }
+{
+    let _watch = Watch::new(alloc, program, setup)?;
+    Ok(())
 }
 
 /// The least seed of a range whose schedule breaks its run.

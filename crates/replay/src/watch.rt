@@ -1,28 +1,31 @@
-ghost use Rattle.std.specs.Prelude.{◌≡◌, ◌≢◌, ◌<◌, ◌+◌, ◌^◌, cond, List, [], ◌∷◌, length, replicate, IfOk, IfErr};
+ghost use Rattle.std.specs.Prelude.{◌≡◌, ◌≢◌, ◌<◌, ◌+◌, ◌^◌, cond, None, List, [], ◌∷◌, length, replicate, IfOk, IfErr};
 ghost use Rattle.layout.specs.Layouts.{LaidOut};
 ghost use Rattle.trace_text.specs.Traces.{IsActorOf};
 ghost use Rattle.trace_text.specs.declared.trace.Setup.{Setup as ASetup};
 ghost use Rattle.moves.specs.declared.actor.Actor.{Actor as AnActor};
 ghost use Rattle.setups.specs.Setups.{IsSetupOf, IsSetupFault, HasNoFault};
-ghost use Rattle.replay.specs.Worlds.{IsAfter, IsBrokenWorld, actor_in};
+ghost use Rattle.replay.specs.Worlds.{IsAfter, IsMadeAfter, IsBrokenWorld, IsCoveredWorld, IsOverIn, actor_in};
 ghost use Rattle.setups.specs.declared.setup_fault.SetupFault.TheVariants as fault;
 ghost use Rattle.replay.specs.Outcomes.{Reports};
-ghost use Rattle.replay.specs.Watched.{IsWatched, IsWatchedOn, HasRoomFor, IsMadeAfter, IsStepped, IsCauseAfter, claims_cell, frees_cell};
+ghost use Rattle.replay.specs.Watched.{IsWatched, IsWatchedOn, HasRoomFor, IsStepped, IsCauseAfter, claims_cell, frees_cell};
 
 use crate::outcome::{Break, BreakCause, Report};
 use crate::world::World;
 use colours::Turn;
 use layout::Program;
 use moves::Move;
+use program_runner::ProgramThread;
 use setups::SetupFault;
 use std::alloc::{AllocError, Global};
-use stepping::{Happening, Loss, MadeStep};
+use stepping::{Cover, Happening, Loss, MadeStep, cover_law};
 use trace_text::{Actor, Setup};
 
 /// A world whose run was never broken so far, with what was counted on the way.
 #[derive(Drop)]
 pub struct Watch<'a> {
     world: World<'a>,
+    /// Cells that hold all that can be reached, where they are known.
+    cover: Cover,
     steps: u64,
     claims: u64,
     frees: u64,
@@ -38,6 +41,7 @@ impl<'a> Watch<'a> {
     {
         Ok(Watch {
             world: World::new(alloc, program, setup)?,
+            cover: Cover::unknown(),
             steps: 0,
             claims: 0,
             frees: 0,
@@ -90,11 +94,12 @@ impl<'a> Watch<'a> {
     /// What the step that the world has made tells: how it breaks the run, if it does. It is counted.
     fn told(&mut self, actor: Actor, made: &Option<MadeStep>) -> Result<Option<Break>, AllocError>
         requires room { (self.old.steps < 2 ^ 63) × (self.old.claims < 2 ^ 63) × (self.old.frees < 2 ^ 63) }
+        requires cover { IsOverIn self.old.world self.old.cover }
         ensures { (p : LaidOut) (setup : ASetup) (before : List AnActor) → IsStepped p setup before (actor_in actor) made.now self.old
             → IfOk result (IsWatchedOn p setup before (actor_in actor ∷ []) self.new) }
     {
         self.count(made);
-        match cause_after(&self.world, made)? {
+        match cause_after(&self.world, &mut self.cover, made)? {
             None => Ok(None),
             Some(cause) => Ok(Some(Break {
                 step: self.steps,
@@ -108,6 +113,7 @@ impl<'a> Watch<'a> {
     fn count(&mut self, made: &Option<MadeStep>)
         requires room { (self.old.steps < 2 ^ 63) × (self.old.claims < 2 ^ 63) × (self.old.frees < 2 ^ 63) }
         ensures world { self.new.world ≡ self.old.world }
+        ensures cover { self.new.cover ≡ self.old.cover }
         ensures steps { self.new.steps ≡ self.old.steps + 1 }
         ensures claims { self.new.claims ≡ self.old.claims + cond (claims_cell made.now) 1 0 }
         ensures frees { self.new.frees ≡ self.old.frees + cond (frees_cell made.now) 1 0 }
@@ -150,12 +156,22 @@ fn frees_cell(made: &Option<MadeStep>) -> bool
     )
 }
 
-/// The first cause by which the run is broken after a step, if it is, where it was not broken before it.
-fn cause_after(world: &World<'_>, made: &Option<MadeStep>) -> Result<Option<BreakCause>, AllocError>
-    ensures { (before : List AnActor) (actor : AnActor) → IsAfter world.now (actor ∷ before)
-        → IsMadeAfter world.now before actor made.now → ¬ IsBrokenWorld world.now before
+/// The first cause by which the run is broken after a step, if it is, where it was not broken before it. If there is none, the
+/// cover is one after the step.
+fn cause_after(
+    world: &World<'_>,
+    cover: &mut Cover,
+    made: &Option<MadeStep>,
+) -> Result<Option<BreakCause>, AllocError>
+    requires { IsOverIn world.now cover.old }
+    ensures cause { (before : List AnActor) (actor : AnActor) → IsAfter world.now (actor ∷ before)
+        → IsMadeAfter world.now before actor made.now → IsCoveredWorld world.now before cover.old → ¬ IsBrokenWorld world.now before
         → IfOk result (IsCauseAfter world.now.program world.now.setup (actor ∷ before)) }
+    ensures cover { (before : List AnActor) (actor : AnActor) → IsAfter world.now (actor ∷ before)
+        → IsMadeAfter world.now before actor made.now → IsCoveredWorld world.now before cover.old
+        → IfOk result (λ cause. cause ≡ None → IsCoveredWorld world.now (actor ∷ before) cover.new) }
 {
+    cover_law::<ProgramThread<'_>>();
     let Some(step) = made else {
         return Ok(None);
     };
@@ -165,7 +181,7 @@ fn cause_after(world: &World<'_>, made: &Option<MadeStep>) -> Result<Option<Brea
     if let Loss::Nothing = step.loss {
         return Ok(None);
     }
-    match world.first_gone()? {
+    match world.first_gone(cover, step)? {
         None => Ok(None),
         Some(gone) => Ok(Some(BreakCause::OfReach(gone))),
     }

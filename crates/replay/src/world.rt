@@ -1,9 +1,9 @@
-ghost use Rattle.std.specs.Prelude.{◌≡◌, ◌≢◌, ◌<◌, List, [], ◌∷◌, length, slice_get, unwrap_or, IfOk, IfErr, OnErr};
+ghost use Rattle.std.specs.Prelude.{◌≡◌, ◌≢◌, ◌<◌, None, Some, List, [], ◌∷◌, length, slice_get, unwrap_or, IfOk, IfErr, OnErr};
 ghost use Rattle.certs.specs.declared.section.Section.{Section};
 ghost use Rattle.moves.specs.declared.actor.Actor.{Actor as AnActor};
 ghost use Rattle.trace_text.specs.Traces.{IsActorOf};
 ghost use Rattle.setups.specs.Setups.{IsSetupOf, IsSetupFault, HasNoFault, IsCertifiedSetup};
-ghost use Rattle.replay.specs.Worlds.{IsAfter, actor_in, ended_by, IsStepAfter, IsBrokenWorld, IsFirstGoneOf};
+ghost use Rattle.replay.specs.Worlds.{IsAfter, actor_in, ended_by, IsStepAfter, IsMadeAfter, IsBrokenWorld, IsCoveredWorld, IsOverIn, IsFirstGoneOf};
 ghost use Rattle.replay.specs.Keeping.{ending_after, end_told};
 ghost use Rattle.replay.specs.ThreadEnds.{AreEndsOf};
 ghost use Rattle.setups.specs.declared.setup_fault.SetupFault.TheVariants as fault;
@@ -18,7 +18,7 @@ use program_runner::{ProgramThread, begun_law, program_law};
 use setups::{SetupFault, begun_threads, values_at_start};
 use std::alloc::{AllocError, Global};
 use std::marker::Model;
-use stepping::{Actors, Gone, HeapSchema, MadeStep};
+use stepping::{Actors, Cover, Gone, HeapSchema, MadeStep};
 use trace_text::{Actor, Setup};
 
 /// The threads of a program and the collector, after some steps from their setup.
@@ -101,11 +101,16 @@ impl<'a> World<'a> {
         }
     }
 
-    /// The first thing that is gone and can be reached, if there is one.
-    pub fn first_gone(&self) -> Result<Option<Gone>, AllocError>
-        ensures { (before : List AnActor) → IsAfter self.now before → IfOk result (IsFirstGoneOf self.now before) }
+    /// The first thing that is gone and can be reached, after a step before which nothing was. If there is none, the cover is
+    /// one after the step.
+    pub fn first_gone(&self, cover: &mut Cover, step: &MadeStep) -> Result<Option<Gone>, AllocError>
+        requires { IsOverIn self.now cover.old }
+        ensures gone { (before : List AnActor) (actor : AnActor) → IsAfter self.now (actor ∷ before) → IsMadeAfter self.now before actor (Some step.now) → IsCoveredWorld self.now before cover.old
+            → IfOk result (IsFirstGoneOf self.now (actor ∷ before)) }
+        ensures cover { (before : List AnActor) (actor : AnActor) → IsAfter self.now (actor ∷ before) → IsMadeAfter self.now before actor (Some step.now) → IsCoveredWorld self.now before cover.old
+            → IfOk result (λ gone. gone ≡ None → IsCoveredWorld self.now (actor ∷ before) cover.new) }
     {
-        self.actors.first_gone(self.alloc)
+        self.actors.first_gone(self.alloc, cover, step)
     }
 
     /// The stage that was posted last.

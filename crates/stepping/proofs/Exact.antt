@@ -5,26 +5,32 @@ use Rattle.pools.specs.declared.word_kind.WordKind.TheVariants as kind
 use Rattle.pools.specs.Heap.{Setup, cells, kind_of}
 use Rattle.pools.specs.Layouts.{is_reference_kind}
 use Rattle.colours.specs.declared.place.Place.TheVariants.{Colour, Word}
-use Rattle.colours.specs.Runs.{word_after}
 use Rattle.runs.specs.Machine.{Reference, Machine}
 use Rattle.runs.specs.Moves.{IsIn}
-use Rattle.runs.specs.ModuleRuns.{Happening, heap_of, birth_in}
+use Rattle.runs.specs.ModuleRuns.{Happening, birth_in}
 use Rattle.runs.specs.Broken as broken
 use Rattle.runs.specs.Broken.{Reached, IsRoot, IsReachable, IsBlue, IsReborn, IsGone, Shows, ReachBlue, ReachBirth}
 use Rattle.moves.specs.declared.shared.Shared.{Shared}
 use Rattle.moves.specs.Rows.{word_at}
 use Rattle.moves.specs.Shared.{HasShape, StandAfter}
 use Rattle.stepping.specs.declared.walk.Walk.{Walk}
+use Rattle.stepping.specs.Covers.{held_in}
 use Rattle.stepping.specs.Reach.{AreRoots, IsFirstGone, gone_of}
-use Rattle.stepping.specs.Walks.{Found, globals, root, further, IsAtMost, IsSeen, IsFound, IsFoundReborn, IsWhole}
+use Rattle.stepping.specs.Walks.{Found, globals, root, further, IsAtMost, IsSeen, IsFound, IsFoundReborn, IsClosed, IsWhole}
 
 -- ---- all that can be reached was met
 
 -- a word that holds references has a kind
-held-kind : (k : Option WordKind) → IsTrue (is_reference_kind k) → (layout : ℕ) × (k ≡ Some (kind.Reference layout))
+pub held-kind : (k : Option WordKind) → IsTrue (is_reference_kind k) → (layout : ℕ) × (k ≡ Some (kind.Reference layout))
 held-kind None is = absurd cc
 held-kind (Some (kind.Integer bits)) is = absurd cc
 held-kind (Some (kind.Reference layout)) is = (layout, refl)
+
+-- a cell of the row that is met was listed
+pub listed-met : (met : List Bool) (cell : ℕ) → cell < length met → slice_index_or met cell true ≡ true → slice_index_or met cell false ≡ true
+listed-met [] cell lt is = absurd (omega (arith, lt))
+listed-met (first ∷ met) zero lt is = is
+listed-met (first ∷ met) (suc cell) lt is = listed-met met cell (omega (arith, lt)) is
 
 module _ (s : Setup) (h : Shared) (roots : List Reference) (shape : HasShape s h) (are_cells : (r : Reference) → IsIn r roots → r.cell < cells s) where
   -- what can be reached is a cell
@@ -36,39 +42,33 @@ module _ (s : Setup) (h : Shared) (roots : List Reference) (shape : HasShape s h
       let fits = shape.kinds r.cell word (kind.Reference k.0) (found-cell r found) k.1 in
       elim fits [ inl null_is ↦ absurd (n null_is) | inr of_layout ↦ of_layout.1 ]
 
-  -- a cell of the row that is met was listed
-  listed-met : (met : List Bool) (cell : ℕ) → cell < length met → slice_index_or met cell true ≡ true → slice_index_or met cell false ≡ true
-  listed-met [] cell lt is = absurd (omega (arith, lt))
-  listed-met (first ∷ met) zero lt is = is
-  listed-met (first ∷ met) (suc cell) lt is = listed-met met cell (omega (arith, lt)) is
-
   -- all that can be reached was met
-  pub seen-all : (w : Walk) → length w.met ≡ cells s → IsWhole s h roots w → (r : Reference) → Found s h roots r → IsSeen h w r
-  seen-all w wide whole _ globals = whole.globals_seen
-  seen-all w wide whole _ (root r is_in n) = whole.roots_seen r is_in n
-  seen-all w wide whole _ (further r word found is n) =
-      let seen = seen-all w wide whole r found in
+  pub seen-all : (w : Walk) → length w.met ≡ cells s → IsClosed s h roots w → (r : Reference) → Found s h roots r → IsSeen h w r
+  seen-all w wide closed _ globals = closed.globals_seen
+  seen-all w wide closed _ (root r is_in n) = closed.roots_seen r is_in n
+  seen-all w wide closed _ (further r word found is n) =
+      let seen = seen-all w wide closed r found in
       let lt : r.cell < length w.met = let below = found-cell r found in omega (arith, below, wide) in
-      let at = whole.listed r.cell (listed-met w.met r.cell lt seen.met) in
-      let words = whole.words_seen at.0 at.1 in
+      let at = closed.looked.listed r.cell (listed-met w.met r.cell lt seen.met) in
+      let words = closed.looked.words_seen at.0 at.1 in
       subst (λ c. IsTrue (is_reference_kind (kind_of s c word)) → (word_at h.words c word).cell ≢ 0 → IsSeen h w (word_at h.words c word)) at.2 (words word) is n
 
 -- ---- as after the run
 
+-- what a word holds
+pub word-is : (s : Setup) (run : List Happening) (h : Shared) → StandAfter s run h → (cell word : ℕ) → held_in s run cell word ≡ word_at h.words cell word
+word-is s run h stand cell word =
+    sym (ap (λ c. record { cell = c; birth = birth_in run cell word }) (stand.afterwards.words (Word cell word)))
+    ∙ ap (λ b. record { cell = (word_at h.words cell word).cell; birth = b }) (sym (stand.afterwards.word_births cell word))
+
 module _ (s : Setup) (m : Machine) (starts : ℕ → m.State) (run : List Happening) (h : Shared) (roots : List Reference)
     (stand : StandAfter s run h) (are : AreRoots s m starts run roots) where
-  -- what a word holds
-  word-is : (cell word : ℕ) → (record { cell = word_after s (heap_of run) (Word cell word); birth = birth_in run cell word }) ≡ word_at h.words cell word
-  word-is cell word =
-      sym (ap (λ c. record { cell = c; birth = birth_in run cell word }) (stand.afterwards.words (Word cell word)))
-      ∙ ap (λ b. record { cell = (word_at h.words cell word).cell; birth = b }) (sym (stand.afterwards.word_births cell word))
-
   -- what is found can be reached
   reachable : (r : Reference) → Found s h roots r → IsReachable s m starts run r
   reachable _ globals = broken.globals
   reachable _ (root r is_in n) = broken.from r (are.are_roots r is_in n) n
   reachable _ (further r word found is n) =
-      subst (λ (q : Reference). IsReachable s m starts run q) (word-is r.cell word)
+      subst (λ (q : Reference). IsReachable s m starts run q) (word-is s run h stand r.cell word)
       (broken.further r word (reachable r found) is (λ z. n (stand.afterwards.words (Word r.cell word) ∙ z)))
 
   -- and what can be reached is found
@@ -76,7 +76,7 @@ module _ (s : Setup) (m : Machine) (starts : ℕ → m.State) (run : List Happen
   found-all _ broken.globals = globals
   found-all _ (broken.from r is_root n) = root r (are.all r is_root n) n
   found-all _ (broken.further r word reached is n) =
-      subst (λ (q : Reference). Found s h roots q) (sym (word-is r.cell word))
+      subst (λ (q : Reference). Found s h roots q) (sym (word-is s run h stand r.cell word))
       (further r word (found-all r reached) is (λ z. n (sym (stand.afterwards.words (Word r.cell word)) ∙ z)))
 
   -- the first that is gone, by the least of what was met
@@ -109,5 +109,5 @@ module _ (s : Setup) (m : Machine) (starts : ℕ → m.State) (run : List Happen
   -- a walk that looked at all that it met finds it
   pub first-gone : (w : Walk) → length w.met ≡ cells s → IsWhole s h roots w → IsFirstGone s m starts run (gone_of w.blue w.reborn)
   first-gone w wide whole =
-      let seen = seen-all s h roots stand.shape are.are_cells w wide whole in
+      let seen = seen-all s h roots stand.shape are.are_cells w wide whole.closed in
       first-of w.blue w.reborn whole.sound.blue whole.sound.reborn (λ r found. (seen r found).blue) (λ r found. (seen r found).reborn)

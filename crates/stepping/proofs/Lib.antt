@@ -1,11 +1,14 @@
 pub mod Schemas
 pub mod Meetings
 pub mod Wholes
+pub mod GoingOn
 pub mod Exact
 pub mod Losses
+pub mod Covers
 pub mod Lists
 pub mod Ends
 pub mod Collects
 pub mod Threads
 pub mod RunRoots
+pub mod CoverSteps
 pub mod Beginnings

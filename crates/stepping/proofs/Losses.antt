@@ -17,12 +17,12 @@ use Rattle.runs.specs.Broken.{IsUnderWay, IsRoot, globals, from, further, IsReac
 use Rattle.stepping.specs.Reach.{AddsNothing, LosesNothing}
 
 -- the step frees no cell, stores no reference and begins no thread
-abbrev IsQuiet : Happening → Type 0
+abbrev pub IsQuiet : Happening → Type 0
 IsQuiet (OfThread t move) = AddsNothing move
 IsQuiet (OfCollector (Free cell)) = ⊥
 IsQuiet (OfCollector turn) = Unit {0}
 
-is_quiet : (s : Setup) (m : Machine) (starts : ℕ → m.State) (run : List Happening) (happening : Happening) → LosesNothing s m starts run happening → IsQuiet happening
+pub is_quiet : (s : Setup) (m : Machine) (starts : ℕ → m.State) (run : List Happening) (happening : Happening) → LosesNothing s m starts run happening → IsQuiet happening
 is_quiet s m starts run (OfThread t move) loses = loses.0
 is_quiet s m starts run (OfCollector (Free cell)) loses = loses
 is_quiet s m starts run (OfCollector turn) loses = tt
@@ -30,7 +30,7 @@ is_quiet s m starts run (OfCollector turn) loses = tt
 -- ---- words
 
 -- the word of a cell holds a number that is not 0, so it is as it was, and so is its birth
-abbrev IsAsItWas : Setup → List Happening → Happening → (cell word : ℕ) → Type 0
+abbrev pub IsAsItWas : Setup → List Happening → Happening → (cell word : ℕ) → Type 0
 IsAsItWas s run happening cell word =
     word_after s (heap_of (happening ∷ run)) (Word cell word) ≢ 0
     → (word_after s (heap_of (happening ∷ run)) (Word cell word) ≡ word_after s (heap_of run) (Word cell word)) × (birth_in (happening ∷ run) cell word ≡ birth_in run cell word)
@@ -40,7 +40,7 @@ stored-none : (b : Bool) (value was birth other : ℕ) → value ≡ 0 → (if b
 stored-none true value was birth other z n = absurd (n z)
 stored-none false value was birth other z n = (refl, refl)
 
-word-stays : (s : Setup) (run : List Happening) (happening : Happening) → IsQuiet happening → (cell word : ℕ) → IsAsItWas s run happening cell word
+pub word-stays : (s : Setup) (run : List Happening) (happening : Happening) → IsQuiet happening → (cell word : ℕ) → IsAsItWas s run happening cell word
 unfolding word_after
 word-stays s run (OfThread t (StoresAfterBarrier base place value)) quiet cell word n =
     stored-none ((base.cell == cell) && (place == word)) value.cell (word_after s (heap_of run) (Word cell word)) value.birth (birth_in run cell word) quiet n
@@ -57,21 +57,31 @@ blackened : (b : Bool) (was cycle : ℕ) → was ≢ 0 → (if b then black cycl
 blackened true was cycle n = λ z. absurd (omega (arith, z))
 blackened false was cycle n = n
 
+-- the step frees no cell
+abbrev pub KeepsClaims : Happening → Type 0
+KeepsClaims (OfCollector (Free cell)) = ⊥
+KeepsClaims happening = Unit {0}
+
+pub quiet-keeps : (happening : Happening) → IsQuiet happening → KeepsClaims happening
+quiet-keeps (OfThread t move) quiet = tt
+quiet-keeps (OfCollector (Free cell)) quiet = quiet
+quiet-keeps (OfCollector turn) quiet = tt
+
 -- a cell that is not free stays so
-stays-claimed : (s : Setup) (run : List Happening) (happening : Happening) → IsQuiet happening → (cell : ℕ) → word_after s (heap_of run) (Colour cell) ≢ 0 → word_after s (heap_of (happening ∷ run)) (Colour cell) ≢ 0
+pub stays-claimed : (s : Setup) (run : List Happening) (happening : Happening) → KeepsClaims happening → (cell : ℕ) → word_after s (heap_of run) (Colour cell) ≢ 0 → word_after s (heap_of (happening ∷ run)) (Colour cell) ≢ 0
 unfolding word_after
-stays-claimed s run (OfThread t (Marks r)) quiet cell n = raised (r.cell == cell) (word_after s (heap_of run) (Colour cell)) (mark_at (stage_of (log_of t (heap_of run)))) n
-stays-claimed s run (OfThread t (Claims r won)) quiet cell n = exchanged (r.cell == cell) (word_after s (heap_of run) (Colour cell)) (claim_at (stage_of (log_of t (heap_of run)))) n
-stays-claimed s run (OfThread t move) quiet cell n = n
-stays-claimed s run (OfCollector (MarkFound of colour)) quiet cell n = raised (of == cell) (word_after s (heap_of run) (Colour cell)) (grey (cycle_of (posted_of (turns_of (heap_of run))))) n
-stays-claimed s run (OfCollector (Blacken of)) quiet cell n = blackened (of == cell) (word_after s (heap_of run) (Colour cell)) (cycle_of (posted_of (turns_of (heap_of run)))) n
-stays-claimed s run (OfCollector (Free of)) quiet cell n = absurd quiet
-stays-claimed s run (OfCollector turn) quiet cell n = n
+stays-claimed s run (OfThread t (Marks r)) keeps cell n = raised (r.cell == cell) (word_after s (heap_of run) (Colour cell)) (mark_at (stage_of (log_of t (heap_of run)))) n
+stays-claimed s run (OfThread t (Claims r won)) keeps cell n = exchanged (r.cell == cell) (word_after s (heap_of run) (Colour cell)) (claim_at (stage_of (log_of t (heap_of run)))) n
+stays-claimed s run (OfThread t move) keeps cell n = n
+stays-claimed s run (OfCollector (MarkFound of colour)) keeps cell n = raised (of == cell) (word_after s (heap_of run) (Colour cell)) (grey (cycle_of (posted_of (turns_of (heap_of run))))) n
+stays-claimed s run (OfCollector (Blacken of)) keeps cell n = blackened (of == cell) (word_after s (heap_of run) (Colour cell)) (cycle_of (posted_of (turns_of (heap_of run)))) n
+stays-claimed s run (OfCollector (Free of)) keeps cell n = absurd keeps
+stays-claimed s run (OfCollector turn) keeps cell n = n
 
 -- ---- births
 
 -- a cell that is not free is not claimed
-same-birth : (s : Setup) (m : Machine) (starts : ℕ → m.State) (run : List Happening) (happening : Happening) → IsNext s m starts run happening → (cell : ℕ) → word_after s (heap_of run) (Colour cell) ≢ 0
+pub same-birth : (s : Setup) (m : Machine) (starts : ℕ → m.State) (run : List Happening) (happening : Happening) → IsNext s m starts run happening → (cell : ℕ) → word_after s (heap_of run) (Colour cell) ≢ 0
     → birth_of s (happening ∷ run) cell ≡ birth_of s run cell
 unfolding births_after
 same-birth s m starts run (OfThread t (Claims r true)) next cell n = rw (test_no cell r.cell other) refl
@@ -90,7 +100,7 @@ same-birth s m starts run (OfCollector turn) next cell n = refl
 -- ---- roots
 
 -- the step is not the one after which a late thread has begun
-abbrev IsNoBegin : Step → Type 0
+abbrev pub IsNoBegin : Step → Type 0
 IsNoBegin (step.ReadPostedAgain stage) = ⊥
 IsNoBegin step = Unit {0}
 
@@ -112,12 +122,12 @@ under_way-before s stage Ended made no_begin follows way = absurd follows
 under_way-before s stage phase made no_begin follows way = tt
 
 -- the same for its move
-was-under_way : (s : Setup) (t : ℕ) (log : List Step) (o : Option Step) → MatchOption o (Unit {0}) IsNoBegin → Follows s t log o → IsUnderWay (phase_of s t (logged o log)) → IsUnderWay (phase_of s t log)
+pub was-under_way : (s : Setup) (t : ℕ) (log : List Step) (o : Option Step) → MatchOption o (Unit {0}) IsNoBegin → Follows s t log o → IsUnderWay (phase_of s t (logged o log)) → IsUnderWay (phase_of s t log)
 was-under_way s t log None no_begin follows way = way
 was-under_way s t log (Some made) no_begin follows way = under_way-before s (stage_of log) (phase_of s t log) made no_begin follows way
 
 -- a root after the step was one before it
-root-before : (s : Setup) (m : Machine) (starts : ℕ → m.State) (run : List Happening) (happening : Happening) → IsNext s m starts run happening → LosesNothing s m starts run happening
+pub root-before : (s : Setup) (m : Machine) (starts : ℕ → m.State) (run : List Happening) (happening : Happening) → IsNext s m starts run happening → LosesNothing s m starts run happening
     → (r : Reference) → IsRoot s m starts (happening ∷ run) r → IsRoot s m starts run r
 root-before s m starts run (OfCollector turn) next loses r is = record { thread = is.thread; is_thread = is.is_thread; is_under_way = is.is_under_way; is_root = is.is_root }
 root-before s m starts run (OfThread t move) next loses r is = go (t == is.thread) refl is.is_under_way is.is_root
@@ -159,6 +169,6 @@ nothing-lost s m starts run happening is_run loses none r reached gone =
     let before = reached-before s m starts run happening next loses r reached in
     let not_free : word_after s (heap_of run) (Colour r.cell) ≢ 0 = λ z. none r before (inl z) in
     elim gone [
-      | inl free ↦ stays-claimed s run happening (is_quiet s m starts run happening loses) r.cell not_free free
+      | inl free ↦ stays-claimed s run happening (quiet-keeps happening (is_quiet s m starts run happening loses)) r.cell not_free free
       | inr reborn ↦ none r before (inr (λ e. reborn (same-birth s m starts run happening next r.cell not_free ∙ e)))
     ]

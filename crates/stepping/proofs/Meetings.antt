@@ -1,4 +1,4 @@
--- A walk after one more reference, and after the words of a cell.
+-- A walk after one more reference, and after several.
 use Rattle.std.proofs.Common.{◌≡◌, ◌≢◌, ◌≤◌, ◌<◌, ◌⊎◌, ◌+◌, ◌-◌, ◌==◌, inl, inr, ℕ, zero, suc, not, Bool, true, false, Option, Some, None, List, [], ◌∷◌, ◌++◌, length, slice_get, slice_set, slice_index, slice_index_or, sum_by, if◌then◌else◌, refl, sym, ap, ◌∙◌, IsTrue, arith, add-one}
 use Rattle.std.proofs.lemmas.Bool.Decides.{nat_tests}
 use Rattle.std.proofs.lemmas.List.{get_or-set_same, get_or-set_other, get_or_past, get_or_append_left, length-append}
@@ -10,7 +10,7 @@ use Rattle.runs.specs.Machine.{Reference}
 use Rattle.runs.specs.Moves.{null}
 use Rattle.moves.specs.declared.shared.Shared.{Shared}
 use Rattle.stepping.specs.declared.walk.Walk.{Walk}
-use Rattle.stepping.specs.Walks.{least, blue_with, reborn_with, met_with, meeting, following, looking_at, looking, IsAtMost, IsSeen}
+use Rattle.stepping.specs.Walks.{least, blue_with, reborn_with, met_with, meeting, following, following_first, looking_at, looking, unmet, IsAtMost, IsSeen}
 
 -- ---- the cells that were met
 
@@ -54,11 +54,6 @@ met-before met cell other is = go (other == cell) refl
 
 -- ---- how many are left
 
--- a cell that was not met counts
-abbrev pub unmet : Bool → ℕ
-unmet true = 0
-unmet false = 1
-
 -- how a reference changes the row and the order
 pub record Widens (before after : Walk) : Type 0 where
   pub wide : length after.met ≡ length before.met
@@ -97,31 +92,9 @@ widens-meeting h w r = go (slice_index_or w.met r.cell true) refl
           same = λ place lt. get_or_append_left w.order (r.cell ∷ []) 0 place lt;
         }
 
-widens-following : (h : Shared) (w : Walk) (r : Reference) → Widens w (following h w r)
-widens-following h w r = go (r.cell == 0)
-  where
-    go : (b : Bool) → Widens w (if b then w else meeting h w r)
-    go true = widens-none w
-    go false = widens-meeting h w r
-
-widens-looking_at : (h : Shared) (w : Walk) (kind : Option WordKind) (r : Reference) → Widens w (looking_at h w kind r)
-widens-looking_at h w kind r = go (is_reference_kind kind)
-  where
-    go : (b : Bool) → Widens w (if b then following h w r else w)
-    go true = widens-following h w r
-    go false = widens-none w
-
--- after the words of a cell
-pub widens-looking : (h : Shared) (kinds : List WordKind) (row : List Reference) (w : Walk) (count : ℕ) → Widens w (looking h kinds row w count)
-unfolding looking
-widens-looking h kinds row w zero = widens-none w
-widens-looking h kinds row w (suc word) =
-    let before = looking h kinds row w word in
-    widens-both w before (looking h kinds row w (suc word)) (widens-looking h kinds row w word) (widens-looking_at h before (slice_get kinds word) (slice_index_or row word null))
-
 -- ---- what is seen
 
-at_most-least : (least_so_far : Option ℕ) (cell other : ℕ) → IsAtMost least_so_far other → IsAtMost (Some (least least_so_far cell)) other
+pub at_most-least : (least_so_far : Option ℕ) (cell other : ℕ) → IsAtMost least_so_far other → IsAtMost (Some (least least_so_far cell)) other
 at_most-least None cell other h = absurd h
 at_most-least (Some first) cell other h = omega (arith, h)
 
@@ -161,13 +134,64 @@ seen-stays h w r q was = record {
     reborn true most = most
     reborn false most = at_most-least w.reborn r.cell q.cell most
 
--- after a reference that may be null
-pub stays-following : (h : Shared) (w : Walk) (r q : Reference) → IsSeen h w q → IsSeen h (following h w r) q
-stays-following h w r q was = go (r.cell == 0)
-  where
-    go : (b : Bool) → IsSeen h (if b then w else meeting h w r) q
-    go true = was
-    go false = seen-stays h w r q was
+-- ---- several references
+
+-- the walk after some references of this kind
+pub data Meets (h : Shared) (P : Reference → Type 0) (w : Walk) : Walk → Type 0 where
+  met-none : Meets h P w w
+  met-more : (v : Walk) (r : Reference) → Meets h P w v → P r → Meets h P w (meeting h v r)
+
+-- first these, and then those
+pub meets-both : (h : Shared) (P : Reference → Type 0) (w v : Walk) → Meets h P w v → (x : Walk) → Meets h P v x → Meets h P w x
+meets-both h P w v before _ met-none = before
+meets-both h P w v before _ (met-more x r later is_such) = met-more x r (meets-both h P w v before x later) is_such
+
+-- any reference
+abbrev pub Any : Reference → Type 0
+Any r = Unit {0}
+
+module _ (h : Shared) (P : Reference → Type 0) (w : Walk) where
+  pub meets-following : (v : Walk) (r : Reference) → (r.cell ≢ 0 → P r) → Meets h P w v → Meets h P w (following h v r)
+  meets-following v r is_such meets = go (r.cell == 0) refl
+    where
+      go : (b : Bool) → (r.cell == 0) ≡ b → Meets h P w (if b then v else meeting h v r)
+      go true e = meets
+      go false e = met-more v r meets (is_such (grind (arith, nat_tests)))
+
+  -- after a root, and after the first of several
+  pub meets-first : (found : List Reference) (count : ℕ) → ((place : ℕ) → place < count → (slice_index_or found place null).cell ≢ 0 → P (slice_index_or found place null)) → Meets h P w (following_first h found w count)
+  unfolding following_first
+  meets-first found zero are_such = met-none
+  meets-first found (suc count) are_such =
+      meets-following (following_first h found w count) (slice_index_or found count null) (are_such count (omega arith))
+      (meets-first found count (λ place lt. are_such place (omega (arith, lt))))
+
+  meets-looking_at : (v : Walk) (kind : Option WordKind) (r : Reference) → (IsTrue (is_reference_kind kind) → r.cell ≢ 0 → P r) → Meets h P w v → Meets h P w (looking_at h v kind r)
+  meets-looking_at v kind r is_such meets = go (is_reference_kind kind) is_such
+    where
+      go : (b : Bool) → (IsTrue b → r.cell ≢ 0 → P r) → Meets h P w (if b then following h v r else v)
+      go true such = meets-following v r (such refl) meets
+      go false such = meets
+
+  -- after the words of a cell
+  pub meets-looking : (kinds : List WordKind) (row : List Reference) (count : ℕ)
+      → ((word : ℕ) → IsTrue (is_reference_kind (slice_get kinds word)) → (slice_index_or row word null).cell ≢ 0 → P (slice_index_or row word null)) → Meets h P w (looking h kinds row w count)
+  unfolding looking
+  meets-looking kinds row zero are_such = met-none
+  meets-looking kinds row (suc word) are_such =
+      meets-looking_at (looking h kinds row w word) (slice_get kinds word) (slice_index_or row word null) (are_such word) (meets-looking kinds row word are_such)
+
+  -- the row and the order grow
+  pub widens-meets : (v : Walk) → Meets h P w v → Widens w v
+  widens-meets _ met-none = widens-none w
+  widens-meets _ (met-more v r meets is_such) = widens-both w v (meeting h v r) (widens-meets v meets) (widens-meeting h v r)
+
+  -- what is seen stays so
+  pub stays-meets : (q : Reference) → IsSeen h w q → (v : Walk) → Meets h P w v → IsSeen h v q
+  stays-meets q was _ met-none = was
+  stays-meets q was _ (met-more v r meets is_such) = seen-stays h v r q (stays-meets q was v meets)
+
+-- ---- what several see
 
 pub seen-following : (h : Shared) (w : Walk) (r : Reference) → r.cell ≢ 0 → IsSeen h (following h w r) r
 seen-following h w r n = go (r.cell == 0) refl
@@ -176,19 +200,24 @@ seen-following h w r n = go (r.cell == 0) refl
     go true e = let is : r.cell ≡ 0 = grind (arith, nat_tests) in absurd (n is)
     go false e = seen-meeting h w r
 
-stays-looking_at : (h : Shared) (w : Walk) (kind : Option WordKind) (r q : Reference) → IsSeen h w q → IsSeen h (looking_at h w kind r) q
-stays-looking_at h w kind r q was = go (is_reference_kind kind)
-  where
-    go : (b : Bool) → IsSeen h (if b then following h w r else w) q
-    go true = stays-following h w r q was
-    go false = was
+stays-following : (h : Shared) (w : Walk) (r q : Reference) → IsSeen h w q → IsSeen h (following h w r) q
+stays-following h w r q was = stays-meets h Any w q was (following h w r) (meets-following h Any w w r (λ n. tt) met-none)
 
--- after the words of a cell
-pub stays-looking : (h : Shared) (kinds : List WordKind) (row : List Reference) (w : Walk) (q : Reference) (count : ℕ) → IsSeen h w q → IsSeen h (looking h kinds row w count) q
-unfolding looking
-stays-looking h kinds row w q zero was = was
-stays-looking h kinds row w q (suc word) was =
-    stays-looking_at h (looking h kinds row w word) (slice_get kinds word) (slice_index_or row word null) q (stays-looking h kinds row w q word was)
+-- each of the first references was seen
+pub seen-first : (h : Shared) (found : List Reference) (w : Walk) (count place : ℕ) → place < count → (slice_index_or found place null).cell ≢ 0
+    → IsSeen h (following_first h found w count) (slice_index_or found place null)
+unfolding following_first
+seen-first h found w zero place lt n = absurd (omega (arith, lt))
+seen-first h found w (suc last) place lt n = go (λ less. seen-first h found w last place less n) (place == last) refl
+  where
+    go : (place < last → IsSeen h (following_first h found w last) (slice_index_or found place null)) → (b : Bool) → (place == last) ≡ b
+        → IsSeen h (following h (following_first h found w last) (slice_index_or found last null)) (slice_index_or found place null)
+    go rest true e =
+        let here : place ≡ last = grind (arith, nat_tests) in
+        rw (← here) (seen-following h (following_first h found w place) (slice_index_or found place null) n)
+    go rest false e =
+        let isnt : place ≢ last = grind (arith, nat_tests) in
+        stays-following h (following_first h found w last) (slice_index_or found last null) (slice_index_or found place null) (rest (omega (arith, lt, isnt)))
 
 seen-looking_at : (h : Shared) (w : Walk) (kind : Option WordKind) (r : Reference) → IsTrue (is_reference_kind kind) → r.cell ≢ 0 → IsSeen h (looking_at h w kind r) r
 seen-looking_at h w kind r is n = go (is_reference_kind kind) is
@@ -196,6 +225,9 @@ seen-looking_at h w kind r is n = go (is_reference_kind kind) is
     go : (b : Bool) → IsTrue b → IsSeen h (if b then following h w r else w) r
     go true t = seen-following h w r n
     go false t = absurd cc
+
+stays-looking_at : (h : Shared) (w : Walk) (kind : Option WordKind) (r q : Reference) → IsSeen h w q → IsSeen h (looking_at h w kind r) q
+stays-looking_at h w kind r q was = stays-meets h Any w q was (looking_at h w kind r) (meets-looking_at h Any w w kind r (λ is n. tt) met-none)
 
 -- what its reference words hold is seen
 pub seen-looking : (h : Shared) (kinds : List WordKind) (row : List Reference) (w : Walk) (count word : ℕ) → word < count
@@ -214,13 +246,28 @@ seen-looking h kinds row w (suc last) word lt is n = go (λ less. seen-looking h
         stays-looking_at h (looking h kinds row w last) (slice_get kinds last) (slice_index_or row last null) (slice_index_or row word null)
         (rest (omega (arith, lt, isnt)))
 
--- ---- word by word
+-- ---- one by one
+
+-- after one more root
+pub first-more : (h : Shared) (found : List Reference) (w : Walk) (place : ℕ) (r : Reference) → slice_index_or found place null ≡ r → following h (following_first h found w place) r ≡ following_first h found w (place + 1)
+unfolding following_first
+first-more h found w place r is = rw (add-one, is) refl
+
+-- the row stays as wide
+pub first-wide : (h : Shared) (found : List Reference) (w now : Walk) (count limit : ℕ) → now ≡ following_first h found w count → length w.met ≤ limit → length now.met ≤ limit
+first-wide h found w now count limit is few =
+    let wide = (widens-meets h Any w (following_first h found w count) (meets-first h Any w found count (λ place lt n. tt))).wide in
+    rw is (omega (arith, wide, few))
 
 -- after one more word
 pub looking-more : (h : Shared) (kinds : List WordKind) (row : List Reference) (w : Walk) (word : ℕ) (kind : WordKind) (held : Reference) → slice_get kinds word ≡ Some kind → held ≡ slice_index_or row word null
     → looking_at h (looking h kinds row w word) (Some kind) held ≡ looking h kinds row w (word + 1)
 unfolding looking
 looking-more h kinds row w word kind held is here = rw (add-one, is, here) refl
+
+-- what the words of a cell do to the row and the order
+pub widens-looking : (h : Shared) (kinds : List WordKind) (row : List Reference) (w : Walk) (count : ℕ) → Widens w (looking h kinds row w count)
+widens-looking h kinds row w count = widens-meets h Any w (looking h kinds row w count) (meets-looking h Any w kinds row count (λ word is n. tt))
 
 -- the row stays as wide
 pub looking-wide : (h : Shared) (kinds : List WordKind) (row : List Reference) (w now : Walk) (count limit : ℕ) → now ≡ looking h kinds row w count → length w.met ≤ limit → length now.met ≤ limit

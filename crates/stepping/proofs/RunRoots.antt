@@ -89,7 +89,7 @@ own-is-under-way cells rs others stance.Entering r e = absurd e
 own-is-under-way cells rs others stance.Leaving r e = absurd e
 
 -- and one under way has its roots
-under-way-is-own : (cells : List ℕ) (rs others : List Reference) (at : Stance) (r : Reference) → IsUnderWay (phase_at cells others at) → IsIn r rs → IsIn r (under_way at rs)
+pub under-way-is-own : (cells : List ℕ) (rs others : List Reference) (at : Stance) (r : Reference) → IsUnderWay (phase_at cells others at) → IsIn r rs → IsIn r (under_way at rs)
 under-way-is-own cells rs others stance.Ready r way e = e
 under-way-is-own cells rs others (stance.MarkingOld c w o) r way e = e
 under-way-is-own cells rs others (stance.MarkingNew c w o) r way e = e

@@ -1,7 +1,7 @@
 -- What a walk met can be reached; and a walk that looked at all that it met has met all that can be reached.
 use Rattle.std.proofs.Common.{◌≡◌, ◌≢◌, ◌≤◌, ◌<◌, ◌+◌, ◌*◌, ◌==◌, inl, inr, ℕ, zero, suc, not, min, nat_le, nat_lt, Bool, true, false, Option, Some, None, List, [], ◌∷◌, ◌++◌, length, slice_get, slice_set, slice_index, slice_index_or, sum_by, replicate, if◌then◌else◌, refl, sym, ap, subst, ◌∙◌, IsTrue, IfSome, arith}
 use Rattle.std.proofs.lemmas.Bool.Decides.{nat_tests}
-use Rattle.std.proofs.lemmas.List.{get_or_append_left, length-append, get_or-replicate, get_or_past, length-replicate}
+use Rattle.std.proofs.lemmas.List.{get_or_append_left, length-append, get_or-replicate, get_or_past, get_or-set_same, get_or-set_other, length-replicate}
 use Rattle.std.proofs.lemmas.List.Folds.{sum_by-replicate}
 use Rattle.std.proofs.lemmas.Option.{slice_get_past, slice_get_cases}
 use Rattle.std.proofs.Math.Seq.{get_or-append_seam}
@@ -13,8 +13,8 @@ use Rattle.runs.specs.Moves.{null, IsIn}
 use Rattle.moves.specs.declared.shared.Shared.{Shared}
 use Rattle.moves.specs.Rows.{word_at}
 use Rattle.stepping.specs.declared.walk.Walk.{Walk}
-use Rattle.stepping.specs.Walks.{Found, globals, root, further, least, order_with, begun, meeting, following, looking_at, looking, IsSeen, IsFound, IsFoundReborn, IsSound, IsListed, AreSeen, IsWalked}
-use Rattle.stepping.proofs.Meetings.{new-within, met-before, unmet, Widens, widens-meeting, widens-looking, seen-meeting, seen-following, stays-following, stays-looking, seen-looking}
+use Rattle.stepping.specs.Walks.{Found, globals, root, further, least, blue_with, order_with, begun, meeting, following_first, looking, unmet, IsAtMost, IsSeen, IsFound, IsFoundReborn, IsSound, IsListed, AreFreeRecorded, AreSeen, IsLooked, IsShaped}
+use Rattle.stepping.proofs.Meetings.{new-within, met-before, at_most-least, Widens, widens-meeting, Meets, met-none, met-more, Any, meets-first, meets-looking, widens-meets, stays-meets, seen-meeting, seen-first, seen-looking}
 
 -- ---- what was met is there
 
@@ -25,16 +25,10 @@ none-past each place none = elim ((slice_get_cases each place).1) [
   | inr over ↦ over.0
 ]
 
--- the row has this number of cells, those that are left and those of the order are as many, and those of the order are cells
-pub record IsShaped (cells : ℕ) (w : Walk) : Type 0 where
-  pub wide : length w.met ≡ cells
-  pub left : length w.order + sum_by unmet w.met ≡ cells
-  pub within : (place : ℕ) → place < length w.order → slice_index w.order place < cells
-
 shaped-meeting : (cells : ℕ) (h : Shared) (w : Walk) (r : Reference) → IsShaped cells w → IsShaped cells (meeting h w r)
 shaped-meeting cells h w r shaped =
     let widens = widens-meeting h w r in
-    record { wide = widens.wide ∙ shaped.wide; left = widens.left ∙ shaped.left; within = within (slice_index_or w.met r.cell true) refl }
+    record { wide = widens.wide ∙ shaped.wide; left = widens.left ∙ shaped.left; within = within (slice_index_or w.met r.cell true) refl; are_met = are_met (slice_index_or w.met r.cell true) refl }
   where
     last : (place : ℕ) → (b : Bool) → (place == length w.order) ≡ b → r.cell < length w.met → place < length (w.order ++ r.cell ∷ []) → slice_index (w.order ++ r.cell ∷ []) place < cells
     last place true e new lt =
@@ -51,37 +45,42 @@ shaped-meeting cells h w r shaped =
     within true e place lt = shaped.within place lt
     within false e place lt = last place (place == length w.order) refl (new-within w.met r.cell e) lt
 
-pub shaped-following : (cells : ℕ) (h : Shared) (w : Walk) (r : Reference) → IsShaped cells w → IsShaped cells (following h w r)
-shaped-following cells h w r shaped = go (r.cell == 0)
-  where
-    go : (b : Bool) → IsShaped cells (if b then w else meeting h w r)
-    go true = shaped
-    go false = shaped-meeting cells h w r shaped
+    set : slice_index_or w.met r.cell true ≡ false → (cell : ℕ) → (b : Bool) → (cell == r.cell) ≡ b → (b ≡ false → slice_index_or w.met cell false ≡ true) → slice_index_or (slice_set w.met r.cell true) cell false ≡ true
+    set new cell true e was =
+        let is : cell ≡ r.cell = grind (arith, nat_tests) in
+        rw is (get_or-set_same w.met r.cell true false (new-within w.met r.cell new))
+    set new cell false e was =
+        let isnt : cell ≢ r.cell = grind (arith, nat_tests) in
+        get_or-set_other w.met r.cell cell true false isnt ∙ was refl
 
-shaped-looking_at : (cells : ℕ) (h : Shared) (w : Walk) (kind : Option WordKind) (r : Reference) → IsShaped cells w → IsShaped cells (looking_at h w kind r)
-shaped-looking_at cells h w kind r shaped = go (is_reference_kind kind)
-  where
-    go : (b : Bool) → IsShaped cells (if b then following h w r else w)
-    go true = shaped-following cells h w r shaped
-    go false = shaped
+    last-met : (place : ℕ) → (b : Bool) → (place == length w.order) ≡ b → slice_index_or w.met r.cell true ≡ false → place < length (w.order ++ r.cell ∷ [])
+        → slice_index_or (slice_set w.met r.cell true) (slice_index (w.order ++ r.cell ∷ []) place) false ≡ true
+    last-met place true e new lt =
+        let is : place ≡ length w.order = grind (arith, nat_tests) in
+        let here : slice_index (w.order ++ r.cell ∷ []) place ≡ r.cell = ap (λ p. slice_index (w.order ++ r.cell ∷ []) p) is ∙ get_or-append_seam w.order r.cell [] 0 in
+        rw here (get_or-set_same w.met r.cell true false (new-within w.met r.cell new))
+    last-met place false e new lt =
+        let isnt : place ≢ length w.order = grind (arith, nat_tests) in
+        let long : length (w.order ++ r.cell ∷ []) ≡ length w.order + 1 = length-append w.order (r.cell ∷ []) in
+        let less : place < length w.order = omega (arith, isnt, long, lt) in
+        rw (get_or_append_left w.order (r.cell ∷ []) 0 place less) (set new (slice_index w.order place) (slice_index w.order place == r.cell) refl (λ other. shaped.are_met place less))
 
--- after the words of a cell
-pub shaped-looking : (cells : ℕ) (h : Shared) (kinds : List WordKind) (row : List Reference) (w : Walk) (count : ℕ) → IsShaped cells w → IsShaped cells (looking h kinds row w count)
-unfolding looking
-shaped-looking cells h kinds row w zero shaped = shaped
-shaped-looking cells h kinds row w (suc word) shaped =
-    shaped-looking_at cells h (looking h kinds row w word) (slice_get kinds word) (slice_index_or row word null) (shaped-looking cells h kinds row w word shaped)
+    are_met : (b : Bool) → slice_index_or w.met r.cell true ≡ b → (place : ℕ) → place < length (if not b then w.order ++ r.cell ∷ [] else w.order)
+        → slice_index_or (if not b then slice_set w.met r.cell true else w.met) (slice_index (if not b then w.order ++ r.cell ∷ [] else w.order) place) false ≡ true
+    are_met true e place lt = shaped.are_met place lt
+    are_met false e place lt = last-met place (place == length w.order) refl e lt
+
+-- after several references
+pub shaped-meets : (cells : ℕ) (h : Shared) (P : Reference → Type 0) (w : Walk) → IsShaped cells w → (v : Walk) → Meets h P w v → IsShaped cells v
+shaped-meets cells h P w shaped _ met-none = shaped
+shaped-meets cells h P w shaped _ (met-more v r meets is_such) = shaped-meeting cells h v r (shaped-meets cells h P w shaped v meets)
 
 -- the row before any reference is met
 shaped-begun : (cells : ℕ) → IsShaped cells (begun cells)
 shaped-begun cells =
     let wide : length (replicate cells false) ≡ cells = length-replicate cells false in
     let counted : sum_by unmet (replicate cells false) ≡ cells * 1 = sum_by-replicate unmet cells false in
-    record { wide = wide; left = omega (arith, counted); within = λ place lt. absurd (omega (arith, lt)) }
-
--- and after the globals
-pub shaped-globals : (cells : ℕ) (h : Shared) → IsShaped cells (meeting h (begun cells) null)
-shaped-globals cells h = shaped-meeting cells h (begun cells) null (shaped-begun cells)
+    record { wide = wide; left = omega (arith, counted); within = λ place lt. absurd (omega (arith, lt)); are_met = λ place lt. absurd (omega (arith, lt)) }
 
 -- ---- what was met can be reached
 
@@ -99,11 +98,6 @@ least-one P (Some first) cell h here = go (nat_le first cell) refl
         let gt : cell < first = grind (arith, nat_tests) in
         let is : cell ≡ min first cell = omega (arith, gt) in
         subst P is here
-
--- what was met can be reached, and is in the order
-pub record IsGood (s : Setup) (h : Shared) (roots : List Reference) (w : Walk) : Type 0 where
-  pub sound : IsSound s h roots w
-  pub listed : IsListed w
 
 module _ (s : Setup) (h : Shared) (roots : List Reference) where
   sound-cells : (w : Walk) (r : Reference) → Found s h roots r → IsSound s h roots w → (place : ℕ) → place < length (order_with w.met w.order r.cell) → IsFound s h roots (slice_index (order_with w.met w.order r.cell) place)
@@ -146,117 +140,129 @@ module _ (s : Setup) (h : Shared) (roots : List Reference) where
           let isnt : slice_index h.births r.cell ≢ r.birth = grind (arith, nat_tests) in
           least-one (IsFoundReborn s h roots) w.reborn r.cell sound.reborn (record { birth = r.birth; is_found = found; is_reborn = isnt })
 
-  -- after a reference that can be reached
-  pub good-meeting : (w : Walk) (r : Reference) → Found s h roots r → IsGood s h roots w → IsGood s h roots (meeting h w r)
-  good-meeting w r found good = record { sound = sound-meeting w r found good.sound; listed = listed (slice_index_or w.met r.cell true) refl }
-    where
-      listed : (b : Bool) → slice_index_or w.met r.cell true ≡ b → (cell : ℕ) → slice_index_or (if not b then slice_set w.met r.cell true else w.met) cell false ≡ true
-          → (place : ℕ) × (place < length (if not b then w.order ++ r.cell ∷ [] else w.order)) × (slice_index (if not b then w.order ++ r.cell ∷ [] else w.order) place ≡ cell)
-      listed true e cell is = good.listed cell is
-      listed false e cell is =
-          let long : length (w.order ++ r.cell ∷ []) ≡ length w.order + 1 = length-append w.order (r.cell ∷ []) in
-          elim (met-before w.met r.cell cell is) [
-            | inl was ↦ (let old = good.listed cell was in (old.0, omega (arith, old.1, long), get_or_append_left w.order (r.cell ∷ []) 0 old.0 old.1 ∙ old.2))
-            | inr same ↦ (length w.order, omega (arith, long), get_or-append_seam w.order r.cell [] 0 ∙ sym same)
-          ]
+  -- after several references that can be reached
+  pub sound-meets : (w : Walk) → IsSound s h roots w → (v : Walk) → Meets h (Found s h roots) w v → IsSound s h roots v
+  sound-meets w sound _ met-none = sound
+  sound-meets w sound _ (met-more v r meets found) = sound-meeting v r found (sound-meets w sound v meets)
 
-  pub good-following : (w : Walk) (r : Reference) → (r.cell ≢ 0 → Found s h roots r) → IsGood s h roots w → IsGood s h roots (following h w r)
-  good-following w r found good = go (r.cell == 0) refl
-    where
-      go : (b : Bool) → (r.cell == 0) ≡ b → IsGood s h roots (if b then w else meeting h w r)
-      go true e = good
-      go false e = good-meeting w r (found (grind (arith, nat_tests))) good
+-- ---- what was met is in the order, and is not free
 
-  good-looking_at : (w : Walk) (kind : Option WordKind) (r : Reference) → (IsTrue (is_reference_kind kind) → r.cell ≢ 0 → Found s h roots r) → IsGood s h roots w → IsGood s h roots (looking_at h w kind r)
-  good-looking_at w kind r found good = go (is_reference_kind kind) found
-    where
-      go : (b : Bool) → (IsTrue b → r.cell ≢ 0 → Found s h roots r) → IsGood s h roots (if b then following h w r else w)
-      go true found = good-following w r (found refl) good
-      go false found = good
+listed-meeting : (h : Shared) (w : Walk) (r : Reference) → IsListed w → IsListed (meeting h w r)
+listed-meeting h w r was = listed (slice_index_or w.met r.cell true) refl
+  where
+    listed : (b : Bool) → slice_index_or w.met r.cell true ≡ b → (cell : ℕ) → slice_index_or (if not b then slice_set w.met r.cell true else w.met) cell false ≡ true
+        → (place : ℕ) × (place < length (if not b then w.order ++ r.cell ∷ [] else w.order)) × (slice_index (if not b then w.order ++ r.cell ∷ [] else w.order) place ≡ cell)
+    listed true e cell is = was cell is
+    listed false e cell is =
+        let long : length (w.order ++ r.cell ∷ []) ≡ length w.order + 1 = length-append w.order (r.cell ∷ []) in
+        elim (met-before w.met r.cell cell is) [
+          | inl before ↦ (let old = was cell before in (old.0, omega (arith, old.1, long), get_or_append_left w.order (r.cell ∷ []) 0 old.0 old.1 ∙ old.2))
+          | inr same ↦ (length w.order, omega (arith, long), get_or-append_seam w.order r.cell [] 0 ∙ sym same)
+        ]
 
-  -- after the words of a cell that can be reached
-  pub good-looking : (kinds : List WordKind) (row : List Reference) (w : Walk) (count : ℕ)
-      → ((word : ℕ) → IsTrue (is_reference_kind (slice_get kinds word)) → (slice_index_or row word null).cell ≢ 0 → Found s h roots (slice_index_or row word null))
-      → IsGood s h roots w → IsGood s h roots (looking h kinds row w count)
-  unfolding looking
-  good-looking kinds row w zero found good = good
-  good-looking kinds row w (suc word) found good =
-      good-looking_at (looking h kinds row w word) (slice_get kinds word) (slice_index_or row word null) (found word) (good-looking kinds row w word found good)
+recorded-meeting : (h : Shared) (w : Walk) (r : Reference) → AreFreeRecorded h w → AreFreeRecorded h (meeting h w r)
+recorded-meeting h w r was cell is free = go (slice_index_or w.met r.cell true) is
+  where
+    later : IsAtMost w.blue cell → IsAtMost (blue_with h w.blue r) cell
+    later most = here (slice_index h.colours r.cell == 0)
+      where
+        here : (b : Bool) → IsAtMost (if b then Some (least w.blue r.cell) else w.blue) cell
+        here true = at_most-least w.blue r.cell cell most
+        here false = most
 
-  -- before any reference is met
-  good-begun : (cells : ℕ) → IsGood s h roots (begun cells)
-  good-begun cells = record {
-    sound = record { cells = λ place lt. absurd (omega (arith, lt)); blue = tt; reborn = tt };
-    listed = λ cell is. absurd (none cell (nat_lt cell cells) refl is);
-  }
-    where
-      none : (cell : ℕ) → (b : Bool) → nat_lt cell cells ≡ b → slice_index_or (replicate cells false) cell false ≡ true → ⊥
-      none cell true e is =
-          let lt : cell < cells = grind (arith, nat_tests) in
-          let no : slice_index_or (replicate cells false) cell false ≡ false = get_or-replicate cells cell false false lt in
-          cc
-      none cell false e is =
-          let wide : length (replicate cells false) ≡ cells = length-replicate cells false in
-          let ge : cells ≤ cell = grind (arith, nat_tests) in
-          let no : slice_index_or (replicate cells false) cell false ≡ false = get_or_past (replicate cells false) cell false (omega (arith, wide, ge)) in
-          cc
+    now : cell ≡ r.cell → IsAtMost (blue_with h w.blue r) cell
+    now same = subst (λ c. IsAtMost (blue_with h w.blue r) c) (sym same) ((seen-meeting h w r).blue (sym (ap (slice_index h.colours) same) ∙ free))
 
-  -- ---- the walk from the roots
+    go : (b : Bool) → slice_index_or (if not b then slice_set w.met r.cell true else w.met) cell false ≡ true → IsAtMost (blue_with h w.blue r) cell
+    go true met = later (was cell met free)
+    go false met = elim (met-before w.met r.cell cell met) [
+      | inl before ↦ later (was cell before free)
+      | inr same ↦ now same
+    ]
 
-  -- the first roots were met, this number of them
-  pub record IsRooted (w : Walk) (count : ℕ) : Type 0 where
-    pub good : IsGood s h roots w
-    pub globals_seen : IsSeen h w null
-    pub roots_seen : (place : ℕ) → place < count → (slice_index_or roots place null).cell ≢ 0 → IsSeen h w (slice_index_or roots place null)
+module _ (h : Shared) (P : Reference → Type 0) (w : Walk) where
+  pub listed-meets : IsListed w → (v : Walk) → Meets h P w v → IsListed v
+  listed-meets was _ met-none = was
+  listed-meets was _ (met-more v r meets is_such) = listed-meeting h v r (listed-meets was v meets)
 
-  -- after the globals
-  pub rooted-begin : (cells : ℕ) → IsRooted (meeting h (begun cells) null) 0
-  rooted-begin cells = record {
-    good = good-meeting (begun cells) null globals (good-begun cells);
-    globals_seen = seen-meeting h (begun cells) null;
-    roots_seen = λ place lt. absurd (omega (arith, lt));
-  }
+  pub recorded-meets : AreFreeRecorded h w → (v : Walk) → Meets h P w v → AreFreeRecorded h v
+  recorded-meets was _ met-none = was
+  recorded-meets was _ (met-more v r meets is_such) = recorded-meeting h v r (recorded-meets was v meets)
+
+-- ---- before any reference is met
+
+none-met : (cells cell : ℕ) → slice_index_or (replicate cells false) cell false ≡ true → ⊥
+none-met cells cell is = go (nat_lt cell cells) refl is
+  where
+    go : (b : Bool) → nat_lt cell cells ≡ b → slice_index_or (replicate cells false) cell false ≡ true → ⊥
+    go true e is =
+        let lt : cell < cells = grind (arith, nat_tests) in
+        let no : slice_index_or (replicate cells false) cell false ≡ false = get_or-replicate cells cell false false lt in
+        cc
+    go false e is =
+        let wide : length (replicate cells false) ≡ cells = length-replicate cells false in
+        let ge : cells ≤ cell = grind (arith, nat_tests) in
+        let no : slice_index_or (replicate cells false) cell false ≡ false = get_or_past (replicate cells false) cell false (omega (arith, wide, ge)) in
+        cc
+
+module _ (s : Setup) (h : Shared) (roots : List Reference) where
+  -- ---- the roots
 
   root-at : (each : List Reference) (place : ℕ) → place < length each → IsIn (slice_index_or each place null) each
   root-at [] place lt = absurd (omega (arith, lt))
   root-at (first ∷ each) zero lt = inl refl
   root-at (first ∷ each) (suc place) lt = inr (root-at each place (omega (arith, lt)))
 
-  -- after one more root
-  pub rooted-more : (w : Walk) (count : ℕ) (r : Reference) → count < length roots → slice_index_or roots count null ≡ r → IsRooted w count → IsRooted (following h w r) (count + 1)
-  rooted-more w count r lt is rooted = record {
-    good = good-following w r (root r (subst (λ (q : Reference). IsIn q roots) is (root-at roots count lt))) rooted.good;
-    globals_seen = stays-following h w r null rooted.globals_seen;
-    roots_seen = λ place below n. seen place (place == count) refl below n;
-  }
-    where
-      seen : (place : ℕ) → (b : Bool) → (place == count) ≡ b → place < count + 1 → (slice_index_or roots place null).cell ≢ 0 → IsSeen h (following h w r) (slice_index_or roots place null)
-      seen place true e below n =
-          let here : place ≡ count = grind (arith, nat_tests) in
-          let same : r ≡ slice_index_or roots place null = sym (ap (λ p. slice_index_or roots p null) here ∙ is) in
-          subst (λ (q : Reference). q.cell ≢ 0 → IsSeen h (following h w r) q) same (seen-following h w r) n
-      seen place false e below n =
-          let isnt : place ≢ count = grind (arith, nat_tests) in
-          stays-following h w r (slice_index_or roots place null) (rooted.roots_seen place (omega (arith, below, isnt)) n)
-
   place-of : (each : List Reference) (r : Reference) → IsIn r each → (place : ℕ) × (place < length each) × (slice_index_or each place null ≡ r)
   place-of [] r is_in = absurd is_in
   place-of (first ∷ each) r (inl is) = (0, omega arith, sym is)
   place-of (first ∷ each) r (inr later) = let rest = place-of each r later in (suc rest.0, omega (arith, rest.1), rest.2)
 
-  -- after all roots
-  pub walked-begin : (w : Walk) (count : ℕ) → length roots ≤ count → IsRooted w count → IsWalked s h roots w 0
-  walked-begin w count all rooted = record {
-    sound = rooted.good.sound;
-    listed = rooted.good.listed;
-    globals_seen = rooted.globals_seen;
-    roots_seen = λ r is_in n. seen r (place-of roots r is_in) n;
+  -- each of them was met
+  pub roots-seen : (w : Walk) (r : Reference) → IsIn r roots → r.cell ≢ 0 → IsSeen h (following_first h roots w (length roots)) r
+  roots-seen w r is_in n = go (place-of roots r is_in)
+    where
+      go : (place : ℕ) × (place < length roots) × (slice_index_or roots place null ≡ r) → IsSeen h (following_first h roots w (length roots)) r
+      go at = subst (λ (q : Reference). q.cell ≢ 0 → IsSeen h (following_first h roots w (length roots)) q) at.2 (seen-first h roots w (length roots) at.0 at.1) n
+
+  -- the walk before it looks into cells
+  abbrev pub rooted : (cells : ℕ) → Walk
+  rooted cells = following_first h roots (meeting h (begun cells) null) (length roots)
+
+  pub rooted-by : (cells : ℕ) (first met w : Walk) → first ≡ begun cells → met ≡ meeting h first null → w ≡ following_first h roots met (length roots) → w ≡ rooted cells
+  rooted-by cells first met w e f g = rw (g, f, e) refl
+
+  meets-roots : (w : Walk) → Meets h (Found s h roots) w (following_first h roots w (length roots))
+  meets-roots w = meets-first h (Found s h roots) w roots (length roots) (λ place lt n. root (slice_index_or roots place null) (root-at roots place lt) n)
+
+  globals-met : (cells : ℕ) → Meets h (Found s h roots) (begun cells) (meeting h (begun cells) null)
+  globals-met cells = met-more (begun cells) null met-none globals
+
+  pub shaped-rooted : (cells : ℕ) → IsShaped cells (rooted cells)
+  shaped-rooted cells =
+      shaped-meets cells h (Found s h roots) (meeting h (begun cells) null) (shaped-meets cells h (Found s h roots) (begun cells) (shaped-begun cells) (meeting h (begun cells) null) (globals-met cells))
+      (rooted cells) (meets-roots (meeting h (begun cells) null))
+
+  pub sound-rooted : (cells : ℕ) → IsSound s h roots (rooted cells)
+  sound-rooted cells =
+      let begun-sound : IsSound s h roots (begun cells) = record { cells = λ place lt. absurd (omega (arith, lt)); blue = tt; reborn = tt } in
+      sound-meets s h roots (meeting h (begun cells) null) (sound-meets s h roots (begun cells) begun-sound (meeting h (begun cells) null) (globals-met cells))
+      (rooted cells) (meets-roots (meeting h (begun cells) null))
+
+  pub looked-rooted : (cells : ℕ) → IsLooked s h (rooted cells) 0
+  looked-rooted cells = record {
+    listed = listed-meets h (Found s h roots) first (listed-meeting h (begun cells) null (λ cell is. absurd (none-met cells cell is))) (rooted cells) (meets-roots first);
+    free = recorded-meets h (Found s h roots) first (recorded-meeting h (begun cells) null (λ cell is free. absurd (none-met cells cell is))) (rooted cells) (meets-roots first);
     words_seen = λ place lt. absurd (omega (arith, lt));
   }
     where
-      seen : (r : Reference) → (place : ℕ) × (place < length roots) × (slice_index_or roots place null ≡ r) → r.cell ≢ 0 → IsSeen h w r
-      seen r at n = subst (λ (q : Reference). q.cell ≢ 0 → IsSeen h w q) at.2 (rooted.roots_seen at.0 (omega (arith, at.1, all))) n
+      first : Walk
+      first = meeting h (begun cells) null
 
+  pub globals-seen : (cells : ℕ) → IsSeen h (rooted cells) null
+  globals-seen cells = stays-meets h (Found s h roots) (meeting h (begun cells) null) null (seen-meeting h (begun cells) null) (rooted cells) (meets-roots (meeting h (begun cells) null))
+
+module _ (s : Setup) (h : Shared) where
   -- ---- the walk over the cells that were met
 
   -- a word that holds references is one of the cell
@@ -283,30 +289,36 @@ module _ (s : Setup) (h : Shared) (roots : List Reference) where
   seen-into w cell word is n =
       seen-looking h (words_of_cell s cell) (slice_index_or h.words cell []) w (length (words_of_cell s cell)) word (word-within (words_of_cell s cell) word is) is n
 
-  good-into : (w : Walk) (cell : ℕ) → IsFound s h roots cell → IsGood s h roots w → IsGood s h roots (looked_into w cell)
+  -- after references of this kind
+  meets-into : (P : Reference → Type 0) (w : Walk) (cell : ℕ) → ((word : ℕ) → IsTrue (is_reference_kind (kind_of s cell word)) → (word_at h.words cell word).cell ≢ 0 → P (word_at h.words cell word)) → Meets h P w (looked_into w cell)
   unfolding kind_of
-  good-into w cell found good =
-      good-looking (words_of_cell s cell) (slice_index_or h.words cell []) w (length (words_of_cell s cell))
-      (λ word is n. further (record { cell = cell; birth = found.birth }) word found.is_found is n) good
+  meets-into P w cell are_such = meets-looking h P w (words_of_cell s cell) (slice_index_or h.words cell []) (length (words_of_cell s cell)) are_such
+
+  any-into : (w : Walk) (cell : ℕ) → Meets h Any w (looked_into w cell)
+  any-into w cell = meets-into Any w cell (λ word is n. tt)
+
+  pub shaped-into : (cells : ℕ) (w : Walk) (cell : ℕ) → IsShaped cells w → IsShaped cells (looked_into w cell)
+  shaped-into cells w cell shaped = shaped-meets cells h Any w shaped (looked_into w cell) (any-into w cell)
+
+  pub stays-into : (w : Walk) (cell : ℕ) (r : Reference) → IsSeen h w r → IsSeen h (looked_into w cell) r
+  stays-into w cell r was = stays-meets h Any w r was (looked_into w cell) (any-into w cell)
+
+  pub sound-into : (roots : List Reference) (w : Walk) (looked cell : ℕ) → looked < length w.order → slice_index w.order looked ≡ cell → IsSound s h roots w → IsSound s h roots (looked_into w cell)
+  sound-into roots w looked cell lt is sound = go (subst (λ c. IsFound s h roots c) is (sound.cells looked lt))
+    where
+      go : IsFound s h roots cell → IsSound s h roots (looked_into w cell)
+      go found = sound-meets s h roots w sound (looked_into w cell) (meets-into (Found s h roots) w cell (λ word kind n. further (record { cell = cell; birth = found.birth }) word found.is_found kind n))
 
   -- after one more cell
-  pub walked-more : (w : Walk) (looked cell : ℕ) → looked < length w.order → slice_index w.order looked ≡ cell → IsWalked s h roots w looked → IsWalked s h roots (looked_into w cell) (looked + 1)
-  walked-more w looked cell lt is walked = record {
-    sound = good.sound;
-    listed = good.listed;
-    globals_seen = stays null walked.globals_seen;
-    roots_seen = λ r is_in n. stays r (walked.roots_seen r is_in n);
+  pub looked-more : (w : Walk) (looked cell : ℕ) → looked < length w.order → slice_index w.order looked ≡ cell → IsLooked s h w looked → IsLooked s h (looked_into w cell) (looked + 1)
+  looked-more w looked cell lt is was = record {
+    listed = listed-meets h Any w was.listed (looked_into w cell) (any-into w cell);
+    free = recorded-meets h Any w was.free (looked_into w cell) (any-into w cell);
     words_seen = λ place below. words place (place == looked) refl below;
   }
     where
       widens : Widens w (looked_into w cell)
-      widens = widens-looking h (words_of_cell s cell) (slice_index_or h.words cell []) w (length (words_of_cell s cell))
-
-      good : IsGood s h roots (looked_into w cell)
-      good = good-into w cell (subst (λ c. IsFound s h roots c) is (walked.sound.cells looked lt)) (record { sound = walked.sound; listed = walked.listed })
-
-      stays : (q : Reference) → IsSeen h w q → IsSeen h (looked_into w cell) q
-      stays q was = stays-looking h (words_of_cell s cell) (slice_index_or h.words cell []) w q (length (words_of_cell s cell)) was
+      widens = widens-meets h Any w (looked_into w cell) (any-into w cell)
 
       words : (place : ℕ) → (b : Bool) → (place == looked) ≡ b → place < looked + 1 → AreSeen s h (looked_into w cell) (slice_index (looked_into w cell).order place)
       words place true e below =
@@ -318,4 +330,4 @@ module _ (s : Setup) (h : Shared) (roots : List Reference) where
           let less : place < looked = omega (arith, below, isnt) in
           let cell_is : slice_index (looked_into w cell).order place ≡ slice_index w.order place = widens.same place (omega (arith, less, lt)) in
           subst (λ c. AreSeen s h (looked_into w cell) c) (sym cell_is)
-          (λ word kind n. stays (word_at h.words (slice_index w.order place) word) (walked.words_seen place less word kind n))
+          (λ word kind n. stays-into w cell (word_at h.words (slice_index w.order place) word) (was.words_seen place less word kind n))

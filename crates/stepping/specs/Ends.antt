@@ -75,3 +75,10 @@ IsStepOrNone s m starts run actor (Some step) = IsStep s m starts run actor step
 pub record IsOneStep (s : Setup) (m : Machine) (Fits : m.State → Type 0) (starts : ℕ → m.State) (before : List Actor) (actor : Actor) (made : Option MadeStep) (actors : Actors m.State) : Type 0 where
   pub made_is : IsStepOrNone s m starts (run_by s m starts before) actor made
   pub afterwards : AreAfterSteps s m Fits starts (actor ∷ before) actors
+
+-- ---- a cover
+
+-- there was no step, or one of which it is told that nothing may be lost
+abbrev pub IsQuiet : Option MadeStep → Type 0
+IsQuiet None = Unit {0}
+IsQuiet (Some step) = step.loss ≡ Nothing

@@ -3,4 +3,5 @@ pub mod Walks
 pub mod Starts
 pub mod Roots
 pub mod Loss
+pub mod Covers
 pub mod Ends

@@ -1,5 +1,5 @@
 -- A walk over what can be reached, over the words as they are now.
-use Rattle.std.specs.Prelude.{ℕ, zero, suc, ◌≡◌, ◌≢◌, ◌<◌, ◌≤◌, ◌==◌, not, Bool, true, false, min, Option, Some, None, List, [], ◌∷◌, ◌++◌, length, slice_get, slice_set, slice_index, slice_index_or, replicate, if◌then◌else◌, IsTrue, IfSome}
+use Rattle.std.specs.Prelude.{ℕ, zero, suc, ◌≡◌, ◌≢◌, ◌<◌, ◌≤◌, ◌+◌, ◌==◌, ◌⊎◌, not, Bool, true, false, min, Option, Some, None, List, [], ◌∷◌, ◌++◌, length, slice_get, slice_set, slice_index, slice_index_or, sum_by, replicate, if◌then◌else◌, IsTrue, IfSome}
 use Rattle.pools.specs.declared.word_kind.WordKind.{WordKind}
 use Rattle.pools.specs.Heap.{Setup, kind_of}
 use Rattle.pools.specs.Layouts.{is_reference_kind}
@@ -66,6 +66,11 @@ following h w r = if r.cell == 0 then w else meeting h w r
 abbrev pub looking_at : Shared → Walk → Option WordKind → Reference → Walk
 looking_at h w kind r = if is_reference_kind kind then following h w r else w
 
+-- after the first of some references, this number of them
+unfoldable pub following_first : Shared → List Reference → Walk → (count : ℕ) → Walk
+following_first h found w zero = w
+following_first h found w (suc place) = following h (following_first h found w place) (slice_index_or found place null)
+
 -- after the first words of a cell, this number of them
 unfoldable pub looking : Shared → List WordKind → (row : List Reference) → Walk → (count : ℕ) → Walk
 looking h kinds row w zero = w
@@ -105,18 +110,50 @@ pub record IsSound (s : Setup) (h : Shared) (roots : List Reference) (w : Walk) 
 abbrev pub IsListed : Walk → Type 0
 IsListed w = (cell : ℕ) → slice_index_or w.met cell false ≡ true → (place : ℕ) × (place < length w.order) × (slice_index w.order place ≡ cell)
 
+-- of the cells that were met, each that is free was recorded
+abbrev pub AreFreeRecorded : Shared → Walk → Type 0
+AreFreeRecorded h w = (cell : ℕ) → slice_index_or w.met cell false ≡ true → slice_index h.colours cell ≡ 0 → IsAtMost w.blue cell
+
 -- what the words of a cell hold was met
 abbrev pub AreSeen : Setup → Shared → Walk → (cell : ℕ) → Type 0
 AreSeen s h w cell = (word : ℕ) → IsTrue (is_reference_kind (kind_of s cell word)) → (word_at h.words cell word).cell ≢ 0 → IsSeen h w (word_at h.words cell word)
 
--- the walk looked at the words of the first cells of its order, this number of them, and at the roots
-pub record IsWalked (s : Setup) (h : Shared) (roots : List Reference) (w : Walk) (looked : ℕ) : Type 0 where
-  pub sound : IsSound s h roots w
+-- the walk looked at the words of the first cells of its order, this number of them
+pub record IsLooked (s : Setup) (h : Shared) (w : Walk) (looked : ℕ) : Type 0 where
   pub listed : IsListed w
-  pub globals_seen : IsSeen h w null
-  pub roots_seen : (r : Reference) → IsIn r roots → r.cell ≢ 0 → IsSeen h w r
+  pub free : AreFreeRecorded h w
   pub words_seen : (place : ℕ) → place < looked → AreSeen s h w (slice_index w.order place)
 
--- it looked at all that it met
-abbrev pub IsWhole : (s : Setup) (h : Shared) (roots : List Reference) (w : Walk) → Type 0
-IsWhole s h roots w = IsWalked s h roots w (length w.order)
+-- it met the globals and the roots, and looked at all that it met
+pub record IsClosed (s : Setup) (h : Shared) (roots : List Reference) (w : Walk) : Type 0 where
+  pub looked : IsLooked s h w (length w.order)
+  pub globals_seen : IsSeen h w null
+  pub roots_seen : (r : Reference) → IsIn r roots → r.cell ≢ 0 → IsSeen h w r
+
+-- so but for one reference that was stored, and for these roots of one thread
+pub record IsNearlyClosed (s : Setup) (h : Shared) (roots own : List Reference) (stored : Reference) (w : Walk) : Type 0 where
+  pub listed : IsListed w
+  pub free : AreFreeRecorded h w
+  pub words_seen : (place : ℕ) → place < length w.order → (word : ℕ) → IsTrue (is_reference_kind (kind_of s (slice_index w.order place) word)) → (word_at h.words (slice_index w.order place) word).cell ≢ 0
+      → IsSeen h w (word_at h.words (slice_index w.order place) word) ⊎ (word_at h.words (slice_index w.order place) word ≡ stored)
+  pub globals_seen : IsSeen h w null
+  pub roots_seen : (r : Reference) → IsIn r roots → r.cell ≢ 0 → IsSeen h w r ⊎ IsIn r own
+
+-- it is closed, and all that it met can be reached
+pub record IsWhole (s : Setup) (h : Shared) (roots : List Reference) (w : Walk) : Type 0 where
+  pub sound : IsSound s h roots w
+  pub closed : IsClosed s h roots w
+
+-- ---- its cells
+
+-- a cell that was not met counts
+abbrev pub unmet : Bool → ℕ
+unmet true = 0
+unmet false = 1
+
+-- the row has this number of cells, those that are left and those of the order are as many, and those of the order are cells that were met
+pub record IsShaped (cells : ℕ) (w : Walk) : Type 0 where
+  pub wide : length w.met ≡ cells
+  pub left : length w.order + sum_by unmet w.met ≡ cells
+  pub within : (place : ℕ) → place < length w.order → slice_index w.order place < cells
+  pub are_met : (place : ℕ) → place < length w.order → slice_index_or w.met (slice_index w.order place) false ≡ true

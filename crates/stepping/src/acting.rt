@@ -1,19 +1,22 @@
-ghost use Rattle.std.specs.Prelude.{ℕ, ◌≡◌, ◌<◌, ◌^◌, Some, List, [], ◌∷◌, length, map, slice_get, All, IfOk, OnErr};
+ghost use Rattle.std.specs.Prelude.{ℕ, ◌≡◌, ◌<◌, ◌^◌, None, Some, List, [], ◌∷◌, length, map, slice_get, All, IfOk, IfSome, OnErr};
 ghost use Rattle.std.specs.Option.{option_copied};
-ghost use Rattle.pools.specs.Heap.{Setup, IsSetup};
+ghost use Rattle.pools.specs.Heap.{Setup, IsSetup, cells_in};
 ghost use Rattle.runs.specs.Machine.{machine_of};
 ghost use Rattle.moves.specs.declared.actor.Actor.{Actor as AnActor};
 ghost use Rattle.moves.specs.declared.actor.Actor.TheVariants as actor;
 ghost use Rattle.moves.specs.Runs.{run_by, IsActor};
 ghost use Rattle.stepping.specs.Reach.{IsSchemaOf, IsFirstGone};
-ghost use Rattle.stepping.specs.Ends.{AreAfterSteps, IsOneStep};
+ghost use Rattle.stepping.specs.Covers.{IsOver, IsCoverAfter, IsCovered};
+ghost use Rattle.stepping.specs.Ends.{AreAfterSteps, IsStep, IsOneStep};
 
 use crate::beginning::{NewThread, shared_at_start, stands_at_start};
-use crate::gone::{Gone, HeapSchema, first_gone};
+use crate::cover::{Cover, after_turn, stored_by, walked_on};
+use crate::gone::{Gone, HeapSchema};
 use crate::happening::{Happening, MadeStep};
 use crate::laws::loss_law;
 use crate::loss::{loss_of_move, loss_of_turn};
-use crate::roots::roots_under_way;
+use crate::roots::{new_roots, roots_under_way};
+use crate::walk::{Walk, walk_from};
 use moves::{Actor, Runner, Shared, Stand, broken_by, go_on, next_move};
 use run_law::growth_law;
 use std::alloc::{AllocError, Global};
@@ -136,12 +139,73 @@ impl<'a, M: Runner + Drop> Actors<'a, M> {
         }))
     }
 
-    /// The first thing that is gone and can be reached from the globals or a root of a thread under way.
-    pub fn first_gone(&self, alloc: Global) -> Result<Option<Gone>, AllocError>
-        ensures { (s : Setup) (starts : ℕ → M) (before : List AnActor) → AreAfterSteps s (machine_of M.action M.after_answer M.roots) (M.fits s) starts before self.now
-            → IfOk result (IsFirstGone s (machine_of M.action M.after_answer M.roots) starts (run_by s (machine_of M.action M.after_answer M.roots) starts before)) }
+    /// The first thing that is gone and can be reached, after a step before which nothing was. If there is none, the cover's cells
+    /// are known after the step.
+    pub fn first_gone(
+        &self,
+        alloc: Global,
+        cover: &mut Cover,
+        step: &MadeStep,
+    ) -> Result<Option<Gone>, AllocError>
+        requires { IfSome cover.old.walk (IsOver (cells_in self.now.schema.pools.now)) }
+        ensures gone { (s : Setup) (starts : ℕ → M) (before : List AnActor) (actor : AnActor) → AreAfterSteps s (machine_of M.action M.after_answer M.roots) (M.fits s) starts (actor ∷ before) self.now
+            → IsStep s (machine_of M.action M.after_answer M.roots) starts (run_by s (machine_of M.action M.after_answer M.roots) starts before) actor step.now
+            → IsCovered s (machine_of M.action M.after_answer M.roots) starts (run_by s (machine_of M.action M.after_answer M.roots) starts before) cover.old
+            → IfOk result (IsFirstGone s (machine_of M.action M.after_answer M.roots) starts (run_by s (machine_of M.action M.after_answer M.roots) starts (actor ∷ before))) }
+        ensures cover { (s : Setup) (starts : ℕ → M) (before : List AnActor) (actor : AnActor) → AreAfterSteps s (machine_of M.action M.after_answer M.roots) (M.fits s) starts (actor ∷ before) self.now
+            → IsStep s (machine_of M.action M.after_answer M.roots) starts (run_by s (machine_of M.action M.after_answer M.roots) starts before) actor step.now
+            → IsCovered s (machine_of M.action M.after_answer M.roots) starts (run_by s (machine_of M.action M.after_answer M.roots) starts before) cover.old
+            → IfOk result (λ gone. gone ≡ None → IsCovered s (machine_of M.action M.after_answer M.roots) starts (run_by s (machine_of M.action M.after_answer M.roots) starts (actor ∷ before)) cover.new) }
+    {
+        let Some(walk) = cover.walk.take() else {
+            return self.gone_anew(alloc, cover);
+        };
+        match self.kept(alloc, walk, step)? {
+            None => self.gone_anew(alloc, cover),
+            Some(kept) => {
+                cover.walk = Some(kept);
+                Ok(None)
+            }
+        }
+    }
+
+    /// The first thing that is gone, by all that can be reached. If there is none, the cover's cells are known.
+    fn gone_anew(&self, alloc: Global, cover: &mut Cover) -> Result<Option<Gone>, AllocError>
+        ensures gone { (s : Setup) (starts : ℕ → M) (actors : List AnActor) → AreAfterSteps s (machine_of M.action M.after_answer M.roots) (M.fits s) starts actors self.now
+            → IfOk result (IsFirstGone s (machine_of M.action M.after_answer M.roots) starts (run_by s (machine_of M.action M.after_answer M.roots) starts actors)) }
+        ensures cover { (s : Setup) (starts : ℕ → M) (actors : List AnActor) → AreAfterSteps s (machine_of M.action M.after_answer M.roots) (M.fits s) starts actors self.now
+            → IfOk result (λ gone. gone ≡ None → IsCovered s (machine_of M.action M.after_answer M.roots) starts (run_by s (machine_of M.action M.after_answer M.roots) starts actors) cover.new) }
     {
         let roots = roots_under_way(alloc, self.threads.as_slice())?;
-        first_gone::<M>(alloc, self.schema, &self.shared, roots.as_slice())
+        let walk = walk_from(alloc, self.schema, &self.shared, roots.as_slice())?;
+        match (walk.blue, walk.reborn) {
+            (None, None) => {
+                cover.walk = Some(walk);
+                Ok(None)
+            }
+            (None, Some(cell)) => Ok(Some(Gone::Reborn(cell))),
+            (Some(cell), _) => Ok(Some(Gone::Blue(cell))),
+        }
+    }
+
+    /// The walk after a step, where all that can be reached is among its cells, and none of it is gone.
+    fn kept(&self, alloc: Global, walk: Walk, step: &MadeStep) -> Result<Option<Walk>, AllocError>
+        requires { IsOver (cells_in self.now.schema.pools.now) walk }
+        ensures { (s : Setup) (starts : ℕ → M) (before : List AnActor) (actor : AnActor) → AreAfterSteps s (machine_of M.action M.after_answer M.roots) (M.fits s) starts (actor ∷ before) self.now
+            → IsStep s (machine_of M.action M.after_answer M.roots) starts (run_by s (machine_of M.action M.after_answer M.roots) starts before) actor step.now
+            → IsCoverAfter s (machine_of M.action M.after_answer M.roots) starts (run_by s (machine_of M.action M.after_answer M.roots) starts before) walk
+            → IfOk result (λ kept. IfSome kept (IsCoverAfter s (machine_of M.action M.after_answer M.roots) starts (run_by s (machine_of M.action M.after_answer M.roots) starts (actor ∷ before)))) }
+    {
+        match &step.happening {
+            Happening::Collector(turn) => Ok(after_turn(walk, *turn)),
+            Happening::Thread(thread, made) => {
+                let Some(stand) = self.thread(*thread as usize) else {
+                    return Ok(None);
+                };
+                let roots = new_roots(alloc, stand, made)?;
+                let stored = stored_by(self.schema, made);
+                walked_on(walk, self.schema, &self.shared, stored, roots.as_slice())
+            }
+        }
     }
 }

@@ -1,15 +1,8 @@
-ghost use Rattle.std.specs.Prelude.{ℕ, ◌≡◌, ◌<◌, List, IfOk};
-ghost use Rattle.pools.specs.Heap.{Setup, cells_in, words_of_cell};
-ghost use Rattle.runs.specs.Machine.{machine_of};
-ghost use Rattle.runs.specs.ModuleRuns.{Happening};
-ghost use Rattle.moves.specs.Shared.{StandAfter};
-ghost use Rattle.stepping.specs.Reach.{IsSchemaOf, AreRoots, IsFirstGone, gone_of};
+ghost use Rattle.std.specs.Prelude.{◌≡◌, ◌<◌, slice_get};
+ghost use Rattle.pools.specs.Heap.{Setup, cells_in, cells, kind_of, words_of_cell};
+ghost use Rattle.stepping.specs.Reach.{IsSchemaOf};
 
-use crate::walk::walk_from;
-use moves::{Reference, Shared};
 use pools::{Layouts, Pools, WordKind};
-use runs::Machine;
-use std::alloc::{AllocError, Global};
 
 /// A reference is gone that can be reached.
 #[derive(Clone, Copy, PartialEq, Eq)]
@@ -40,31 +33,21 @@ impl<'a> HeapSchema<'a> {
         }
         self.layouts.words(self.pools.pool_of(cell))
     }
-}
 
-/// The first thing that is gone and can be reached from the globals or from these roots. The words and births are those
-/// after a run, and the roots are those of the threads under way.
-pub fn first_gone<M: Machine>(
-    alloc: Global,
-    schema: HeapSchema<'_>,
-    shared: &Shared,
-    roots: &[Reference],
-) -> Result<Option<Gone>, AllocError>
-    ensures { (s : Setup) (starts : ℕ → M) (run : List Happening) → IsSchemaOf s schema.entry → StandAfter s run shared.now
-        → AreRoots s (machine_of M.action M.after_answer M.roots) starts run roots.now
-        → IfOk result (IsFirstGone s (machine_of M.action M.after_answer M.roots) starts run) }
-{
-    let walk = walk_from(alloc, schema, shared, roots)?;
-    Ok(first_of(walk.blue, walk.reborn))
-}
-
-/// The least free cell, or where there is none, the least that was claimed again.
-fn first_of(blue: Option<u64>, reborn: Option<u64>) -> Option<Gone>
-    ensures { result ≡ gone_of blue reborn }
-{
-    match (blue, reborn) {
-        (Some(cell), _) => Some(Gone::Blue(cell)),
-        (None, Some(cell)) => Some(Gone::Reborn(cell)),
-        (None, None) => None,
+    /// What a word of a cell holds; None outside the cells and outside the cell.
+    pub fn kind(&self, cell: u64, word: u32) -> Option<WordKind>
+        ensures { (s : Setup) → IsSchemaOf s self.now → cell < cells s → result ≡ kind_of s cell word }
+    {
+        if cell < u64::from(self.pools.cells()) {
+            return kind_at(self.words(cell as u32), word);
+        }
+        None
     }
+}
+
+/// The kind at this place.
+fn kind_at(words: &[WordKind], word: u32) -> Option<WordKind>
+    ensures { result ≡ slice_get words.now word }
+{
+    words.get(word as usize).copied()
 }

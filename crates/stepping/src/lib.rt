@@ -3,6 +3,7 @@
 
 mod acting;
 mod beginning;
+mod cover;
 mod gone;
 mod happening;
 mod laws;
@@ -12,7 +13,8 @@ mod walk;
 
 pub use acting::Actors;
 pub use beginning::NewThread;
-pub use gone::{Gone, HeapSchema, first_gone};
+pub use cover::Cover;
+pub use gone::{Gone, HeapSchema};
 pub use happening::{Happening, MadeStep};
-pub use laws::loss_law;
+pub use laws::{cover_law, loss_law};
 pub use loss::Loss;

@@ -1,7 +1,7 @@
 ghost use Rattle.std.specs.Prelude.{◌≡◌, IfOk};
 ghost use Rattle.stepping.specs.Roots as roots;
 
-use moves::{Reference, Runner, Stance, Stand};
+use moves::{Move, Reference, Runner, Stance, Stand};
 use std::alloc::{AllocError, Global};
 
 /// The roots of the threads under way, one thread after the other.
@@ -29,5 +29,19 @@ fn own_roots<M: Runner>(alloc: Global, stand: &Stand<M>) -> Result<Vec<Reference
         | Stance::Entering
         | Stance::Leaving => Ok(Vec::new(alloc)),
         _ => stand.state.root_references(),
+    }
+}
+
+/// Roots of a thread after this move, among which is each that was none before it.
+pub(crate) fn new_roots<M: Runner>(
+    alloc: Global,
+    stand: &Stand<M>,
+    made: &Move,
+) -> Result<Vec<Reference>, AllocError>
+    ensures { IfOk result (λ found. found.items ≡ roots.new_roots M.roots M.newest stand.now made.now) }
+{
+    match made {
+        Move::ReadsPostedAgain(_) => own_roots(alloc, stand),
+        _ => stand.state.newest_roots(),
     }
 }

@@ -1,9 +1,10 @@
-ghost use Rattle.std.specs.Prelude.{◌≡◌, ◌<◌, ◌≤◌, ◌^◌, ◌+◌, [], length, true, slice_index_or, IsTrue, IsFalse, IfOk, OnOk};
-ghost use Rattle.pools.specs.Heap.{Setup, cells_in, words_of_cell};
+ghost use Rattle.std.specs.Prelude.{◌≡◌, ◌<◌, ◌≤◌, ◌^◌, [], List, length, false, true, slice_index_or, IsTrue, IsFalse, IfOk, OnOk};
+ghost use Rattle.pools.specs.Heap.{Setup, cells_in, cells, words_of_cell};
 ghost use Rattle.runs.specs.Moves.{null};
 ghost use Rattle.stepping.specs.Reach.{IsSchemaOf};
 ghost use Rattle.stepping.specs.Walks as walks;
-ghost use Rattle.stepping.specs.Walks.{meeting, following, looking_at, looking, IsWhole};
+ghost use Rattle.runs.specs.Machine.{Reference as AReference};
+ghost use Rattle.stepping.specs.Walks.{meeting, following, following_first, looking_at, looking, IsSeen, IsSound, IsLooked, IsClosed, IsNearlyClosed, IsWhole, IsShaped};
 
 use crate::gone::HeapSchema;
 use items::Items;
@@ -64,6 +65,17 @@ impl Walk {
         Ok(())
     }
 
+    /// The cell was met.
+    pub(crate) fn has_met(&self, cell: u32) -> bool
+        ensures { result ≡ slice_index_or self.now.met cell false }
+    {
+        self.met
+            .as_slice()
+            .get(cell as usize)
+            .copied()
+            .unwrap_or(false)
+    }
+
     /// What a word or a root holds can be reached; null points to nothing.
     fn follow(&mut self, shared: &Shared, held: Reference) -> Result<(), AllocError>
         requires { length self.old.met ≤ 2 ^ 20 }
@@ -109,6 +121,60 @@ impl Walk {
         }
         Ok(())
     }
+
+    /// What each of these roots holds can be reached.
+    fn follow_all(&mut self, shared: &Shared, roots: &[Reference]) -> Result<(), AllocError>
+        requires { length self.old.met ≤ 2 ^ 20 }
+        ensures { OnOk result (self.new ≡ following_first shared.now roots.now self.old (length roots.now)) }
+    {
+        for root in roots {
+            self.follow(shared, *root)?;
+        }
+        Ok(())
+    }
+
+    /// Looks into the cells of the order from this place on, and into those that are met by it.
+    fn look_from(
+        &mut self,
+        schema: HeapSchema<'_>,
+        shared: &Shared,
+        place: usize,
+    ) -> Result<(), AllocError>
+        requires shaped { IsShaped (cells_in schema.pools.now) self.old }
+        requires few { length self.old.met ≤ 2 ^ 20 }
+        requires place { place ≤ length self.old.order }
+        ensures shaped { OnOk result (IsShaped (cells_in schema.entry.pools.now) self.new) }
+        ensures looked { (s : Setup) → IsSchemaOf s schema.entry → IsLooked s shared.now self.old place → OnOk result (IsLooked s shared.now self.new (length self.new.order)) }
+        ensures seen { (r : AReference) → IsSeen shared.now self.old r → OnOk result (IsSeen shared.now self.new r) }
+        ensures sound { (s : Setup) (roots : List AReference) → IsSchemaOf s schema.entry → IsSound s shared.now roots self.old → OnOk result (IsSound s shared.now roots self.new) }
+    {
+        let mut looked = place;
+        while let Some(cell) = self.order.get(looked).copied() {
+            self.look_into(schema, shared, cell)?;
+            looked += 1;
+        }
+        Ok(())
+    }
+
+    /// Goes on with the reference that a move stored and with the roots of its thread, and with what they lead to.
+    pub(crate) fn go_on(
+        &mut self,
+        schema: HeapSchema<'_>,
+        shared: &Shared,
+        stored: Reference,
+        roots: &[Reference],
+    ) -> Result<(), AllocError>
+        requires shaped { IsShaped (cells_in schema.pools.now) self.old }
+        requires few { length self.old.met ≤ 2 ^ 20 }
+        ensures shaped { OnOk result (IsShaped (cells_in schema.entry.pools.now) self.new) }
+        ensures closed { (s : Setup) (all : List AReference) → IsSchemaOf s schema.entry → IsNearlyClosed s shared.now all roots.now stored self.old → OnOk result (IsClosed s shared.now all self.new) }
+    {
+        let place = self.order.len();
+        self.follow(shared, stored)?;
+        self.follow_all(shared, roots)?;
+        self.look_from(schema, shared, place)?;
+        Ok(())
+    }
 }
 
 /// The least of a cell and those so far.
@@ -146,17 +212,12 @@ pub(crate) fn walk_from(
     shared: &Shared,
     roots: &[Reference],
 ) -> Result<Walk, AllocError>
-    ensures { (s : Setup) → IsSchemaOf s schema.entry → IfOk result (λ walk. (length walk.met ≡ cells_in s.pools) × IsWhole s shared.now roots.now walk) }
+    ensures whole { (s : Setup) → IsSchemaOf s schema.entry → IfOk result (λ walk. IsShaped (cells s) walk × IsWhole s shared.now roots.now walk) }
+    ensures limit { cells_in schema.entry.pools.now ≤ 2 ^ 20 }
 {
     let mut walk = Walk::new(alloc, schema.pools.cells())?;
     walk.meet(shared, NULL)?;
-    for root in roots {
-        walk.follow(shared, *root)?;
-    }
-    let mut looked = 0;
-    while let Some(cell) = walk.order.get(looked).copied() {
-        walk.look_into(schema, shared, cell)?;
-        looked += 1;
-    }
+    walk.follow_all(shared, roots)?;
+    walk.look_from(schema, shared, 0)?;
     Ok(walk)
 }

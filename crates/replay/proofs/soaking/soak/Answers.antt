@@ -19,4 +19,4 @@ returns-in-Some-clause-safe g c certs certified =
     let setup = c.args.setup.now in
     let b = c.in-Some.broken in
     let least = subst (λ o. IsLeastFrom p setup c.args.steps c.loop-first.first (c.loop-first.first + c.min.result) o) c.in-Some.is c.in_ok-broken.ensures.least in
-    safe_breaks_none p setup (actors_drawn (length setup.starts) b.seed c.args.steps) b.broken (c.setup_law.ensures p setup certs c.requires c.in_ok-_world.ensures.no_fault certified) least.3
+    safe_breaks_none p setup (actors_drawn (length setup.starts) b.seed c.args.steps) b.broken (c.setup_law.ensures p setup certs c.requires c.in_ok-may_begin.ensures.no_fault certified) least.3

@@ -2,11 +2,11 @@
 use Rattle.std.proofs.Common.{◌∷◌, subst}
 use Rattle.std.specs.Prelude.{IfOk}
 use Rattle.replay.specs.Worlds.{IsAfter, IsStepAfter, actor_in}
-use Rattle.replay.proofs.Watching.{counts_are_small, stepped}
+use Rattle.replay.proofs.Watching.{counts_are_small, over_after, stepped}
 use Rattle.replay.proofs.watch.Watch.step.Goals as goal
 
 pub told-requires : goal.told-requires
-told-requires c = record { room = counts_are_small 1 c.args.self.now c.requires.room }
+told-requires c = record { room = counts_are_small 1 c.args.self.now c.requires.room; cover = over_after 1 c.args.self.now c.step-made.new.self c.requires.room c.step-made.ensures.same }
 
 pub returns-in-Ok : goal.returns-in-Ok
 returns-in-Ok c p setup before is =

@@ -1,17 +1,18 @@
--- The search is over the roots of the run.
-use Rattle.std.proofs.Common.{◌≡◌, List, sym, ap, ◌∙◌, subst}
-use Rattle.runs.specs.Machine.{Reference, machine_of}
+-- A cover after the step holds nothing that is gone.
+use Rattle.std.proofs.Common.{◌∷◌, Option, sym, subst}
+use Rattle.std.specs.Prelude.{IfSome}
+use Rattle.runs.specs.Machine.{machine_of}
 use Rattle.moves.specs.Runs.{run_by}
-use Rattle.stepping.specs.Reach.{AreRoots}
-use Rattle.stepping.specs.Roots.{roots_of}
-use Rattle.stepping.proofs.RunRoots.{are-roots}
+use Rattle.stepping.specs.Covers.{IsCoverAfter}
+use Rattle.stepping.specs.declared.walk.Walk.{Walk}
+use Rattle.stepping.proofs.Covers.{none-gone}
 use Rattle.stepping.proofs.acting.Actors.first_gone.Goals as goal
 
-pub returns : goal.returns
-returns g c s starts before b =
+pub returns-in-Some-2-clause-gone : goal.returns-in-Some-2-clause-gone
+returns-in-Some-2-clause-gone g c = λ s starts before actor b is known.
     let m = machine_of g.M.Machine.action g.M.Machine.after_answer g.M.Machine.roots in
-    let run = run_by s m starts before in
-    let a = c.args.self.now in
-    let found : c.as_slice-2.result.now ≡ roots_of m.roots a.threads.items = c.as_slice-2.ensures.value ∙ c.in_ok-roots.ensures ∙ ap (roots_of m.roots) c.as_slice.ensures.value in
-    c.first_gone.ensures s starts run b.schema b.is_after.is_end.words
-    (subst (λ (rs : List Reference). AreRoots s m starts run rs) (sym found) (are-roots s m (g.M.Runner.fits s) starts before a b (g.met.M.Runner.keeps_kinds s)))
+    let was : IfSome c.take.result (IsCoverAfter s m starts (run_by s m starts before)) = subst (λ (o : Option Walk). IfSome o (IsCoverAfter s m starts (run_by s m starts before))) (sym c.take.ensures.value) known in
+    let here : IsCoverAfter s m starts (run_by s m starts before) c.in-Some.walk = subst (λ (o : Option Walk). IfSome o (IsCoverAfter s m starts (run_by s m starts before))) c.in-Some.is was in
+    let kept : IsCoverAfter s m starts (run_by s m starts (actor ∷ before)) c.in-Some-2.kept =
+    subst (λ (o : Option Walk). IfSome o (IsCoverAfter s m starts (run_by s m starts (actor ∷ before)))) c.in-Some-2.is (c.in_ok-kept.ensures s starts before actor b is here) in
+    none-gone s m starts (run_by s m starts (actor ∷ before)) c.in-Some-2.kept.met kept.covers
