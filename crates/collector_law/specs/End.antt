@@ -1,12 +1,8 @@
 -- The end of the trace preserves the invariant: from here on the live cells are the black ones.
-use Rattle.std.proofs.Common.{◌≡◌, ◌≢◌, inl, inr, ℕ, suc, ◌*◌, ◌<◌, ◌≤◌, Bool, false, sym, ap, ◌∙◌, subst, ◌==◌, arith}
-use Rattle.std.proofs.lemmas.Bool.{cases_eq, eqb-true, eq-eqb, ne_eqb, both_ways}
-use Rattle.collector_law.specs.Picture.{IsSpared}
-use Rattle.collector_law.specs.Invariant.{State, Passing, Sweeping, Late, time_of, IsGrey, IsBlack, IsLive, IsLiveAt, hand_of, picture, MayLag, posted_at, IsUnderWay, IsColour, RootAt, AtTime, IsInvariant}
-use Rattle.collector_law.specs.Trace.{ends}
-
-abbrev white_set : State → ℕ → Bool
-white_set s c = suc (s.colour c) == 2 * s.cycle
+use Rattle.std.proofs.Common.{◌≡◌, inl, inr, ℕ, suc, ◌*◌, ◌<◌, ◌≤◌, false, sym, ap, subst, arith}
+use Rattle.std.proofs.lemmas.Bool.{cases_eq}
+use Rattle.collector_law.specs.Invariant.{State, Passing, Sweeping, Late, time_of, IsGrey, IsBlack, IsLive, IsLiveAt, MayLag, posted_at, IsUnderWay, IsColour, RootAt, IsInvariant}
+use Rattle.collector_law.specs.Traced.{IsTraced, traced}
 
 -- the trace has ended, and the sweep begins at the first cell
 abbrev pub ended_trace : State → State
@@ -32,16 +28,11 @@ ends_trace done cycle_of claim_at IsSync s next is last not_grey inv = record {
     ]
   ];
   beyond = inv.beyond;
-  root = blacks 0 (λ e. omega (arith, marked.0, marked.1, e)) root_outside;
+  root = black.root;
   under_way = λ c above below white. omega (arith, above, below);
   live = record {
-    held = λ t c b lt h.
-        let was = inv.live.held t c b lt h in
-        (was.0, blacks c (not_blue c was.1) (spared.held c (t, b, lt, at_async t lt c b h, h)), was.2);
-    words = λ c i black. elim (inv.live.words c i (was_live c black)) [
-      | inl null ↦ inl null
-      | inr good ↦ inr (blacks (s.word c i) (not_blue (s.word c i) good.0) (spared.word c i (ne_eqb (suc (s.colour c)) (2 * s.cycle) (λ e. omega (arith, black, e)))), good.1)
-    ];
+    held = λ t c b lt h. let was = inv.live.held t c b lt h in (was.0, black.held t c b lt h, was.2);
+    words = λ c i is_black. elim (inv.live.words c i (was_live c is_black)) [ inl null ↦ inl null | inr good ↦ inr (black.words c i is_black good.0, good.1) ];
     blue = inv.live.blue;
   };
   fresh = record {
@@ -65,9 +56,6 @@ ends_trace done cycle_of claim_at IsSync s next is last not_grey inv = record {
     coloured : (c : ℕ) → IsColour (Passing next false) s.cycle (s.colour c)
     coloured c = subst (λ p. IsColour p s.cycle (s.colour c)) is (inv.colours c)
 
-    not_blue : (c : ℕ) → IsLive s c → s.colour c ≢ 0
-    not_blue c l = subst (λ z. IsLiveAt z s.cycle (s.colour c)) late l
-
     was_live : (c : ℕ) → IsBlack s c → IsLive s c
     was_live c black = subst (λ z. IsLiveAt z s.cycle (s.colour c)) (sym late) (λ e. omega (arith, black, e))
 
@@ -80,33 +68,5 @@ ends_trace done cycle_of claim_at IsSync s next is last not_grey inv = record {
       | inr never ↦ never c grey
     ]
 
-    root_outside : white_set s 0 ≡ false
-    root_outside = ne_eqb (suc (s.colour 0)) (2 * s.cycle) (λ e. omega (arith, marked.1, e))
-
-    blacks : (c : ℕ) → s.colour c ≢ 0 → white_set s c ≡ false → IsBlack s c
-    blacks c live out = elim (coloured c) [
-      | inl blue ↦ absurd (live blue)
-      | inr m ↦ elim m [
-        | inl white ↦ absurd (both_ways (white_set s c) out (eq-eqb (suc (s.colour c)) (2 * s.cycle) white))
-        | inr n ↦ elim n [ inl grey ↦ absurd (none c grey) | inr black ↦ black ]
-      ]
-    ]
-
-    at_async : (t : ℕ) → t < s.threads → (c b : ℕ) → s.IsHeld t c b → s.stage t ≡ 3 * s.cycle
-    at_async t lt c b h = elim (inv.stages.stages t lt) [
-      | inl e ↦ e ∙ subst (λ p. posted_at p s.cycle s.posted) is inv.stages.posted
-      | inr m ↦ elim m [
-        | inl d ↦ absurd ((inv.stages.ended t lt d).1 c b h)
-        | inr l ↦ absurd (subst (λ p. MayLag p t) is l.1)
-      ]
-    ]
-
-    spared : IsSpared (picture s) (white_set s)
-    spared = ends (picture s) (white_set s)
-        (λ c e. (λ null. both_ways (white_set s c) (subst (λ z. white_set s z ≡ false) (sym null) root_outside) e, eqb-true (suc (s.colour c)) (2 * s.cycle) e))
-        (subst (λ p. white_set s (hand_of p) ≡ false) (sym is) root_outside)
-        (λ x i out. elim (cases_eq (s.colour x) 0) [
-          | inl blue ↦ inr (subst (λ z. white_set s z ≡ false) (sym (inv.live.blue x i blue)) root_outside)
-          | inr n ↦ inl (inl (blacks x n out))
-        ])
-        (subst (λ z. AtTime s z) late inv.law)
+    black : IsTraced s
+    black = traced done cycle_of claim_at IsSync s next false is none inv

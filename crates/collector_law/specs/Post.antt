@@ -5,7 +5,7 @@ use Rattle.collector_law.specs.Invariant.{State, Phase, Ready, MarkingOld, Marki
 use Rattle.collector_law.specs.Trace.{quiet}
 use Rattle.collector_law.specs.Puts.{put, put-here, put-other}
 use Rattle.collector_law.specs.Claim.{stands-grow}
-use Rattle.collector_law.specs.Turn.{turned, turns}
+use Rattle.collector_law.specs.Turn.{turned, turns, unscanned}
 
 -- ---- looking for a grey cell
 find_grey : (s : State) (n : ℕ) → ((c : ℕ) × IsGrey s c) ⊎ ((c : ℕ) → c < n → IsGrey s c → ⊥)
@@ -40,14 +40,7 @@ repeats done cycle_of claim_at IsSync s next is inv = turns done cycle_of claim_
   time = sym (ap time_of is);
   way = decides s ((subst (λ z. RootAt z s.cycle (s.colour 0)) (ap time_of is) inv.root).0) inv.beyond;
   hand = λ t d lt f e. (inv.live.held t d (s.birth d) lt (inv.fresh.held t d lt f)).0 (sym e);
-  law = λ l. quiet (picture s) (picture (turned s (Passing 0 false))) (record {
-    white = λ d e. e;
-    hand = λ W u. subst (λ p. W (hand_of p) ≡ false) (sym is) u.hand;
-    read = λ W u y j r. elim r [ inl black ↦ inl (inl black) | inr sc ↦ absurd sc ];
-    word = λ y j. refl;
-    loose = λ y j lo. lo;
-    held = λ d g. inl g;
-  }) (subst (λ z. AtTime s z) (ap time_of is) l);
+  law = λ l. unscanned s (Passing 0 false) (λ y j sc. sc) (ap hand_of is) (subst (λ z. AtTime s z) (ap time_of is) l);
 }) inv
 
 -- ---- the last wait is over: the trace begins
@@ -59,14 +52,7 @@ traces done cycle_of claim_at IsSync s is inv = turns done cycle_of claim_at IsS
   time = sym (ap time_of is);
   way = decides s ((subst (λ z. RootAt z s.cycle (s.colour 0)) (ap time_of is) inv.root).0) inv.beyond;
   hand = λ t d lt f e. (inv.live.held t d (s.birth d) lt (inv.fresh.held t d lt f)).0 (sym e);
-  law = λ l. quiet (picture s) (picture (turned s (Passing 0 false))) (record {
-    white = λ d e. e;
-    hand = λ W u. subst (λ p. W (hand_of p) ≡ false) (sym is) u.hand;
-    read = λ W u y j r. elim r [ inl black ↦ inl (inl black) | inr sc ↦ absurd sc ];
-    word = λ y j. refl;
-    loose = λ y j lo. lo;
-    held = λ d g. inl g;
-  }) (subst (λ z. AtTime s z) (ap time_of is) l);
+  law = λ l. unscanned s (Passing 0 false) (λ y j sc. sc) (ap hand_of is) (subst (λ z. AtTime s z) (ap time_of is) l);
 }) inv
   where
     late_one : (t : ℕ) → t < s.threads → s.threads ≤ t → ⊥
@@ -99,14 +85,7 @@ sees done cycle_of claim_at IsSync s w t is seen big inv = turns done cycle_of c
 
     law : (T : Time) → AtTime s T → AtTime (turned s (Waiting w (suc t))) T
     law Early l = l
-    law Late l = quiet (picture s) (picture (turned s (Waiting w (suc t)))) (record {
-      white = λ d e. e;
-      hand = λ W u. subst (λ p. W (hand_of p) ≡ false) (sym is) u.hand;
-      read = λ W u y j r. elim r [ inl black ↦ inl (inl black) | inr sc ↦ absurd sc ];
-      word = λ y j. refl;
-      loose = λ y j lo. lo;
-      held = λ d g. inl g;
-    }) l
+    law Late l = unscanned s (Waiting w (suc t)) (λ y j sc. sc) (ap hand_of is) l
     law Clean l = tt
 
 -- ---- the end of a scan
@@ -234,15 +213,16 @@ none_answers done cycle_of claim_at IsSync s seen inv t p marked lt e = elim (in
     ready_not_answering : Ready ≡ Answering p marked → ⊥
     ready_not_answering f = cc
 
--- Sync2
-abbrev pub posted_sync2 : State → State
-posted_sync2 s = record s { part = Waiting 2 0; posted = suc s.posted }
+-- the next stage is posted, and the wait for the threads begins
+abbrev pub posted_on : State → (w : ℕ) → State
+posted_on s w = record s { part = Waiting w 0; posted = suc s.posted }
 
--- the post of the second sync stage preserves the invariant
-pub posts_sync2 : (done : ℕ) (cycle_of claim_at : ℕ → ℕ) (IsSync : ℕ → Type 0) (s : State) → 3 * s.cycle < done → s.part ≡ Waiting 1 s.threads → IsInvariant done cycle_of claim_at IsSync s → IsInvariant done cycle_of claim_at IsSync (posted_sync2 s)
-posts_sync2 done cycle_of claim_at IsSync s big is inv = record {
+-- a post that begins no cycle preserves the invariant
+posts_on : (done : ℕ) (cycle_of claim_at : ℕ → ℕ) (IsSync : ℕ → Type 0) (s : State) (w : ℕ) → posted_at (Waiting w 0) s.cycle (suc s.posted) → ((t : ℕ) → t < s.threads → MayLag s.part t → ⊥) → ((d : ℕ) → IsColour (Waiting w 0) s.cycle (s.colour d))
+    → time_of s.part ≡ time_of (Waiting w 0) → AtTime (posted_on s w) (time_of (Waiting w 0)) → IsInvariant done cycle_of claim_at IsSync s → IsInvariant done cycle_of claim_at IsSync (posted_on s w)
+posts_on done cycle_of claim_at IsSync s w posted seen colours time law inv = record {
   stages = record {
-    posted = omega (arith, posted);
+    posted = posted;
     stages = λ t lt. elim (inv.stages.stages t lt) [
       | inl e ↦ inr (inr (ap suc e, omega arith))
       | inr m ↦ elim m [ inl d ↦ inr (inl d) | inr l ↦ absurd (seen t lt l.1) ]
@@ -250,7 +230,7 @@ posts_sync2 done cycle_of claim_at IsSync s big is inv = record {
     answers = λ t p marked lt e. absurd (none_answers done cycle_of claim_at IsSync s seen inv t p marked lt e);
     ended = inv.stages.ended;
   };
-  colours = λ d. subst (λ p. IsColour p s.cycle (s.colour d)) is (inv.colours d);
+  colours = colours;
   beyond = inv.beyond;
   root = subst (λ z. RootAt z s.cycle (s.colour 0)) time inv.root;
   under_way = tt;
@@ -268,82 +248,45 @@ posts_sync2 done cycle_of claim_at IsSync s big is inv = record {
     colour = inv.fresh.colour;
   };
   stands = inv.stands;
-  law = subst (λ z. AtTime s z) time inv.law;
+  law = law;
 }
   where
-    time : time_of s.part ≡ Early
-    time = ap time_of is
+    grows : (d : ℕ) → IsLive s d → IsLive (posted_on s w) d
+    grows d l = subst (λ z. IsLiveAt z s.cycle (s.colour d)) time l
 
+    was_live : (d : ℕ) → IsLive (posted_on s w) d → IsLive s d
+    was_live d l = subst (λ z. IsLiveAt z s.cycle (s.colour d)) (sym time) l
+
+-- Sync2
+abbrev pub posted_sync2 : State → State
+posted_sync2 s = posted_on s 2
+
+-- the post of the second sync stage preserves the invariant
+pub posts_sync2 : (done : ℕ) (cycle_of claim_at : ℕ → ℕ) (IsSync : ℕ → Type 0) (s : State) → 3 * s.cycle < done → s.part ≡ Waiting 1 s.threads → IsInvariant done cycle_of claim_at IsSync s → IsInvariant done cycle_of claim_at IsSync (posted_sync2 s)
+posts_sync2 done cycle_of claim_at IsSync s big is inv =
+    posts_on done cycle_of claim_at IsSync s 2 (omega (arith, posted)) seen (λ d. subst (λ p. IsColour p s.cycle (s.colour d)) is (inv.colours d)) (ap time_of is) (subst (λ z. AtTime s z) (ap time_of is) inv.law) inv
+  where
     posted : s.posted + 2 ≡ 3 * s.cycle
     posted = subst (λ p. posted_at p s.cycle s.posted) is inv.stages.posted
 
     seen : (t : ℕ) → t < s.threads → MayLag s.part t → ⊥
     seen t lt l = let m : s.threads ≤ t = subst (λ p. MayLag p t) is l in omega (arith, m, lt)
 
-    grows : (d : ℕ) → IsLive s d → IsLive (posted_sync2 s) d
-    grows d l = subst (λ z. IsLiveAt z s.cycle (s.colour d)) time l
-
-    was_live : (d : ℕ) → IsLive (posted_sync2 s) d → IsLive s d
-    was_live d l = subst (λ z. IsLiveAt z s.cycle (s.colour d)) (sym time) l
-
 -- Async
 abbrev pub posted_async : State → State
-posted_async s = record s { part = Waiting 3 0; posted = suc s.posted }
+posted_async s = posted_on s 3
 
 -- the post of the Async stage preserves the invariant
 pub posts_async : (done : ℕ) (cycle_of claim_at : ℕ → ℕ) (IsSync : ℕ → Type 0) (s : State) → s.part ≡ Rooted → IsInvariant done cycle_of claim_at IsSync s → IsInvariant done cycle_of claim_at IsSync (posted_async s)
-posts_async done cycle_of claim_at IsSync s is inv = record {
-  stages = record {
-    posted = omega (arith, posted);
-    stages = λ t lt. elim (inv.stages.stages t lt) [
-      | inl e ↦ inr (inr (ap suc e, omega arith))
-      | inr m ↦ elim m [ inl d ↦ inr (inl d) | inr l ↦ absurd (seen t lt l.1) ]
-    ];
-    answers = λ t p marked lt e. absurd (none_answers done cycle_of claim_at IsSync s seen inv t p marked lt e);
-    ended = inv.stages.ended;
-  };
-  colours = λ d. subst (λ p. IsColour p s.cycle (s.colour d)) is (inv.colours d);
-  beyond = inv.beyond;
-  root = subst (λ z. RootAt z s.cycle (s.colour 0)) time inv.root;
-  under_way = tt;
-  live = record {
-    held = λ t d b lt h. let was = inv.live.held t d b lt h in (was.0, grows d was.1, was.2);
-    words = λ d j l. elim (inv.live.words d j (was_live d l)) [ inl null ↦ inl null | inr good ↦ inr (grows (s.word d j) good.0, good.1) ];
-    blue = inv.live.blue;
-  };
-  fresh = record {
-    held = inv.fresh.held;
-    unnamed = λ t d x j lt f l. inv.fresh.unnamed t d x j lt f (was_live x l);
-    alone = inv.fresh.alone;
-    in_no_hand = λ t d lt f e. (inv.live.held t d (s.birth d) lt (inv.fresh.held t d lt f)).0 (sym e);
-    not_old = inv.fresh.not_old;
-    colour = inv.fresh.colour;
-  };
-  stands = inv.stands;
-  law = quiet (picture s) (picture (posted_async s)) (record {
-    white = λ d e. e;
-    hand = λ W u. subst (λ p. W (hand_of p) ≡ false) (sym is) u.hand;
-    read = λ W u y j r. elim r [ inl black ↦ inl (inl black) | inr sc ↦ absurd sc ];
-    word = λ y j. refl;
-    loose = λ y j lo. lo;
-    held = λ d g. inl g;
-  }) (subst (λ z. AtTime s z) time inv.law);
-}
+posts_async done cycle_of claim_at IsSync s is inv =
+    posts_on done cycle_of claim_at IsSync s 3 (omega (arith, posted)) seen (λ d. subst (λ p. IsColour p s.cycle (s.colour d)) is (inv.colours d)) (ap time_of is)
+    (unscanned s (Waiting 3 0) (λ y j sc. sc) (ap hand_of is) (subst (λ z. AtTime s z) (ap time_of is) inv.law)) inv
   where
-    time : time_of s.part ≡ Late
-    time = ap time_of is
-
     posted : s.posted + 1 ≡ 3 * s.cycle
     posted = subst (λ p. posted_at p s.cycle s.posted) is inv.stages.posted
 
     seen : (t : ℕ) → t < s.threads → MayLag s.part t → ⊥
     seen t lt l = subst (λ p. MayLag p t) is l
-
-    grows : (d : ℕ) → IsLive s d → IsLive (posted_async s) d
-    grows d l = subst (λ z. IsLiveAt z s.cycle (s.colour d)) time l
-
-    was_live : (d : ℕ) → IsLive (posted_async s) d → IsLive s d
-    was_live d l = subst (λ z. IsLiveAt z s.cycle (s.colour d)) (sym time) l
 
 -- Sync1: the next cycle begins, and what was black is white
 abbrev pub posted_sync1 : State → State

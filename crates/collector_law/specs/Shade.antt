@@ -1,9 +1,8 @@
 -- A thread's mark preserves the invariant.
-use Rattle.std.proofs.Common.{◌≡◌, ◌≢◌, ◌⊎◌, inl, inr, ℕ, zero, suc, ◌*◌, ◌<◌, ◌≤◌, Bool, true, false, List, refl, sym, ap, ◌∙◌, subst, ◌==◌, arith}
-use Rattle.std.proofs.lemmas.Bool.{cases_eq, eqb-true, eq-eqb, ne_eqb, both_ways}
-use Rattle.collector_law.specs.Picture.{IsSpared}
-use Rattle.collector_law.specs.Invariant.{State, Phase, Ready, Answering, Part, Resting, Waiting, Rooted, Passing, Scanning, Sweeping, Clearing, Time, Early, Late, Clean, time_of, IsWhite, IsGrey, IsBlack, IsMarked, IsLiveAt, Differs, hand_of, picture, MayLag, posted_at, IsUnderWay, IsColour, OldIsNot, HasMarked, RootAt, Stands, AtTime, IsInvariant}
-use Rattle.collector_law.specs.Trace.{quiet, ends}
+use Rattle.std.proofs.Common.{◌≡◌, ◌≢◌, ◌⊎◌, inl, inr, ℕ, zero, suc, ◌*◌, ◌<◌, ◌≤◌, Bool, true, false, List, refl, sym, ap, ◌∙◌, subst, arith}
+use Rattle.collector_law.specs.Invariant.{State, Phase, Ready, Answering, Part, Resting, Waiting, Rooted, Passing, Scanning, Sweeping, Clearing, Time, Early, Late, Clean, time_of, IsWhite, IsGrey, IsBlack, IsMarked, IsLiveAt, Differs, picture, IsUnderWay, IsColour, OldIsNot, HasMarked, RootAt, Stands, AtTime, IsInvariant}
+use Rattle.collector_law.specs.Traced.{traced}
+use Rattle.collector_law.specs.Trace.{quiet}
 
 -- the colours and the phases are others
 abbrev pub shaded : State → (ℕ → ℕ) → (ℕ → Phase) → State
@@ -20,49 +19,11 @@ pub record IsShading (done : ℕ) (cycle_of : ℕ → ℕ) (IsSync : ℕ → Typ
   pub fresh : (u c : ℕ) → u < s.threads → s.IsFresh u c → ((f c ≡ s.colour c) × (HasMarked (s.phase u) c → HasMarked (g u) c)) ⊎ (IsSync (s.stage u) × HasMarked (g u) c)
   pub stands : (u : ℕ) → u < s.threads → Stands cycle_of IsSync (shaded s f g) u (g u)
 
-abbrev white_set : State → ℕ → Bool
-white_set s c = suc (s.colour c) == 2 * s.cycle
-
 -- without a grey cell in a pass, no held cell is white
 pub held_not_white : (done : ℕ) (cycle_of claim_at : ℕ → ℕ) (IsSync : ℕ → Type 0) (s : State) (next : ℕ) (met : Bool) → s.part ≡ Passing next met → ((c : ℕ) → IsGrey s c → ⊥) → IsInvariant done cycle_of claim_at IsSync s → (t d b : ℕ) → t < s.threads → s.IsHeld t d b → IsWhite s d → ⊥
-held_not_white done cycle_of claim_at IsSync s next met is none inv t d b lt h white = both_ways (white_set s d) (spared.held d (t, b, lt, at_async, h)) (eq-eqb (suc (s.colour d)) (2 * s.cycle) white)
-  where
-    late : time_of s.part ≡ Late
-    late = ap time_of is
-
-    marked : (0 < s.cycle) × (2 * s.cycle ≤ s.colour 0)
-    marked = subst (λ z. RootAt z s.cycle (s.colour 0)) late inv.root
-
-    root_outside : white_set s 0 ≡ false
-    root_outside = ne_eqb (suc (s.colour 0)) (2 * s.cycle) (λ e. omega (arith, marked.1, e))
-
-    blacks : (c : ℕ) → s.colour c ≢ 0 → white_set s c ≡ false → IsBlack s c
-    blacks c live out = elim (subst (λ p. IsColour p s.cycle (s.colour c)) is (inv.colours c)) [
-      | inl blue ↦ absurd (live blue)
-      | inr m ↦ elim m [
-        | inl w ↦ absurd (both_ways (white_set s c) out (eq-eqb (suc (s.colour c)) (2 * s.cycle) w))
-        | inr n ↦ elim n [ inl grey ↦ absurd (none c grey) | inr black ↦ black ]
-      ]
-    ]
-
-    at_async : s.stage t ≡ 3 * s.cycle
-    at_async = elim (inv.stages.stages t lt) [
-      | inl e ↦ e ∙ subst (λ p. posted_at p s.cycle s.posted) is inv.stages.posted
-      | inr m ↦ elim m [
-        | inl e ↦ absurd ((inv.stages.ended t lt e).1 d b h)
-        | inr l ↦ absurd (subst (λ p. MayLag p t) is l.1)
-      ]
-    ]
-
-    spared : IsSpared (picture s) (white_set s)
-    spared = ends (picture s) (white_set s)
-        (λ c e. (λ null. both_ways (white_set s c) (subst (λ z. white_set s z ≡ false) (sym null) root_outside) e, eqb-true (suc (s.colour c)) (2 * s.cycle) e))
-        (subst (λ p. white_set s (hand_of p) ≡ false) (sym is) root_outside)
-        (λ x i out. elim (cases_eq (s.colour x) 0) [
-          | inl blue ↦ inr (subst (λ z. white_set s z ≡ false) (sym (inv.live.blue x i blue)) root_outside)
-          | inr n ↦ inl (inl (blacks x n out))
-        ])
-        (subst (λ z. AtTime s z) late inv.law)
+held_not_white done cycle_of claim_at IsSync s next met is none inv t d b lt h white =
+    let black = (traced done cycle_of claim_at IsSync s next met is none inv).held t d b lt h in
+    omega (arith, black, white)
 
 -- a cell may be grey at each time but that of the sweep
 grey_fits : (p : Part) (k : ℕ) → time_of p ≢ Clean → IsColour p k (2 * k)

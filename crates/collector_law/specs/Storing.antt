@@ -86,6 +86,12 @@ null_or_held s log (Some (Integer bits)) v e d = absurd cc
 null_or_held s log (Some (Reference layout)) v e (inl z) = inl z
 null_or_held s log (Some (Reference layout)) v e (inr x) = inr x.0
 
+-- what is stored is another cell where the test says so
+other_cell : (b r : Bool) → r ≡ true → (r && b) ≡ false → b ≡ true → ⊥
+other_cell true true e f g = cc
+other_cell true false e f g = cc
+other_cell false r e f g = cc
+
 -- ---- after the barrier
 
 -- the state after a barriered store shows the run
@@ -106,14 +112,9 @@ write_shows s run S inv h t x i v lt ref held f = record {
   held = held_kept s run S t (StoreAfterBarrier x i v) (λ c. refl) h;
   fresh = λ u c y. elim (fresh_by s t (StoreAfterBarrier x i v) run u c y) [
     | inl z ↦ absurd (cc (z.1))
-    | inr z ↦ (h.fresh u c z.1, λ is e. off (c == v) (is_reference_kind (kind_of s x i)) ref (z.0 is).1 (test_yes c v (sym e)))
+    | inr z ↦ (h.fresh u c z.1, λ is e. other_cell (c == v) (is_reference_kind (kind_of s x i)) ref (z.0 is).1 (test_yes c v (sym e)))
   ];
 }
-  where
-    off : (b r : Bool) → r ≡ true → (r && b) ≡ false → b ≡ true → ⊥
-    off true true e f g = cc
-    off true false e f g = cc
-    off false r e f g = cc
 
 -- a barriered store leads to a state that satisfies the invariant
 pub write_safe : (s : Setup) (run : List Event) (c : Collection) (t x i v : ℕ) → IsRun s run → MayHappen s run (ByThread t (StoreAfterBarrier x i v))
@@ -207,14 +208,9 @@ plain_shows s run S inv h t x i v lt ref held ready = record {
   held = held_kept s run S t (StorePlain x i v) (λ c. refl) h;
   fresh = λ u c y. elim (fresh_by s t (StorePlain x i v) run u c y) [
     | inl z ↦ absurd (cc (z.1))
-    | inr z ↦ (h.fresh u c z.1, λ is e. off (c == v) (is_reference_kind (kind_of s x i)) ref (z.0 is).1 (test_yes c v (sym e)))
+    | inr z ↦ (h.fresh u c z.1, λ is e. other_cell (c == v) (is_reference_kind (kind_of s x i)) ref (z.0 is).1 (test_yes c v (sym e)))
   ];
 }
-  where
-    off : (b r : Bool) → r ≡ true → (r && b) ≡ false → b ≡ true → ⊥
-    off true true e f g = cc
-    off true false e f g = cc
-    off false r e f g = cc
 
 -- a store of an integer changes nothing
 plain_integer : (s : Setup) (run : List Event) (t x i v : ℕ) → MayHappen s run (ByThread t (StorePlain x i v)) → is_reference_kind (kind_of s x i) ≡ false → IsIdle s run t (StorePlain x i v)

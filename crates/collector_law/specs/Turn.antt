@@ -142,6 +142,18 @@ begins_scan done cycle_of claim_at IsSync s next met c is grey inv = turns done 
   }) (subst (λ z. AtTime s z) (ap time_of is) l);
 }) inv
 
+-- ---- a step to a part that scans no cell
+-- late in a cycle the law holds on where the collector's hand is as it was
+pub unscanned : (s : State) (p : Part) → ((y j : ℕ) → IsScanned p y j → ⊥) → hand_of s.part ≡ hand_of p → AtTime s Late → AtTime (turned s p) Late
+unscanned s p none same = quiet (picture s) (picture (turned s p)) (record {
+  white = λ d e. e;
+  hand = λ W u. subst (λ c. W c ≡ false) (sym same) u.hand;
+  read = λ W u y j r. elim r [ inl black ↦ inl (inl black) | inr sc ↦ absurd (none y j sc) ];
+  word = λ y j. refl;
+  loose = λ y j lo. lo;
+  held = λ d g. inl g;
+})
+
 -- ---- a cell that is not grey was passed
 pub passes : (done : ℕ) (cycle_of claim_at : ℕ → ℕ) (IsSync : ℕ → Type 0) (s : State) (next : ℕ) (met : Bool) → s.part ≡ Passing next met → (IsGrey s next → ⊥) → IsInvariant done cycle_of claim_at IsSync s → IsInvariant done cycle_of claim_at IsSync (turned s (Passing (suc next) met))
 passes done cycle_of claim_at IsSync s next met is not_grey inv = turns done cycle_of claim_at IsSync s (Passing (suc next) met) (record {
@@ -151,14 +163,7 @@ passes done cycle_of claim_at IsSync s next met is not_grey inv = turns done cyc
   time = sym (ap time_of is);
   way = way met (subst (λ p. IsUnderWay s p) is inv.under_way);
   hand = λ t d lt f e. (inv.live.held t d (s.birth d) lt (inv.fresh.held t d lt f)).0 (sym e);
-  law = λ l. quiet (picture s) (picture (turned s (Passing (suc next) met))) (record {
-    white = λ d e. e;
-    hand = λ W u. subst (λ p. W (hand_of p) ≡ false) (sym is) u.hand;
-    read = λ W u y j r. elim r [ inl black ↦ inl (inl black) | inr sc ↦ absurd sc ];
-    word = λ y j. refl;
-    loose = λ y j lo. lo;
-    held = λ d g. inl g;
-  }) (subst (λ z. AtTime s z) (ap time_of is) l);
+  law = λ l. unscanned s (Passing (suc next) met) (λ y j sc. sc) (ap hand_of is) (subst (λ z. AtTime s z) (ap time_of is) l);
 }) inv
   where
     way : (met : Bool) → IsUnderWay s (Passing next met) → IsUnderWay (turned s (Passing (suc next) met)) (Passing (suc next) met)

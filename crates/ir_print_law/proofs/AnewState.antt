@@ -1,5 +1,6 @@
 -- What is known of a state while one function is read in the tables of its module, and of where that reading ends.
 use Rattle.std.proofs.Common.{◌≡◌, ℕ, ◌≤◌, Bool, true, false, List, [], ◌∷◌, ◌++◌, length, map, slice_get, if◌then◌else◌, is_some, unwrap_or, Option, None, Some, zero, suc, refl, ap, sym, subst, ◌∙◌, arith, inl, inr, ◌⊎◌}
+use Rattle.lemmas.specs.Lists.{get_either}
 use Rattle.ir_ast.specs.Names.{place_of, number_of, numbered}
 use Rattle.ir_ast.specs.Types.{numbered_type}
 use Rattle.ir_ast.specs.declared.function.Function.{Function}
@@ -22,7 +23,7 @@ use Rattle.ir_forms.specs.Written.{with_type_interned}
 use Rattle.ir_text.specs.Late.{is_struct, is_right}
 use Rattle.name_text.specs.Readings.{AreBytes}
 use Rattle.ir_print.specs.Names.{name_at}
-use Rattle.ir_print_law.specs.Definitions.{defined_structs, declared_functions, defined_functions}
+use Rattle.ir_print_law.specs.Definitions.{defined_structs, declared_functions, defined_functions, used_symbols}
 use Rattle.ir_print_law.specs.ModuleNames.{HasModuleNames}
 use Rattle.ir_print_law.specs.Shapes.{IsIn}
 use Rattle.ir_print_law.proofs.Known.{in_after}
@@ -32,8 +33,8 @@ use Rattle.ir_print_law.proofs.ModuleState.{Kept, kept_of, Made, made_of, next_b
 use Rattle.ir_print_law.proofs.NameBytes.{spelled_bytes}
 use Rattle.ir_print_law.proofs.NumberTokens.{AllSpell}
 use Rattle.ir_print_law.proofs.Outside.{Outside}
-use Rattle.ir_print_law.proofs.Reading.{Reading, used_symbols}
-use Rattle.ir_print_law.proofs.Tables.{Begins, IsRestBefore, AreOrdered, begins_further, type_begins, type_ordered, name_there, stays, at_end_or_before}
+use Rattle.ir_print_law.proofs.Reading.{Reading}
+use Rattle.ir_print_law.proofs.Tables.{Begins, IsRestBefore, AreOrdered, begins_further, type_begins, type_ordered, name_there, stays}
 use Rattle.ir_print_law.proofs.Uses.{in_further}
 
 -- the names of globals and functions are those of the module, or one is used that the module does not have
@@ -100,7 +101,7 @@ module _ (m : Module) where
 
   layouts_used : (sorts : List (Option ℕ)) (place : Option ℕ) → AreItsLayouts m sorts → AreItsLayouts m (sorts_with place None sorts)
   layouts_used sorts (Some n) h = h
-  layouts_used sorts None h = λ name layout e. elim (at_end_or_before sorts None name (Some layout) e) [
+  layouts_used sorts None h = λ name layout e. elim (get_either sorts None name (Some layout) e) [
     | inl p ↦ h name layout p
     | inr p ↦ let none = p.1 in absurd cc
   ]

@@ -8,14 +8,14 @@ use Rattle.ir_forms.specs.declared.uses.Wanted.{Wanted}
 use Rattle.ir_forms.specs.declared.uses.Wanted.TheVariants as wants
 use Rattle.ir_tokens.specs.Bytes.{Text}
 use Rattle.ir_print.specs.Names.{name_at}
-use Rattle.ir_print_law.specs.Definitions.{AreDefined, block_keys, value_keys_of, defined_keys, value_keys, label_keys}
+use Rattle.ir_print_law.specs.Definitions.{AreDefined, block_keys, value_keys_of, defined_keys, value_keys, label_keys, used_keys}
 use Rattle.ir_print_law.specs.Shapes.{IsIn}
 use Rattle.ir_print_law.proofs.Blocks.{with_blocks, with_parameters}
 use Rattle.ir_print_law.proofs.DefinedLocals.{used}
 use Rattle.ir_print_law.proofs.DefinedNames.{are_defined}
 use Rattle.ir_print_law.proofs.LocalNames.{Locals, keys_at}
 use Rattle.ir_print_law.proofs.Progresses.{blocks_names, blocks_values, blocks_labels, parameters_names, parameters_values, parameters_labels}
-use Rattle.ir_print_law.proofs.Reading.{Progress, used_keys}
+use Rattle.ir_print_law.proofs.Reading.{Progress}
 
 -- before a function
 abbrev pub nothing : Progress

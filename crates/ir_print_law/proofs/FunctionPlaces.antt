@@ -1,5 +1,6 @@
 -- The places of a function's names while it is read: each one is defined or used, and those of blocks mean their blocks.
 use Rattle.std.proofs.Common.{◌≡◌, ℕ, zero, suc, ◌+◌, ◌<◌, Bool, true, false, List, [], ◌∷◌, ◌++◌, length, slice_get, if◌then◌else◌, is_some, unwrap_or, Option, None, Some, refl, sym, ap, subst, ◌∙◌, arith, length-append, inl, inr, ◌⊎◌}
+use Rattle.lemmas.specs.Lists.{get_either}
 use Rattle.std.specs.Prelude.{nat_lt, slice_set}
 use Rattle.std.proofs.lemmas.Bool.Decides.{nat_tests}
 use Rattle.std.proofs.lemmas.Option.{slice_get_within}
@@ -16,7 +17,7 @@ use Rattle.ir_print.specs.Names.{name_at}
 use Rattle.ir_print_law.specs.Shapes.{IsIn}
 use Rattle.ir_print_law.proofs.LocalNames.{keys_at, in_or_end, in_longer, in_at_end, set_there}
 use Rattle.ir_print_law.proofs.Reading.{Progress, with_named_value, with_named_label}
-use Rattle.ir_print_law.proofs.Tables.{Begins, begins_itself, begins_with, stays, at_end_or_before, name_there}
+use Rattle.ir_print_law.proofs.Tables.{Begins, begins_itself, begins_with, stays, name_there}
 
 -- the numbers from 0 to below `count`
 abbrev pub AreFirst : List ℕ → (count : ℕ) → Type 0
@@ -56,7 +57,7 @@ first_more ns count h =
     let same = h.0 in
     let longer = length-append ns (count ∷ []) in (
       omega (arith, same, longer),
-      λ place n e. elim (at_end_or_before ns count place n e) [
+      λ place n e. elim (get_either ns count place n e) [
         | inl p ↦ h.1 place n p
         | inr p ↦ let at = p.0 in let is = p.1 in omega (arith, same, at, is)
       ],
@@ -199,14 +200,14 @@ label_places g t uses key h fresh same =
         | inl old ↦ h.disjoint k is old
         | inr new ↦ fresh (subst (IsIn g.names) (sym new) (h.value_names k is))
       ];
-      labels = λ b k e. elim (at_end_or_before g.labels n b k e) [
+      labels = λ b k e. elim (get_either g.labels n b k e) [
         | inl old ↦
             let before = stays t.sorts next.sorts k (local.Block b) (sorts_begin (place_of key t.names) t.sorts) (h.labels b k old) in
             let other : n ≡ k → ⊥ = λ is. fresh (subst (IsIn g.names) (sym is) (h.label_names k (in_list g.labels b k old))) in
             sorted_as n sort next (λ sorts. slice_get sorts k ≡ Some (local.Block b)) before (set_other next.sorts n sort k other ∙ before)
         | inr new ↦
             let at : slice_get (slice_set next.sorts n sort) k ≡ Some (local.Block b) =
-            ap (slice_get (slice_set next.sorts n sort)) (sym new.1) ∙ set_there next.sorts n sort less ∙ ap (λ (x : ℕ). Some (local.Block x)) (sym new.0) in
+            ap (slice_get (slice_set next.sorts n sort)) new.1 ∙ set_there next.sorts n sort less ∙ ap (λ (x : ℕ). Some (local.Block x)) (sym new.0) in
             subst (λ (x : Bool). slice_get (if x then slice_set next.sorts n sort else next.sorts) k ≡ Some (local.Block b)) (sym there) at
       ];
       covered = covered_more g t uses key h;

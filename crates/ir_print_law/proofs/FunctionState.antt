@@ -15,12 +15,13 @@ use Rattle.ir_forms.specs.Input.{advanced}
 use Rattle.ir_forms.specs.Names.{is_wanted, local_number, with_local_use, with_sort}
 use Rattle.ir_tokens.specs.Bytes.{Text}
 use Rattle.ir_print_law.specs.Shapes.{IsIn}
+use Rattle.ir_print_law.specs.Definitions.{used_keys}
 use Rattle.ir_print_law.proofs.DefinedLocals.{value_sorted, wanted_is}
 use Rattle.ir_print_law.proofs.FunctionEnds.{whole_of, function_uses}
 use Rattle.ir_print_law.proofs.FunctionPlaces.{Places, use_places, sort_places}
 use Rattle.ir_print_law.proofs.LocalNames.{Locals, mention_keeps, in_longer, in_at_end}
 use Rattle.ir_print_law.proofs.Outside.{Outside, with_own}
-use Rattle.ir_print_law.proofs.Reading.{Progress, with_named_value, with_named_label, Kit, used_keys, IsValueSort}
+use Rattle.ir_print_law.proofs.Reading.{Progress, with_named_value, with_named_label, Kit, IsValueSort}
 use Rattle.ir_print_law.proofs.Tables.{Begins, begins_itself, begins_further, stays, name_begins, name_there}
 
 -- This much of the function is defined, except for the value that is pending.

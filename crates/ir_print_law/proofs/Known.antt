@@ -31,9 +31,9 @@ use Rattle.ir_text.specs.Late as late
 use Rattle.ir_forms.specs.Intrinsics.{is_left_out}
 use Rattle.name_text.specs.Readings.{AreBytes}
 use Rattle.ir_print_law.specs.Readings.{IsKey}
-use Rattle.ir_print_law.specs.Definitions.{defined_structs, defined_globals}
+use Rattle.ir_print_law.specs.Definitions.{defined_structs, defined_globals, used_keys, used_symbols}
 use Rattle.ir_print_law.specs.Shapes.{IsIn}
-use Rattle.ir_print_law.proofs.State.{Invariant, used_keys, used_symbols}
+use Rattle.ir_print_law.proofs.State.{Invariant}
 use Rattle.ir_print_law.proofs.Named.{IsEven, sort_at, sort_kept, sort_defined, sort_defined_other, even_mentioned, numbered_stays, place_numbered}
 
 -- ---- lists

@@ -1,5 +1,6 @@
 -- The local names of a function while it is read: which of them are defined, as what, and that each is defined once.
 use Rattle.std.proofs.Common.{◌≡◌, ℕ, zero, suc, ◌+◌, ◌<◌, ◌^◌, true, false, List, [], ◌∷◌, ◌++◌, length, map, slice_get, if◌then◌else◌, is_some, unwrap_or, get_or, Option, None, Some, refl, sym, ap, subst, ◌∙◌, arith, length-append, inl, inr, ◌⊎◌}
+use Rattle.lemmas.specs.Lists.{get_either}
 use Rattle.std.specs.Prelude.{slice_set}
 use Rattle.std.specs.Fmt.{decimal}
 use Rattle.std.proofs.lemmas.List.{map-append}
@@ -15,7 +16,7 @@ use Rattle.ir_print.specs.Names.{name_at}
 use Rattle.ir_print_law.specs.Shapes.{IsIn}
 use Rattle.ir_print_law.proofs.DefinedNames.{Defines, IsNameKey, defines_name, defines_number, number_is_new}
 use Rattle.ir_print_law.proofs.Reading.{Progress, with_named_value}
-use Rattle.ir_print_law.proofs.Tables.{Begins, begins_with, stays, at_end_or_before, place_there, place_stays}
+use Rattle.ir_print_law.proofs.Tables.{Begins, begins_with, stays, place_there, place_stays}
 
 -- ---- lists
 
@@ -119,15 +120,15 @@ mention_keeps g pending t unnamed key h = by (place_of key t.names) refl where
   by (Some n) e = record { same = h.same; places = h.places; within = h.within; defines = h.defines; sorted = h.sorted; known = h.known }
   by None e = record {
     same = let s = h.same in length-append t.sorts (local.Unknown ∷ []) ∙ ap (λ n. n + 1) s ∙ sym longer;
-    places = λ n k there. elim (at_end_or_before t.names key n k there) [
+    places = λ n k there. elim (get_either t.names key n k there) [
       | inl p ↦ place_stays k t.names more n (begins_with t.names (key ∷ [])) (h.places n k p)
-      | inr p ↦ subst (λ (x : Text). place_of x more ≡ Some n) p.1 (fresh e ∙ ap Some (sym p.0))
+      | inr p ↦ subst (λ (x : Text). place_of x more ≡ Some n) (sym p.1) (fresh e ∙ ap Some (sym p.0))
     ];
     within = λ n there. let less = h.within n there in omega (arith, less, longer);
     defines = subst (λ (l : List Text). Defines [] 0 l unnamed) (sym (names_stay g.names t.names more h.within (begins_with t.names (key ∷ [])))) h.defines;
-    sorted = λ n sort there. elim (at_end_or_before t.sorts local.Unknown n sort there) [
+    sorted = λ n sort there. elim (get_either t.sorts local.Unknown n sort there) [
       | inl p ↦ h.sorted n sort p
-      | inr p ↦ subst (IsSortOf g n) p.1 tt
+      | inr p ↦ subst (IsSortOf g n) (sym p.1) tt
     ];
     known = λ n there. elim (h.known n there) [
       | inl p ↦ inl (more_known t.sorts local.Unknown n p)

@@ -65,7 +65,8 @@ suc_one n = grind (arith, nat_tests)
 pub zero_less : (n : ℕ) → nat_lt 0 (suc n) ≡ true
 zero_less n = grind (arith, nat_tests)
 
-abbrev looking : Base → ℕ → WrittenType
+-- a type of this base with this number of stars
+abbrev pub looking : Base → ℕ → WrittenType
 looking b stars = record { base = b; stars = stars; id = 0; room = 0 }
 
 by_looks : {X : Type 0} (g : WrittenType → X) (m : Module) (most : ℕ) (w : WrittenType) (shape : Shape) → ((id room : ℕ) (b : Base) (stars : ℕ) → g (record { base = b; stars = stars; id = id; room = room }) ≡ g (looking b stars))

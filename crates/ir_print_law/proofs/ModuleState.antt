@@ -30,7 +30,7 @@ use Rattle.ir_print.specs.Names.{name_at}
 use Rattle.ir_print.specs.Standing.{AreDigits}
 use Rattle.ir_print_law.specs.OneTypes.{AreOnce}
 use Rattle.ir_print_law.proofs.OneTypes.{once_more}
-use Rattle.ir_print_law.specs.Definitions.{defined_structs, declared_functions, defined_functions}
+use Rattle.ir_print_law.specs.Definitions.{defined_structs, declared_functions, defined_functions, used_symbols}
 use Rattle.ir_print_law.specs.Printable.{IsSymbol}
 use Rattle.ir_print_law.specs.Shapes.{IsIn}
 use Rattle.ir_print_law.proofs.LocalNames.{in_longer, in_at_end}
@@ -38,7 +38,7 @@ use Rattle.ir_print_law.proofs.ModuleTables.{AreStructs, AreSymbols, Owned, Owns
 use Rattle.ir_print_law.proofs.NameBytes.{spelled_bytes}
 use Rattle.ir_print_law.proofs.NumberTokens.{AllSpell}
 use Rattle.ir_print_law.proofs.Outside.{Outside, with_own}
-use Rattle.ir_print_law.proofs.Reading.{Reading, used_symbols}
+use Rattle.ir_print_law.proofs.Reading.{Reading}
 use Rattle.ir_print_law.proofs.Tables.{Begins, IsRestBefore, AreOrdered, begins_further, type_begins, type_ordered, name_begins, name_there, stays}
 use Rattle.ir_print_law.proofs.Uses.{in_further}
 

@@ -4,7 +4,7 @@ use Rattle.std.specs.Prelude.{nat_lt, slice_set}
 use Rattle.std.proofs.lemmas.Bool.Decides.{nat_tests}
 use Rattle.std.proofs.lemmas.Option.{slice_get_within}
 use Rattle.std.proofs.lemmas.List.{length-set}
-use Rattle.lemmas.specs.Lists.{get_end}
+use Rattle.lemmas.specs.Lists.{get_end, get_either}
 use Rattle.ir_ast.specs.Names.{place_of}
 use Rattle.ir_ast.specs.declared.items_of_module.SymbolSort.{SymbolSort}
 use Rattle.ir_ast.specs.declared.items_of_module.SymbolSort.TheVariants as symbol
@@ -15,7 +15,7 @@ use Rattle.ir_tokens.specs.Bytes.{Text}
 use Rattle.name_text.specs.Readings.{AreBytes}
 use Rattle.ir_print_law.specs.Printable.{IsSymbol}
 use Rattle.ir_print_law.proofs.LocalNames.{set_there, set_was}
-use Rattle.ir_print_law.proofs.Tables.{begins_with, stays, at_end_or_before, place_there, place_stays}
+use Rattle.ir_print_law.proofs.Tables.{begins_with, stays, place_there, place_stays}
 
 -- Each name is bytes and is at its first place. What a name means, if anything, owns it. What owns a name is what it means, and such a name is good.
 pub record IsTable {S : Type 0} (nothing : S) (Owns : S → ℕ → Type 0) (Good : Text → Type 0) (t : Table S) : Type 0 where
@@ -44,20 +44,20 @@ table_mentions {S = S} nothing Owns Good t name is h = by (place_of name t.names
   by (Some n) e = record { same = h.same; bytes = h.bytes; places = h.places; owned = h.owned; known = h.known; good = h.good }
   by None e = record {
     same = let s = h.same in length-append t.sorts (nothing ∷ []) ∙ ap (λ n. n + 1) s ∙ sym longer;
-    bytes = λ n k there. elim (at_end_or_before t.names name n k there) [
+    bytes = λ n k there. elim (get_either t.names name n k there) [
       | inl p ↦ h.bytes n k p
-      | inr p ↦ subst AreBytes p.1 is
+      | inr p ↦ subst AreBytes (sym p.1) is
     ];
-    places = λ n k there. elim (at_end_or_before t.names name n k there) [
+    places = λ n k there. elim (get_either t.names name n k there) [
       | inl p ↦ place_stays k t.names more n (begins_with t.names (name ∷ [])) (h.places n k p)
-      | inr p ↦ subst (λ (x : Text). place_of x more ≡ Some n) p.1 (fresh e ∙ ap Some (sym p.0))
+      | inr p ↦ subst (λ (x : Text). place_of x more ≡ Some n) (sym p.1) (fresh e ∙ ap Some (sym p.0))
     ];
-    owned = λ n sort there. elim (at_end_or_before t.sorts nothing n sort there) [
+    owned = λ n sort there. elim (get_either t.sorts nothing n sort there) [
       | inl p ↦ h.owned n sort p
-      | inr p ↦ inl (sym p.1)
+      | inr p ↦ inl p.1
     ];
     known = λ n sort own. stays t.sorts (t.sorts ++ nothing ∷ []) n sort (begins_with t.sorts (nothing ∷ [])) (h.known n sort own);
-    good = λ n sort x own there. elim (at_end_or_before t.names name n x there) [
+    good = λ n sort x own there. elim (get_either t.names name n x there) [
       | inl p ↦ h.good n sort x own p
       | inr p ↦ absurd (let less = slice_get_within t.sorts n sort (h.known n sort own) in let s = h.same in let at = p.0 in omega (arith, less, s, at))
     ];
@@ -141,7 +141,7 @@ struct_defines own t n name at none is h =
 
       down : (k : ℕ) (x : Option ℕ) → OwnsStruct (own ++ n ∷ []) x k → OwnsStruct own x k ⊎ ((k ≡ n) × (x ≡ Some (length own)))
       down k None o = inl o
-      down k (Some layout) o = elim (at_end_or_before own n layout k o) [ inl p ↦ inl p | inr p ↦ inr (sym p.1, ap Some p.0) ]
+      down k (Some layout) o = elim (get_either own n layout k o) [ inl p ↦ inl p | inr p ↦ inr (p.1, ap Some p.0) ]
 
 -- ---- globals and functions
 
@@ -212,7 +212,7 @@ global_more own n = (up, get_end own.globals n, down) where
 
   down : (k : ℕ) (x : SymbolSort) → OwnsSymbol (more_globals own n) x k → OwnsSymbol own x k ⊎ ((k ≡ n) × (x ≡ symbol.Global (length own.globals)))
   down k symbol.Unknown o = inl o
-  down k (symbol.Global g) o = elim (at_end_or_before own.globals n g k o) [ inl p ↦ inl p | inr p ↦ inr (sym p.1, ap symbol.Global p.0) ]
+  down k (symbol.Global g) o = elim (get_either own.globals n g k o) [ inl p ↦ inl p | inr p ↦ inr (p.1, ap symbol.Global p.0) ]
   down k (symbol.Declared d) o = inl o
   down k (symbol.Defined f) o = inl o
 
@@ -227,7 +227,7 @@ declared_more own n = (up, get_end own.declares n, down) where
   down : (k : ℕ) (x : SymbolSort) → OwnsSymbol (more_declares own n) x k → OwnsSymbol own x k ⊎ ((k ≡ n) × (x ≡ symbol.Declared (length own.declares)))
   down k symbol.Unknown o = inl o
   down k (symbol.Global g) o = inl o
-  down k (symbol.Declared d) o = elim (at_end_or_before own.declares n d k o) [ inl p ↦ inl p | inr p ↦ inr (sym p.1, ap symbol.Declared p.0) ]
+  down k (symbol.Declared d) o = elim (get_either own.declares n d k o) [ inl p ↦ inl p | inr p ↦ inr (p.1, ap symbol.Declared p.0) ]
   down k (symbol.Defined f) o = inl o
 
 defined_more : (own : Owned) (n : ℕ) → IsMore own (more_functions own n) (symbol.Defined (length own.functions)) n
@@ -242,7 +242,7 @@ defined_more own n = (up, get_end own.functions n, down) where
   down k symbol.Unknown o = inl o
   down k (symbol.Global g) o = inl o
   down k (symbol.Declared d) o = inl o
-  down k (symbol.Defined f) o = elim (at_end_or_before own.functions n f k o) [ inl p ↦ inl p | inr p ↦ inr (sym p.1, ap symbol.Defined p.0) ]
+  down k (symbol.Defined f) o = elim (get_either own.functions n f k o) [ inl p ↦ inl p | inr p ↦ inr (p.1, ap symbol.Defined p.0) ]
 
 -- a name that means nothing so far is that of the next global
 pub global_defines : (own : Owned) (t : Table SymbolSort) (n : ℕ) (name : Text) → slice_get t.names n ≡ Some name → is_symbol (slice_get t.sorts n) ≡ false → IsSymbol name

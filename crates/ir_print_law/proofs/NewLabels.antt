@@ -52,12 +52,12 @@ abbrev no_zero : Text → Bool
 no_zero [] = false
 no_zero (b ∷ bytes) = not (b == 48)
 
-pub kept_by : (digits : Text) → no_zero digits ≡ true → key_of_digits digits ≡ digits
+kept_by : (digits : Text) → no_zero digits ≡ true → key_of_digits digits ≡ digits
 kept_by [] e = absurd cc
 kept_by (b ∷ []) e = refl
 kept_by (b ∷ d ∷ digits) e = rw (not_true (b == 48) e) refl
 
-pub no_zero_on : (digits : Text) (d : ℕ) → no_zero digits ≡ true → no_zero (digits ++ d ∷ []) ≡ true
+no_zero_on : (digits : Text) (d : ℕ) → no_zero digits ≡ true → no_zero (digits ++ d ∷ []) ≡ true
 no_zero_on [] d e = absurd cc
 no_zero_on (b ∷ digits) d e = e
 
@@ -74,9 +74,13 @@ key_is n less = decimal_by_steps Kept one more n less where
       let front = no_zero_on digits (48 + n % 10) (h.1 (omega (arith, ge))) in
       (kept_by (digits ++ ((48 + n % 10) ∷ [])) front, λ some. front)
 
+-- the key of a number is as the number is written
+pub number_key : (n : ℕ) → n < 2 ^ 64 → key_of_digits (text.decimal n) ≡ text.decimal n
+number_key n less = (key_is n less).0
+
 -- a number is a key
 pub decimal_key : (n : ℕ) → n < 2 ^ 64 → IsKey (text.decimal n)
-decimal_key n less = inl (are_digits n less, (key_is n less).0)
+decimal_key n less = inl (are_digits n less, number_key n less)
 
 number_next : (u : ℕ) (i : Input) → i.unnamed ≡ u → spelled i.cursor ≡ text.decimal u → u < 4294967295 → names.next_number.says i tt (names.with_number_taken i)
 unfolding names.next_number names.take_number
@@ -101,7 +105,7 @@ numbered_label_read u block i rest same few_numbers less is_free at =
     let own = are_digits u wide in
     let w = label_number_comes i.cursor (text.decimal u) rest own at in
     let spelled_so : spelled i.cursor ≡ text.decimal u = w.2 ∙ label_number_spelled (text.decimal u) own.1 in
-    let key : local_key i.cursor ≡ text.decimal u = rw (w.0, spelled_so) (key_is u wide).0 in
+    let key : local_key i.cursor ≡ text.decimal u = rw (w.0, spelled_so) (number_key u wide) in
     let number : names.local_number i ≡ number_of (text.decimal u) i.locals.names = ap (λ (x : Text). number_of x i.locals.names) key in
     let in_range = ap (λ (n : ℕ). nat_lt n 4294967296) number ∙ few (number_of (text.decimal u) i.locals.names) less in
     let unknown : not (names.is_known_local i) ≡ true =

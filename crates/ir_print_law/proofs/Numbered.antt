@@ -1,12 +1,10 @@
 -- Values without a name are read by their numbers.
-use Rattle.std.proofs.Common.{◌≡◌, ℕ, ◌+◌, ◌/◌, ◌%◌, ◌<◌, ◌≤◌, ◌^◌, Bool, true, false, not, if◌then◌else◌, [], ◌∷◌, ◌++◌, Some, None, refl, ap, ◌∙◌, arith}
+use Rattle.std.proofs.Common.{◌≡◌, ℕ, ◌<◌, ◌^◌, Bool, true, not, if◌then◌else◌, Some, None, refl, ap, ◌∙◌, arith}
 use Rattle.std.specs.Prelude.{◌==◌, nat_lt, slice_get}
 use Rattle.std.specs.Fmt as text
 use Rattle.std.proofs.lemmas.Bool.Decides.{nat_tests}
-use Rattle.std.proofs.lemmas.Fmt.{decimal_by_steps}
-use Rattle.ir_print_law.proofs.NewLabels.{no_zero_on, kept_by}
+use Rattle.ir_print_law.proofs.NewLabels.{number_key}
 use Rattle.ir_tokens.specs.Bytes.{Text}
-use Rattle.ir_ast.specs.LocalKeys.{key_of_digits}
 use Rattle.ir_ast.specs.Names.{number_of}
 use Rattle.ir_ast.specs.declared.function.LocalSort.TheVariants.{Unknown}
 use Rattle.ir_forms.specs.Cursor.{spelled, local_key}
@@ -19,25 +17,6 @@ use Rattle.name_text.specs.Spelled.{number_is}
 use Rattle.ir_print_law.proofs.Constants.{are_digits}
 use Rattle.name_text.specs.Reading.{digits_spelled}
 use Rattle.ir_print_law.proofs.Words.{local_number_comes}
-
--- ---- numbers have no zeros before them
-
-abbrev no_zero : Text → Bool
-no_zero [] = false
-no_zero (b ∷ bytes) = not (b == 48)
-
-abbrev Kept : ℕ → Text → Type 0
-Kept n digits = (key_of_digits digits ≡ digits) × (1 ≤ n → no_zero digits ≡ true)
-
-key_is : (n : ℕ) → n < 2 ^ 64 → Kept n (text.decimal n)
-key_is n less = decimal_by_steps Kept one more n less where
-  one : (n : ℕ) → n < 10 → Kept n ((48 + n) ∷ [])
-  one n less = (refl, λ some. let e : 48 + n == 48 ≡ false = grind (arith, nat_tests) in ap not e)
-
-  more : (n : ℕ) (digits : Text) → 10 ≤ n → Kept (n / 10) digits → Kept n (digits ++ ((48 + n % 10) ∷ []))
-  more n digits ge h =
-      let front = no_zero_on digits (48 + n % 10) (h.1 (omega (arith, ge))) in
-      (kept_by (digits ++ ((48 + n % 10) ∷ [])) front, λ some. front)
 
 -- ---- the next number
 
@@ -61,7 +40,7 @@ numbered_values_are_read i gap rest few less is_free room blanks seam at =
     let own = are_digits i.unnamed wide in
     let w = local_number_comes i.cursor gap (text.decimal i.unnamed) rest blanks own seam at in
     let spelled_so : spelled i.cursor ≡ text.decimal i.unnamed = w.2 ∙ digits_spelled (text.decimal i.unnamed) own.1 in
-    let key : local_key i.cursor ≡ text.decimal i.unnamed = rw (w.0, spelled_so) (key_is i.unnamed wide).0 in
+    let key : local_key i.cursor ≡ text.decimal i.unnamed = rw (w.0, spelled_so) (number_key i.unnamed wide) in
     let same : local_number i ≡ number_of (text.decimal i.unnamed) i.locals.names = ap (λ (x : Text). number_of x i.locals.names) key in
     let bound : nat_lt (number_of (text.decimal i.unnamed) i.locals.names) 4294967296 ≡ true = grind (arith, nat_tests) in
     let in_range = ap (λ (n : ℕ). nat_lt n 4294967296) same ∙ bound in

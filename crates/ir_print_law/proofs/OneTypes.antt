@@ -1,5 +1,6 @@
 -- A type is at one place of a table in which types are numbered, and is written in one way.
 use Rattle.std.proofs.Common.{◌≡◌, ℕ, zero, suc, ◌==◌, Bool, true, false, List, [], ◌∷◌, ◌++◌, length, is_some, if◌then◌else◌, Option, None, Some, refl, sym, ap, subst, ◌∙◌, inl, inr, ◌⊎◌, get_or}
+use Rattle.lemmas.specs.Lists.{get_either}
 use Rattle.std.specs.Prelude.{slice_get}
 use Rattle.std.specs.List.{list_any}
 use Rattle.std.specs.Str.{bytes_eq}
@@ -16,7 +17,6 @@ use Rattle.ir_ast.specs.declared.module.Module.{Module}
 use Rattle.ir_tokens.specs.Bytes.{Text}
 use Rattle.ir_print_law.specs.OneTypes.{AreOnce, HasOneTypes}
 use Rattle.ir_print_law.specs.Shapes.{Shape, Integer, Pointer, Array, Empty, Struct, Named, HasShape}
-use Rattle.ir_print_law.proofs.Tables.{at_end_or_before}
 
 -- ---- one place
 
@@ -44,12 +44,12 @@ pub once_more : (t : IrType) (types : List IrType) → AreOnce types → AreOnce
 once_more t types once = by (place_of_type t types) refl where
   by : (place : Option ℕ) → place_of_type t types ≡ place → AreOnce (if is_some place then types else types ++ t ∷ [])
   by (Some place) e = once
-  by None e = λ one other x at there. joined one other x (at_end_or_before types t one x at) (at_end_or_before types t other x there)
+  by None e = λ one other x at there. joined one other x (get_either types t one x at) (get_either types t other x there)
     where
-      new : (number : ℕ) (x : IrType) → slice_get types number ≡ Some x → t ≡ x → ⊥
-      new number x at same = not_there t types number (none_passes (is_same_type t) types e) (at ∙ ap (λ (y : IrType). Some y) (sym same))
+      new : (number : ℕ) (x : IrType) → slice_get types number ≡ Some x → x ≡ t → ⊥
+      new number x at same = not_there t types number (none_passes (is_same_type t) types e) (at ∙ ap (λ (y : IrType). Some y) same)
 
-      joined : (one other : ℕ) (x : IrType) → (slice_get types one ≡ Some x) ⊎ ((one ≡ length types) × (t ≡ x)) → (slice_get types other ≡ Some x) ⊎ ((other ≡ length types) × (t ≡ x)) → one ≡ other
+      joined : (one other : ℕ) (x : IrType) → (slice_get types one ≡ Some x) ⊎ ((one ≡ length types) × (x ≡ t)) → (slice_get types other ≡ Some x) ⊎ ((other ≡ length types) × (x ≡ t)) → one ≡ other
       joined one other x (inl at) (inl there) = once one other x at there
       joined one other x (inl at) (inr last) = absurd (new one x at last.1)
       joined one other x (inr last) (inl there) = absurd (new other x there last.1)

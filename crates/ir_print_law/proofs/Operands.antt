@@ -28,12 +28,12 @@ use Rattle.ir_forms.specs.Operand as form
 use Rattle.ir_forms.specs.Operand.{zero_of, truth_of, number_at, number_or_zero, number, constant_by, constant, cast_operand, cast_operand_by, cast, operand_by}
 use Rattle.ir_print.specs.Fits.{FitsType}
 use Rattle.ir_print.specs.Names.{name_at}
-use Rattle.ir_print_law.specs.Definitions.{functions_of}
+use Rattle.ir_print_law.specs.Definitions.{functions_of, used_keys, used_symbols}
 use Rattle.ir_print_law.specs.Parts.{IsGlobalUse, IsOperand, IsTarget}
 use Rattle.ir_print_law.specs.Shapes.{IsIn}
 use Rattle.ir_print_law.proofs.Forms.{Keeps, Same, stepped, where_true}
 use Rattle.ir_print_law.proofs.Passes.{skip_passes, expect_passes}
-use Rattle.ir_print_law.proofs.Reading.{Reading, Within, used_keys, used_symbols}
+use Rattle.ir_print_law.proofs.Reading.{Reading, Within}
 use Rattle.ir_print_law.proofs.Tables.{stays, name_there}
 use Rattle.ir_print_law.proofs.TypesThat.{pointer_type_keeps}
 

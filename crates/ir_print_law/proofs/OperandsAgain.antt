@@ -39,8 +39,9 @@ use Rattle.ir_print_law.proofs.Words.{global_comes, sign_comes, word_comes}
 use Rattle.ir_print_law.specs.PartsAgain.{IsOperandAgain}
 use Rattle.ir_print_law.specs.Parts.{IsType, IsGlobalUse, IsOperand}
 use Rattle.ir_print_law.specs.Shapes.{IsIn, Shape, Integer, Pointer, Array, Empty, Struct, Named, HasShape, bits_of_shape, is_pointer_shape}
+use Rattle.ir_print_law.specs.Definitions.{used_keys, used_symbols}
 use Rattle.ir_print_law.proofs.Tables.{begins_itself, stays, name_begins, name_length, name_there, number_within}
-use Rattle.ir_print_law.proofs.State.{Invariant, Ready, Grows, IsLater, Reads, used_keys, used_symbols}
+use Rattle.ir_print_law.proofs.State.{Invariant, Ready, Grows, IsLater, Reads}
 use Rattle.ir_print_law.proofs.Shown.{shown, IsTypeRead}
 use Rattle.ir_print_law.proofs.Steps.{go_on, given, shorter, looked, sign_reads, word_reads, word_skipped, word_seen, later_before, grows_advanced, passed}
 use Rattle.ir_print_law.proofs.Types.{EndsType, Comes, ends_type}

@@ -36,8 +36,9 @@ use Rattle.ir_print_law.specs.PartsAgain.{IsNameAgain, IsArgumentAgain, ArePairA
 use Rattle.ir_print_law.specs.Again.{IsOpAgain}
 use Rattle.ir_print_law.specs.Parts.{IsOperand, IsArgument, ArePair, IsTarget}
 use Rattle.ir_print_law.specs.Shapes.{IsIn, Shape, HasShape, bits_of_shape}
+use Rattle.ir_print_law.specs.Definitions.{used_keys}
 use Rattle.ir_print_law.proofs.Tables.{stays}
-use Rattle.ir_print_law.proofs.State.{Invariant, Ready, IsLater, Reads, used_keys}
+use Rattle.ir_print_law.proofs.State.{Invariant, Ready, IsLater, Reads}
 use Rattle.ir_print_law.proofs.Shown.{shown, IsTypeRead, bits_read}
 use Rattle.ir_print_law.proofs.Steps.{go_on, given, sign_reads, word_reads, grows_further, later_before}
 use Rattle.ir_print_law.proofs.Types.{EndsType, ends_type}

@@ -1,34 +1,22 @@
 -- What is known of a state while a module is read: of what was read before it, and of where reading ends.
-use Rattle.std.specs.Prelude.{◌≡◌, ℕ, Bool, true, false, List, [], ◌∷◌, ◌++◌, length}
+use Rattle.std.specs.Prelude.{◌≡◌, ℕ, Bool, List, [], ◌∷◌, ◌++◌, length}
 use Rattle.ir_ast.specs.declared.function.Function.{Function}
 use Rattle.ir_ast.specs.declared.function.LocalSort.{LocalSort}
 use Rattle.ir_ast.specs.declared.function.LocalSort.TheVariants as local
 use Rattle.ir_ast.specs.declared.ir_type.IrType.{IrType}
 use Rattle.ir_ast.specs.declared.module.Module.{Module}
-use Rattle.ir_tokens.specs.Bytes.{Text}
 use Rattle.ir_tokens.specs.declared.token.Kind.TheVariants as k
 use Rattle.ir_forms.specs.Cursor.{kind, spelled, local_key}
 use Rattle.ir_forms.specs.declared.uses.Wanted.{Wanted}
-use Rattle.ir_forms.specs.declared.uses.Wanted.TheVariants as wants
 use Rattle.ir_forms.specs.declared.input.Input.{Input}
 use Rattle.ir_forms.specs.Input.{advanced}
 use Rattle.ir_forms.specs.Names.{with_struct_use, with_symbol_use, with_local_use, with_sort, new_value, numbered_value, unnamed_value, new_label, numbered_label, unnamed_label}
 use Rattle.ir_forms.specs.Written.{with_type_interned}
 use Rattle.name_text.specs.Readings.{AreBytes}
-use Rattle.ir_print_law.specs.Definitions.{value_keys, label_keys, target_keys, defined_structs, defined_globals, functions_of}
+use Rattle.ir_print_law.specs.Definitions.{defined_structs, used_keys, used_symbols}
 use Rattle.ir_print_law.specs.Shapes.{IsIn}
 use Rattle.ir_print_law.proofs.Forms.{Keeps, Any}
 use Rattle.ir_print_law.proofs.Tables.{Begins, IsRestBefore, AreOrdered}
-
--- which keys may be used as what
-abbrev pub used_keys : Function → Wanted → List Text
-used_keys f wants.Value = value_keys f
-used_keys f wants.Block = label_keys f
-used_keys f wants.Target = target_keys f
-
-abbrev pub used_symbols : Module → (is_call : Bool) → List Text
-used_symbols m true = functions_of m
-used_symbols m false = defined_globals m
 
 -- `Fore` holds after a form that names nothing new where it holds before it. `Back` says that reading goes on to this module: where it holds after such a form, it holds before it.
 pub record Reading (m : Module) : Type 1 where

@@ -2,7 +2,7 @@
 use Rattle.std.proofs.Common.{◌≡◌, ℕ, zero, suc, ◌+◌, ◌≤◌, Bool, true, false, List, [], ◌∷◌, ◌++◌, refl, sym, ap, ◌∙◌, arith}
 use Rattle.std.specs.Prelude.{codes, ◌==◌, nat_lt}
 use Rattle.std.specs.Fmt.{decimal}
-use Rattle.ir_print_law.proofs.Looks.{suc_one, bits_looks, held_looks, passed_looks, scalar_looks, pointer_looks}
+use Rattle.ir_print_law.proofs.Looks.{suc_one, bits_looks, held_looks, passed_looks, scalar_looks, pointer_looks, base_of, stars_of, looking}
 use Rattle.lemmas.specs.Numbers.{suc_not_null}
 use Rattle.ir_ast.specs.declared.ir_type.IrType.{IrType}
 use Rattle.ir_tokens.specs.Bytes.{Text}
@@ -32,23 +32,6 @@ shown true _ = []
 abbrev pub field_count : Shape → ℕ
 field_count (Struct first rest) = field_count rest + 1
 field_count _ = 0
-
--- a type with n stars after it
-abbrev pub starred : ℕ → Shape → Shape
-starred zero shape = shape
-starred (suc count) shape = starred count (Pointer shape)
-
--- what is before the stars, and how many stars there are
-abbrev pub base_of : Shape → Base
-base_of (Integer bits) = base.Integer bits
-base_of (Pointer part) = base_of part
-base_of (Named name) = base.Named
-base_of _ = base.Aggregate
-
--- how many stars are after it
-abbrev pub stars_of : Shape → ℕ
-stars_of (Pointer part) = suc (stars_of part)
-stars_of _ = 0
 
 -- a type of this shape was read, with room for `most` levels in all
 pub record IsTypeRead (shape : Shape) (most : ℕ) (w : WrittenType) (o : Input) : Type 0 where
@@ -90,10 +73,6 @@ some_level (Struct first rest) = omega arith
 some_level (Named name) = omega arith
 
 -- ---- what kind of type was read
-
--- a type of this base with this number of stars
-abbrev looking : Base → ℕ → WrittenType
-looking b stars = record { base = b; stars = stars; id = 0; room = 0 }
 
 -- what depends on the base and the stars alone
 by_looks : {X : Type 0} (g : WrittenType → X) (shape : Shape) (most : ℕ) (w : WrittenType) (o : Input) → ((id room : ℕ) (b : Base) (stars : ℕ) → g (record { base = b; stars = stars; id = id; room = room }) ≡ g (looking b stars))

@@ -13,10 +13,10 @@ use Rattle.ir_text.specs.Read.{start}
 use Rattle.name_text.specs.Readings.{AreBytes}
 use Rattle.ir_print.specs.Names.{name_at}
 use Rattle.ir_print_law.specs.Readings.{IsKey}
-use Rattle.ir_print_law.specs.Definitions.{AreDefined, defined_keys, parameter_keys, block_keys, value_keys_of, value_keys, label_keys, defined_globals, functions_of}
+use Rattle.ir_print_law.specs.Definitions.{AreDefined, defined_keys, parameter_keys, block_keys, value_keys_of, value_keys, label_keys, defined_globals, functions_of, used_keys, used_symbols}
 use Rattle.ir_print_law.specs.Printable.{IsFunction, IsPrintable, IsSymbol}
 use Rattle.ir_print_law.specs.Shapes.{IsIn}
-use Rattle.ir_print_law.proofs.State.{Ready, used_keys, used_symbols}
+use Rattle.ir_print_law.proofs.State.{Ready}
 use Rattle.ir_print_law.proofs.Bodies.{front_keys, back_keys}
 use Rattle.ir_print_law.proofs.Defining.{dropped}
 use Rattle.ir_print_law.proofs.WholeFunctionEnds.{nobody, no_key, locals_empty}

@@ -1,5 +1,5 @@
 -- The state of reading a printed module again, and how one form follows another.
-use Rattle.std.specs.Prelude.{◌≡◌, ℕ, ◌+◌, ◌≤◌, Bool, true, false, List, length, slice_get, option_and_then}
+use Rattle.std.specs.Prelude.{◌≡◌, ℕ, ◌+◌, ◌≤◌, Bool, false, List, length, slice_get, option_and_then}
 use Rattle.ir_ast.specs.Names.{place_of}
 use Rattle.ir_ast.specs.declared.function.Function.{Function}
 use Rattle.ir_ast.specs.declared.ir_type.IrType.{IrType}
@@ -7,7 +7,6 @@ use Rattle.ir_ast.specs.declared.module.Module.{Module}
 use Rattle.ir_tokens.specs.Bytes.{Text}
 use Rattle.ir_forms.specs.Cursor.{spelled, local_key}
 use Rattle.ir_forms.specs.declared.uses.Wanted.{Wanted}
-use Rattle.ir_forms.specs.declared.uses.Wanted.TheVariants as wants
 use Rattle.ir_forms.specs.declared.input.Input.{Input}
 use Rattle.ir_forms.specs.Input.{Form, advanced}
 use Rattle.ir_forms.specs.Names.{is_function, with_struct_use, with_symbol_use, with_local_use}
@@ -16,20 +15,9 @@ use Rattle.ir_forms.specs.Intrinsics.{is_left_out}
 use Rattle.name_text.specs.Readings.{AreBytes}
 use Rattle.ir_print_law.specs.Readings.{IsKey}
 use Rattle.ir_print.specs.Standing.{Stands}
-use Rattle.ir_print_law.specs.Definitions.{value_keys, label_keys, target_keys, defined_structs, defined_globals, functions_of}
+use Rattle.ir_print_law.specs.Definitions.{defined_structs, defined_globals, used_keys, used_symbols}
 use Rattle.ir_print_law.specs.Shapes.{IsIn}
 use Rattle.ir_print_law.proofs.Tables.{Begins, AreOrdered}
-
--- which keys may be used as what
-abbrev pub used_keys : Function → Wanted → List Text
-used_keys f wants.Value = value_keys f
-used_keys f wants.Block = label_keys f
-used_keys f wants.Target = target_keys f
-
--- which global names may be called, and which may be operands
-abbrev pub used_symbols : Module → (is_call : Bool) → List Text
-used_symbols m true = functions_of m
-used_symbols m false = defined_globals m
 
 -- What holds of the names of the state all along, which no form of a type, an operand or an operation breaks.
 pub record Invariant (m : Module) (f : Function) : Type 1 where

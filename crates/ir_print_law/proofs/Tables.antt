@@ -1,5 +1,5 @@
 -- Tables that grow at the end: what is in them stays.
-use Rattle.std.proofs.Common.{◌≡◌, ℕ, zero, suc, ◌+◌, ◌<◌, ◌≤◌, Bool, true, false, List, [], ◌∷◌, ◌++◌, length, slice_get, is_some, unwrap_or, if◌then◌else◌, Option, None, Some, refl, sym, ap, subst, ◌∙◌, arith, append_assoc, length-append, inl, inr, ◌⊎◌, get_or, cond, not, position}
+use Rattle.std.proofs.Common.{◌≡◌, ℕ, ◌+◌, ◌<◌, ◌≤◌, Bool, true, false, List, [], ◌∷◌, ◌++◌, length, slice_get, is_some, unwrap_or, if◌then◌else◌, Option, None, Some, refl, sym, ap, subst, ◌∙◌, arith, append_assoc, length-append, inl, inr, get_or, cond, not, position}
 use Rattle.std.specs.Prelude.{nat_lt, eqb}
 use Rattle.std.specs.List.{position_or_len}
 use Rattle.std.proofs.lemmas.Bool.Decides.{nat_tests}
@@ -10,7 +10,7 @@ use Rattle.std.proofs.lemmas.Slice.Eq.{bytes_eq-Decides}
 use Rattle.std.proofs.lemmas.List.{append-nil}
 use Rattle.std.proofs.lemmas.List.Quantifiers.{position-Some}
 use Rattle.std.specs.Str.{bytes_eq}
-use Rattle.lemmas.specs.Lists.{get_end}
+use Rattle.lemmas.specs.Lists.{get_end, get_front, get_either}
 use Rattle.ir_ast.specs.Names.{place_of, number_of, numbered}
 use Rattle.ir_ast.specs.Types.{place_of_type, number_of_type, numbered_type}
 use Rattle.ir_ast.specs.declared.ir_type.IrType.{IrType}
@@ -36,25 +36,9 @@ begins_further xs ys zs a b = (a.0 ++ b.0, b.1 ∙ ap (λ l. l ++ b.0) a.1 ∙ a
 pub begins_with : {A : Type 0} (xs more : List A) → Begins xs (xs ++ more)
 begins_with xs more = (more, refl)
 
--- what is in front stays
-in_front : {A : Type 0} (xs more : List A) (n : ℕ) (x : A) → slice_get xs n ≡ Some x → slice_get (xs ++ more) n ≡ Some x
-in_front [] more n x e = absurd cc
-in_front (y ∷ xs) more zero x e = e
-in_front (y ∷ xs) more (suc n) x e = in_front xs more n x e
-
 -- an element stays at its place
 pub stays : {A : Type 0} (xs ys : List A) (n : ℕ) (x : A) → Begins xs ys → slice_get xs n ≡ Some x → slice_get ys n ≡ Some x
-stays xs ys n x b e = ap (λ l. slice_get l n) b.1 ∙ in_front xs b.0 n x e
-
--- what is at a place of a list with one element more was there before, or is that element
-pub at_end_or_before : {A : Type 0} (xs : List A) (y : A) (n : ℕ) (x : A) → slice_get (xs ++ y ∷ []) n ≡ Some x → (slice_get xs n ≡ Some x) ⊎ ((n ≡ length xs) × (y ≡ x))
-at_end_or_before [] y zero x e = inr (refl, cc)
-at_end_or_before [] y (suc n) x e = absurd cc
-at_end_or_before (z ∷ xs) y zero x e = inl e
-at_end_or_before (z ∷ xs) y (suc n) x e = elim (at_end_or_before xs y n x e) [
-  | inl h ↦ inl h
-  | inr h ↦ inr (ap suc h.0, h.1)
-]
+stays xs ys n x b e = ap (λ l. slice_get l n) b.1 ∙ get_front xs b.0 n x e
 
 -- ---- types
 
@@ -77,9 +61,9 @@ pub type_ordered : (t : IrType) (types : List IrType) → IsRestBefore (length t
 type_ordered t types last before = by (is_some (place_of_type t types)) where
   by : (b : Bool) → AreOrdered (if b then types else types ++ t ∷ [])
   by true = before
-  by false = λ n x e. elim (at_end_or_before types t n x e) [
+  by false = λ n x e. elim (get_either types t n x e) [
     | inl h ↦ before n x h
-    | inr h ↦ subst (λ y. IsRestBefore n y) h.1 (subst (λ k. IsRestBefore k t) (sym h.0) last)
+    | inr h ↦ subst (λ y. IsRestBefore n y) (sym h.1) (subst (λ k. IsRestBefore k t) (sym h.0) last)
   ]
 
 -- one type comes at most

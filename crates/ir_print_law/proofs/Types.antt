@@ -4,7 +4,7 @@ use Rattle.std.specs.Prelude.{nat_lt}
 use Rattle.std.specs.List.{list_all}
 use Rattle.std.specs.Fmt as text
 use Rattle.std.proofs.lemmas.Bool.Decides.{nat_tests}
-use Rattle.ir_print_law.proofs.Looks.{starred_base, starred_levels, starred_stars}
+use Rattle.ir_print_law.proofs.Looks.{starred_base, starred_levels, starred_stars, starred, base_of, stars_of}
 use Rattle.lemmas.specs.Bools.{and_parts}
 use Rattle.grammar.specs.Grammar.{pure, refuse, ◌>>=◌, ◌>>◌}
 use Rattle.ir_ast.specs.Names.{number_of, numbered, place_of}
@@ -38,7 +38,7 @@ use Rattle.ir_print_law.specs.Definitions.{defined_structs}
 use Rattle.ir_print_law.specs.Shapes.{IsIn, Shape, Integer, Pointer, Named, HasShape, levels}
 use Rattle.ir_print_law.proofs.Tables.{AreOrdered, IsRestBefore, begins_itself, name_begins, name_length, place_there, place_stays, number_within}
 use Rattle.ir_print_law.proofs.State.{Invariant, Ready, Grows, Reads}
-use Rattle.ir_print_law.proofs.Shown.{shown, starred, base_of, stars_of, IsTypeRead, shape_stays}
+use Rattle.ir_print_law.proofs.Shown.{shown, IsTypeRead, shape_stays}
 use Rattle.ir_print_law.proofs.Steps.{go_on, so, given, token_then, shorter, checked_then, looked, sign_skipped, sign_kind, intern_reads, unlike}
 
 -- ---- what follows a type

@@ -22,13 +22,13 @@ use Rattle.ir_forms.specs.Names.{is_wanted, first_missing}
 use Rattle.ir_text.specs.Blocks.{blocks, further, at_close, after_block}
 use Rattle.ir_text.specs.ItemsOfText.{open_body, open_body_by, body_after, with_function, function_of, earlier}
 use Rattle.ir_print.specs.Blocks.{block_text}
-use Rattle.ir_print_law.specs.Definitions.{value_keys_of, value_keys, label_keys, parameter_keys, block_keys}
+use Rattle.ir_print_law.specs.Definitions.{value_keys_of, value_keys, label_keys, parameter_keys, block_keys, used_keys}
 use Rattle.ir_print_law.specs.Printable.{IsBlock}
 use Rattle.ir_print_law.specs.Shapes.{IsIn}
 use Rattle.ir_print_law.proofs.Tables.{Begins, begins_itself, begins_further}
 use Rattle.ir_print_law.specs.PartsAgain.{AreAlike}
 use Rattle.ir_print_law.specs.Again.{IsBlockAgain}
-use Rattle.ir_print_law.proofs.State.{Invariant, Ready, Reads, IsLater, used_keys}
+use Rattle.ir_print_law.proofs.State.{Invariant, Ready, Reads, IsLater}
 use Rattle.ir_print_law.proofs.Steps.{sign_reads, sign_skipped, sign_kind, looked}
 use Rattle.ir_print_law.proofs.BlockLines.{HasKeys}
 use Rattle.ir_print_law.proofs.BlockLists.{blocks_go}

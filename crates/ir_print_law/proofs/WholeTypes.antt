@@ -28,7 +28,8 @@ use Rattle.ir_print_law.proofs.Words.{sign_comes, number_comes, local_comes, see
 use Rattle.ir_print_law.specs.Definitions.{defined_structs}
 use Rattle.ir_print_law.specs.Shapes.{Shape, Integer, Pointer, Array, Empty, Struct, Named, HasShape, IsWritten, IsStruct, levels, is_struct_shape}
 use Rattle.ir_print_law.proofs.State.{Invariant, Ready, Grows, Reads, Any}
-use Rattle.ir_print_law.proofs.Shown.{shown, field_count, starred, stars_of, IsTypeRead, shape_stays, read_stays, some_level}
+use Rattle.ir_print_law.proofs.Shown.{shown, field_count, IsTypeRead, shape_stays, read_stays, some_level}
+use Rattle.ir_print_law.proofs.Looks.{starred, stars_of}
 use Rattle.ir_print_law.proofs.Steps.{go_on, so, given, said_then, token_then, shorter, test_reads, looked, less_spare, sign_reads, sign_skipped, sign_kind, word_reads, unlike, grows_itself, grows_further}
 use Rattle.ir_print_law.proofs.Types.{EndsType, ends_type, length_said, named_read, integer_read, interned_read, over_read}
 

@@ -15,6 +15,7 @@ use Rattle.ir_print_law.specs.Parts.{IsVoid}
 use Rattle.ir_print_law.specs.PartsWithin.{HasType, HasSymbol, HasValue}
 use Rattle.ir_print_law.specs.Printable.{IsPassed, IsParameter, IsAnyType, IsStructType, IsGlobal, IsDeclare, IsBlock, IsPrintable}
 use Rattle.ir_print_law.specs.Shapes.{IsIn}
+use Rattle.ir_print_law.specs.Definitions.{used_symbols}
 use Rattle.ir_print_law.specs.Within.{IsParameterWithin, IsBlockWithin, IsFunctionWithin, IsStructWithin, IsGlobalWithin, IsDeclareWithin, IsWithin}
 use Rattle.ir_print_law.proofs.DefinedWithin.{all_at, both, defined_within}
 use Rattle.ir_print_law.proofs.FunctionNames.{function_names}
@@ -24,7 +25,7 @@ use Rattle.ir_print_law.proofs.ModuleRead.{FunctionKeeps, read_so, read_is_print
 use Rattle.ir_print_law.proofs.OpsWithin.{blocks_within}
 use Rattle.ir_print_law.proofs.PartsWithin.{wide_module, wide, globals_have, declares_have, functions_have, globals_stay, functions_stay, shape_within, void_within}
 use Rattle.ir_print_law.proofs.Outside.{Outside}
-use Rattle.ir_print_law.proofs.Reading.{Reading, used_symbols}
+use Rattle.ir_print_law.proofs.Reading.{Reading}
 use Rattle.ir_print_law.proofs.Tables.{begins_itself, begins_further, begins_with}
 use Rattle.ir_print_law.proofs.Uses.{local_right}
 

@@ -1,5 +1,5 @@
 -- What a module and its functions define, in text order, by names and by keys of local names.
-use Rattle.std.specs.Prelude.{◌≡◌, ℕ, ◌+◌, List, [], ◌∷◌, ◌++◌, drop, map, Option, Some, None, ◌⊎◌}
+use Rattle.std.specs.Prelude.{◌≡◌, ℕ, ◌+◌, Bool, true, false, List, [], ◌∷◌, ◌++◌, drop, map, Option, Some, None, ◌⊎◌}
 use Rattle.std.specs.List.{flat_map}
 use Rattle.std.specs.Fmt.{decimal}
 use Rattle.ir_ast.specs.LocalKeys.{key_of_name}
@@ -10,6 +10,8 @@ use Rattle.ir_ast.specs.declared.function.Parameter.{Parameter}
 use Rattle.ir_ast.specs.declared.instr.Instr.{Instr}
 use Rattle.ir_ast.specs.declared.module.Module.{Module}
 use Rattle.ir_tokens.specs.Bytes.{Text}
+use Rattle.ir_forms.specs.declared.uses.Wanted.{Wanted}
+use Rattle.ir_forms.specs.declared.uses.Wanted.TheVariants as wants
 use Rattle.name_text.specs.Readings.{AreBytes}
 use Rattle.ir_print.specs.Names.{name_at}
 use Rattle.ir_print_law.specs.Shapes.{IsIn}
@@ -95,3 +97,16 @@ defined_functions m = map (λ function. name_at m.symbols function.symbol) m.fun
 -- the names of its functions
 abbrev pub functions_of : Module → List Text
 functions_of m = declared_functions m ++ defined_functions m
+
+-- ---- what may be used
+
+-- which keys may be used as what
+abbrev pub used_keys : Function → Wanted → List Text
+used_keys f wants.Value = value_keys f
+used_keys f wants.Block = label_keys f
+used_keys f wants.Target = target_keys f
+
+-- which global names may be called, and which may be operands
+abbrev pub used_symbols : Module → (is_call : Bool) → List Text
+used_symbols m true = functions_of m
+used_symbols m false = defined_globals m

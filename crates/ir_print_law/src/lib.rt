@@ -1,4 +1,4 @@
-//! Law of printing: a module that was read can be printed, and its printed text is read as that module again, if that text is within the limit.
+//! Law of printing: a module that was read from bytes can be printed, and its printed text is read as that module again, if that text is within the limit.
 #![tactic(auto)]
 
 mod print_laws;
