@@ -126,6 +126,14 @@ abbrev pub IsNew : (block : ℕ) → Line → Input → Type 0
 IsNew block (line.Value value fact) i = is_in block (slice_get i.read.draft.values value) ≡ false
 IsNew block (line.Slot slot nonnull holds) i = (unwrap_or (slice_get i.read.draft.roots slot) false ≡ true) × (is_in block (slice_get i.read.draft.slots slot) ≡ false)
 
+-- what refers to cells of a layout is a reference
+pub refers_is : (family : Family) (layout : ℕ) → refers_to layout family ≡ true → is_reference family ≡ true
+refers_is (fam.Reference own) layout e = refl
+refers_is fam.AnyReference layout e = refl
+refers_is (fam.Number bits) layout e = absurd cc
+refers_is fam.Address layout e = absurd cc
+refers_is fam.Nothing layout e = absurd cc
+
 module _ (m : Module) (f : Function) (named : IsNamed m) (own : IsNamedFunction f) where
   listed_on : (i : Input) (value : ℕ) (t u : Text) → is_value f value ≡ true → ComesAfter t u → (listed_name f).says (at i (local_text f value ++ t)) value (at (noting (Some value) (length (local_text f value ++ t)) i) u)
   unfolding listed_name want wants
@@ -273,13 +281,6 @@ module _ (m : Module) (f : Function) (named : IsNamed m) (own : IsNamedFunction 
       below_stops : (n : Option ℕ) → stops (below_text n ++ 10 ∷ t) ≡ true
       below_stops None = refl
       below_stops (Some k) = refl
-
-  refers_is : (family : Family) (layout : ℕ) → refers_to layout family ≡ true → is_reference family ≡ true
-  refers_is (fam.Reference own) layout e = refl
-  refers_is fam.AnyReference layout e = refl
-  refers_is (fam.Number bits) layout e = absurd cc
-  refers_is fam.Address layout e = absurd cc
-  refers_is fam.Nothing layout e = absurd cc
 
   reference_on : (i : Input) (family : Family) (layout : ℕ) (nonnull : Bool) (how : Age) (same : Option ℕ) (t : Text) → fact_fits m family (fact.Reference layout nonnull how same) ≡ true → IsValue f same → FactOn i family (fact.Reference layout nonnull how same) t
   unfolding fact_of reference

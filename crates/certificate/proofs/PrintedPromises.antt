@@ -26,7 +26,7 @@ use Rattle.certificate.specs.Print.{local_text, layout_text, promise_text, param
 use Rattle.name_text.specs.Seams.{blanks_on}
 use Rattle.certificate.proofs.PrintedWords.{count_read}
 use Rattle.certificate.proofs.PrintedNames.{value_printed, layout_printed}
-use Rattle.certificate.proofs.PrintedLines.{at, ComesAfter, skip_on, word_is, taken_on, expect_on, line_end_on, count_on, layout_on}
+use Rattle.certificate.proofs.PrintedLines.{at, ComesAfter, skip_on, word_is, taken_on, expect_on, line_end_on, count_on, layout_on, refers_is}
 use Rattle.certs.specs.declared.family.Family.{Family}
 use Rattle.certs.specs.declared.family.Family.TheVariants as fam
 use Rattle.certificate.specs.declared.promises.Promised.TheVariants as promised
@@ -81,13 +81,6 @@ module _ (m : Module) (f : Function) (named : IsNamed m) (own : IsNamedFunction 
       → (more_facts m family (record { layout = layout; nonnull = false; below = None })).says (at i (codes "nonnull" ++ 10 ∷ t)) (record { layout = layout; nonnull = true; below = None }) (at i (10 ∷ t))
   unfolding more_facts
   null_more i family layout t refers = null_fact i family layout t refers
-
-  refers_is : (family : Family) (layout : ℕ) → refers_to layout family ≡ true → is_reference family ≡ true
-  refers_is (fam.Reference own) layout e = refl
-  refers_is fam.AnyReference layout e = refl
-  refers_is (fam.Number bits) layout e = absurd cc
-  refers_is fam.Address layout e = absurd cc
-  refers_is fam.Nothing layout e = absurd cc
 
   not_both : (family : Family) → is_reference family ≡ true → is_integer family ≡ true → ⊥
   not_both (fam.Reference own) e g = cc

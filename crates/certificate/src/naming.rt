@@ -1,9 +1,9 @@
 //! What the words of a certificate name.
-ghost use Rattle.std.specs.Prelude.{◌≡◌, Some, ◌∷◌, IfOk};
+ghost use Rattle.std.specs.Prelude.{◌≡◌, Some, IfOk};
 ghost use Rattle.certificate.specs.Names as spec;
 
 use ir_ast::{Function, LocalSort, Module, SymbolId, SymbolSort};
-use name_text::{Sigil, name_in};
+use name_text::{Sigil, layout_name_in, name_in};
 use std::alloc::{AllocError, Global};
 use types::global_named;
 
@@ -120,22 +120,11 @@ fn layout_named(module: &Module, name: &[u8]) -> Naming
     }
 }
 
-/// A word with `%` before it.
-fn with_sign(alloc: Global, word: &[u8]) -> Result<Vec<u8>, AllocError>
-    ensures { IfOk result (λ text. text.items ≡ 37 ∷ word.now) }
-{
-    let mut text = Vec::new(alloc);
-    text.push(b'%')?;
-    text.extend_from_slice(word)?;
-    Ok(text)
-}
-
 /// The layout whose type's name, without its sign, a word is.
 pub fn layout_of_word(alloc: Global, module: &Module, word: &[u8]) -> Result<Naming, AllocError>
     ensures { IfOk result (λ naming. naming ≡ spec.layout_of_word «module».now word.now) }
 {
-    let text = with_sign(alloc, word)?;
-    match name_in(alloc, Sigil::Layout, text.as_slice())? {
+    match layout_name_in(alloc, word)? {
         None => Ok(Naming::NoName),
         Some(name) => Ok(layout_named(module, name.as_slice())),
     }

@@ -18,7 +18,7 @@ pub use blank::Blank;
 pub use found::Found;
 pub use laws::name_law;
 pub use names::{is_plain, put_name, put_quoted, quoted_byte};
-pub use naming::{Sigil, name_in};
+pub use naming::{Sigil, layout_name_in, name_in};
 pub use numbers::{decimal, is_digit, is_number, number_of_word};
 pub use places::place;
 pub use printed::{put_global, put_key, put_layout, put_local, put_number};

@@ -1,8 +1,9 @@
 //! The name that a word is, after its sign.
-ghost use Rattle.std.specs.Prelude.{◌≡◌, IfOk};
+ghost use Rattle.std.specs.Prelude.{◌≡◌, ◌∷◌, IfOk};
 ghost use Rattle.ir_ast.specs.LocalKeys as keys;
 ghost use Rattle.ir_tokens.specs.Names.{name_of};
 ghost use Rattle.name_text.specs.Naming as spec;
+ghost use Rattle.name_text.specs.declared.naming.Sigil.TheVariants as sigil;
 
 use ir_ast::{key_of_digits, marked, needs_mark};
 use ir_tokens::{Kind, TEXT_LIMIT, Token, read_tokens, unescaped};
@@ -94,4 +95,14 @@ pub fn name_in(alloc: Global, sign: Sigil, word: &[u8]) -> Result<Option<Items<u
     }
     let lexed = read_tokens(alloc, word)?;
     name_of_tokens(alloc, sign, word, lexed.bad, lexed.tokens.as_slice())
+}
+
+/// The name of a layout's type that a word is, without its sign.
+pub fn layout_name_in(alloc: Global, word: &[u8]) -> Result<Option<Items<u8>>, AllocError>
+    ensures { IfOk result (λ name. name ≡ spec.name_in sigil.Layout (37 ∷ word.now)) }
+{
+    let mut text = Vec::new(alloc);
+    text.push(b'%')?;
+    text.extend_from_slice(word)?;
+    name_in(alloc, Sigil::Layout, text.as_slice())
 }

@@ -1,4 +1,3 @@
-pub mod Collected
 pub mod Ranges
 pub mod Seams
 pub mod NameSeams

@@ -1,9 +1,9 @@
 //! What the words of a trace name.
-ghost use Rattle.std.specs.Prelude.{◌≡◌, ◌∷◌, Some, IfOk};
+ghost use Rattle.std.specs.Prelude.{◌≡◌, Some, IfOk};
 ghost use Rattle.trace_text.specs.Names as spec;
 
 use ir_ast::{Module, SymbolSort};
-use name_text::{Sigil, name_in};
+use name_text::{Sigil, layout_name_in, name_in};
 use std::alloc::{AllocError, Global};
 
 fn function_named(module: &Module, name: &[u8]) -> Option<u32>
@@ -41,16 +41,6 @@ fn layout_named(module: &Module, name: &[u8]) -> Option<u32>
     }
 }
 
-/// A word with `%` before it.
-fn with_sign(alloc: Global, word: &[u8]) -> Result<Vec<u8>, AllocError>
-    ensures { IfOk result (λ text. text.items ≡ 37 ∷ word.now) }
-{
-    let mut text = Vec::new(alloc);
-    text.push(b'%')?;
-    text.extend_from_slice(word)?;
-    Ok(text)
-}
-
 /// The number of the layout whose type's name, without its sign, a word is.
 pub fn layout_of_word(
     alloc: Global,
@@ -59,8 +49,7 @@ pub fn layout_of_word(
 ) -> Result<Option<u32>, AllocError>
     ensures { IfOk result (λ layout. layout ≡ spec.layout_of_word «module».now word.now) }
 {
-    let text = with_sign(alloc, word)?;
-    match name_in(alloc, Sigil::Layout, text.as_slice())? {
+    match layout_name_in(alloc, word)? {
         None => Ok(None),
         Some(name) => Ok(layout_named(module, name.as_slice())),
     }

@@ -6,7 +6,7 @@ use Rattle.name_text.specs.Numbers.{is_nil}
 use Rattle.edit_text.specs.Text.{edit, edits}
 use Rattle.edit_text.specs.declared.edit.Edit.{Edit}
 use Rattle.edit_text.specs.declared.frame_fault.FrameFault.{FrameFault}
-use Rattle.edit_text.proofs.Collected.{list_ends, list_goes, list_breaks, no_list}
+use Rattle.grammar.specs.Collected.{list_ends, list_goes, list_breaks, no_list}
 use Rattle.edit_text.proofs.reader.edits.Goals as goal
 
 pub returns-then-ended : goal.returns-then-ended

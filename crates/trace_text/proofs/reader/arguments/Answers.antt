@@ -6,7 +6,7 @@ use Rattle.trace_text.specs.Forms.{argument}
 use Rattle.trace_text.specs.Text.{arguments}
 use Rattle.name_text.specs.declared.found.Found.{Found}
 use Rattle.trace_text.specs.declared.mistake.TraceMistake.{TraceMistake}
-use Rattle.trace_text.proofs.Collected.{list_ends, list_goes, list_breaks, no_list}
+use Rattle.grammar.specs.Collected.{list_ends, list_goes, list_breaks, no_list}
 use Rattle.grammar.specs.Turns.{one_more, no_more}
 use Rattle.trace_text.proofs.reader.arguments.Goals as goal
 
