@@ -1,24 +1,16 @@
 -- What a safepoint leaves.
-use Rattle.std.proofs.Common.{◌≡◌, ◌<◌, ◌≤◌, ◌+◌, ℕ, zero, suc, List, [], ◌∷◌, length, map, refl, sym, ap, ◌∙◌, subst, arith, true, false, Bool}
+use Rattle.std.proofs.Common.{◌≡◌, ◌<◌, ◌≤◌, ℕ, zero, suc, List, [], ◌∷◌, length, map, refl, sym, ap, ◌∙◌, subst, arith, true, false, Bool}
 use Rattle.std.specs.Prelude.{◌↔◌}
-use Rattle.std.specs.List.{enumerate_from, zip}
+use Rattle.std.specs.List.{zip}
 use Rattle.lemmas.specs.Lists.{at_map}
 use Rattle.lemmas.specs.Bools.{or_false}
 use Rattle.facts.specs.declared.known.Class.{Class}
 use Rattle.facts.specs.declared.known.Known.{Known}
 use Rattle.facts.specs.declared.known.Known.TheVariants.{Nothing, Number, Cell, Null, Address, GlobalAddress}
 use Rattle.facts.specs.Facts.{FactSet, known_at, slot_at, class_at, open_slot, holds_class, slot_nonnull, stale_of, stale_class, end_hold, make_stale}
+use Rattle.facts.specs.Stale.{stale_at}
 use Rattle.facts.specs.Statements.{IsNumber, IsBelow, RefersTo, IsCurrent, IsNonnull, IsFresh, IsSame, IsAddress, IsGlobal, SlotNonnull, SlotHolds, NumberOf, BelowOf, RefersOf, CurrentOf, OfClass, AddressOf, GlobalOf, SafepointEndsCurrent}
 use Rattle.facts.proofs.Forgets.{class_any}
-
--- what is known of a value, from the value with number n on
-at_from : (n : ℕ) (values : List Known) (u : ℕ) → known_at (map stale_of (enumerate_from n values)) u ≡ stale_of (n + u, known_at values u)
-at_from n [] u = refl
-at_from n (x ∷ xs) zero = let e : n ≡ n + 0 = omega arith in ap (λ m. stale_of (m, x)) e
-at_from n (x ∷ xs) (suc u) = let e : (n + 1) + u ≡ n + suc u = omega arith in at_from (n + 1) xs u ∙ ap (λ m. stale_of (m, known_at xs u)) e
-
-at_stale : (values : List Known) (u : ℕ) → known_at (map stale_of (enumerate_from 0 values)) u ≡ stale_of (u, known_at values u)
-at_stale values u = let e : 0 + u ≡ u = omega arith in at_from 0 values u ∙ ap (λ m. stale_of (m, known_at values u)) e
 
 -- what is known of the class that a value has for itself
 at_classes : (all own : List Class) (values : List Known) (u : ℕ) → u < length values → length values ≤ length own → class_at (map (stale_class all) (zip own values)) u ≡ stale_class all (class_at own u, known_at values u)
@@ -82,7 +74,7 @@ module _ (f : FactSet) where
   now u = known_at (make_stale f).values u
 
   at : (u : ℕ) → now u ≡ stale_of (u, known_at f.values u)
-  at u = at_stale f.values u
+  at u = stale_at f.values u
 
   as_before : (P : Known → Type 0) → ((c d layout : ℕ) (stale now : Bool) → P (Cell c layout stale) ≡ P (Cell d layout now)) → (u : ℕ) → P (now u) ↔ (P (known_at f.values u) × Unit {0})
   as_before P same u =

@@ -1,4 +1,5 @@
 pub mod Facts
+pub mod Stale
 pub mod Contents
 pub mod Parts
 pub mod Lines

@@ -12,12 +12,14 @@ pub fn publish_law()
     ensures { PublishEndsFresh }
 {}
 
-/// A value that is found to be no null is said to be none with all that is the same, and nothing else changes.
+/// A value that is found to be no null is said to be none with all that is the same and with the slots that hold it, if its
+/// class is one of those that there are. Nothing else changes.
 pub fn learn_law()
     ensures { LearnAddsNonnull }
 {}
 
-/// A safepoint ends exactly what says that a reference is current or fresh, or the same as another value or as what a slot holds.
+/// Where each value has a class for itself, a safepoint ends exactly what says that a reference is current or fresh, but for
+/// null, which stays current, and what says that it is the same as another value or as what a slot holds.
 pub fn safepoint_law()
     ensures { SafepointEndsCurrent }
 {}

@@ -206,6 +206,14 @@ abbrev pub are_safepoint_types : Module → (returned : ℕ) → List ℕ → Bo
 are_safepoint_types m returned [] = is_void (slice_get m.types returned)
 are_safepoint_types m returned parameters = false
 
+-- these are the types of a function of the runtime
+abbrev pub are_types_of : Module → Runtime → (returned : ℕ) → (parameters : List ℕ) → Bool
+are_types_of m runtime.Alloc = are_alloc_types m
+are_types_of m runtime.Safepoint = are_safepoint_types m
+are_types_of m runtime.GcRoot = are_gcroot_types m
+are_types_of m runtime.GcRead = are_gcread_types m
+are_types_of m runtime.GcWrite = are_gcwrite_types m
+
 -- whether a name is declared with types that pass a test
 abbrev pub declared_with : (ℕ → List ℕ → Bool) → Option Declare → Bool
 declared_with test None = false

@@ -2,7 +2,7 @@
 ghost use Rattle.std.specs.Prelude.{◌≡◌, IfOk, slice_get};
 ghost use Rattle.std.specs.Option.{option_copied};
 ghost use Rattle.types.specs.RuntimeCall.{runtime_called};
-ghost use Rattle.machine.specs.Asks.{are_gcroot_types, are_gcread_types, are_gcwrite_types, are_alloc_types, are_safepoint_types, declare_of, declared_with, is_root_place, gcroot_action, gcread_action, gcwrite_action, layout_numbered, layout_named, alloc_of, alloc_action, safepoint_action, number_called, function_numbered, arguments_pass, defined_action, action_of_call};
+ghost use Rattle.machine.specs.Asks.{are_gcroot_types, are_gcread_types, are_gcwrite_types, are_alloc_types, are_safepoint_types, declare_of, are_types_of, declared_with, is_root_place, gcroot_action, gcread_action, gcwrite_action, layout_numbered, layout_named, alloc_of, alloc_action, safepoint_action, number_called, function_numbered, arguments_pass, defined_action, action_of_call};
 ghost use Rattle.machine.specs.Kinds.{slot_at_place, address_at_place};
 ghost use Rattle.machine.specs.Machine.{alloc_value, layout_of_call, root_of_call, place_of_call, values_of, function_called};
 
@@ -196,61 +196,36 @@ fn alloc_action(of_module: &Module, returned: TypeId, arguments: &[Argument]) ->
     }
 }
 
-/// Whether a name is declared as gcroot has to be.
-fn declares_gcroot(of_module: &Module, declare: Option<&Declare>) -> bool
-    ensures { result ≡ declared_with (are_gcroot_types of_module.now) (option_copied declare.entry) }
+/// Whether these are the types of a function of the runtime.
+fn are_types_of(
+    of_module: &Module,
+    runtime: Runtime,
+    returned: TypeId,
+    parameters: &[TypeId],
+) -> bool
+    ensures { result ≡ are_types_of of_module.now runtime returned parameters.now }
 {
-    match declare {
-        Some(declare) => {
-            are_gcroot_types(of_module, declare.returned, declare.parameters.as_slice())
-        }
-        None => false,
+    match runtime {
+        Runtime::Alloc => are_alloc_types(of_module, returned, parameters),
+        Runtime::Safepoint => are_safepoint_types(of_module, returned, parameters),
+        Runtime::GcRoot => are_gcroot_types(of_module, returned, parameters),
+        Runtime::GcRead => are_gcread_types(of_module, returned, parameters),
+        Runtime::GcWrite => are_gcwrite_types(of_module, returned, parameters),
     }
 }
 
-/// Whether a name is declared as gcread has to be.
-fn declares_gcread(of_module: &Module, declare: Option<&Declare>) -> bool
-    ensures { result ≡ declared_with (are_gcread_types of_module.now) (option_copied declare.entry) }
+/// Whether a name is declared as a function of the runtime has to be.
+fn declares(of_module: &Module, runtime: Runtime, declare: Option<&Declare>) -> bool
+    ensures { result ≡ declared_with (are_types_of of_module.now runtime) (option_copied declare.entry) }
 {
     match declare {
         Some(declare) => {
-            are_gcread_types(of_module, declare.returned, declare.parameters.as_slice())
-        }
-        None => false,
-    }
-}
-
-/// Whether a name is declared as gcwrite has to be.
-fn declares_gcwrite(of_module: &Module, declare: Option<&Declare>) -> bool
-    ensures { result ≡ declared_with (are_gcwrite_types of_module.now) (option_copied declare.entry) }
-{
-    match declare {
-        Some(declare) => {
-            are_gcwrite_types(of_module, declare.returned, declare.parameters.as_slice())
-        }
-        None => false,
-    }
-}
-
-/// Whether a name is declared as dg_alloc has to be.
-fn declares_alloc(of_module: &Module, declare: Option<&Declare>) -> bool
-    ensures { result ≡ declared_with (are_alloc_types of_module.now) (option_copied declare.entry) }
-{
-    match declare {
-        Some(declare) => {
-            are_alloc_types(of_module, declare.returned, declare.parameters.as_slice())
-        }
-        None => false,
-    }
-}
-
-/// Whether a name is declared as dg_safepoint has to be.
-fn declares_safepoint(of_module: &Module, declare: Option<&Declare>) -> bool
-    ensures { result ≡ declared_with (are_safepoint_types of_module.now) (option_copied declare.entry) }
-{
-    match declare {
-        Some(declare) => {
-            are_safepoint_types(of_module, declare.returned, declare.parameters.as_slice())
+            are_types_of(
+                of_module,
+                runtime,
+                declare.returned,
+                declare.parameters.as_slice(),
+            )
         }
         None => false,
     }
@@ -338,23 +313,23 @@ pub fn call_action(scene: &FrameScene<'_>, call: &Call) -> Action
     let declare = declare_of(of_module, callee);
     match runtime_called(of_module, callee) {
         Some(Runtime::Alloc) => only_if(
-            declares_alloc(of_module, declare),
+            declares(of_module, Runtime::Alloc, declare),
             alloc_action(of_module, returned, arguments),
         ),
         Some(Runtime::GcRoot) => only_if(
-            declares_gcroot(of_module, declare),
+            declares(of_module, Runtime::GcRoot, declare),
             gcroot_action(scene, returned, arguments),
         ),
         Some(Runtime::Safepoint) => only_if(
-            declares_safepoint(of_module, declare),
+            declares(of_module, Runtime::Safepoint, declare),
             safepoint_action(of_module, returned, arguments),
         ),
         Some(Runtime::GcRead) => only_if(
-            declares_gcread(of_module, declare),
+            declares(of_module, Runtime::GcRead, declare),
             gcread_action(scene, returned, arguments),
         ),
         Some(Runtime::GcWrite) => only_if(
-            declares_gcwrite(of_module, declare),
+            declares(of_module, Runtime::GcWrite, declare),
             gcwrite_action(scene, returned, arguments),
         ),
         None => defined_action(

@@ -119,17 +119,20 @@ holds_held s (move ∷ share) r (inr h) = go (holds_held s share r h.1) (step_of
     go before None x = before
     go before (Some step) x = inr (x, before)
 
-may_use : (s : Setup) (share : List Move) (r : Reference) → MayTouch s share r → MayUse s (steps_of share) r.cell
+-- what a move may touch, its steps may use
+pub may_use : (s : Setup) (share : List Move) (r : Reference) → MayTouch s share r → MayUse s (steps_of share) r.cell
 may_use s share r (inl e) = inl (same_cell e)
 may_use s share r (inr h) = inr (holds_held s share r h)
 
-may_store : (s : Setup) (share : List Move) (k : Option WordKind) (value : Reference) → MayPut s share k value → MayStore s (steps_of share) k value.cell
+-- and what it may put
+pub may_store : (s : Setup) (share : List Move) (k : Option WordKind) (value : Reference) → MayPut s share k value → MayStore s (steps_of share) k value.cell
 may_store s share None value h = h
 may_store s share (Some (kind.Integer bits)) value h = h
 may_store s share (Some (kind.Reference layout)) value (inl z) = inl z
 may_store s share (Some (kind.Reference layout)) value (inr h) = inr (holds_held s share value h.0, h.1)
 
-name_cells : (s : Setup) (share : List Move) (roots : List Reference) → ((r : Reference) → IsIn r roots → MayName s share r) → (c : ℕ) → IsAmong c (cells_of roots) → MayUse s (steps_of share) c
+-- and so with all that it may name
+pub name_cells : (s : Setup) (share : List Move) (roots : List Reference) → ((r : Reference) → IsIn r roots → MayName s share r) → (c : ℕ) → IsAmong c (cells_of roots) → MayUse s (steps_of share) c
 name_cells s share [] h c x = absurd x
 name_cells s share (q ∷ qs) h c (inl e) = go (h q (inl refl))
   where

@@ -1,5 +1,5 @@
 //! Runs of a module: threads of one machine and the collector, one atomic step at a time; when the end of a run is broken;
-//! and why careful threads break none.
+//! and why threads that keep the discipline break none.
 #![tactic(auto)]
 
 mod laws;

@@ -41,20 +41,11 @@ use Rattle.soundness.proofs.PhiFacts.{drop_one, drop_of_values, drop_of_keeps}
 use Rattle.soundness.proofs.Casts.{held_keeps}
 use Rattle.soundness.proofs.Numbers.{chosen_below, defines, numbers_usable, references_usable}
 use Rattle.soundness.proofs.RulesHold.{rules_hold}
-use Rattle.soundness.proofs.Steps.{OpGoes, goes_local, none_of, no_value, no_number, null_fits, available, integer_is, number_usable}
+use Rattle.soundness.proofs.Steps.{OpGoes, goes_local, none_of, no_value, no_number, null_fits, available, integer_is, number_usable, bits_are_so}
 
--- a kind that passes as one of some bits is it
 -- a select between two operands
 abbrev select : (condition_type : ℕ) (condition : Operand) (written : ℕ) (chosen other : Operand) → Choice
 select condition_type condition written chosen other = record { condition_type = condition_type; condition = condition; written = written; chosen = chosen; other = other }
-
-bits_are_so : (n : ℕ) (x : TypeKind) → is_bits n x ≡ true → x ≡ Bits n
-bits_are_so n NoValue e = absurd cc
-bits_are_so n (Bits bits) e = ap Bits (test_true bits n e)
-bits_are_so n (Reference l) e = absurd cc
-bits_are_so n AnyReference e = absurd cc
-bits_are_so n AddressKind e = absurd cc
-bits_are_so n Other e = absurd cc
 
 module _ (heap : Setup) (guarded : Guarded) (log : Log) where
   -- a value that fits what is first known of its layout fits what is chosen

@@ -16,8 +16,6 @@ use Rattle.shadow_stack.specs.Slots.{SlotTable, slots_of}
 use Rattle.certs.specs.declared.section.Section.{Section}
 use Rattle.facts.specs.Facts.{FactSet, test_at}
 use Rattle.block_rules.specs.declared.standing.Standing.{Standing}
-use Rattle.block_rules.specs.declared.type_kind.TypeKind.{TypeKind}
-use Rattle.block_rules.specs.declared.type_kind.TypeKind.TheVariants.{NoValue, Bits, Reference, AnyReference, Address, Other}
 use Rattle.block_rules.specs.Operands as o
 use Rattle.block_rules.specs.FirstFailing.{first_failing}
 use Rattle.block_rules.specs.TypeKinds.{kind_of, is_bits, is_integer}
@@ -37,18 +35,9 @@ use Rattle.soundness.specs.Meaning.{Cells, Guarded, Holds}
 use Rattle.soundness.proofs.Edges.{edge_holds}
 use Rattle.soundness.proofs.KindLemmas.{bits_same, constant_passes}
 use Rattle.soundness.proofs.Tests.{Decides, test_learned}
-use Rattle.soundness.proofs.Steps.{none_of, kind_bits, number_usable}
+use Rattle.soundness.proofs.Steps.{none_of, kind_bits, number_usable, bits_are_so}
 use Rattle.soundness.proofs.RulesHold.{rules_hold}
 use Rattle.block_rules.specs.declared.rule.Rule.TheVariants.{K1, K2}
-
--- an integer of n bits is an integer
-bits_integer : (n : ℕ) (x : TypeKind) → is_bits n x ≡ true → is_integer x ≡ true
-bits_integer n NoValue e = absurd cc
-bits_integer n (Bits bits) e = refl
-bits_integer n (Reference layout) e = absurd cc
-bits_integer n AnyReference e = absurd cc
-bits_integer n Address e = absurd cc
-bits_integer n Other e = absurd cc
 
 -- ---- what an end that obeys the rules shows
 
@@ -118,10 +107,9 @@ module _ (heap : Setup) (program : LaidOut) (certs : List Section) (f : Function
       → a.is_condition program.of_module f table frame.registers written x ≡ true
   condition_is written x available is no_slot =
       let b = and_parts (is_bits 1 (kind_of program.of_module written)) (o.is_value program.of_module f facts written x) is in
-      let bits = kind_bits heap program certs false f table guarded log cells facts frame h (kind_of program.of_module written) (bits_integer 1 (kind_of program.of_module written) b.0) in
       rw (
         sym (bits_same program.of_module 1 written) ∙ b.0,
-        number_usable heap program certs false f table guarded log cells facts frame h written bits.0 x bits.1 available b.1 (none_of (o.slot_named table x) no_slot),
+        number_usable heap program certs false f table guarded log cells facts frame h written 1 x (bits_are_so 1 (kind_of program.of_module written) b.0) available b.1 (none_of (o.slot_named table x) no_slot),
       ) refl
 
   -- of the two edges of a br the one that the condition's value decides

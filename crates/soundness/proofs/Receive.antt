@@ -22,7 +22,7 @@ use Rattle.facts.specs.Lines.{implied, is_below, promised_below, promised_nonnul
 use Rattle.block_rules.specs.declared.type_kind.TypeKind.{TypeKind}
 use Rattle.block_rules.specs.declared.type_kind.TypeKind.TheVariants.{NoValue, Bits, Reference, AnyReference, Address as AddressKind, Other}
 use Rattle.block_rules.specs.Operands as o
-use Rattle.block_rules.specs.TypeKinds.{kind_of, is_bits, may_be_reference}
+use Rattle.block_rules.specs.TypeKinds.{kind_of, may_be_reference}
 use Rattle.block_rules.specs.Integers.{below_of, known_layout}
 use Rattle.block_rules.specs.Promises.{given_by, is_promised, keeps_promise}
 use Rattle.machine.specs.declared.frame.Frame.{Frame}
@@ -34,7 +34,7 @@ use Rattle.soundness.specs.Meaning.{Cells, Guarded, IsReferenceTo, IsOwn, AreApa
 use Rattle.soundness.proofs.Change.{define_plain, new_keeps}
 use Rattle.soundness.proofs.Listed.{below_shown}
 use Rattle.soundness.proofs.Lists.{as_implied}
-use Rattle.soundness.proofs.Steps.{available, integer_is, no_number}
+use Rattle.soundness.proofs.Steps.{available, integer_is, no_number, bits_are_so}
 
 -- ---- what is taken
 
@@ -96,15 +96,6 @@ module _ (heap : Setup) (p : LaidOut) (table : SlotTable) (guarded : Guarded) (l
 
 -- ---- what is shown of an operand
 
--- a kind of some bits is of no reference
-bits_no_reference : (bits : ℕ) (kind : TypeKind) → is_bits bits kind ≡ true → may_be_reference kind ≡ true → ⊥
-bits_no_reference bits NoValue e z = absurd cc
-bits_no_reference bits (Bits n) e z = absurd cc
-bits_no_reference bits (Reference l) e z = absurd cc
-bits_no_reference bits AnyReference e z = absurd cc
-bits_no_reference bits AddressKind e z = absurd cc
-bits_no_reference bits Other e z = absurd cc
-
 module _ (heap : Setup) (p : LaidOut) (certs : List Section) (f : Function) (table : SlotTable) (guarded : Guarded) (log : Log) (cells : Cells) (facts : FactSet) (frame : Frame) (h : Holds heap p table guarded log cells facts frame.registers frame.slots)
     (written : ℕ) where
   -- what the rules ask of an operand that is passed or returned
@@ -149,7 +140,7 @@ module _ (heap : Setup) (p : LaidOut) (certs : List Section) (f : Function) (tab
       → Means heap p guarded log cells (length facts.classes) frame.registers known v → o.is_known facts known ≡ true → o.known_fits kind known ≡ true → o.is_current facts known ≡ true → may_be_reference kind ≡ true
       → ((l : ℕ) → known_layout known ≡ Some l → layout ≡ l) → (nonnull ≡ true → o.is_nonnull facts known ≡ true) → IsGivenReference heap more log (Some layout) nonnull v
   reference_known more kind layout nonnull Nothing v may means there fits current reference same shown = absurd cc
-  reference_known more kind layout nonnull (Number bits below) v may means there fits current reference same shown = absurd (bits_no_reference bits kind fits reference)
+  reference_known more kind layout nonnull (Number bits below) v may means there fits current reference same shown = absurd (let z = rw (bits_are_so bits kind fits) at reference in cc)
   reference_known more kind layout nonnull (Cell c l true) v may means there fits current reference same shown = absurd cc
   reference_known more kind layout nonnull (Cell c l false) v may means there fits current reference same shown = (
     subst (λ y. IsReferenceTo heap y v) (sym (same l refl)) means.refers,

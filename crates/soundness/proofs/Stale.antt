@@ -1,5 +1,5 @@
 -- Where references are stale: what a safepoint leaves, and what outlasts one.
-use Rattle.std.proofs.Common.{◌≡◌, ◌≢◌, ℕ, zero, suc, ◌+◌, ◌<◌, ◌≤◌, List, [], ◌∷◌, length, map, refl, sym, ap, ◌∙◌, subst, arith, true, false, Bool, Option, Some, None, inl, inr}
+use Rattle.std.proofs.Common.{◌≡◌, ◌≢◌, ℕ, zero, suc, ◌<◌, ◌≤◌, List, [], ◌∷◌, length, map, refl, sym, ap, ◌∙◌, subst, arith, true, false, Bool, Option, Some, None, inl, inr}
 use Rattle.std.proofs.lemmas.List.{length-map}
 use Rattle.std.proofs.lemmas.List.FromFn.{length-enumerate_from}
 use Rattle.std.specs.Prelude.{◌⊎◌}
@@ -14,6 +14,7 @@ use Rattle.facts.specs.declared.known.Known.{Known}
 use Rattle.facts.specs.declared.known.Known.TheVariants.{Nothing, Number, Cell, Null, Address, GlobalAddress}
 use Rattle.facts.specs.declared.known.SlotFact.{SlotFact}
 use Rattle.facts.specs.Facts.{FactSet, known_at, slot_at, class_at, open_slot, lost_class, held_nonnull, slot_nonnull, stale_of, stale_class, end_hold, make_stale}
+use Rattle.facts.specs.Stale.{stale_at}
 use Rattle.machine.specs.declared.value.Reference.{Reference}
 use Rattle.machine.specs.declared.value.Value.{Value}
 use Rattle.machine.specs.declared.value.Value.TheVariants as value
@@ -24,15 +25,6 @@ use Rattle.soundness.specs.Meaning.{Cells, Guarded, IsOwn, IsNullOrFresh, Means,
 use Rattle.soundness.proofs.Keep.{known_within}
 
 -- ---- what a safepoint makes of the facts
-
--- what is known of a value, from the value with number n on
-stale_from : (n : ℕ) (values : List Known) (v : ℕ) → known_at (map stale_of (enumerate_from n values)) v ≡ stale_of (n + v, known_at values v)
-stale_from n [] v = refl
-stale_from n (x ∷ xs) zero = let e : n ≡ n + 0 = omega arith in ap (λ m. stale_of (m, x)) e
-stale_from n (x ∷ xs) (suc v) = let e : (n + 1) + v ≡ n + suc v = omega arith in stale_from (n + 1) xs v ∙ ap (λ m. stale_of (m, known_at xs v)) e
-
-stale_at : (values : List Known) (v : ℕ) → known_at (map stale_of (enumerate_from 0 values)) v ≡ stale_of (v, known_at values v)
-stale_at values v = let e : 0 + v ≡ v = omega arith in stale_from 0 values v ∙ ap (λ m. stale_of (m, known_at values v)) e
 
 -- a class is that of a value for itself, or there is none
 class_from : (P : Class → Type 0) (all own : List Class) (values : List Known) (c : ℕ) → P (stale_class all (class_at own c, known_at values c)) → P lost_class → P (class_at (map (stale_class all) (zip own values)) c)

@@ -24,7 +24,7 @@ use Rattle.block_rules.specs.Bounds.{below_next}
 use Rattle.block_rules.specs.Integers.{below_of, below_known}
 use Rattle.block_rules.specs.Operands as o
 use Rattle.block_rules.specs.Rules.{after_memory, after_alloca, after_op}
-use Rattle.block_rules.specs.TypeKinds.{kind_of, is_integer, is_pointer, may_be_reference}
+use Rattle.block_rules.specs.TypeKinds.{kind_of, is_bits, is_integer, is_pointer, may_be_reference}
 use Rattle.machine.specs.declared.value.Reference.{Reference as Ref}
 use Rattle.machine.specs.declared.value.Value.{Value}
 use Rattle.machine.specs.declared.value.Value.TheVariants as value
@@ -67,6 +67,15 @@ chosen false b c e f = f e
 pub no_value : (typed : Bool) → (typed && false) ≡ true → ⊥
 no_value true e = absurd cc
 no_value false e = absurd cc
+
+-- a kind that passes as one of some bits is it
+pub bits_are_so : (n : ℕ) (x : TypeKind) → is_bits n x ≡ true → x ≡ Bits n
+bits_are_so n NoValue e = absurd cc
+bits_are_so n (Bits bits) e = ap Bits (test_true bits n e)
+bits_are_so n (Reference l) e = absurd cc
+bits_are_so n AnyReference e = absurd cc
+bits_are_so n AddressKind e = absurd cc
+bits_are_so n Other e = absurd cc
 
 -- a number is of no reference type
 pub no_number : (n : ℕ) (kind : TypeKind) → o.fits_bits n kind ≡ true → may_be_reference kind ≡ true → ⊥

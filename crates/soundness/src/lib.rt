@@ -1,4 +1,5 @@
-//! Law of soundness: why a thread of a certified function obeys the discipline.
+//! Law of soundness: why a thread of a certified program obeys the discipline, where it starts with arguments that fit and meet
+//! what is promised.
 #![tactic(auto)]
 
 mod fact_meaning;
