@@ -7,4 +7,4 @@ mod verdict;
 pub use accepted::Accepted;
 pub use block_check::{Rows, check_block, check_function, check_rows, rows};
 pub use block_rules::{Detail, Refusal, Rule};
-pub use verdict::{NotAccepted, Verdict, check};
+pub use verdict::{NotAccepted, Verdict, check, fault_in_module};

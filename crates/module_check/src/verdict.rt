@@ -74,8 +74,8 @@ fn fault_in_functions(
     None
 }
 
-/// The first fault in a module.
-fn fault_in_module(alloc: Global, program: &Program, certs: &Certs) -> Option<BlockFault>
+/// The first fault in a module, in text order.
+pub fn fault_in_module(alloc: Global, program: &Program, certs: &Certs) -> Option<BlockFault>
     ensures { let count = length program.now.of_module.functions in MatchOption result (IsModuleCertified program.now certs.now count) (IsModuleFault program.now certs.now count) }
 {
     // No memory holds more functions than there are numbers for them.
@@ -87,10 +87,10 @@ fn fault_in_module(alloc: Global, program: &Program, certs: &Certs) -> Option<Bl
 
 /// Checks a module against its certificates. Where it is not accepted, the verdict is the first refusal in the order of
 /// functions, blocks, instructions and targets, or the fault of its layouts; module and certificates are given back.
-/// A thread of an accepted module is never wrong, its roots are null or held, and its steps on the heap obey the discipline,
-/// whatever possible answers it gets, in whole calls and at each atomic step of a call. So for every number of threads that
-/// begin at its functions, with arguments that fit their types and meet what is promised of the parameters, and every list of
-/// atomic steps of theirs and the collector's: no cell that is reachable from a global or a root slot is freed, no instruction
+/// Take a thread that begins at a function of an accepted module, with integer arguments that fit their types and meet what is
+/// promised of the parameters. It is never wrong, its roots are null or held, and its steps on the heap obey the discipline,
+/// whatever possible answers it gets, in whole calls and at each atomic step of a call. So for every number of such threads and
+/// every list of atomic steps of theirs and the collector's: no cell that is reachable from a global or a root slot is freed, no instruction
 /// touches a freed cell, and none is wrong.
 pub fn check(alloc: Global, of_module: Module, certs: Certs) -> Result<Accepted, NotAccepted>
     ensures kept { IfOk result (λ accepted. (accepted.program.of_module ≡ of_module) × (accepted.certs ≡ certs)) }
