@@ -72,13 +72,6 @@ module _ {A : Type 0} (p : A → Bool) where
       by true = refl
       by false = refl
 
-  pub unwrap_or-position : (xs : List A) → unwrap_or (position p xs) (length xs) ≡ position_or_len p xs
-  unwrap_or-position xs = by (nat_lt (position_or_len p xs) (length xs)) refl (at_most xs)
-    where
-      by : (b : Bool) → nat_lt (position_or_len p xs) (length xs) ≡ b → position_or_len p xs ≤ length xs → unwrap_or (cond b (Some (position_or_len p xs)) None) (length xs) ≡ position_or_len p xs
-      by true e le = refl
-      by false e le = grind (arith, nat_tests)
-
 module _ {K : Type 0} (bytes : K → List ℕ) where
   -- a name that no key has is looked for up to the end
   pub unseen : (text : List ℕ) (keys : List K) → place_of text (map bytes keys) ≡ None

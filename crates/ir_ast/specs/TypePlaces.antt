@@ -1,14 +1,13 @@
 -- The place of a type holds that type, and a table of types by a test of equality has the places that the definitions say.
-use Rattle.std.proofs.Common.{◌≡◌, ℕ, Bool, true, false, ◌==◌, List, [], ◌∷◌, ◌++◌, length, slice_get, get_or, is_some, if◌then◌else◌, ◌&&◌, Option, None, Some, IfOk, eqb-true, true≢false, refl, sym, ap, ◌∙◌}
+use Rattle.std.proofs.Common.{◌≡◌, ℕ, Bool, true, false, ◌==◌, List, [], ◌∷◌, ◌++◌, length, slice_get, get_or, is_some, if◌then◌else◌, ◌&&◌, Some, eqb-true, true≢false, refl, sym, ap, ◌∙◌}
 use Rattle.std.proofs.lemmas.List.Quantifiers.{position-Some}
 use Rattle.std.proofs.lemmas.Option.{slice_get-get_or}
-use Rattle.std.specs.List.{position_or_len, list_any}
-use Rattle.std.specs.Option.{ok_or}
+use Rattle.std.specs.List.{list_any}
 use Rattle.ir_ast.specs.declared.ir_type.IrType.{IrType}
 use Rattle.ir_ast.specs.declared.ir_type.IrType.TheVariants.{Void, Integer, Pointer, Array, EmptyStruct, Struct, Named}
 use Rattle.ir_ast.specs.contracts.ir_type.IrTypePartialEq.TheImpl.{eq-value}
-use Rattle.ir_ast.specs.Types.{is_same_type, place_of_type, number_of_type, numbered_type}
-use Rattle.ir_ast.specs.Places.{is_some-position, unwrap_or-position}
+use Rattle.ir_ast.specs.Types.{is_same_type, place_of_type, numbered_type}
+use Rattle.ir_ast.specs.Places.{is_some-position}
 
 both_true : (b c : Bool) → b && c ≡ true → (b ≡ true) × (c ≡ true)
 both_true true c e = (refl, e)
@@ -34,11 +33,6 @@ stands sought types place e =
     let found = position-Some (is_same_type sought) types place sought e in
     slice_get-get_or types place sought found.0 ∙ ap Some (sym (same_type sought (get_or types place sought) found.1))
 
-pub found_stands : {E : Type 0} (error : E) (place : Option ℕ) (sought : IrType) (types : List IrType) → place ≡ place_of_type sought types
-    → IfOk (ok_or place error) (λ number. slice_get types number ≡ Some sought)
-found_stands error None sought types e = tt
-found_stands error (Some place) sought types e = stands sought types place (sym e)
-
 derived : (one other : IrType) → eq-value.it one other ≡ is_same_type one other
 derived Void Void = refl
 derived (Integer bits) (Integer others) = refl
@@ -50,11 +44,6 @@ derived (Named name) (Named others) = refl
 derived _ _ = refl
 
 module _ (written : IrType) (keys types : List IrType) (view : keys ≡ types) where
-  pub number-is : position_or_len (eq-value.it written) keys ≡ number_of_type written types
-  number-is =
-      ap (λ test. position_or_len test keys) (λ j other. derived written other j) ∙ ap (λ each. position_or_len (is_same_type written) each) view
-      ∙ sym (unwrap_or-position (is_same_type written) types)
-
   is_there : list_any (eq-value.it written) keys ≡ is_some (place_of_type written types)
   is_there =
       ap (λ test. list_any test keys) (λ j other. derived written other j) ∙ ap (λ each. list_any (is_same_type written) each) view
@@ -62,10 +51,3 @@ module _ (written : IrType) (keys types : List IrType) (view : keys ≡ types) w
 
   pub types-are : (if list_any (eq-value.it written) keys then keys else keys ++ written ∷ []) ≡ numbered_type written types
   types-are = ap (λ b. if b then keys else keys ++ written ∷ []) is_there ∙ ap (λ each. if is_some (place_of_type written types) then each else each ++ written ∷ []) view
-
-  pub none-is : list_any (eq-value.it written) keys ≡ false → place_of_type written types ≡ None
-  none-is absent = by (place_of_type written types) (sym is_there ∙ absent)
-    where
-      by : (place : Option ℕ) → is_some place ≡ false → place ≡ None
-      by None e = refl
-      by (Some n) e = absurd (true≢false e)

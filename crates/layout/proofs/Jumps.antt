@@ -1,15 +1,13 @@
 -- How many words jumps lead over, and what lies before a field after them.
-use Rattle.std.proofs.Common.{◌≡◌, ◌+◌, ◌⊎◌, inl, inr, ℕ, zero, suc, List, [], ◌∷◌, ◌++◌, length, Option, Some, None, refl, ap, sym, ◌∙◌, subst, arith}
+use Rattle.std.proofs.Common.{◌≡◌, ◌+◌, ℕ, zero, suc, List, Option, Some, None, refl, ap, sym, ◌∙◌, arith}
 use Rattle.std.specs.Prelude.{slice_get, unwrap_or}
 use Rattle.std.proofs.lemmas.Bool.Decides.{nat_tests}
-use Rattle.lemmas.specs.Lists.{get_either}
 use Rattle.ir_ast.specs.declared.ir_type.IrType.{IrType}
 use Rattle.ir_ast.specs.declared.ir_type.IrType.TheVariants.{Struct}
 use Rattle.ir_ast.specs.Fields.{rest_of, after_fields}
-use Rattle.layout.specs.Jumps.{words_over, IsOver, AreOver}
+use Rattle.layout.specs.Jumps.{words_over}
 use Rattle.layout.specs.Layouts.{LaidOut}
 use Rattle.layout.specs.Offsets.{size_of, words_before, sum_of}
-use Rattle.layout.specs.declared.sizes.Over.{Over}
 use Rattle.types.specs.Elements.{type_at}
 
 -- ---- sums
@@ -44,14 +42,6 @@ pub none_after : (x y : Option ℕ) → sum_of (sum_of x y) (Some 0) ≡ sum_of 
 none_after None y = refl
 none_after (Some a) None = refl
 none_after (Some a) (Some b) = none_after_two a b
-
--- ---- jumps of a table
-
-pub one_more : (types : List IrType) (sizes : List (Option ℕ)) (jumps : List Over) (over : Over) → AreOver types sizes jumps → IsOver types sizes (length jumps) over → AreOver types sizes (jumps ++ over ∷ [])
-one_more types sizes jumps over are is written found at = by (get_either jumps over written found at) where
-  by : (slice_get jumps written ≡ Some found) ⊎ ((written ≡ length jumps) × (found ≡ over)) → IsOver types sizes written found
-  by (inl there) = are written found there
-  by (inr here) = subst (λ w. IsOver types sizes w found) (sym here.0) (subst (IsOver types sizes (length jumps)) (sym here.1) is)
 
 -- ---- words after a jump
 
