@@ -67,7 +67,7 @@ edit_code edit.Memory = codes "memory"
 
 -- ---- lines
 
--- the line of an edit that is taken: its number, how many functions it made be checked, and the verdict after it
+-- the line of an edit that is taken: its number, how many functions it concerns, and the verdict after it
 abbrev pub taken_text : (number rechecked : ℕ) → (verdict : Answer) → List ℕ
 taken_text number rechecked verdict = decimal number ++ codes " rechecked " ++ decimal rechecked ++ 32 ∷ verdict.text
 

@@ -98,10 +98,6 @@ pub fn check_files<O: Write, E: Write>(
 {
     match read_certified(alloc, (asked.module_path, asked.certificate_path), files) {
         Ok(certified) => check_certified(rt, alloc, certified, asked.workers, out, err),
-        Err(fault) => {
-            let status = unread(err, &fault);
-            drop(fault);
-            status
-        }
+        Err(fault) => unread(err, fault),
     }
 }

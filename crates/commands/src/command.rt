@@ -17,7 +17,7 @@ use std::io::Write;
 use std::thread::Threads;
 
 /// Does the command of a line on the bytes of its files, in the line's order; None is a file that cannot be read.
-/// Returns the status with which the program ends, or the error of a write that failed.
+/// Returns the status with which the program ends, or an error of a writer.
 pub fn work<O: Write, E: Write>(
     rt: &(impl Threads + Sync),
     alloc: Global,

@@ -76,7 +76,7 @@ pub(crate) const RECHECK: CommandHelp = CommandHelp {
     after: "\
 Prints what `dgc check` does. Then puts the texts of each edit in the place of what is there,
 and prints a line for it, as `2 rechecked 3 yes 4`: the edit's number from 1, how many
-functions it made be checked, and what `dgc check` prints of the module and the certificate as
+functions it concerns, and what `dgc check` prints of the module and the certificate as
 they are then. Of an edit that is refused it prints the code of the fault, as `3 refused C3`.
 Such an edit changes nothing.
 

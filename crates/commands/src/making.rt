@@ -158,10 +158,6 @@ pub fn make_file<O: Write, E: Write>(
 {
     match module_in(alloc, asked.module_path, files) {
         Ok(of_module) => make_of(alloc, of_module, asked.why, out, err),
-        Err(fault) => {
-            let status = unread(err, &fault);
-            drop(fault);
-            status
-        }
+        Err(fault) => unread(err, fault),
     }
 }

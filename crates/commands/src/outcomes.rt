@@ -31,8 +31,8 @@ fn no_trace<W: Write>(err: &mut W, fault: TraceFault) -> io::Result<u8>
     }
 }
 
-/// Files that are not read.
-pub fn unread<W: Write>(err: &mut W, unread: &Unread<'_>) -> io::Result<u8>
+/// Prints why files are not read.
+fn print_unread<W: Write>(err: &mut W, unread: &Unread<'_>) -> io::Result<u8>
     ensures { IfOk result (λ status. IsTold (W.contents err.old) (W.contents err.new) status (of_unread unread.now)) }
 {
     match unread {
@@ -43,6 +43,15 @@ pub fn unread<W: Write>(err: &mut W, unread: &Unread<'_>) -> io::Result<u8>
         Unread::NoEdits(fault) => no_edits(err, *fault),
         Unread::NoTrace(fault) => no_trace(err, *fault),
     }
+}
+
+/// Files that are not read.
+pub fn unread<W: Write>(err: &mut W, unread: Unread<'_>) -> io::Result<u8>
+    ensures { IfOk result (λ status. IsTold (W.contents err.old) (W.contents err.new) status (of_unread unread.entry)) }
+{
+    let status = print_unread(err, &unread);
+    drop(unread);
+    status
 }
 
 /// A thread that does not begin: `error K13 t 0`.

@@ -234,12 +234,8 @@ fn workers_given(given: &ArgMatches<'_>) -> Option<u32>
 fn check_line<'a>(given: &ArgMatches<'a>) -> Option<Line<'a>>
     ensures { option_map asked_by result ≡ check_of (rows_of (found_of given.now)) }
 {
-    let Some((module_path, certificate_path)) = paths_given(given, "CERT") else {
-        return None;
-    };
-    let Some(workers) = workers_given(given) else {
-        return None;
-    };
+    let (module_path, certificate_path) = paths_given(given, "CERT")?;
+    let workers = workers_given(given)?;
     Some(Line::Check(CheckLine {
         module_path,
         certificate_path,
@@ -272,9 +268,7 @@ fn why_given(given: &ArgMatches<'_>) -> Why
 fn make_line<'a>(given: &ArgMatches<'a>) -> Option<Line<'a>>
     ensures { option_map asked_by result ≡ make_of (rows_of (found_of given.now)) }
 {
-    let Some(module_path) = text_given(given, "MODULE") else {
-        return None;
-    };
+    let module_path = text_given(given, "MODULE")?;
     let why = why_given(given);
     Some(Line::Make(MakeLine { module_path, why }))
 }
@@ -283,12 +277,8 @@ fn make_line<'a>(given: &ArgMatches<'a>) -> Option<Line<'a>>
 fn recheck_line<'a>(given: &ArgMatches<'a>) -> Option<Line<'a>>
     ensures { option_map asked_by result ≡ recheck_of (rows_of (found_of given.now)) }
 {
-    let Some((module_path, certificate_path)) = paths_given(given, "CERT") else {
-        return None;
-    };
-    let Some(edits_path) = text_given(given, "EDITS") else {
-        return None;
-    };
+    let (module_path, certificate_path) = paths_given(given, "CERT")?;
+    let edits_path = text_given(given, "EDITS")?;
     Some(Line::Recheck(RecheckLine {
         module_path,
         certificate_path,
@@ -300,9 +290,7 @@ fn recheck_line<'a>(given: &ArgMatches<'a>) -> Option<Line<'a>>
 fn replay_line<'a>(given: &ArgMatches<'a>) -> Option<Line<'a>>
     ensures { option_map asked_by result ≡ replay_of (rows_of (found_of given.now)) }
 {
-    let Some((module_path, trace_path)) = paths_given(given, "TRACE") else {
-        return None;
-    };
+    let (module_path, trace_path) = paths_given(given, "TRACE")?;
     Some(Line::Replay(ReplayLine {
         module_path,
         trace_path,
@@ -313,15 +301,9 @@ fn replay_line<'a>(given: &ArgMatches<'a>) -> Option<Line<'a>>
 fn soak_line<'a>(given: &ArgMatches<'a>) -> Option<Line<'a>>
     ensures { option_map asked_by result ≡ soak_of (rows_of (found_of given.now)) }
 {
-    let Some((module_path, trace_path)) = paths_given(given, "TRACE") else {
-        return None;
-    };
-    let Some(seeds) = number_given(given, "seeds") else {
-        return None;
-    };
-    let Some(steps) = number_given(given, "steps") else {
-        return None;
-    };
+    let (module_path, trace_path) = paths_given(given, "TRACE")?;
+    let seeds = number_given(given, "seeds")?;
+    let steps = number_given(given, "steps")?;
     Some(Line::Soak(SoakLine {
         module_path,
         trace_path,
@@ -334,18 +316,10 @@ fn soak_line<'a>(given: &ArgMatches<'a>) -> Option<Line<'a>>
 fn run_line<'a>(given: &ArgMatches<'a>) -> Option<Line<'a>>
     ensures { option_map asked_by result ≡ run_of (rows_of (found_of given.now)) }
 {
-    let Some((module_path, certificate_path)) = paths_given(given, "CERT") else {
-        return None;
-    };
-    let Some(trace_path) = text_given(given, "TRACE") else {
-        return None;
-    };
-    let Some(turns) = number_given(given, "turns") else {
-        return None;
-    };
-    let Some(steps) = number_given(given, "steps") else {
-        return None;
-    };
+    let (module_path, certificate_path) = paths_given(given, "CERT")?;
+    let trace_path = text_given(given, "TRACE")?;
+    let turns = number_given(given, "turns")?;
+    let steps = number_given(given, "steps")?;
     Some(Line::Run(RunLine {
         module_path,
         certificate_path,

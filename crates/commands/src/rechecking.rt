@@ -190,9 +190,7 @@ fn recheck_edits<O: Write, E: Write>(
         }
         Err(fault) => {
             drop(certified);
-            let status = unread(err, &fault);
-            drop(fault);
-            status
+            unread(err, fault)
         }
     }
 }
@@ -210,10 +208,6 @@ pub fn recheck_files<O: Write, E: Write>(
 {
     match read_certified(alloc, (asked.module_path, asked.certificate_path), files) {
         Ok(certified) => recheck_edits(alloc, certified, asked.edits_path, files, out, err),
-        Err(fault) => {
-            let status = unread(err, &fault);
-            drop(fault);
-            status
-        }
+        Err(fault) => unread(err, fault),
     }
 }

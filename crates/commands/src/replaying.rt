@@ -45,10 +45,6 @@ pub fn replay_files<O: Write, E: Write>(
             drop(traced);
             status
         }
-        Err(fault) => {
-            let status = unread(err, &fault);
-            drop(fault);
-            status
-        }
+        Err(fault) => unread(err, fault),
     }
 }

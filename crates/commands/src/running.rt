@@ -56,11 +56,7 @@ fn run_accepted<O: Write, E: Write>(
             drop(trace);
             status
         }
-        Err(fault) => {
-            let status = unread(err, &fault);
-            drop(fault);
-            status
-        }
+        Err(fault) => unread(err, fault),
     }
 }
 
@@ -114,10 +110,6 @@ pub fn run_files<O: Write, E: Write>(
             out,
             err,
         ),
-        Err(fault) => {
-            let status = unread(err, &fault);
-            drop(fault);
-            status
-        }
+        Err(fault) => unread(err, fault),
     }
 }

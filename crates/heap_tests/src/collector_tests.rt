@@ -1,5 +1,6 @@
 //! The collector over one cell: its first turns.
-use colours::{Ask, Place, Turn};
+use crate::cycles::FIRST_TURNS;
+use colours::{Ask, Place};
 use items::Items;
 use pools::{LayoutId, Layouts, Pools, WordKind};
 use std::test::Fail;
@@ -44,22 +45,6 @@ fn colours_after(colours: (u32, u32), place: Place, stored: Option<u64>) -> (u32
         _ => colours,
     }
 }
-
-/// The turns of the first cycle, and the first turn of the second.
-const FIRST_TURNS: [Turn; 12] = [
-    Turn::PostStage(1),
-    Turn::PostStage(2),
-    Turn::MarkFound(0, 1),
-    Turn::PostStage(3),
-    Turn::ReadColour(0, 2),
-    Turn::ScanWord(0, 0, 0),
-    Turn::Blacken(0),
-    Turn::ReadColour(1, 0),
-    Turn::ReadColour(0, 3),
-    Turn::ReadColour(1, 0),
-    Turn::ReadColour(1, 0),
-    Turn::PostStage(4),
-];
 
 #[test]
 fn first_turns_over_one_blue_cell(rt: HostRuntime) -> Result<(), Fail> {

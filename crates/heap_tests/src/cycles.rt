@@ -1,4 +1,4 @@
-//! Whole cycles of the collector, where the only thread answers each stage.
+//! Cycles of the collector: its first turns without a thread, and whole cycles where the only thread answers each stage.
 ghost use Rattle.std.specs.Prelude.{◌≡◌, ◌<◌, length, Some};
 ghost use Rattle.pools.specs.Heap.{kind_of};
 ghost use Rattle.pools.specs.declared.word_kind.WordKind.TheVariants.{Reference};
@@ -8,6 +8,22 @@ ghost use Rattle.heap_table.specs.Sweepers.{IsSweeperOf};
 use crate::steps::{answer, global, keep_a_cell, take, take_two};
 use colours::Turn;
 use heap_table::{Heap, Mutator, Sweeper};
+
+/// The turns of the first cycle over one null global and one blue cell, without a thread, and the first turn of the second.
+pub const FIRST_TURNS: [Turn; 12] = [
+    Turn::PostStage(1),
+    Turn::PostStage(2),
+    Turn::MarkFound(0, 1),
+    Turn::PostStage(3),
+    Turn::ReadColour(0, 2),
+    Turn::ScanWord(0, 0, 0),
+    Turn::Blacken(0),
+    Turn::ReadColour(1, 0),
+    Turn::ReadColour(0, 3),
+    Turn::ReadColour(1, 0),
+    Turn::ReadColour(1, 0),
+    Turn::PostStage(4),
+];
 
 /// The turns of the first cycle over a global, a cell that it names, and a cell that nothing names, where the only thread answers
 /// each stage; but the last two, the look at the last cell and its freeing.

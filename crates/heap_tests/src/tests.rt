@@ -5,7 +5,7 @@ ghost use Rattle.heap_table.specs.Holders.{IsOf, MayCall, MayBegin};
 ghost use Rattle.heap_table.specs.Opening.{AreNew};
 ghost use Rattle.heap_table.specs.Sweepers.{IsSweeperOf};
 
-use crate::cycles::{first_cycle, second_cycle, take_all};
+use crate::cycles::{FIRST_TURNS, first_cycle, second_cycle, take_all};
 use crate::late::read_late;
 use crate::opening::{
     ground, last_token, late_token, no_globals, one_layout, one_reference, open, pool_of,
@@ -208,22 +208,6 @@ fn a_cycle_frees_the_cell_that_nothing_names(rt: HostRuntime) -> Result<(), Fail
     Ok(())
 }
 
-/// The turns of the first cycle over one null global and one blue cell, and the first turn of the second.
-const FIRST_TURNS: [Turn; 12] = [
-    Turn::PostStage(1),
-    Turn::PostStage(2),
-    Turn::MarkFound(0, 1),
-    Turn::PostStage(3),
-    Turn::ReadColour(0, 2),
-    Turn::ScanWord(0, 0, 0),
-    Turn::Blacken(0),
-    Turn::ReadColour(1, 0),
-    Turn::ReadColour(0, 3),
-    Turn::ReadColour(1, 0),
-    Turn::ReadColour(1, 0),
-    Turn::PostStage(4),
-];
-
 #[test]
 fn first_turns_without_threads(rt: HostRuntime) -> Result<(), Fail> {
     let alloc = rt.alloc();
@@ -311,26 +295,6 @@ fn a_late_thread_begins_at_the_posted_stage(rt: HostRuntime) -> Result<(), Fail>
     Ok(())
 }
 
-/// What `read_late` returns, where the first global is a reference.
-fn read_by_late(
-    rt: &impl Threads,
-    heap: &Heap<'_>,
-    first: &mut Mutator,
-    late: &mut Mutator,
-    sweeper: &mut Sweeper<'_>,
-) -> (u32, Option<(u64, u64)>)
-    requires first { MayCall heap.now first.old }
-    requires late { MayBegin heap.now late.old }
-    requires sweeper { IsSweeperOf heap.now sweeper.old }
-    requires layout { 0 < length heap.now.setup.pools }
-    requires globals { heap.now.setup.globals ≡ Reference 0 ∷ [] }
-    ensures first { IsOf heap.now first.new }
-    ensures late { IsOf heap.now late.new }
-    ensures sweeper { IsSweeperOf heap.now sweeper.new }
-{
-    read_late(rt, heap, first, late, sweeper)
-}
-
 /// What `read_late` returns; and the stages of a heap after it: the posted one, and those of the two threads.
 type LateRead = ((u32, Option<(u64, u64)>), (u64, [u64; 2]));
 
@@ -350,7 +314,7 @@ fn read_and_close(
     requires globals { heap.setup.globals ≡ Reference 0 ∷ [] }
     requires threads { heap.setup.threads ≡ 2 }
 {
-    let read = read_by_late(rt, &heap, &mut first, &mut late, &mut sweeper);
+    let read = read_late(rt, &heap, &mut first, &mut late, &mut sweeper);
     let closed = close_two(alloc, heap, first, late, sweeper)?;
     Ok((read, (closed.posted(), stages_of_two(&closed))))
 }

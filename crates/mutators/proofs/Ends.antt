@@ -1,7 +1,7 @@
 -- What the threads left that were served, and what is told of them.
 use Rattle.std.proofs.Common.{◌≡◌, ◌<◌, ◌≤◌, ℕ, zero, suc, List, [], ◌∷◌, ◌++◌, length, map, Some, slice_get, slice_index_or, refl, sym, ap, subst, ◌∙◌, arith}
 use Rattle.std.proofs.lemmas.List.{append-nil, length-map}
-use Rattle.std.proofs.lemmas.Option.{slice_get_within}
+use Rattle.std.proofs.lemmas.Option.{get_or_from_slice_get, slice_get_within}
 use Rattle.std.specs.List.{AllByRecursion}
 use Rattle.lemmas.specs.Lists.{get_some}
 use Rattle.pools.specs.Heap.{Setup as HeapSetup}
@@ -30,7 +30,7 @@ use Rattle.trace_text.specs.declared.trace.Setup.{Setup}
 use Rattle.mutators.specs.declared.thread_end.ThreadEnd.{ThreadEnd}
 use Rattle.mutators.specs.Jobs.{IsJobOf, AreJobs}
 use Rattle.mutators.specs.Reports.{IsThreadEnd, IsReport, end_of}
-use Rattle.mutators.proofs.Lists.{get_mapped, read_there, all_places}
+use Rattle.mutators.proofs.Lists.{get_mapped, all_places}
 use Rattle.mutators.proofs.Runs.{safe_run}
 
 -- the heap may serve them all
@@ -49,8 +49,8 @@ was_served limit before after same each t job at =
     let first = get_some before t within in (
       first.0,
       first.1,
-      subst (λ (q : Job ProgramThread). WasServed program_machine limit first.0 q) (read_there after t job job at)
-          (subst (λ (q : Job ProgramThread). WasServed program_machine limit q (slice_index_or after t job)) (read_there before t first.0 job first.1) (each t job within)),
+      subst (λ (q : Job ProgramThread). WasServed program_machine limit first.0 q) (get_or_from_slice_get after t job job at)
+          (subst (λ (q : Job ProgramThread). WasServed program_machine limit q (slice_index_or after t job)) (get_or_from_slice_get before t first.0 job first.1) (each t job within)),
     )
 
 -- its token is of the heap still

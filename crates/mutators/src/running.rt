@@ -30,10 +30,12 @@ use trace_sweep::heap_law;
 use trace_text::Setup;
 
 /// Runs the threads of a setup of an accepted module, each on a real thread of its own, beside the collector of their heap.
-/// Nothing holds a lock, and no thread waits for another. A thread is stopped once it has made as many steps as the limit
-/// says. The limit is looked at before each instruction, which is then made whole, and a late thread's steps before it has begun count too. The
-/// collector makes turns until its limit, or until it finds after a turn that all threads have ended. A thread calls the gate
-/// by its number before its first step and after its last one; the collector does so by the number after those.
+///
+/// No clause says the following. Nothing holds a lock, and no thread waits for another. A thread is stopped once it has made as
+/// many steps as the limit says. The limit is looked at before each instruction, which is then made whole, and a late thread's
+/// steps before it has begun count too. The collector makes turns until its limit, or until it finds after a turn that all
+/// threads have ended. A thread calls the gate by its number before its first step and after its last one; the collector does so
+/// by the number after those.
 ///
 /// A thread that finds no memory is finished, and is told so; the others go on. The fault is that of the first thread that may
 /// not begin. It is Memory where there is none for the heap, for the threads' beginning, or for the report.

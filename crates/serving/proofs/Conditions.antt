@@ -1,43 +1,19 @@
 -- A careful thread meets the conditions of each call that it asks for.
-use Rattle.std.proofs.Common.{◌≡◌, ◌≢◌, ℕ, inl, inr, Option, Some, None, List, [], ◌∷◌, refl, sym, ap, subst, ◌∙◌}
+use Rattle.std.proofs.Common.{◌≡◌, ◌≢◌, ℕ, None, List, sym, ap, subst, ◌∙◌}
 use Rattle.std.specs.Prelude.{IsTrue}
-use Rattle.pools.specs.Heap.{Setup, kind_of}
-use Rattle.pools.specs.declared.word_kind.WordKind.{WordKind}
+use Rattle.pools.specs.Heap.{kind_of}
 use Rattle.pools.specs.declared.word_kind.WordKind.TheVariants as kind
 use Rattle.pools.specs.Layouts.{is_reference_kind}
 use Rattle.colours.specs.Steps.{Step}
-use Rattle.colours.specs.Mutator.{Ready, phase_of, MayUse, MayStore, IsPossibleLog, IsAmong, Held, Fresh}
+use Rattle.colours.specs.Mutator.{Ready, phase_of, MayUse, MayStore, IsPossibleLog, IsAmong, Fresh}
 use Rattle.runs.specs.Machine.{Reference, Action, Read, StorePlain, Write, Wrong, Machine}
-use Rattle.runs.specs.Moves.{Move, IsIn, cells_of, steps_of}
+use Rattle.runs.specs.Moves.{IsIn, cells_of, steps_of}
 use Rattle.runs.specs.Broken.{IsUnderWay}
-use Rattle.runs.specs.Discipline.{MayTouch, MayName, MayPut, ArePossible}
+use Rattle.runs.specs.Discipline.{MayName, ArePossible}
 use Rattle.runs.specs.Discipline as discipline
-use Rattle.runs.specs.Shares.{holds_held, same_cell, possible_share}
+use Rattle.runs.specs.Shares.{possible_share, may_use, may_store, name_cells}
 use Rattle.heap_table.specs.Holders.{Holder}
 use Rattle.serving.specs.Serving.{Serves}
-
--- ---- references and cells
-
-use_cell : (s : Setup) (share : List Move) (r : Reference) → MayTouch s share r → MayUse s (steps_of share) r.cell
-use_cell s share r (inl e) = inl (same_cell e)
-use_cell s share r (inr h) = inr (holds_held s share r h)
-
-store_cell : (s : Setup) (share : List Move) (k : Option WordKind) (v : Reference) → MayPut s share k v → MayStore s (steps_of share) k v.cell
-store_cell s share None v h = h
-store_cell s share (Some (kind.Integer bits)) v h = h
-store_cell s share (Some (kind.Reference layout)) v (inl z) = inl z
-store_cell s share (Some (kind.Reference layout)) v (inr h) = inr (holds_held s share v h.0, h.1)
-
-name_cells : (s : Setup) (share : List Move) (roots : List Reference) → ((r : Reference) → IsIn r roots → MayName s share r) → (c : ℕ) → IsAmong c (cells_of roots) → MayUse s (steps_of share) c
-name_cells s share [] h c x = absurd x
-name_cells s share (q ∷ qs) h c (inl e) = go (h q (inl refl))
-  where
-    go : MayName s share q → MayUse s (steps_of share) c
-    go (inl z) = inl (e ∙ z)
-    go (inr x) = inr (subst (λ (d : ℕ). Held s (steps_of share) d) (sym e) (holds_held s share q x))
-name_cells s share (q ∷ qs) h c (inr x) = name_cells s share qs (λ r y. h r (inr y)) c x
-
--- ---- the conditions
 
 module _ (m : Machine) (start : m.State) (moves : ℕ) (t : Holder) (state : m.State) (v : Serves m start moves t state) (ready : phase_of t.setup t.thread t.log ≡ Ready) (possible : IsPossibleLog t.setup t.log) where
   at_ready : phase_of t.setup t.thread (steps_of v.real.share) ≡ Ready
@@ -51,24 +27,24 @@ module _ (m : Machine) (start : m.State) (moves : ℕ) (t : Holder) (state : m.S
 
   pub may_read : (base : Reference) (word cell : ℕ) → cell ≡ base.cell → m.action state ≡ Read base word → MayUse t.setup t.log cell × (kind_of t.setup cell word ≢ None)
   may_read base word cell number e = let c : discipline.MayCall t.setup v.real.share (Read base word) = calls (Read base word) e in
-      subst (λ (d : ℕ). MayUse t.setup t.log d × (kind_of t.setup d word ≢ None)) (sym number) (subst (λ (l : List Step). MayUse t.setup l base.cell) v.real.steps (use_cell t.setup v.real.share base c.0), c.1)
+      subst (λ (d : ℕ). MayUse t.setup t.log d × (kind_of t.setup d word ≢ None)) (sym number) (subst (λ (l : List Step). MayUse t.setup l base.cell) v.real.steps (may_use t.setup v.real.share base c.0), c.1)
 
   pub may_write : (base : Reference) (word : ℕ) (value : Reference) (cell new : ℕ) → cell ≡ base.cell → new ≡ value.cell → m.action state ≡ Write base word value
       → MayUse t.setup t.log cell × IsTrue (is_reference_kind (kind_of t.setup cell word)) × MayStore t.setup t.log (kind_of t.setup cell word) new
   may_write base word value cell new number same e = let c : discipline.MayCall t.setup v.real.share (Write base word value) = calls (Write base word value) e in
       subst (λ (d : ℕ). MayUse t.setup t.log d × IsTrue (is_reference_kind (kind_of t.setup d word)) × MayStore t.setup t.log (kind_of t.setup d word) new) (sym number) (
-        subst (λ (l : List Step). MayUse t.setup l base.cell) v.real.steps (use_cell t.setup v.real.share base c.0),
+        subst (λ (l : List Step). MayUse t.setup l base.cell) v.real.steps (may_use t.setup v.real.share base c.0),
         c.1,
-        subst (λ (n : ℕ). MayStore t.setup t.log (kind_of t.setup base.cell word) n) (sym same) (subst (λ (l : List Step). MayStore t.setup l (kind_of t.setup base.cell word) value.cell) v.real.steps (store_cell t.setup v.real.share (kind_of t.setup base.cell word) value c.2)),
+        subst (λ (n : ℕ). MayStore t.setup t.log (kind_of t.setup base.cell word) n) (sym same) (subst (λ (l : List Step). MayStore t.setup l (kind_of t.setup base.cell word) value.cell) v.real.steps (may_store t.setup v.real.share (kind_of t.setup base.cell word) value c.2)),
       )
 
   pub may_store_plain : (base : Reference) (word : ℕ) (value : Reference) (cell : ℕ) → cell ≡ base.cell → m.action state ≡ StorePlain base word value
       → MayUse t.setup t.log cell × (IsTrue (is_reference_kind (kind_of t.setup cell word)) → Fresh t.setup t.log cell) × MayStore t.setup t.log (kind_of t.setup cell word) value.cell
   may_store_plain base word value cell number e = let c : discipline.MayCall t.setup v.real.share (StorePlain base word value) = calls (StorePlain base word value) e in
       subst (λ (d : ℕ). MayUse t.setup t.log d × (IsTrue (is_reference_kind (kind_of t.setup d word)) → Fresh t.setup t.log d) × MayStore t.setup t.log (kind_of t.setup d word) value.cell) (sym number) (
-        subst (λ (l : List Step). MayUse t.setup l base.cell) v.real.steps (use_cell t.setup v.real.share base c.0),
+        subst (λ (l : List Step). MayUse t.setup l base.cell) v.real.steps (may_use t.setup v.real.share base c.0),
         subst (λ (l : List Step). IsTrue (is_reference_kind (kind_of t.setup base.cell word)) → Fresh t.setup l base.cell) v.real.steps c.1,
-        subst (λ (l : List Step). MayStore t.setup l (kind_of t.setup base.cell word) value.cell) v.real.steps (store_cell t.setup v.real.share (kind_of t.setup base.cell word) value c.2),
+        subst (λ (l : List Step). MayStore t.setup l (kind_of t.setup base.cell word) value.cell) v.real.steps (may_store t.setup v.real.share (kind_of t.setup base.cell word) value c.2),
       )
 
   pub never_wrong : m.action state ≡ Wrong → ⊥

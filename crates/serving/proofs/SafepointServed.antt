@@ -1,5 +1,5 @@
 -- A safepoint of a thread that is served: the look, the marks of the roots, and the answer.
-use Rattle.std.proofs.Common.{◌≡◌, ◌≢◌, ℕ, zero, suc, ◌==◌, not, inl, inr, Bool, true, false, Some, None, List, [], ◌∷◌, ◌++◌, length, filter, reverse, if◌then◌else◌, refl, sym, ap, subst, ◌∙◌, append_assoc, length-append, arith, true≢false}
+use Rattle.std.proofs.Common.{◌≡◌, ◌≢◌, ℕ, zero, suc, inl, inr, Bool, true, false, Some, None, List, [], ◌∷◌, ◌++◌, length, reverse, if◌then◌else◌, refl, sym, ap, subst, ◌∙◌, append_assoc, length-append, arith, true≢false}
 use Rattle.std.specs.Prelude.{IsTrue, slice_get}
 use Rattle.colours.specs.Colours.{done, is_async}
 use Rattle.colours.specs.Steps.{Step, Mark, ReadPosted, StoreStage}
@@ -10,16 +10,13 @@ use Rattle.runs.specs.Machine as machine
 use Rattle.runs.specs.Moves.{ReadsPosted, Marks, StoresStage, null, cells_of}
 use Rattle.runs.specs.RealThreads.{Left, cut}
 use Rattle.moves.specs.Kinds.{AnswersByKind}
+use Rattle.moves.specs.Moving.{not_null}
 use Rattle.heap_words.specs.Tokens.{Shared}
 use Rattle.heap_table.specs.Holders.{Holder, MayCall, IsNow, with_log}
 use Rattle.heap_table.specs.Safepoints.{with_marks, before_answer, pushed, turned}
 use Rattle.serving.specs.Serving.{Serves, IsServed, IsLeft}
 use Rattle.serving.proofs.UnderWay.{Under, Over, begins, further, last, ends}
 use Rattle.serving.proofs.ReadServed.{at_most}
-
--- the references that are not null
-abbrev some_of : List Reference → List Reference
-some_of roots = filter (λ r. not (r.cell == 0)) roots
 
 -- what comes after that number
 after_front : (front : List Reference) (r : Reference) (rest : List Reference) (n : ℕ) → n ≡ length front → slice_get (front ++ (r ∷ rest)) n ≡ Some r
@@ -37,20 +34,20 @@ longer front r = omega (arith, length-append front (r ∷ []))
 module _ (m : Machine) (start : m.State) (moves : ℕ) (t : Holder) (state : m.State) (posted : ℕ) (async : IsTrue (is_async posted)) where
   -- after the first roots, the marks of the rest lead on
   abbrev Marked : List Reference → Type 0
-  Marked rest = (front : List Reference) (log : List Step) (made : List ℕ) (old : Reference) → some_of (m.roots state) ≡ front ++ some_of rest → length made ≡ length front
+  Marked rest = (front : List Reference) (log : List Step) (made : List ℕ) (old : Reference) → not_null (m.roots state) ≡ front ++ not_null rest → length made ≡ length front
       → Under t.setup m t.thread start state machine.Safepoint moves log (Answering posted made) old
       → (last_old : Reference) × Under t.setup m t.thread start state machine.Safepoint moves (with_marks (cells_of rest) log) (Answering posted (pushed (cells_of rest) made)) last_old
 
   one_root : (cell birth : ℕ) (rest : List Reference) → Marked rest → Marked (record { cell = cell; birth = birth } ∷ rest)
   one_root zero birth rest next front log made old all same u = next front log made old all same u
-  one_root (suc cell) birth rest next front log made old all same u = next (front ++ q ∷ []) (Mark (suc cell) ∷ log) (suc cell ∷ made) null (parts ∙ one_more front q (some_of rest)) (let n = longer front q in omega arith)
+  one_root (suc cell) birth rest next front log made old all same u = next (front ++ q ∷ []) (Mark (suc cell) ∷ log) (suc cell ∷ made) null (parts ∙ one_more front q (not_null rest)) (let n = longer front q in omega arith)
       (further t.setup m t.thread start state machine.Safepoint moves log (Answering posted made) old u (Marks q) (Mark (suc cell)) refl (async, λ z. omega arith)
-      (ap (λ (l : List Reference). slice_get l (length made)) parts ∙ after_front front q (some_of rest) (length made) same) tt (Answering posted (suc cell ∷ made)) refl refl)
+      (ap (λ (l : List Reference). slice_get l (length made)) parts ∙ after_front front q (not_null rest) (length made) same) tt (Answering posted (suc cell ∷ made)) refl refl)
     where
       q : Reference
       q = record { cell = suc cell; birth = birth }
 
-      parts : some_of (m.roots state) ≡ front ++ (q ∷ some_of rest)
+      parts : not_null (m.roots state) ≡ front ++ (q ∷ not_null rest)
       parts = all ∙ rw (test_no (suc cell) 0 (λ z. omega arith)) refl
 
   marked : (rest : List Reference) → Marked rest

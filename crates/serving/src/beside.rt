@@ -33,7 +33,9 @@ pub struct Limits {
     pub steps: u32,
 }
 
-/// Serves each thread on a real thread of its own, beside the collector. The collector makes turns until its limit, or until it
+/// Serves each thread on a real thread of its own, beside the collector.
+///
+/// No clause says the following. The collector makes turns until its limit, or until it
 /// finds after a turn that all threads have ended. Returns how many it made. A thread calls the gate by its number, and the
 /// collector by the number after those.
 pub fn serve_beside<'a, T: Threads + Sync, R: Runner + Send, G: Gate + Sync>(

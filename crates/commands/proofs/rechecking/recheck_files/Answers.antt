@@ -12,6 +12,6 @@ returns-in-Ok g c =
 
 pub returns-in-Err : goal.returns-in-Err
 returns-in-Err g c =
-    IfOk-weaker c.unread-status.result _ _
+    IfOk-weaker c.unread.result _ _
     (λ status told. (OnError _, not_certified c.in-Err.fault c.in-Err.ensures.err, (refl, told)))
-    c.unread-status.ensures
+    c.unread.ensures

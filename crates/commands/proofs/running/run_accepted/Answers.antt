@@ -22,6 +22,6 @@ pub returns-in-Err : goal.returns-in-Err
 returns-in-Err g c =
     let file = file_at c.args.files.now 2 in
     let none = subst (λ (p : LaidOut). IsNoTrace c.args.path.now file p c.in-Err.fault) c.program.ensures.program c.in-Err.ensures.err in
-    IfOk-weaker c.unread-status.result _ _
+    IfOk-weaker c.unread.result _ _
     (λ status told. (OnError _, no_trace c.in-Err.fault none, (refl, told)))
-    c.unread-status.ensures
+    c.unread.ensures
