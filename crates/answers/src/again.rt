@@ -116,8 +116,8 @@ fn put_answers(funcs: &[FuncId], anew: &[Option<Refusal>], answers: &mut Items<O
 }
 
 /// Makes the answers those after one function or its certificate was replaced: the function is checked again, and so are its
-/// callers where they see a change. What the blocks of the callers begin with is kept for the next time. Returns how many functions
-/// were checked. Where memory is refused, the answers are as before.
+/// callers where they see a change. What the blocks of the callers begin with is kept for the next time. Returns how many functions'
+/// answers may change: the one, and its callers where they see a change. Where memory is refused, the answers are as before.
 pub fn answers_again(
     alloc: Global,
     program: &Program,

@@ -36,7 +36,7 @@ pub enum Rule {
     K14,
     /// A fact of the target is not shown on an edge.
     K15,
-    /// A phi's entry is missing, or is for a block that is no predecessor, or is there twice.
+    /// A phi's entry is missing, or is for a block that is no predecessor, or two for one block differ.
     K16,
     /// A function that is marked `none` may reach a safepoint.
     K17,

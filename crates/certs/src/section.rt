@@ -22,7 +22,7 @@ pub struct Promise {
 /// Whether a reference was published, or has lost its cell.
 #[derive(Clone, Copy, PartialEq, Eq)]
 pub enum Age {
-    /// No word and no other name points to its cell.
+    /// No word points to its cell, and no name but those of the same reference.
     Fresh,
     Held,
     /// A safepoint came between.

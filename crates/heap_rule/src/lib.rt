@@ -1,4 +1,4 @@
-//! The rule of the shared heap: there is one run that ends in the table's words, and what each seat knows are shares of it.
+//! The rule of the shared heap: there is one run that ends in the table's words, and what the holder of each token knows is a share of it.
 #![tactic(auto)]
 
 mod knowledge;

@@ -20,7 +20,8 @@ struct Tries {
 impl<'a> Heap<'a> {
     ghost use Rattle.heap_table.specs.Holders.{IsOf, MayCall, IsNow, IsOfRun};
 
-    /// Takes a free cell of the layout's pool, and returns 0 where each cell was tried in vain. The tries go from the place after
+    /// Takes a free cell of the layout's pool, and returns 0 where each cell was tried in vain. No clause says in which order they
+    /// are tried. The tries go from the place after
     /// the cell that the thread won last up to the pool's end, and then from the pool's first cell up. A cell is claimed white at
     /// the sync stages and black otherwise, as in Doligez and Gonthier (POPL 1994). The claim by one compare-exchange of the
     /// colour, without lists of free cells, is this project's own.

@@ -68,7 +68,8 @@ fn fault_in_module<R: Threads + Sync, G: Gate + Sync>(
 
 /// The same check as `module_check::check`, by workers, from 1 to 64: one on the caller's thread, and each other one on a thread of
 /// its own.
-/// Worker `w` of `n` checks the functions `w`, `w + n`, `w + 2n` and so on, up to its first fault, and calls the gate round the
+///
+/// No clause says the following. Worker `w` of `n` checks the functions `w`, `w + n`, `w + 2n` and so on, up to its first fault, and calls the gate round the
 /// check of each, by the function's number. Whichever worker is done first, the verdict is the first refusal
 /// of the module. Memory may be refused to any of the workers.
 pub fn check_with<R: Threads + Sync, G: Gate + Sync>(

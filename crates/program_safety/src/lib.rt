@@ -1,4 +1,5 @@
-//! Why the runs of a certified program's threads, over a heap with its collector, are safe.
+//! Why the runs of a certified program's threads, over a heap with its collector, are safe, where the threads start with
+//! arguments that fit and meet what is promised.
 #![tactic(auto)]
 
 mod law;

@@ -23,7 +23,7 @@ struct ModuleContext<'a> {
     lengths: &'a [u64],
 }
 
-/// Certificates for a module. Each says what the rules show of its functions, or less.
+/// Certificates for a module, which may be refused. Each is to say what the rules show of its functions, or less.
 pub fn propose(alloc: Global, program: &Program, boldness: Boldness) -> Result<Certs, AllocError> {
     let graph = CallGraph::of(alloc, program.module())?;
     let certs = propose_over(alloc, program, &graph, boldness);

@@ -8,7 +8,7 @@ use Rattle.answers.specs.Answers.{AreAnswers}
 use Rattle.module_check.specs.declared.verdict.Verdict.{Verdict}
 use Rattle.module_check.specs.declared.verdict.Verdict.TheVariants.{Refused, Layout, Memory}
 
--- the present module with its layouts, its certificates, and how many functions were checked after the last edit
+-- the present module with its layouts, its certificates, and how many functions the last edit concerns
 pub record State : Type 0 where
   pub program : LaidOut
   pub certs : List Section

@@ -76,11 +76,11 @@ abbrev pub callers_before : Module → (func : ℕ) → (count : ℕ) → ℕ
 callers_before m func zero = 0
 callers_before m func (suc count) = callers_before m func count + (if is_caller m func count then 1 else 0)
 
--- how many functions are checked after an edit of this one: it alone where its callers are told the same, and else it and all that call it
+-- how many functions an edit of this one concerns: it alone where its callers are told the same, and else it and all that call it
 abbrev pub checked_again : (told_same : Bool) → Module → (func : ℕ) → ℕ
 checked_again true m func = 1
 checked_again false m func = 1 + callers_before m func (length m.functions)
 
--- how many functions are checked after an edit of this one, which had the old code and the past section before
+-- how many functions an edit of this one concerns, which had the old code and the past section before
 abbrev pub rechecked_by : Module → (certs : List Section) → (func : ℕ) → (old : Option Function) → (past : Option Section) → ℕ
 rechecked_by m certs func old past = checked_again (is_told_same m old (slice_get m.functions func) past (slice_get certs func)) m func

@@ -122,8 +122,8 @@ impl Session {
         first_refusal(self.kept.functions.answers.as_slice())
     }
 
-    /// How many functions the last edit made be checked: the one that it replaced, and its callers where they are told something
-    /// else of it. 0 before the first edit that was taken.
+    /// How many functions the last edit concerns: the one that it replaced, and its callers where they are told something else of
+    /// it. 0 before the first edit that was taken. Where a type is new, all functions are checked, and the number stays this one.
     pub fn rechecked(&self) -> u64
         ensures { result ≡ self.now.rechecked }
     {

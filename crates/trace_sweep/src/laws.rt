@@ -8,8 +8,8 @@ ghost use Rattle.colours.specs.Safety.{KeptIsAlive, EachStageIsInStep, IsFree, L
 ghost use Rattle.collector_law.specs.Laws.{KeptIsBlack, IsPastTrace, ReferencesAreAlive, EachWordFits};
 ghost use Rattle.trace_sweep.specs.Laws.{IsOfOrder, IsOnlyOfOrder};
 
-/// The collector's machine makes the steps of the order, with those looks out of turn that its list asks for, and no others. The
-/// list holds only cells that the order lets be looked at out of turn.
+/// The collector's machine makes the steps of the order, with those looks out of turn that its list asks for, and no others.
+/// Where the list holds only cells that the order lets be looked at out of turn, so it does after the step.
 pub fn order_law()
     ensures made { (s : Setup) (stage : ℕ) (listed : List ℕ) (c : Collection) (found : ℕ) → IsOfOrder s stage listed c found }
     ensures only { (s : Setup) (stage : ℕ) (listed : List ℕ) (c : Collection) (found : ℕ) → IsOnlyOfOrder s stage listed c found }
