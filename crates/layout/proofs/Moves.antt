@@ -1,7 +1,7 @@
 -- A turn at the type on top of the stack makes progress.
 use Rattle.std.proofs.Common.{◌≡◌, ◌<◌, ◌≤◌, ◌+◌, ◌-◌, ◌*◌, ◌⊎◌, inl, inr, ℕ, zero, suc, false, List, [], ◌∷◌, ◌++◌, length, None, Some, refl, sym, ap, ◌∙◌, subst, arith, length-append, append_assoc}
 use Rattle.std.proofs.lemmas.Option.{slice_get_within}
-use Rattle.std.proofs.lemmas.List.{append-nil}
+use Rattle.std.proofs.lemmas.List.{append-nil, length-set}
 use Rattle.std.proofs.lemmas.Option.{slice_get_past}
 use Rattle.layout.specs.Rings.{expected}
 use Rattle.std.specs.Prelude.{slice_get, slice_set, replicate}
@@ -13,7 +13,7 @@ use Rattle.layout.specs.declared.survey.SizeMark.TheVariants.{New, Open, Endless
 use Rattle.layout.specs.declared.survey.Span.{Span}
 use Rattle.layout.specs.declared.survey.SizeTurn.{SizeTurn}
 use Rattle.layout.specs.declared.survey.SizeTurn.TheVariants.{Wait, Done, Alone, Join, Repeat}
-use Rattle.layout.specs.Steps.{part_opened, top_known, fields_afterwards, is_ready, same_fields, within_more, AfterSet, Other, Here, Outside, after_set, set_length, kept_at}
+use Rattle.layout.specs.Steps.{part_opened, top_known, fields_afterwards, is_ready, same_fields, within_more, AfterSet, Other, Here, Outside, after_set, kept_at}
 use Rattle.layout.proofs.Turns.{length_at, copies_length, turn_right}
 
 -- one copy more at the end
@@ -84,7 +84,7 @@ none_open marks p i e = cc
 -- the first type waits
 pub begins : (m : Module) (marks : List SizeMark) (fields : List ℕ) (first : ℕ) → IsSurvey m marks fields [] → mark_at marks first ≡ New → IsSurvey m (slice_set marks first Open) fields (first ∷ [])
 begins m marks fields first survey new = record {
-  one_each = set_length marks first Open ∙ survey.one_each;
+  one_each = length-set marks first Open ∙ survey.one_each;
   fits = λ p. fits_at p (after_set marks first Open p);
   open_in = λ p waits. open_at p waits (after_set marks first Open p);
   chain = λ i lower upper low up. absurd (let lt = slice_get_within (first ∷ []) (suc i) upper up in omega (arith, lt));

@@ -1,21 +1,13 @@
 -- Numbers, lists and places that a tour has.
-use Rattle.std.proofs.Common.{◌≡◌, ◌≢◌, ◌⊎◌, inl, inr, ◌<◌, ◌≤◌, ℕ, zero, suc, Bool, true, false, min, List, [], ◌∷◌, ◌++◌, length, take, Option, Some, None, refl, sym, ap, ◌∙◌, arith}
+use Rattle.std.proofs.Common.{◌≡◌, ◌≢◌, ◌⊎◌, inl, inr, ◌<◌, ℕ, zero, suc, Bool, true, false, min, List, [], ◌∷◌, ◌++◌, length, take, Option, Some, None, refl, sym, ap, ◌∙◌, arith}
+use Rattle.std.proofs.lemmas.Bool.{cases_eq, cases_lt}
 use Rattle.std.proofs.lemmas.Option.{slice_get_within}
 use Rattle.std.specs.Prelude.{slice_get, slice_set}
 use Rattle.lemmas.specs.Numbers.{some_same}
 use Rattle.lemmas.specs.Lists.{get_front, get_end, get_either}
 use Rattle.layout.specs.Tours.{least, is_placeless, is_new, Has, AreIncreasing, IsUpTo, new_count}
 
--- ---- numbers and lists
-
-pub same_or_not : (a b : ℕ) → (a ≡ b) ⊎ (a ≢ b)
-same_or_not zero zero = inl refl
-same_or_not zero (suc b) = inr (λ e. omega (arith, e))
-same_or_not (suc a) zero = inr (λ e. omega (arith, e))
-same_or_not (suc a) (suc b) = elim (same_or_not a b) [ inl e ↦ inl (ap suc e) | inr ne ↦ inr (λ e. ne (omega (arith, e))) ]
-
-pub below_or_not : (a b : ℕ) → (a < b) ⊎ (b ≤ a)
-below_or_not a b = grind arith
+-- ---- lists
 
 pub not_both : (b : Bool) → b ≡ true → b ≡ false → ⊥
 not_both b e f = cc
@@ -45,7 +37,7 @@ has_less x xs p ne w = cases w.0 w.1 where
 
 pub has_or_not : (xs : List ℕ) (p : ℕ) → Has xs p ⊎ (Has xs p → ⊥)
 has_or_not [] p = inr (none_in p)
-has_or_not (x ∷ xs) p = elim (same_or_not p x) [
+has_or_not (x ∷ xs) p = elim (cases_eq p x) [
   | inl e ↦ inl (zero, ap Some (sym e))
   | inr ne ↦ elim (has_or_not xs p) [ inl w ↦ inl (has_more x xs p w) | inr none ↦ inr (λ w. none (has_less x xs p ne w)) ]
 ]
@@ -82,23 +74,6 @@ increasing_front xs x up k l one other lt ek el = up k l one other lt (get_front
 
 -- ---- places
 
-pub set_other : (xs : List (Option ℕ)) (t p : ℕ) (k : Option ℕ) → p ≢ t → slice_get (slice_set xs t k) p ≡ slice_get xs p
-set_other [] t p k ne = refl
-set_other (x ∷ xs) zero zero k ne = absurd (ne refl)
-set_other (x ∷ xs) zero (suc p) k ne = refl
-set_other (x ∷ xs) (suc t) zero k ne = refl
-set_other (x ∷ xs) (suc t) (suc p) k ne = set_other xs t p k (λ e. ne (ap suc e))
-
-pub set_here : (xs : List (Option ℕ)) (t : ℕ) (old k : Option ℕ) → slice_get xs t ≡ Some old → slice_get (slice_set xs t k) t ≡ Some k
-set_here [] t old k e = absurd cc
-set_here (x ∷ xs) zero old k e = refl
-set_here (x ∷ xs) (suc t) old k e = set_here xs t old k e
-
-pub set_length : (xs : List (Option ℕ)) (t : ℕ) (k : Option ℕ) → length (slice_set xs t k) ≡ length xs
-set_length [] t k = refl
-set_length (x ∷ xs) zero k = refl
-set_length (x ∷ xs) (suc t) k = ap suc (set_length xs t k)
-
 pub one_less_new : (xs : List (Option ℕ)) (t place : ℕ) → slice_get xs t ≡ Some None → suc (new_count (slice_set xs t (Some place))) ≡ new_count xs
 one_less_new [] t place e = absurd cc
 one_less_new (None ∷ xs) zero place e = refl
@@ -126,7 +101,7 @@ pub not_there : (q : ℕ) → None ≡ Some q → ⊥
 not_there q e = cc
 
 pub min_either : (a b : ℕ) → (min a b ≡ a) ⊎ (min a b ≡ b)
-min_either a b = elim (below_or_not a b) [ inl lt ↦ inl (omega (arith, lt)) | inr le ↦ inr (omega (arith, le)) ]
+min_either a b = elim (cases_lt a b) [ inl lt ↦ inl (omega (arith, lt)) | inr le ↦ inr (omega (arith, le)) ]
 
 pub least_is : (one other : Option ℕ) (k : ℕ) → least one other ≡ Some k → (one ≡ Some k) ⊎ (other ≡ Some k)
 least_is None other k e = inr e

@@ -1,5 +1,6 @@
 -- The steps of a tour, from its start to its end.
 use Rattle.std.proofs.Common.{◌≡◌, inl, inr, ◌<◌, ◌≤◌, ◌+◌, ℕ, zero, suc, true, false, List, [], ◌∷◌, ◌++◌, length, take, replicate, Option, Some, None, refl, sym, ap, ◌∙◌, subst, arith, length-append}
+use Rattle.std.proofs.lemmas.Bool.{cases_lt}
 use Rattle.std.specs.Prelude.{slice_get}
 use Rattle.std.proofs.lemmas.Option.{slice_get_past}
 use Rattle.lemmas.specs.Numbers.{some_same}
@@ -10,7 +11,7 @@ use Rattle.layout.specs.Rings.{holds_more}
 use Rattle.layout.specs.Tours.{State, at_start, with_top, opened, noted, cut, left, parts_of, is_placeless, is_new, new_among, lowest, Has, IsCount, IsUpTo, IsTour, LooksBack, Nothing, Ring, IsAdvance}
 use Rattle.layout.proofs.FirstRings.{named_body}
 use Rattle.types.specs.References.{layout_of_struct}
-use Rattle.layout.proofs.TourLists.{below_or_not, has_last, none_in, one_less_new, new_there, not_there, other_up_to, up_to_itself}
+use Rattle.layout.proofs.TourLists.{has_last, none_in, one_less_new, new_there, not_there, other_up_to, up_to_itself}
 use Rattle.layout.proofs.TourParts.{new_part, all_known, lowest_up_to, lowest_part}
 use Rattle.layout.proofs.Tours.{IsReady, left_apart, cut_keeps, note_keeps, ring_at, cut_low, holds_top, open_keeps, set_kept, set_met, leave_keeps, ring_keeps, no_bound, bound_is_top}
 
@@ -167,7 +168,7 @@ starts m count s all is = subst (IsTour m) (sym is) (record {
 pub arrives : (m : Module) (s : State) → IsTour m s → s.path ≡ [] → ((t : ℕ) → t < length m.types → is_new s.places t ≡ false) → IsFirstIfAny (StructHoldsItself m) s.first
 arrives m s tour none met = cases s.first refl where
   known : (t : ℕ) → is_new s.places t ≡ false
-  known t = elim (below_or_not t (length m.types)) [
+  known t = elim (cases_lt t (length m.types)) [
     | inl lt ↦ met t lt
     | inr le ↦ let len = tour.one_each in ap is_placeless (slice_get_past s.places t (omega (arith, le, len)))
   ]

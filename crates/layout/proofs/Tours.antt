@@ -1,5 +1,7 @@
 -- What is known on a tour stays so, where a type is met, where the tour looks back from it, and where it is left.
 use Rattle.std.proofs.Common.{◌≡◌, ◌≢◌, ◌⊎◌, inl, inr, ◌<◌, ◌≤◌, ◌+◌, ℕ, false, [], ◌∷◌, ◌++◌, length, take, Option, Some, None, refl, sym, ap, ◌∙◌, subst, arith}
+use Rattle.std.proofs.lemmas.Bool.{cases_eq, cases_lt}
+use Rattle.std.proofs.lemmas.List.{length-set}
 use Rattle.std.proofs.lemmas.Option.{slice_get_within}
 use Rattle.std.specs.Prelude.{slice_get, slice_set}
 use Rattle.lemmas.specs.Numbers.{some_same}
@@ -7,11 +9,11 @@ use Rattle.ir_ast.specs.declared.module.Module.{Module}
 use Rattle.ir_ast.specs.declared.ir_type.IrType.{IrType}
 use Rattle.ir_ast.specs.declared.ir_type.IrType.TheVariants.{Void, Integer, Pointer, Array, EmptyStruct, Struct, Named}
 use Rattle.layout.specs.Layouts.{IsPartOf, IsPart, Holds, Itself, Deeper}
-use Rattle.lemmas.specs.Lists.{get_some, get_front, get_end, get_either}
+use Rattle.lemmas.specs.Lists.{get_some, get_front, get_end, get_either, set_here, set_other}
 use Rattle.layout.specs.Tours.{State, with_top, opened, noted, cut, left, is_placeless, is_new, Has, IsCount, IsInRing, IsOpen, IsLeft, HoldsBound, IsWithin, IsUpTo, IsTour}
 use Rattle.types.specs.Elements.{body_of_layout}
 use Rattle.types.specs.References.{layout_of_struct}
-use Rattle.layout.proofs.TourLists.{same_or_not, below_or_not, not_both, has_front, has_last, has_either, has_or_not, take_get, get_take, taken, increasing_with, increasing_take, increasing_front, set_other, set_here, set_length, not_there, least_is, least_up_to}
+use Rattle.layout.proofs.TourLists.{not_both, has_front, has_last, has_either, has_or_not, take_get, get_take, taken, increasing_with, increasing_take, increasing_front, not_there, least_is, least_up_to}
 
 holds_trans : (m : Module) (a b c : ℕ) → Holds m a b → Holds m b c → Holds m a c
 holds_trans m a b c (Itself v) h = h
@@ -33,7 +35,7 @@ module _ (m : Module) (s : State) (tour : IsTour m s) (t : ℕ) (new : slice_get
   set_kept q known = ap is_placeless (set_other s.places t q (Some (length s.met)) (is_other q known)) ∙ known
 
   pub set_met : is_new (slice_set s.places t (Some (length s.met))) t ≡ false
-  set_met = ap is_placeless (set_here s.places t None (Some (length s.met)) new)
+  set_met = ap is_placeless (set_here s.places t (Some (length s.met)) (slice_get_within s.places t None new))
 
   was_known : (q : ℕ) → q ≢ t → is_new (slice_set s.places t (Some (length s.met))) q ≡ false → is_new s.places q ≡ false
   was_known q ne e = sym (ap is_placeless (set_other s.places t q (Some (length s.met)) ne)) ∙ e
@@ -51,7 +53,7 @@ module _ (m : Module) (s : State) (tour : IsTour m s) (t : ℕ) (new : slice_get
   places_now i u e = elim (get_either s.met t i u e) [
     | inl h ↦ set_other s.places t u (Some (length s.met)) (λ same. fresh i (subst (λ x. slice_get s.met i ≡ Some x) same h)) ∙ tour.places_are i u h
     | inr h ↦ subst (λ x. slice_get (slice_set s.places t (Some (length s.met))) x ≡ Some (Some i)) (sym h.1)
-        (set_here s.places t None (Some (length s.met)) new ∙ ap (λ j. Some (Some j)) (sym h.0))
+        (set_here s.places t (Some (length s.met)) (slice_get_within s.places t None new) ∙ ap (λ j. Some (Some j)) (sym h.0))
   ]
 
   path_now : (x : ℕ) → Has (s.path ++ length s.met ∷ []) x → (u : ℕ) × (slice_get (s.met ++ t ∷ []) x ≡ Some u)
@@ -116,7 +118,7 @@ module _ (m : Module) (s : State) (tour : IsTour m s) (t : ℕ) (new : slice_get
 
   pub open_keeps : IsTour m (opened t s)
   open_keeps = record {
-    one_each = set_length s.places t (Some (length s.met)) ∙ tour.one_each;
+    one_each = length-set s.places t (Some (length s.met)) ∙ tour.one_each;
     places_are = places_now;
     path_met = path_now;
     path_increasing = increasing_with s.path (length s.met) tour.path_increasing path_inside;
@@ -170,10 +172,10 @@ module _ (m : Module) (s : State) (p t : ℕ) (tour : IsTour m (with_top p s)) (
     bound_kept : (j u : ℕ) → slice_get s.met j ≡ Some u → HoldsBound m s.met (take n s.bounds) j u
     bound_kept j u e = by (tour.holds_bound j u e) (tour.holds_bound i q there) where
       lower : (d : HoldsBound m s.met s.bounds i q) → d.is_bound.0 < n
-      lower d = elim (below_or_not d.is_bound.0 n) [ inl lt ↦ lt | inr le ↦ absurd (let far = count.others d.is_bound.0 d.bound le d.is_bound.1 in let near = d.no_later in omega (arith, far, near)) ]
+      lower d = elim (cases_lt d.is_bound.0 n) [ inl lt ↦ lt | inr le ↦ absurd (let far = count.others d.is_bound.0 d.bound le d.is_bound.1 in let near = d.no_later in omega (arith, far, near)) ]
 
       by : HoldsBound m s.met s.bounds j u → HoldsBound m s.met s.bounds i q → HoldsBound m s.met (take n s.bounds) j u
-      by b d = elim (below_or_not b.is_bound.0 n) [
+      by b d = elim (cases_lt b.is_bound.0 n) [
         | inl lt ↦ record { bound = b.bound; at = b.at; is_bound = (b.is_bound.0, get_take s.bounds n b.is_bound.0 b.bound lt b.is_bound.1); no_later = b.no_later; there = b.there; held = b.held }
         | inr le ↦
             let far = count.others b.is_bound.0 b.bound le b.is_bound.1 in
@@ -242,13 +244,13 @@ module _ (m : Module) (s : State) (p t : ℕ) (tour : IsTour m (with_top p s)) (
     top_part u q e ip = subst (λ x. IsPart m x q) e ip
 
     within_left : (j u q : ℕ) → slice_get s.met j ≡ Some u → (Has s.path j → ⊥) → IsPart m u q → IsWithin s.places s.met s.bounds j q
-    within_left j u q e shut ip = elim (same_or_not j p) [
+    within_left j u q e shut ip = elim (cases_eq j p) [
       | inl same ↦ let tp = top_part u q (same_as_top j u e same) ip in record { known = ready.known q tp; above = λ i b g is_b le. ready.low q i b tp g is_b }
       | inr ne ↦ tour.within j u q e (λ w. elim (has_either s.path p j w) [ inl k ↦ shut k | inr e ↦ ne e ]) ip
     ]
 
     no_less_left : (u struct : ℕ) → is_new s.places u ≡ false → (IsOpen s.met s.path u → ⊥) → IsInRing m u → layout_of_struct m (slice_get m.types u) ≡ Some struct → IsUpTo s.first struct
-    no_less_left u struct known shut ring names = elim (same_or_not u t) [
+    no_less_left u struct known shut ring names = elim (cases_eq u t) [
       | inl e ↦ ready.counted struct (subst (IsInRing m) e ring) (subst (λ x. layout_of_struct m (slice_get m.types x) ≡ Some struct) e names)
       | inr ne ↦ tour.no_less u struct known (λ o. elim (has_either s.path p o.place o.on_path) [
         | inl k ↦ shut (record { place = o.place; on_path = k; there = o.there })
@@ -292,7 +294,7 @@ module _ (m : Module) (s : State) (p t : ℕ) (tour : IsTour m (with_top p s)) (
             let lt = before_p i u e in
             let le = b.no_later in
             let low : b.bound < p = omega (arith, lt, le) in
-            elim (below_or_not b.is_bound.0 n) [
+            elim (cases_lt b.is_bound.0 n) [
               | inl less ↦ record { bound = b.bound; at = b.at; is_bound = (b.is_bound.0, get_take s.bounds n b.is_bound.0 b.bound less b.is_bound.1); no_later = le; there = still_met b.bound b.at low b.there; held = b.held }
               | inr more ↦ absurd (let far = count.others b.is_bound.0 b.bound more b.is_bound.1 in omega (arith, far, low))
             ]
@@ -300,7 +302,7 @@ module _ (m : Module) (s : State) (p t : ℕ) (tour : IsTour m (with_top p s)) (
       closed_left : (u q : ℕ) → IsLeft s.places (take p s.met) u → IsPart m u q → IsLeft s.places (take p s.met) q
       closed_left u q gone ip = elim (has_or_not s.met u) [
         | inr none ↦ let part : IsLeft s.places s.met q = tour.closed u q (record { known = gone.known; gone = none }) ip in record { known = part.known; gone = λ w. part.gone (taken s.met p q w) }
-        | inl w ↦ elim (below_or_not w.0 p) [
+        | inl w ↦ elim (cases_lt w.0 p) [
           | inl lt ↦ absurd (gone.gone (w.0, still_met w.0 u lt w.1))
           | inr le ↦
               let part = within_left w.0 u q w.1 (λ o. let lt = before_top o.0 w.0 o.1 in omega (arith, le, lt)) ip in

@@ -1,7 +1,7 @@
 -- A turn preserves what is known.
 use Rattle.std.proofs.Common.{◌≡◌, ◌≢◌, ◌⊎◌, inl, inr, ◌<◌, ◌≤◌, ◌+◌, ◌-◌, ℕ, zero, suc, false, List, [], ◌∷◌, ◌++◌, length, take, drop, Some, refl, sym, ap, ◌∙◌, subst, arith, length-append, length-drop}
 use Rattle.std.proofs.lemmas.Option.{slice_get_within}
-use Rattle.std.proofs.lemmas.List.{take-append-le, drop-append-le}
+use Rattle.std.proofs.lemmas.List.{take-append-le, drop-append-le, length-set}
 use Rattle.std.proofs.Math.Seq.{drop-append_seam, take-length}
 use Rattle.std.specs.Prelude.{slice_get, slice_set}
 use Rattle.lemmas.specs.Lists.{get_some, get_front, get_end, get_either}
@@ -37,11 +37,6 @@ after_set (x ∷ marks) zero k zero = Here refl refl
 after_set (x ∷ marks) zero k (suc p) = Other (λ e. omega (arith, e)) refl
 after_set (x ∷ marks) (suc t) k zero = Other (λ e. omega (arith, e)) refl
 after_set (x ∷ marks) (suc t) k (suc p) = next_after x marks t p k (after_set marks t k p)
-
-pub set_length : (marks : List SizeMark) (t : ℕ) (k : SizeMark) → length (slice_set marks t k) ≡ length marks
-set_length [] t k = refl
-set_length (x ∷ marks) zero k = refl
-set_length (x ∷ marks) (suc t) k = ap suc (set_length marks t k)
 
 fewer_new : (marks : List SizeMark) (t : ℕ) (k : SizeMark) → is_new k ≡ false → new_count (slice_set marks t k) ≤ new_count marks
 fewer_new [] t k e = omega arith
@@ -114,7 +109,7 @@ module _ (m : Module) (marks : List SizeMark) (fields s : List ℕ) (top : ℕ) 
   pub part_opened : (part : ℕ) → IsPart m top part → mark_at marks part ≡ New → IsAdvance m marks fields (s ++ top ∷ []) (slice_set marks part Open) fields ((s ++ top ∷ []) ++ part ∷ [])
   part_opened part ip new = record {
     survey = record {
-      one_each = set_length marks part Open ∙ survey.one_each;
+      one_each = length-set marks part Open ∙ survey.one_each;
       fits = λ p. fits_at p (after_set marks part Open p);
       open_in = λ p waits. open_at p waits (after_set marks part Open p);
       chain = λ i lower upper low up. chain_at i lower upper (get_either (s ++ top ∷ []) part i lower low) (get_either (s ++ top ∷ []) part (suc i) upper up);
@@ -147,7 +142,7 @@ module _ (m : Module) (marks : List SizeMark) (fields s : List ℕ) (top : ℕ) 
   pub top_known : (more : List ℕ) (k : SizeMark) → is_new k ≡ false → (k ≡ Open → ⊥) → MarkFits m (fields ++ more) top k → IsAdvance m marks fields (s ++ top ∷ []) (slice_set marks top k) (fields ++ more) s
   top_known more k old closed h = record {
     survey = record {
-      one_each = set_length marks top k ∙ survey.one_each;
+      one_each = length-set marks top k ∙ survey.one_each;
       fits = λ p. fits_at p (after_set marks top k p);
       open_in = λ p waits. open_at p waits (after_set marks top k p);
       chain = λ i lower upper low up. survey.chain i lower upper (get_front s (top ∷ []) i lower low) (get_front s (top ∷ []) (suc i) upper up);

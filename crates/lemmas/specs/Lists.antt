@@ -1,5 +1,5 @@
 -- Lists: what is at a place, and what holds of all elements.
-use Rattle.std.proofs.Common.{◌≡◌, ℕ, zero, suc, ◌+◌, ◌<◌, Bool, true, List, [], ◌∷◌, ◌++◌, ◌⊎◌, inl, inr, length, get_or, map, sum, slice_get, Some, refl, sym, ap, arith}
+use Rattle.std.proofs.Common.{◌≡◌, ℕ, zero, suc, ◌+◌, ◌<◌, Bool, true, List, [], ◌∷◌, ◌++◌, ◌⊎◌, inl, inr, length, get_or, map, sum, slice_get, slice_set, Some, ◌≢◌, refl, sym, ap, arith}
 use Rattle.std.specs.Prelude.{replicate}
 use Rattle.std.specs.List.{list_all}
 use Rattle.std.proofs.lemmas.List.Sums.{sum_by-cons}
@@ -28,6 +28,33 @@ get_either [] last zero x e = inr (refl, cc)
 get_either [] last (suc i) x e = absurd cc
 get_either (y ∷ xs) last zero x e = inl e
 get_either (y ∷ xs) last (suc i) x e = elim (get_either xs last i x e) [ inl h ↦ inl h | inr h ↦ inr (ap suc h.0, h.1) ]
+
+-- what is written at a place is there
+pub set_here : {A : Type 0} (xs : List A) (i : ℕ) (y : A) → i < length xs → slice_get (slice_set xs i y) i ≡ Some y
+set_here [] i y lt = absurd (omega (arith, lt))
+set_here (x ∷ xs) zero y lt = refl
+set_here (x ∷ xs) (suc i) y lt = set_here xs i y (omega (arith, lt))
+
+pub set_is : {A : Type 0} (xs : List A) (i : ℕ) (y x : A) → slice_get (slice_set xs i y) i ≡ Some x → y ≡ x
+set_is [] i y x e = absurd cc
+set_is (z ∷ xs) zero y x e = cc
+set_is (z ∷ xs) (suc i) y x e = set_is xs i y x e
+
+-- every other place holds what it held
+pub set_other : {A : Type 0} (xs : List A) (i j : ℕ) (y : A) → j ≢ i → slice_get (slice_set xs i y) j ≡ slice_get xs j
+set_other [] i j y ne = refl
+set_other (x ∷ xs) zero zero y ne = absurd (ne refl)
+set_other (x ∷ xs) zero (suc j) y ne = refl
+set_other (x ∷ xs) (suc i) zero y ne = refl
+set_other (x ∷ xs) (suc i) (suc j) y ne = set_other xs i j y (λ e. ne (ap suc e))
+
+-- what a list holds after a write was there, or is what was written
+pub set_either : {A : Type 0} (xs : List A) (i : ℕ) (y : A) (j : ℕ) (x : A) → slice_get (slice_set xs i y) j ≡ Some x → (slice_get xs j ≡ Some x) ⊎ ((j ≡ i) × (y ≡ x))
+set_either [] i y j x e = inl e
+set_either (z ∷ xs) zero y zero x e = inr (refl, cc)
+set_either (z ∷ xs) zero y (suc j) x e = inl e
+set_either (z ∷ xs) (suc i) y zero x e = inl e
+set_either (z ∷ xs) (suc i) y (suc j) x e = elim (set_either xs i y j x e) [ inl h ↦ inl h | inr h ↦ inr (ap suc h.0, h.1) ]
 
 pub at_map : {X : Type 0} (g : X → X) (xs : List X) (j : ℕ) (d : X) → g d ≡ d → get_or (map g xs) j d ≡ g (get_or xs j d)
 at_map g [] j d e = sym e

@@ -1,7 +1,8 @@
 -- The functions that a thread entered.
 use Rattle.std.proofs.Common.{◌≡◌, ◌<◌, ◌≤◌, ◌++◌, ℕ, zero, suc, List, [], ◌∷◌, length, get_or, refl, sym, ap, ◌∙◌, arith, inl, inr, Option, Some, None, slice_get, slice_set}
-use Rattle.std.specs.Prelude.{◌⊎◌, ◌+◌, replicate}
+use Rattle.std.specs.Prelude.{◌+◌, replicate}
 use Rattle.std.proofs.lemmas.List.{replicate-append-replicate}
+use Rattle.lemmas.specs.Lists.{set_either, set_here}
 use Rattle.ir_ast.specs.declared.function.Function.{Function}
 use Rattle.ir_ast.specs.declared.module.Module.{Module}
 use Rattle.shadow_stack.specs.Slots.{SlotTable, slots_of}
@@ -53,30 +54,17 @@ pub kept_with_room : (m : Module) (values more : List Value) (tables : List (Opt
 kept_with_room m values more tables room kept function table e =
     let k = kept function table e in record { f = k.f; is = k.is; slots = k.slots; room = λ block. let r = k.room block in omega (arith, room, r) }
 
-set_at : (tables : List (Option SlotTable)) (number function : ℕ) (own table : SlotTable) → slice_get (slice_set tables number (Some own)) function ≡ Some (Some table)
-    → ((function ≡ number) × (own ≡ table)) ⊎ (slice_get tables function ≡ Some (Some table))
-set_at [] number function own table e = inr e
-set_at (first ∷ tables) zero zero own table e = inl (refl, cc)
-set_at (first ∷ tables) zero (suc function) own table e = inr e
-set_at (first ∷ tables) (suc number) zero own table e = inr e
-set_at (first ∷ tables) (suc number) (suc function) own table e = elim (set_at tables number function own table e) [
-  | inl x ↦ inl (ap (λ n. suc n) x.0, x.1)
-  | inr y ↦ inr y
-]
-
 -- and with one function more
 pub kept_with : (m : Module) (values : List Value) (tables : List (Option SlotTable)) (number : ℕ) (f : Function) → AreKept m values tables → slice_get m.functions number ≡ Some f → HasRoom f values
     → AreKept m values (slice_set tables number (Some (slots_of m f)))
-kept_with m values tables number f kept is room function table e = elim (set_at tables number function (slots_of m f) table e) [
-  | inl x ↦ record { f = f; is = ap (slice_get m.functions) x.0 ∙ is; slots = sym x.1; room = room }
-  | inr y ↦ kept function table y
+kept_with m values tables number f kept is room function table e = elim (set_either tables number (Some (slots_of m f)) function (Some table) e) [
+  | inl was ↦ kept function table was
+  | inr put ↦ record { f = f; is = ap (slice_get m.functions) put.0 ∙ is; slots = let own : slots_of m f ≡ table = cc in sym own; room = room }
 ]
 
 -- it was entered then
 pub was_set : (tables : List (Option SlotTable)) (number : ℕ) (own : SlotTable) → number < length tables → WasEntered (slice_set tables number (Some own)) number
-was_set [] number own lt = absurd (omega (arith, lt))
-was_set (first ∷ tables) zero own lt = (own, refl)
-was_set (first ∷ tables) (suc number) own lt = was_set tables number own (omega (arith, lt))
+was_set tables number own lt = (own, set_here tables number (Some own) lt)
 
 -- and so were the others
 pub was_before : (tables : List (Option SlotTable)) (number : ℕ) (own : SlotTable) (function : ℕ) → WasEntered tables function → WasEntered (slice_set tables number (Some own)) function

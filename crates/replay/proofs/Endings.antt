@@ -1,13 +1,13 @@
 -- How the threads of a run have ended, kept from step to step.
-use Rattle.std.proofs.Common.{◌≡◌, ◌≢◌, ◌<◌, ◌⊎◌, inl, inr, ◌==◌, Bool, true, false, if◌then◌else◌, ℕ, zero, suc, Option, Some, None, List, [], ◌∷◌, length, slice_get, slice_set, unwrap_or, refl, sym, ap, ◌∙◌, subst, arith}
+use Rattle.std.proofs.Common.{◌≡◌, ◌≢◌, ◌<◌, ◌⊎◌, inl, inr, ◌==◌, Bool, true, false, if◌then◌else◌, ℕ, Option, Some, None, List, [], ◌∷◌, length, slice_get, slice_set, unwrap_or, refl, sym, ap, ◌∙◌, subst}
 use Rattle.std.proofs.lemmas.List.{length-set}
-use Rattle.lemmas.specs.Lists.{get_some}
+use Rattle.lemmas.specs.Lists.{get_some, set_here, set_other}
 use Rattle.lemmas.specs.Numbers.{test_true, test_yes, test_false}
 use Rattle.pools.specs.Heap.{Setup, is_late}
 use Rattle.colours.specs.Runs.{turns_of, word_after}
 use Rattle.colours.specs.Mutator as order
 use Rattle.colours.specs.Mutator.{phase_of}
-use Rattle.runs.specs.Machine.{Reference, Machine}
+use Rattle.runs.specs.Machine.{Reference}
 use Rattle.runs.specs.Machine as machine
 use Rattle.runs.specs.Moves.{Move, steps_of}
 use Rattle.runs.specs.ModuleRuns.{Happening, OfThread, share_of, heap_of}
@@ -35,22 +35,6 @@ use Rattle.trace_text.specs.declared.trace.Setup as traced
 use Rattle.replay.specs.Keeping.{ending_in, ending_after}
 use Rattle.setups.specs.Setups.{starts_of}
 use Rattle.replay.specs.Worlds.{AreEndings, ending_at, ending_of, run_of}
-
--- ---- lists
-
--- what was put at a place is there
-set_same : {A : Type 0} (xs : List A) (i : ℕ) (x : A) → i < length xs → slice_get (slice_set xs i x) i ≡ Some x
-set_same [] i x within = absurd (omega arith)
-set_same (y ∷ xs) zero x within = refl
-set_same (y ∷ xs) (suc i) x within = set_same xs i x (omega arith)
-
--- and what was at another place still is
-set_other : {A : Type 0} (xs : List A) (i j : ℕ) (x : A) → i ≢ j → slice_get (slice_set xs i x) j ≡ slice_get xs j
-set_other [] i j x other = refl
-set_other (y ∷ xs) zero zero x other = absurd (other refl)
-set_other (y ∷ xs) zero (suc j) x other = refl
-set_other (y ∷ xs) (suc i) zero x other = refl
-set_other (y ∷ xs) (suc i) (suc j) x other = set_other xs i j x (λ e. other (ap suc e))
 
 -- ---- one thread
 
@@ -101,11 +85,11 @@ module _ (p : LaidOut) (setup : traced.Setup) (run : List Happening) (t : ℕ) (
           let within : t < length endings = subst (λ (n : ℕ). t < n) (sym are.one_each) is_thread in
           let at : phase_of (heaps.heap_of p setup) t (steps_of (share_of t longer)) ≡ order.Ended = subst (λ (v : ℕ). phase_of (heaps.heap_of p setup) v (steps_of (share_of v longer)) ≡ order.Ended) (sym same) ended in
           subst (λ (v : ℕ). slice_get (slice_set endings t ending) v ≡ Some (ending_of (heaps.heap_of p setup) v (starts_of p setup v) (share_of v longer))) same
-          (set_same endings t ending within ∙ ap (λ (x : ThreadOutcome). Some x) (own at))
+          (set_here endings t ending within ∙ ap (λ (x : ThreadOutcome). Some x) (own at))
       each u few false e ended =
           let share = others u e in
           let before : phase_of (heaps.heap_of p setup) u (steps_of (share_of u run)) ≡ order.Ended = subst (λ (moves : List Move). phase_of (heaps.heap_of p setup) u (steps_of moves) ≡ order.Ended) share ended in
-          set_other endings t u ending (test_false t u e)
+          set_other endings t u ending (λ same. test_false t u e (sym same))
           ∙ are.each u few before
           ∙ ap (λ (moves : List Move). Some (ending_of (heaps.heap_of p setup) u (starts_of p setup u) moves)) (sym share)
 

@@ -5,7 +5,7 @@ use Rattle.std.specs.Prelude.{◌==◌, ◌||◌, ◌⊎◌, if◌then◌else◌
 use Rattle.std.specs.List.{list_any}
 use Rattle.lemmas.specs.Lists.{at_map}
 use Rattle.lemmas.specs.Numbers.{test_true, test_yes, test_false}
-use Rattle.lemmas.specs.Bools.{or_parts}
+use Rattle.lemmas.specs.Bools.{or_parts, or_second}
 use Rattle.pools.specs.Heap.{Setup}
 use Rattle.layout.specs.Layouts.{LaidOut}
 use Rattle.shadow_stack.specs.Slots.{SlotTable, held_type, slot_layout}
@@ -59,10 +59,7 @@ forget_cell v values j c l s =
 pub found : (values : List Known) (j c l : ℕ) (s : Bool) → known_at values j ≡ Cell c l s → list_any (is_of c) values ≡ true
 found [] j c l s e = absurd cc
 found (x ∷ values) zero c l s e = ap (λ b. b || list_any (is_of c) values) (ap (is_of c) e ∙ test_yes c c refl)
-found (x ∷ values) (suc j) c l s e = or_true (is_of c x) _ (found values j c l s e) where
-  or_true : (a b : Bool) → b ≡ true → (a || b) ≡ true
-  or_true true b h = refl
-  or_true false b h = h
+found (x ∷ values) (suc j) c l s e = or_second (is_of c x) _ (found values j c l s e)
 
 without_length : (k : Known) (values : List Known) (classes : List Class) (slots : List SlotFact) → length (slots_without k values classes slots) ≡ length slots
 without_length (Cell c l s) values classes slots = pick (list_any (is_of c) values) where
