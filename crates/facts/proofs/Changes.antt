@@ -1,13 +1,14 @@
 -- What rows say and name once all of them are changed.
 use Rattle.std.proofs.Common.{◌≡◌, ◌<◌, ◌≤◌, ◌⊎◌, ◌+◌, ℕ, length, zero, suc, List, [], ◌∷◌, ◌++◌, get_or, map, refl, sym, ap, subst, inl, inr, ◌∙◌, arith, true, false, Bool, Option, Some, None, slice_set}
 use Rattle.std.proofs.Math.ListN.{get_or-map}
-use Rattle.std.proofs.lemmas.Bool.{cases_lt}
+use Rattle.std.proofs.lemmas.Bool.{cases_eq, cases_lt}
 use Rattle.std.proofs.lemmas.List.{ext_get_or, get_or_past, get_or_append_left, get_or-set_same, get_or-set_other, length-append, length-map, length-set, append-nil}
 use Rattle.std.proofs.lemmas.List as lists
 use Rattle.std.proofs.lemmas.List.FromFn.{get_or-enumerate_from, length-enumerate_from}
 use Rattle.std.proofs.lemmas.Slice.Zip.{get_or-zip, length-zip}
-use Rattle.std.specs.Prelude.{◌==◌, ◌||◌, if◌then◌else◌, replicate}
+use Rattle.std.specs.Prelude.{◌==◌, ◌||◌, replicate, if◌then◌else◌}
 use Rattle.std.specs.List.{enumerate_from, zip}
+use Rattle.facts.specs.EachListed.{IsOne}
 use Rattle.facts.specs.declared.known.Class.{Class}
 use Rattle.facts.specs.declared.known.Known.{Known}
 use Rattle.facts.specs.declared.known.Known.TheVariants.{Nothing, Number, Cell, Null, Address, GlobalAddress}
@@ -15,10 +16,9 @@ use Rattle.facts.specs.declared.known.Test.{Test}
 use Rattle.facts.specs.declared.row.Row.{Row}
 use Rattle.facts.specs.declared.sweeps.Change.TheVariants.{Off}
 use Rattle.facts.specs.Facts.{lost_class, is_on, off_base, off_test, values_without, tests_without, stale_of, stale_class}
-use Rattle.facts.specs.Sheets.{blank, row_at, known_of, class_of, test_of, tests, names, IsOne, EachRow, off_row, changed, known_nonnull, settled_class, stale_row}
+use Rattle.facts.specs.Sheets.{blank, row_at, known_of, class_of, test_of, tests, names, EachRow, off_row, changed, known_nonnull, settled_class, stale_row}
 use Rattle.facts.specs.Values.{facts_of_rows, no_values, ended_row}
 use Rattle.facts.proofs.Sets.{or_true}
-use Rattle.facts.proofs.Sheets.{same_or_not}
 use Rattle.facts.specs.declared.uses.Use.{Use}
 use Rattle.facts.specs.Uses.{chain, IsUser, OnlyUsers}
 use Rattle.facts.proofs.Says.{same_facts, ended_row_facts, each_same, each_mapped}
@@ -135,7 +135,7 @@ module _ (v : ℕ) (rows next : List Row) (each : EachRow (changed (Off v)) rows
       ∙ same_facts _ _ _ _ _ _ (ap (λ l. slice_set l v Nothing) (each_mapped known_of (changed (Off v)) rows next each (off_base v) (λ u row. refl))) (ap (λ l. l ++ added) (each_same class_of (changed (Off v)) rows next each (λ u row. refl))) (ap (λ l. slice_set l v None) (each_mapped test_of (changed (Off v)) rows next each (off_test v) (λ u row. refl)))
 
   pub ended_only : (uses : List Use) → OnlyUsers uses rows → OnlyUsers uses (slice_set next v (ended_row (row_at next v)))
-  ended_only uses only u w e lt = pick (same_or_not v u) where
+  ended_only uses only u w e lt = pick (cases_eq v u) where
     last : List Row
     last = slice_set next v (ended_row (row_at next v))
 

@@ -1,7 +1,7 @@
 -- What is known of a class changes: what is said of the values of the class changes, and nothing else.
 use Rattle.std.proofs.Common.{◌≡◌, ◌<◌, ◌≤◌, ◌⊎◌, not-le_of_lt, inl, inr, ℕ, List, length, refl, sym, ap, ◌∙◌, subst, true, false, Bool, Option, Some, None, slice_set}
 use Rattle.std.proofs.lemmas.Bool.{cases_lt}
-use Rattle.std.proofs.lemmas.List.{set_past}
+use Rattle.std.proofs.lemmas.List.{set_past, get_or-set_other}
 use Rattle.std.specs.Prelude.{◌==◌, ◌||◌, ◌↔◌}
 use Rattle.lemmas.specs.Numbers.{test_true, test_yes}
 use Rattle.facts.specs.declared.known.Class.{Class}
@@ -10,7 +10,7 @@ use Rattle.facts.specs.declared.known.Known.TheVariants.{Nothing, Number, Cell, 
 use Rattle.facts.specs.declared.known.SlotFact.{SlotFact}
 use Rattle.facts.specs.Facts.{FactSet, known_at, slot_at, class_at, lost_class, holds_class, held_nonnull, slot_nonnull, drop_fresh, drop_fresh_of, learn_nonnull, learn_known_nonnull}
 use Rattle.facts.specs.Statements.{Statement, IsNumber, IsBelow, RefersTo, IsCurrent, IsNonnull, IsFresh, IsSame, IsAddress, IsGlobal, SlotNonnull, SlotHolds, NumberOf, BelowOf, RefersOf, CurrentOf, OfClass, AddressOf, GlobalOf, Says, FreshOf, PublishEndsFresh, IsWithin, NonnullOf, LearnAddsNonnull}
-use Rattle.facts.proofs.Sets.{set_other, set_part, set_is, set_within, or_true}
+use Rattle.facts.proofs.Sets.{set_part, set_is, set_within, or_true}
 use Rattle.facts.proofs.Forgets.{class_map, class_any}
 
 -- what does not follow for the class of a value is not so of it
@@ -55,7 +55,7 @@ module _ (classes : List Class) (c : ℕ) where
     pick (Some d) = published_null d
 
   published_other : (d : ℕ) → (c ≡ d → ⊥) → (class_at published d).fresh ≡ (class_at classes d).fresh
-  published_other d ne = ap (λ x. x.fresh) (set_other classes c d (record (class_at classes c) { fresh = false }) lost_class ne)
+  published_other d ne = ap (λ x. x.fresh) (get_or-set_other classes c d (record (class_at classes c) { fresh = false }) lost_class (λ same. ne (sym same)))
 
   published_less : (d : ℕ) → (class_at published d).fresh ≡ true → ((class_at classes d).fresh ≡ true) × (c ≡ d → ⊥)
   published_less d h = (sym (published_other d ne) ∙ h, ne) where
@@ -134,7 +134,7 @@ module _ (classes : List Class) (c : ℕ) where
   learned_less d h = pick (c == d) refl where
     pick : (b : Bool) → (c == d) ≡ b → ((class_at classes d).nonnull ≡ true) ⊎ (c ≡ d)
     pick true e = inr (test_true c d e)
-    pick false e = inl (sym (ap (λ x. x.nonnull) (set_other classes c d (record (class_at classes c) { nonnull = (class_at classes c).nonnull || true }) lost_class (λ same. let test = test_yes c d same in absurd cc))) ∙ h)
+    pick false e = inl (sym (ap (λ x. x.nonnull) (get_or-set_other classes c d (record (class_at classes c) { nonnull = (class_at classes c).nonnull || true }) lost_class (λ same. let test = test_yes c d (sym same) in absurd cc))) ∙ h)
 
   learned_here : c < length classes → (d : ℕ) → c ≡ d → (class_at learned d).nonnull ≡ true
   learned_here lt d e = subst (λ x. (class_at learned x).nonnull ≡ true) e (set_within (λ x. x.nonnull) classes c (record (class_at classes c) { nonnull = (class_at classes c).nonnull || true }) lost_class true lt (or_true (class_at classes c).nonnull))
@@ -144,7 +144,7 @@ module _ (classes : List Class) (c : ℕ) where
   learned_more lt d (inl h) = pick (c == d) refl where
     pick : (b : Bool) → (c == d) ≡ b → (class_at learned d).nonnull ≡ true
     pick true e = learned_here lt d (test_true c d e)
-    pick false e = ap (λ x. x.nonnull) (set_other classes c d (record (class_at classes c) { nonnull = (class_at classes c).nonnull || true }) lost_class (λ same. let test = test_yes c d same in absurd cc)) ∙ h
+    pick false e = ap (λ x. x.nonnull) (get_or-set_other classes c d (record (class_at classes c) { nonnull = (class_at classes c).nonnull || true }) lost_class (λ same. let test = test_yes c d (sym same) in absurd cc)) ∙ h
 
   slot_less : (slot : SlotFact) → slot_nonnull learned slot ≡ true → (slot_nonnull classes slot ≡ true) ⊎ (holds_class c slot.holds ≡ true)
   slot_less slot = pick slot.nonnull slot.holds where

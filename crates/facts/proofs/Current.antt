@@ -1,16 +1,18 @@
 -- Which rows a safepoint changes.
 use Rattle.std.proofs.Common.{◌≡◌, ◌<◌, ◌⊎◌, ℕ, length, List, [], refl, sym, ap, subst, inl, inr, ◌∙◌, true, false, Bool}
-use Rattle.std.specs.Prelude.{not, ◌&&◌, ◌==◌, if◌then◌else◌, replicate}
+use Rattle.std.specs.Prelude.{not, ◌&&◌, ◌==◌, replicate, if◌then◌else◌}
 use Rattle.lemmas.specs.Bools.{not_true}
 use Rattle.lemmas.specs.Numbers.{test_true, test_same}
+use Rattle.facts.specs.EachListed.{IsOne, each_listed}
+use Rattle.facts.proofs.EachListed.{length_each, each_at}
 use Rattle.facts.specs.declared.known.Class.{Class}
 use Rattle.facts.specs.declared.known.Known.{Known}
 use Rattle.facts.specs.declared.known.Known.TheVariants.{Nothing, Number, Cell, Null, Address, GlobalAddress}
 use Rattle.facts.specs.declared.row.Row.{Row}
 use Rattle.facts.specs.Facts.{class_at, off_base, stale_of}
-use Rattle.facts.specs.Sheets.{blank, row_at, IsOne, OnlyMarked, OnlyCurrent, EachRow, each, is_settled_as, is_settled, known_nonnull, settled_class, off_row, keep_row, settle_row, stale_row}
+use Rattle.facts.specs.Sheets.{blank, row_at, OnlyMarked, OnlyCurrent, EachRow, is_settled_as, is_settled, known_nonnull, settled_class, off_row, keep_row, settle_row, stale_row}
 use Rattle.facts.proofs.Listed.{row_after}
-use Rattle.facts.proofs.Sheets.{length_each, each_row, blank_at}
+use Rattle.facts.proofs.Sheets.{blank_at}
 
 -- ---- rows that a safepoint leaves
 
@@ -106,8 +108,8 @@ module _ (change : ℕ → Row → Row) (leaves : (v : ℕ) → change v blank �
   none_after settles v = inr (subst (λ (row : Row). is_settled v row ≡ true) (sym (at v)) (settles v (row_at before v)))
 
 -- a change that leaves the rows that are not listed is one of all rows
-pub each_listed : (change : ℕ → Row → Row) → ((v : ℕ) (row : Row) → change v (change v row) ≡ change v row) → (listed : List ℕ) (rows : List Row) → ((v : ℕ) → v < length rows → IsOne v listed ⊎ (change v (row_at rows v) ≡ row_at rows v)) → EachRow change rows (each change listed rows)
-each_listed change twice listed rows seen = (length_each change listed rows, each_row change twice listed rows seen)
+pub all_listed : (change : ℕ → Row → Row) → ((v : ℕ) (row : Row) → change v (change v row) ≡ change v row) → (listed : List ℕ) (rows : List Row) → ((v : ℕ) → v < length rows → IsOne v listed ⊎ (change v (row_at rows v) ≡ row_at rows v)) → EachRow change rows (each_listed blank change listed rows)
+all_listed change twice listed rows seen = (length_each blank change listed rows, each_at blank change twice listed rows seen)
 
 -- blank rows stay blank at a safepoint
 pub blank_current : (current : List ℕ) (count : ℕ) (rows : List Row) → rows ≡ replicate count blank → OnlyCurrent current rows
@@ -117,22 +119,22 @@ blank_current current count rows e v = inr (ap (is_settled v) (ap (λ l. row_at 
 
 module _ (classes : List Class) (current : List ℕ) (rows : List Row) (own : (v : ℕ) → v < length rows → class_at classes v ≡ (row_at rows v).class) (only : OnlyCurrent current rows) (twice : (v : ℕ) (row : Row) → settle_row v (settle_row v row) ≡ settle_row v row) where
   abbrev between : List Row
-  between = each (keep_row classes) current rows
+  between = each_listed blank (keep_row classes) current rows
 
   kept : EachRow (keep_row classes) rows between
-  kept = each_listed (keep_row classes) (λ v row. refl) current rows (λ v lt. elim (only v) [ inl one ↦ inl one | inr e ↦ inr (keep_settled classes v (row_at rows v) (own v lt) e) ])
+  kept = all_listed (keep_row classes) (λ v row. refl) current rows (λ v lt. elim (only v) [ inl one ↦ inl one | inr e ↦ inr (keep_settled classes v (row_at rows v) (own v lt) e) ])
 
-  settled : EachRow settle_row between (each settle_row current between)
-  settled = each_listed settle_row twice current between (λ v lt. elim (only v) [ inl one ↦ inl one | inr e ↦ inr (leave v (rw (← kept.0) lt) e) ]) where
+  settled : EachRow settle_row between (each_listed blank settle_row current between)
+  settled = all_listed settle_row twice current between (λ v lt. elim (only v) [ inl one ↦ inl one | inr e ↦ inr (leave v (rw (← kept.0) lt) e) ]) where
     leave : (v : ℕ) → v < length rows → is_settled v (row_at rows v) ≡ true → settle_row v (row_at between v) ≡ row_at between v
     leave v lt e = let same = kept.1 v lt ∙ keep_settled classes v (row_at rows v) (own v lt) e in ap (settle_row v) same ∙ settle_settled v (row_at rows v) e ∙ sym same
 
   -- a safepoint that changes the rows that are listed changes all rows
-  pub stale_all : EachRow (stale_row classes) rows (each settle_row current between)
+  pub stale_all : EachRow (stale_row classes) rows (each_listed blank settle_row current between)
   stale_all = (settled.0 ∙ kept.0, λ v lt. settled.1 v (rw kept.0 lt) ∙ ap (settle_row v) (kept.1 v lt))
 
-  pub stale_marked : (marked : List ℕ) → OnlyMarked marked rows → OnlyMarked marked (each settle_row current between)
-  stale_marked = marked_after (stale_row classes) (λ v. refl) rows (each settle_row current between) stale_all
+  pub stale_marked : (marked : List ℕ) → OnlyMarked marked rows → OnlyMarked marked (each_listed blank settle_row current between)
+  stale_marked = marked_after (stale_row classes) (λ v. refl) rows (each_listed blank settle_row current between) stale_all
 
-  pub stale_none : OnlyCurrent [] (each settle_row current between)
-  stale_none = none_after (stale_row classes) (λ v. refl) rows (each settle_row current between) stale_all (settled_after classes)
+  pub stale_none : OnlyCurrent [] (each_listed blank settle_row current between)
+  stale_none = none_after (stale_row classes) (λ v. refl) rows (each_listed blank settle_row current between) stale_all (settled_after classes)

@@ -2,11 +2,13 @@
 use Rattle.std.proofs.Common.{◌≡◌, ◌<◌, ◌⊎◌, ℕ, length, List, [], ◌∷◌, ◌++◌, zero, suc, map, refl, sym, ap, subst, inl, inr, ◌∙◌, true, false, Bool, Option, None, slice_set}
 use Rattle.std.proofs.Math.ListN.{get_or-map}
 use Rattle.std.proofs.Math.Seq.{map-set_same}
-use Rattle.std.proofs.lemmas.Bool.{cases_lt}
+use Rattle.std.proofs.lemmas.Bool.{cases_eq, cases_lt}
 use Rattle.std.proofs.lemmas.List.{ext_get_or, get_or_past, get_or-set_same, get_or-set_other, length-set, length-map, map-set, set-set}
 use Rattle.std.specs.Prelude.{not, ◌&&◌, ◌||◌, ◌==◌, if◌then◌else◌}
 use Rattle.std.specs.List.{list_any}
 use Rattle.lemmas.specs.Numbers.{test_no, test_same}
+use Rattle.facts.specs.EachListed.{IsOne}
+use Rattle.facts.proofs.EachListed.{one_more}
 use Rattle.facts.specs.declared.owners.Owners.{Owners}
 use Rattle.facts.specs.declared.known.Class.{Class}
 use Rattle.facts.specs.declared.known.Known.{Known}
@@ -17,7 +19,7 @@ use Rattle.facts.specs.declared.sweeps.Change.TheVariants.{Off}
 use Rattle.facts.specs.declared.uses.Use.{Use}
 use Rattle.facts.specs.Facts.{is_of, off_base, off_test, values_without}
 use Rattle.facts.specs.Owners.{ListsNonOwners, owns_class}
-use Rattle.facts.specs.Sheets.{blank, row_at, known_of, class_of, test_of, names, IsOne, EachRow, OnlyMarked, OnlyCurrent, with_mark, with_current, is_settled, off_row, changed, row_is_of, other_is_of}
+use Rattle.facts.specs.Sheets.{blank, row_at, known_of, class_of, test_of, names, EachRow, OnlyMarked, OnlyCurrent, with_mark, with_current, is_settled, off_row, changed, row_is_of, other_is_of}
 use Rattle.facts.specs.Uses.{chain, IsUser, OnlyUsers, SameUses}
 use Rattle.facts.specs.Values.{facts_of_rows, defined, defined_row}
 use Rattle.facts.proofs.Changes.{off_less}
@@ -27,7 +29,7 @@ use Rattle.facts.proofs.Listed.{Unless, with_row, unless_after, set_unless}
 use Rattle.facts.proofs.Marked.{any_listed}
 use Rattle.facts.proofs.Says.{same_facts, each_same, each_mapped}
 use Rattle.facts.proofs.Sets.{set_empty, set_part}
-use Rattle.facts.proofs.Sheets.{same_or_not, one_more, set_marked}
+use Rattle.facts.proofs.Sheets.{set_marked}
 use Rattle.facts.proofs.Users.{users_set}
 
 -- ---- the rows that name a value end to name it
@@ -65,7 +67,7 @@ module _ (v : ℕ) (rows : List Row) where
     other_row u ne = get_or-set_other offs v u row blank (λ x. ne (sym x))
 
     pub defined_marked : (marked : List ℕ) → OnlyMarked marked rows → OnlyMarked (with_mark v (row_at rows v) marked) after
-    defined_marked marked only u = pick (same_or_not v u) where
+    defined_marked marked only u = pick (cases_eq v u) where
       more : (b : Bool) → IsOne u marked → IsOne u (if b then marked ++ v ∷ [] else marked)
       more true one = one_more u v marked one
       more false one = one
@@ -75,7 +77,7 @@ module _ (v : ℕ) (rows : List Row) where
       pick (inr ne) = elim (marked_after (changed (Off v)) (λ w. refl) rows offs off_each marked only u) [ inl one ↦ inl (more _ one) | inr e ↦ inr (other_row u ne ∙ e) ]
 
     pub defined_unless : (p : ℕ → Row → Bool) → ((u : ℕ) → p u blank ≡ true) → ((u : ℕ) (r : Row) → p u r ≡ true → p u (off_row v r) ≡ true) → (listed : List ℕ) → Unless p listed rows → Unless p (with_row p v (row_at rows v) row listed) after
-    defined_unless p of_blank keeps listed only u = pick (same_or_not v u) where
+    defined_unless p of_blank keeps listed only u = pick (cases_eq v u) where
       more : (b : Bool) → IsOne u listed → IsOne u (if b then listed ++ v ∷ [] else listed)
       more true one = one_more u v listed one
       more false one = one
@@ -121,14 +123,14 @@ module _ (v c : ℕ) (rows : List Row) where
   without = slice_set rows v blank
 
   other_is : (u : ℕ) → other_is_of v c rows u ≡ row_is_of c without u
-  other_is u = pick (same_or_not v u) where
+  other_is u = pick (cases_eq v u) where
     pick : (v ≡ u) ⊎ (v ≡ u → ⊥) → other_is_of v c rows u ≡ row_is_of c without u
     pick (inl same) = subst (λ x. other_is_of v c rows x ≡ row_is_of c without x) same (ap (λ b. not b && row_is_of c rows v) (test_same v) ∙ sym (ap (λ (row : Row). is_of c row.known) (set_empty rows v blank)))
     pick (inr ne) = ap (λ b. not b && row_is_of c rows u) (test_no u v (λ e. ne (sym e))) ∙ sym (ap (λ (row : Row). is_of c row.known) (get_or-set_other rows v u blank blank (λ e. ne (sym e))))
 
   pub other_listed : (listed : List ℕ) → OnlyMembers c listed rows → list_any (other_is_of v c rows) listed ≡ list_any (is_of c) (slice_set (map known_of rows) v Nothing)
   other_listed listed only = any_same (other_is_of v c rows) (row_is_of c without) other_is listed
-      ∙ any_listed c listed without (λ u. members u (same_or_not v u)) ∙ ap (list_any (is_of c)) (map-set known_of rows v blank)
+      ∙ any_listed c listed without (λ u. members u (cases_eq v u)) ∙ ap (list_any (is_of c)) (map-set known_of rows v blank)
     where
       members : (u : ℕ) → (v ≡ u) ⊎ (v ≡ u → ⊥) → IsOne u listed ⊎ (is_of c (row_at without u).known ≡ false)
       members u (inl same) = inr (subst (λ x. is_of c (row_at without x).known ≡ false) same (ap (λ (row : Row). is_of c row.known) (set_empty rows v blank)))

@@ -1,5 +1,6 @@
 -- A definition of a value ends exactly the statements that name it.
 use Rattle.std.proofs.Common.{◌≡◌, ◌⊎◌, inl, inr, ℕ, List, map, refl, sym, ap, ◌∙◌, subst, true, false, Bool, Option, Some, None}
+use Rattle.std.proofs.lemmas.List.{get_or-set_other}
 use Rattle.std.specs.Prelude.{◌==◌, ◌||◌, if◌then◌else◌, ◌↔◌}
 use Rattle.std.specs.List.{list_any}
 use Rattle.lemmas.specs.Lists.{at_map}
@@ -11,14 +12,14 @@ use Rattle.facts.specs.declared.known.Known.TheVariants.{Nothing, Number, Cell, 
 use Rattle.facts.specs.declared.known.SlotFact.{SlotFact}
 use Rattle.facts.specs.Facts.{FactSet, known_at, slot_at, class_at, open_slot, is_of, holds_class, held_nonnull, slot_nonnull, let_go, slots_without, is_on, off_base, values_without, forget}
 use Rattle.facts.specs.Statements.{IsNumber, IsBelow, RefersTo, IsCurrent, IsNonnull, IsFresh, IsSame, IsAddress, IsGlobal, SlotNonnull, SlotHolds, NumberOf, BelowOf, RefersOf, CurrentOf, OfClass, AddressOf, GlobalOf, ForgetEndsNames}
-use Rattle.facts.proofs.Sets.{set_other, set_empty, found}
+use Rattle.facts.proofs.Sets.{set_empty, found}
 
 module _ (v : ℕ) (values : List Known) where
   gone : known_at (values_without v values) v ≡ Nothing
   gone = set_empty (map (off_base v) values) v Nothing
 
   other : (u : ℕ) → (u ≡ v → ⊥) → known_at (values_without v values) u ≡ off_base v (known_at values u)
-  other u ne = set_other (map (off_base v) values) v u Nothing Nothing (λ e. ne (sym e)) ∙ at_map (off_base v) values u Nothing refl
+  other u ne = get_or-set_other (map (off_base v) values) v u Nothing Nothing ne ∙ at_map (off_base v) values u Nothing refl
 
   -- what is known afterwards was known before, and is not of v
   pub before : (P : Known → Type 0) → (P Nothing → ⊥) → (u : ℕ) → P (known_at (values_without v values) u) → P (known_at values u) × (u ≡ v → ⊥)

@@ -3,11 +3,12 @@ use Rattle.std.proofs.Common.{◌≡◌, ◌<◌, ◌⊎◌, ◌+◌, inl, inr, 
 use Rattle.std.proofs.lemmas.List.{get_or_append_left, get_or-set_same, get_or-set_other}
 use Rattle.std.specs.Prelude.{◌==◌, if◌then◌else◌}
 use Rattle.lemmas.specs.Numbers.{test_true, test_false, test_no, test_same, some_same}
+use Rattle.std.proofs.lemmas.Bool.{cases_eq}
+use Rattle.facts.specs.EachListed.{IsOne}
+use Rattle.facts.proofs.EachListed.{one_more, one_last}
 use Rattle.facts.specs.declared.ties.Group.{Group}
 use Rattle.facts.specs.Lines.{moved}
-use Rattle.facts.specs.Sheets.{IsOne}
 use Rattle.facts.specs.Ties.{no_group, class_in, class_of_place, in_group, is_place, AreListed, AreClasses, AreTied}
-use Rattle.facts.proofs.Sheets.{same_or_not, one_more, one_last}
 
 -- ---- one number becomes another
 
@@ -18,7 +19,7 @@ pub moved_not : (from to c : ℕ) → (c ≡ from → ⊥) → moved from to c �
 moved_not from to c ne = ap (λ (b : Bool). if b then to else c) (test_no c from ne)
 
 pub moved_to : (from to : ℕ) → moved from to to ≡ to
-moved_to from to = elim (same_or_not to from) [ inl e ↦ subst (λ x. moved x to to ≡ to) e (moved_it to to) | inr ne ↦ moved_not from to to ne ]
+moved_to from to = elim (cases_eq to from) [ inl e ↦ subst (λ x. moved x to to ≡ to) e (moved_it to to) | inr ne ↦ moved_not from to to ne ]
 
 -- ---- one group becomes another
 
@@ -48,7 +49,7 @@ module _ (places next : ℕ → Option ℕ) (s t : ℕ) (moves : (c : ℕ) → n
 
     -- the group has the class that one of its values had
     pub merged_classes : (long : length after ≡ length groups) → t < length groups → (places class ≡ Some s) ⊎ (places class ≡ Some t) → AreClasses next after
-    merged_classes long lt of c p e = let was = was_in c p e in pick was.0 was.1 was.2 (same_or_not p t) where
+    merged_classes long lt of c p e = let was = was_in c p e in pick was.0 was.1 was.2 (cases_eq p t) where
       there : next class ≡ Some t
       there = elim of [ inl is ↦ next_at class s is ∙ ap Some (moved_it s t) | inr is ↦ next_at class t is ∙ ap Some (moved_to s t) ]
 
@@ -79,7 +80,7 @@ module _ (places next : ℕ → Option ℕ) (s t : ℕ) (moves : (c : ℕ) → n
       end_a p e = elim ends [ inl both ↦ inl (e ∙ sym both.0) | inr both ↦ inr (e ∙ sym both.1) ]
 
       class_at_place : (c p : ℕ) → places c ≡ Some p → class_in after (moved s t p) ≡ moved was class (class_in groups p)
-      class_at_place c p e = pick (same_or_not p s) (same_or_not p t) where
+      class_at_place c p e = pick (cases_eq p s) (cases_eq p t) where
         pick : (p ≡ s) ⊎ (p ≡ s → ⊥) → (p ≡ t) ⊎ (p ≡ t → ⊥) → class_in after (moved s t p) ≡ moved was class (class_in groups p)
         pick (inl is) other = ap (λ x. class_in after (moved s t x)) is ∙ ap (class_in after) (moved_it s t) ∙ class_t ∙ sym (joined p (inl is))
         pick (inr ne) (inl is) = ap (λ x. class_in after (moved s t x)) is ∙ ap (class_in after) (moved_to s t) ∙ class_t ∙ sym (joined p (inr is))
@@ -125,7 +126,7 @@ module _ (places next : ℕ → Option ℕ) (groups : List Group) (v : ℕ) (alo
   kept_place c p e = next_other c (apart c p e) ∙ e
 
   pub same_class : (c : ℕ) → class_of_place more c (next c) ≡ class_of_place groups c (places c)
-  same_class c = elim (same_or_not v c) [
+  same_class c = elim (cases_eq v c) [
     | inl same ↦ subst (λ x. class_of_place more x (next x) ≡ class_of_place groups x (places x)) same (ap (class_of_place more v) next_v ∙ last_class groups group ∙ own ∙ ap (class_of_place groups v) (sym alone))
     | inr ne ↦ ap (class_of_place more c) (next_other c ne) ∙ by (places c) refl
   ] where
@@ -134,19 +135,19 @@ module _ (places next : ℕ → Option ℕ) (groups : List Group) (v : ℕ) (alo
     by (Some p) e = ap (class_of_place more c) e ∙ class_kept p (classes c p e).0 ∙ ap (class_of_place groups c) (sym e)
 
   pub more_classes : AreClasses next more
-  more_classes c p e = elim (same_or_not v c) [
+  more_classes c p e = elim (cases_eq v c) [
     | inl same ↦ let at : length groups ≡ p = some_same (length groups) p (sym next_v ∙ ap next same ∙ e) in subst (λ x. (x < length more) × (next (class_in more x) ≡ Some x)) at (rw length_one_more (omega arith), ap next (last_class groups group ∙ own) ∙ next_v)
     | inr ne ↦ let was : places c ≡ Some p = sym (next_other c ne) ∙ e in let is = classes c p was in (rw length_one_more (omega (arith, is.0)), ap next (class_kept p is.0) ∙ kept_place (class_in groups p) p is.1)
   ]
 
   pub more_tied : (tied : List ℕ) → AreTied places tied → AreTied next (tied ++ v ∷ [])
-  more_tied tied all c = elim (same_or_not v c) [
+  more_tied tied all c = elim (cases_eq v c) [
     | inl same ↦ inl (subst (λ x. IsOne x (tied ++ v ∷ [])) same (one_last v tied))
     | inr ne ↦ elim (all c) [ inl one ↦ inl (one_more c v tied one) | inr e ↦ inr (next_other c ne ∙ e) ]
   ]
 
   pub more_listed : (members after : ℕ → List ℕ) → AreListed places members → ((list u : ℕ) → IsOne u (members list) → IsOne u (after list)) → IsOne v (after (length groups)) → AreListed next after
-  more_listed members after listed kept added c p e = elim (same_or_not v c) [
+  more_listed members after listed kept added c p e = elim (cases_eq v c) [
     | inl same ↦ let at : length groups ≡ p = some_same (length groups) p (sym next_v ∙ ap next same ∙ e) in subst (λ x. IsOne c (after x)) at (subst (λ x. IsOne x (after (length groups))) same added)
     | inr ne ↦ kept p c (listed c p (sym (next_other c ne) ∙ e))
   ]
@@ -154,7 +155,7 @@ module _ (places next : ℕ → Option ℕ) (groups : List Group) (v : ℕ) (alo
 -- ---- a group that is written
 
 pub class_set : (groups : List Group) (t : ℕ) (group : Group) → t < length groups → (p : ℕ) → class_in (slice_set groups t group) p ≡ (if p == t then group.class else class_in groups p)
-class_set groups t group lt p = elim (same_or_not t p) [
+class_set groups t group lt p = elim (cases_eq t p) [
   | inl same ↦ subst (λ x. class_in (slice_set groups t group) x ≡ (if x == t then group.class else class_in groups x)) same (ap (λ (g : Group). g.class) (get_or-set_same groups t group no_group lt) ∙ ap (λ (b : Bool). if b then group.class else class_in groups t) (sym (test_same t)))
   | inr ne ↦ let far : p ≡ t → ⊥ = λ e. ne (sym e) in ap (λ (g : Group). g.class) (get_or-set_other groups t p group no_group far) ∙ ap (λ (b : Bool). if b then group.class else class_in groups p) (sym (test_no p t far))
 ]
@@ -196,19 +197,19 @@ module _ (from to : ℕ) (old : ℕ → Option ℕ) where
     ]
 
     pub part_more : IsPart from to old next
-    part_more c = elim (same_or_not number c) [
+    part_more c = elim (cases_eq number c) [
       | inl same ↦ subst (λ x. (next x ≡ old x) ⊎ ((old x ≡ Some from) × (next x ≡ Some to))) same (by (old number) refl)
       | inr ne ↦ elim (part c) [ inl e ↦ inl (others c ne ∙ e) | inr both ↦ inr (both.0, others c ne ∙ both.1) ]
     ] where
       by : (place : Option ℕ) → old number ≡ place → (next number ≡ old number) ⊎ ((old number ≡ Some from) × (next number ≡ Some to))
       by None e = inl (at_number ∙ ap (in_group from to) e ∙ sym e)
-      by (Some place) e = elim (same_or_not place from) [
+      by (Some place) e = elim (cases_eq place from) [
         | inl same ↦ inr (e ∙ ap Some same, at_number ∙ ap (in_group from to) (e ∙ ap Some same) ∙ ap Some (moved_it from to))
         | inr ne ↦ inl (at_number ∙ ap (in_group from to) e ∙ ap Some (moved_not from to place ne) ∙ sym e)
       ]
 
     moved_one : (rest : List ℕ) → AreMoved from to (number ∷ rest) old now → AreMoved from to rest old next
-    moved_one rest was c = elim (same_or_not number c) [
+    moved_one rest was c = elim (cases_eq number c) [
       | inl same ↦ inr (subst (λ x. next x ≡ in_group from to (old x)) same at_number)
       | inr ne ↦ elim (was c) [ inl one ↦ elim one [ inl same ↦ absurd (ne same) | inr more ↦ inl more ] | inr e ↦ inr (others c ne ∙ e) ]
     ]
@@ -222,7 +223,7 @@ module _ (from to : ℕ) (old : ℕ → Option ℕ) where
 
 -- one value more is of a group
 pub listed_more : (now next : ℕ → Option ℕ) (number to : ℕ) → ((c : ℕ) → next c ≡ cond (number == c) (Some to) (now c)) → (members after : ℕ → List ℕ) → ((list u : ℕ) → IsOne u (members list) → IsOne u (after list)) → IsOne number (after to) → AreListed now members → AreListed next after
-listed_more now next number to puts members after kept added listed c p e = elim (same_or_not number c) [
+listed_more now next number to puts members after kept added listed c p e = elim (cases_eq number c) [
   | inl same ↦ let at : Some to ≡ Some p = sym (ap (λ (b : Bool). cond b (Some to) (now number)) (test_same number)) ∙ sym (puts number) ∙ ap next same ∙ e in subst (λ x. IsOne x (after p)) same (subst (λ x. IsOne number (after x)) (some_same to p at) added)
   | inr ne ↦ kept p c (listed c p (sym (puts c ∙ ap (λ (b : Bool). cond b (Some to) (now c)) (test_no number c ne)) ∙ e))
 ]

@@ -1,22 +1,22 @@
 -- The slots that have held each class.
 use Rattle.std.proofs.Common.{◌≡◌, ◌<◌, ◌≤◌, ◌⊎◌, ◌+◌, ◌-◌, inl, inr, ℕ, suc, List, [], ◌∷◌, length, get_or, map, drop, drop-cons, add-one, refl, sym, ap, ◌∙◌, subst, true, false, Bool, Option, Some, None, slice_set, arith}
-use Rattle.std.specs.Prelude.{◌||◌, if◌then◌else◌, replicate, nat_eq, is_some}
+use Rattle.std.specs.Prelude.{◌||◌, replicate, nat_eq, is_some, if◌then◌else◌}
 use Rattle.indexmap.specs.IndexMap.{get}
 use Rattle.std.specs.List.{list_any}
-use Rattle.std.proofs.lemmas.Bool.{cases_lt}
+use Rattle.std.proofs.lemmas.Bool.{cases_eq, cases_lt}
 use Rattle.std.proofs.lemmas.List.{get_or_past, get_or-set_same, length-set}
 use Rattle.lemmas.specs.Bools.{never_true}
 use Rattle.lemmas.specs.Lists.{at_map}
+use Rattle.facts.specs.EachListed.{IsOne, each_listed}
+use Rattle.facts.proofs.EachListed.{one_more}
 use Rattle.facts.specs.declared.chains.Chains.{Chains}
 use Rattle.facts.specs.declared.known.Class.{Class}
 use Rattle.facts.specs.declared.known.SlotFact.{SlotFact}
 use Rattle.facts.specs.declared.uses.Use.{Use}
 use Rattle.facts.specs.Chains.{listed}
 use Rattle.facts.specs.Facts.{open_slot, slot_at, holds_class, holds, let_go, end_hold}
-use Rattle.facts.specs.Sheets.{IsOne}
-use Rattle.facts.specs.SlotRows.{OnlyHolding, OnlyKeepers, AreNoted, with_holding, each_slot, let_go_last, each_let_go, let_go_others}
+use Rattle.facts.specs.SlotRows.{OnlyHolding, OnlyKeepers, AreNoted, with_holding, let_go_last, each_let_go, let_go_others}
 use Rattle.facts.specs.Uses.{use_at, users_of, chain}
-use Rattle.facts.proofs.Sheets.{same_or_not, one_more}
 use Rattle.facts.proofs.SlotLists.{as_before, let_go_listed, open_at}
 use Rattle.facts.proofs.Users.{chain_none}
 
@@ -36,7 +36,7 @@ more_keepers keepers next slots kept only s c h = kept c s (only s c h)
 
 -- a slot is written, which is listed for what it holds
 pub set_keepers : (keepers : Chains) (s : ℕ) (slot : SlotFact) (slots : List SlotFact) → ((c : ℕ) → holds c slot ≡ true → IsOne s (listed keepers c)) → OnlyKeepers keepers slots → OnlyKeepers keepers (slice_set slots s slot)
-set_keepers keepers s slot slots noted only u c h = elim (same_or_not s u) [
+set_keepers keepers s slot slots noted only u c h = elim (cases_eq s u) [
   | inl same ↦ subst (λ x. IsOne x (listed keepers c)) same (here (cases_lt s (length slots)) (subst (λ x. holds c (slot_at (slice_set slots s slot) x) ≡ true) (sym same) h))
   | inr ne ↦ only u c (sym (ap (holds c) (as_before s slot slots u ne)) ∙ h)
 ] where
@@ -65,7 +65,7 @@ module _ (d : ℕ) (nonnull : Bool) where
   let_go_keepers keepers = map_less keepers (let_go d nonnull) refl let_go_less
 
   -- no slot but the keepers sees it
-  pub keepers_let_go : (keepers : Chains) (slots : List SlotFact) → OnlyKeepers keepers slots → each_slot (λ s. let_go d nonnull) (listed keepers d) slots ≡ map (let_go d nonnull) slots
+  pub keepers_let_go : (keepers : Chains) (slots : List SlotFact) → OnlyKeepers keepers slots → each_listed open_slot (λ s. let_go d nonnull) (listed keepers d) slots ≡ map (let_go d nonnull) slots
   keepers_let_go keepers slots only = let_go_listed d nonnull (listed keepers d) slots (λ s. pick s (holds d (slot_at slots s)) refl) where
     pick : (s : ℕ) (b : Bool) → holds d (slot_at slots s) ≡ b → IsOne s (listed keepers d) ⊎ (holds d (slot_at slots s) ≡ false)
     pick s true e = inl (only s d e)
@@ -116,11 +116,11 @@ all_keepers holding keepers slots are only s c h = elim (only s) [
 
 -- ---- a change of each slot of a chain
 
-pub slots_step : (g : SlotFact → SlotFact) (count step : ℕ) (uses : List Use) (at : Option ℕ) (found : Use) (first slots next : List SlotFact) → step < count → first ≡ each_slot (λ s. g) (chain (count - step) uses at) slots → use_at uses at ≡ Some found
-    → next ≡ slice_set slots found.user (g (slot_at slots found.user)) → first ≡ each_slot (λ s. g) (chain (count - (step + 1)) uses found.before) next
+pub slots_step : (g : SlotFact → SlotFact) (count step : ℕ) (uses : List Use) (at : Option ℕ) (found : Use) (first slots next : List SlotFact) → step < count → first ≡ each_listed open_slot (λ s. g) (chain (count - step) uses at) slots → use_at uses at ≡ Some found
+    → next ≡ slice_set slots found.user (g (slot_at slots found.user)) → first ≡ each_listed open_slot (λ s. g) (chain (count - (step + 1)) uses found.before) next
 slots_step g count step uses at found first slots next lt e is changed =
     let left : count - step ≡ suc (count - (step + 1)) = omega arith in
-    e ∙ ap (λ n. each_slot (λ s. g) (chain n uses at) slots) left ∙ ap (λ (f : Option Use). each_slot (λ s. g) (users_of f (chain (count - (step + 1)) uses)) slots) is ∙ ap (each_slot (λ s. g) (chain (count - (step + 1)) uses found.before)) (sym changed)
+    e ∙ ap (λ n. each_listed open_slot (λ s. g) (chain n uses at) slots) left ∙ ap (λ (f : Option Use). each_listed open_slot (λ s. g) (users_of f (chain (count - (step + 1)) uses)) slots) is ∙ ap (each_listed open_slot (λ s. g) (chain (count - (step + 1)) uses found.before)) (sym changed)
 
 -- where there is no newest keeper there is none
 pub unlisted : (keepers : Chains) (c : ℕ) → get nat_eq keepers.newest c ≡ None → listed keepers c ≡ []

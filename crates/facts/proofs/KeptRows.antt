@@ -2,14 +2,17 @@
 use Rattle.std.proofs.Common.{◌≡◌, ◌⊎◌, ◌∙◌, ℕ, List, [], ◌∷◌, length, map, refl, sym, inl, inr}
 use Rattle.std.proofs.lemmas.List.{get_or-set_other, length-set, length-replicate}
 use Rattle.std.specs.Prelude.{slice_set, replicate}
+use Rattle.std.proofs.lemmas.Bool.{cases_eq}
+use Rattle.facts.specs.EachListed.{IsOne, each_listed, copied}
+use Rattle.facts.proofs.EachListed.{copied_all}
 use Rattle.facts.specs.declared.numbered.Numbered.{Numbered}
 use Rattle.facts.specs.declared.row.Row.{Row}
-use Rattle.facts.specs.Sheets.{blank, row_at, IsOne, OnlyMarked, each, copied}
+use Rattle.facts.specs.Sheets.{blank, row_at, OnlyMarked}
 use Rattle.facts.specs.Numbered.{numbered_at, number_of, written, among_blank}
-use Rattle.facts.proofs.Sheets.{same_or_not, copied_all, blank_at}
+use Rattle.facts.proofs.Sheets.{blank_at}
 
 -- rows that are numbered are written as they are copied
-written_copied : (others : List Row) (marked : List ℕ) (rows : List Row) → written (map (numbered_at others) marked) rows ≡ each (copied others) marked rows
+written_copied : (others : List Row) (marked : List ℕ) (rows : List Row) → written (map (numbered_at others) marked) rows ≡ each_listed blank (copied blank others) marked rows
 written_copied others [] rows = refl
 written_copied others (u ∷ marked) rows = written_copied others marked (slice_set rows u (row_at others u))
 
@@ -23,7 +26,7 @@ length_among count numbered = length_written numbered (replicate count blank) �
 -- a row that is not written is as it was
 written_other : (numbered : List Numbered) (rows : List Row) (v : ℕ) → IsOne v (map number_of numbered) ⊎ (row_at (written numbered rows) v ≡ row_at rows v)
 written_other [] rows v = inr refl
-written_other (one ∷ numbered) rows v = pick (same_or_not one.number v) (written_other numbered next v) where
+written_other (one ∷ numbered) rows v = pick (cases_eq one.number v) (written_other numbered next v) where
   next : List Row
   next = slice_set rows one.number one.row
 
@@ -38,4 +41,4 @@ written_marked count numbered v = elim (written_other numbered (replicate count 
 
 -- the rows that are marked, among blank ones, are all rows
 pub kept_all : (marked : List ℕ) (rows : List Row) → OnlyMarked marked rows → among_blank (length rows) (map (numbered_at rows) marked) ≡ rows
-kept_all marked rows only = written_copied rows marked (replicate (length rows) blank) ∙ copied_all marked (replicate (length rows) blank) rows only refl
+kept_all marked rows only = written_copied rows marked (replicate (length rows) blank) ∙ copied_all blank marked (replicate (length rows) blank) rows only refl

@@ -5,19 +5,20 @@ use Rattle.std.proofs.Math.Seq.{map-set_same}
 use Rattle.std.proofs.lemmas.List.{get_or_append_left, get_or-set_same, get_or-set_other, length-map, length-set, map-set, set-append_left}
 use Rattle.std.specs.Prelude.{not, ◌||◌, ◌==◌}
 use Rattle.lemmas.specs.Bools.{or_false}
+use Rattle.std.proofs.lemmas.Bool.{cases_eq}
+use Rattle.facts.specs.EachListed.{IsOne}
 use Rattle.facts.specs.declared.known.Class.{Class}
 use Rattle.facts.specs.declared.known.Known.{Known}
 use Rattle.facts.specs.declared.known.Known.TheVariants.{Nothing, Number, Cell, Null, Address, GlobalAddress}
 use Rattle.facts.specs.declared.row.Row.{Row}
 use Rattle.facts.specs.declared.uses.Use.{Use}
 use Rattle.facts.specs.Facts.{lost_class, class_at}
-use Rattle.facts.specs.Sheets.{blank, row_at, known_of, class_of, test_of, names, IsOne, is_settled_as, is_settled}
+use Rattle.facts.specs.Sheets.{blank, row_at, known_of, class_of, test_of, names, is_settled_as, is_settled}
 use Rattle.facts.specs.Uses.{chain, OnlyUsers, SayTheSame}
 use Rattle.facts.specs.Values.{facts_of_rows, learned, is_reference, learned_row}
 use Rattle.facts.proofs.Current.{settled_parts}
 use Rattle.facts.proofs.Says.{same_facts}
 use Rattle.facts.proofs.Sets.{set_part, or_true}
-use Rattle.facts.proofs.Sheets.{same_or_not}
 use Rattle.facts.proofs.Users.{chain_none, users_set}
 
 -- ---- a row that is filled
@@ -34,7 +35,7 @@ module _ (rows : List Row) (at : ℕ) (newest : ℕ) where
   filled_same added = same_facts _ _ _ _ _ _ (map-set_same known_of rows at filled_row blank refl) (ap (λ (l : List Class). l ++ added) (map-set_same class_of rows at filled_row blank refl)) (map-set_same test_of rows at filled_row blank refl)
 
   pub filled_users : (uses : List Use) → (row_at rows at).used ≡ None → OnlyUsers uses rows → OnlyUsers uses (slice_set rows at filled_row)
-  filled_users uses free only u w e lt = pick (same_or_not at w) where
+  filled_users uses free only u w e lt = pick (cases_eq at w) where
     one : IsOne u (chain (length uses) uses (row_at rows w).used)
     one = only u w (sym (set_part (names w) rows at u filled_row blank refl) ∙ e) (rw (← length-set rows at filled_row) lt)
 

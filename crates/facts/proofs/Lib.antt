@@ -1,4 +1,5 @@
 pub mod Sets
+mod EachListed
 mod Sheets
 mod Listed
 mod Current

@@ -3,10 +3,10 @@ use Rattle.std.proofs.Common.{◌≡◌, ◌<◌, ◌+◌, ◌-◌, inl, inr, �
 use Rattle.std.proofs.lemmas.List.{append_assoc}
 use Rattle.std.specs.Prelude.{◌==◌}
 use Rattle.lemmas.specs.Numbers.{test_no, test_same}
+use Rattle.std.proofs.lemmas.Bool.{cases_eq}
+use Rattle.facts.specs.EachListed.{IsOne}
 use Rattle.facts.specs.declared.uses.Use.{Use}
-use Rattle.facts.specs.Sheets.{IsOne}
 use Rattle.facts.specs.Uses.{use_at, users_of, chain}
-use Rattle.facts.proofs.Sheets.{same_or_not}
 use Rattle.facts.proofs.Users.{user_kept, newest}
 
 -- one link more
@@ -24,7 +24,7 @@ module _ (links : List Use) (old new : ℕ → Option ℕ) (list number : ℕ) (
   new_other other ne = puts other ∙ ap (λ (b : Bool). cond b (Some (length links)) (old other)) (test_no list other ne)
 
   pub listed_kept : (other u : ℕ) → IsOne u (chain (length links) links (old other)) → IsOne u (chain (length more) more (new other))
-  listed_kept other u one = elim (same_or_not list other) [
+  listed_kept other u one = elim (cases_eq list other) [
     | inl same ↦ subst (λ x. IsOne u (chain (length more) more (new x))) same (subst (λ (at : Option ℕ). IsOne u (chain (length more) more at)) (sym new_list) (newest links link u (inr (subst (λ x. IsOne u (chain (length links) links (old x))) (sym same) one))))
     | inr ne ↦ subst (λ (at : Option ℕ). IsOne u (chain (length more) more at)) (sym (new_other other ne)) (user_kept links link (old other) u one)
   ]

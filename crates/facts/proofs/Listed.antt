@@ -1,12 +1,13 @@
 -- Rows that are listed, where something holds of each row that is not.
 use Rattle.std.proofs.Common.{◌≡◌, ◌⊎◌, ℕ, length, List, [], ◌∷◌, ◌++◌, refl, sym, ap, subst, inl, inr, ◌∙◌, true, false, Bool, slice_set}
-use Rattle.std.proofs.lemmas.Bool.{cases_lt}
+use Rattle.std.proofs.lemmas.Bool.{cases_eq, cases_lt}
 use Rattle.std.proofs.lemmas.List.{get_or_past, get_or-set_other}
 use Rattle.std.specs.Prelude.{not, ◌&&◌, if◌then◌else◌}
+use Rattle.facts.specs.EachListed.{IsOne}
+use Rattle.facts.proofs.EachListed.{one_more, one_last}
 use Rattle.facts.specs.declared.row.Row.{Row}
-use Rattle.facts.specs.Sheets.{blank, row_at, IsOne, EachRow}
+use Rattle.facts.specs.Sheets.{blank, row_at, EachRow}
 use Rattle.facts.proofs.Sets.{set_is}
-use Rattle.facts.proofs.Sheets.{same_or_not, one_more, one_last}
 
 -- this holds of each row that is not listed
 abbrev pub Unless : (p : ℕ → Row → Bool) → (listed : List ℕ) → List Row → Type 0
@@ -38,7 +39,7 @@ module _ (p : ℕ → Row → Bool) (of_blank : (v : ℕ) → p v blank ≡ true
   as_before u ne = elim (only u) [ inl one ↦ inl one | inr e ↦ inr (subst (λ (r : Row). p u r ≡ true) (sym (get_or-set_other rows v u row blank (λ x. ne (sym x)))) e) ]
 
   pub set_unless : Unless p (with_row p v (row_at rows v) row listed) after
-  set_unless u = pick (p v (row_at rows v)) refl (p v row) refl (same_or_not v u) where
+  set_unless u = pick (p v (row_at rows v)) refl (p v row) refl (cases_eq v u) where
     one_of : (b : Bool) → IsOne u listed → IsOne u (if b then listed ++ v ∷ [] else listed)
     one_of true one = one_more u v listed one
     one_of false one = one
@@ -59,13 +60,13 @@ module _ (p : ℕ → Row → Bool) (of_blank : (v : ℕ) → p v blank ≡ true
 
   -- a row that is listed, or of which it holds
   pub put_unless : IsOne v listed ⊎ (p v row ≡ true) → Unless p listed after
-  put_unless noted u = pick (same_or_not v u) where
+  put_unless noted u = pick (cases_eq v u) where
     pick : (v ≡ u) ⊎ (v ≡ u → ⊥) → IsOne u listed ⊎ (p u (row_at after u) ≡ true)
     pick (inr ne) = as_before u ne
     pick (inl same) = elim noted [ inl one ↦ inl (subst (λ x. IsOne x listed) same one) | inr e ↦ inr (subst (λ x. p x (row_at after x) ≡ true) same (holds_now e)) ]
 
   pub change_unless : (p v (row_at rows v) ≡ true → p v row ≡ true) → Unless p listed after
-  change_unless keeps u = pick (same_or_not v u) where
+  change_unless keeps u = pick (cases_eq v u) where
     pick : (v ≡ u) ⊎ (v ≡ u → ⊥) → IsOne u listed ⊎ (p u (row_at after u) ≡ true)
     pick (inr ne) = as_before u ne
     pick (inl same) = elim (only v) [ inl one ↦ inl (subst (λ x. IsOne x listed) same one) | inr e ↦ inr (subst (λ x. p x (row_at after x) ≡ true) same (holds_now (keeps e))) ]

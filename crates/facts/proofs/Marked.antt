@@ -6,6 +6,8 @@ use Rattle.std.proofs.lemmas.List.{get_or_past}
 use Rattle.std.proofs.Math.Seq.{map-set_same}
 use Rattle.std.specs.Prelude.{◌==◌, ◌||◌, ◌&&◌}
 use Rattle.std.specs.List.{list_any, list_all, zip}
+use Rattle.facts.specs.EachListed.{IsOne, each_listed}
+use Rattle.facts.proofs.EachListed.{length_each, each_at}
 use Rattle.facts.specs.declared.known.Class.{Class}
 use Rattle.facts.specs.declared.known.Known.{Known}
 use Rattle.facts.specs.declared.known.Known.TheVariants.{Nothing, Number, Cell, Null, Address, GlobalAddress}
@@ -15,27 +17,26 @@ use Rattle.facts.specs.declared.sweeps.Change.{Change}
 use Rattle.facts.specs.declared.sweeps.Change.TheVariants.{Off, Settle}
 use Rattle.facts.specs.Facts.{is_of, is_on, off_base, off_test}
 use Rattle.facts.specs.Lines.{covers_value}
-use Rattle.facts.specs.Sheets.{blank, row_at, known_of, class_of, IsOne, OnlyMarked, each, EachRow, off_row, keep_row, settle_row, changed, row_is_of, covers_row}
+use Rattle.facts.specs.Sheets.{blank, row_at, known_of, class_of, OnlyMarked, EachRow, off_row, keep_row, settle_row, changed, row_is_of, covers_row}
 use Rattle.facts.proofs.OwnersOf.{OnlyMembers}
 use Rattle.facts.proofs.Sets.{found, or_true}
-use Rattle.facts.proofs.Sheets.{length_each, each_row}
 
 module _ (change : ℕ → Row → Row) (twice : (v : ℕ) (row : Row) → change v (change v row) ≡ change v row) (leaves : (v : ℕ) → change v blank ≡ blank) where
   -- a change that leaves blank rows is one of all rows
-  pub each_all : (marked : List ℕ) (rows : List Row) → OnlyMarked marked rows → EachRow change rows (each change marked rows)
-  each_all marked rows only = (length_each change marked rows, each_row change twice marked rows seen) where
+  pub each_all : (marked : List ℕ) (rows : List Row) → OnlyMarked marked rows → EachRow change rows (each_listed blank change marked rows)
+  each_all marked rows only = (length_each blank change marked rows, each_at blank change twice marked rows seen) where
     seen : (v : ℕ) → v < length rows → IsOne v marked ⊎ (change v (row_at rows v) ≡ row_at rows v)
     seen v lt = elim (only v) [ inl one ↦ inl one | inr e ↦ inr (ap (change v) e ∙ leaves v ∙ sym e) ]
 
   -- the same rows are marked then
-  pub each_marked : (marked : List ℕ) (rows : List Row) → OnlyMarked marked rows → OnlyMarked marked (each change marked rows)
+  pub each_marked : (marked : List ℕ) (rows : List Row) → OnlyMarked marked rows → OnlyMarked marked (each_listed blank change marked rows)
   each_marked marked rows only v = elim (only v) [
     | inl one ↦ inl one
     | inr e ↦ inr (pick e (cases_lt v (length rows)))
   ] where
-    pick : row_at rows v ≡ blank → (v < length rows) ⊎ (length rows ≤ v) → row_at (each change marked rows) v ≡ blank
+    pick : row_at rows v ≡ blank → (v < length rows) ⊎ (length rows ≤ v) → row_at (each_listed blank change marked rows) v ≡ blank
     pick e (inl lt) = (each_all marked rows only).1 v lt ∙ ap (change v) e ∙ leaves v
-    pick e (inr past) = get_or_past (each change marked rows) v blank (rw length_each past)
+    pick e (inr past) = get_or_past (each_listed blank change marked rows) v blank (rw (length_each blank change marked rows) past)
 
 -- ---- each of these changes
 
@@ -79,10 +80,10 @@ each_then one other before between after h i = (i.0 ∙ h.0, λ v lt. i.1 v (rw 
 
 -- one class more is noted, and the classes are as they were
 pub keep_more : (added : List Class) (first rows : List Row) (marked : List ℕ) (i : ℕ) → i < length marked
-    → each (keep_row (map class_of first ++ added)) marked first ≡ each (keep_row (map class_of first ++ added)) (drop i marked) rows → map class_of rows ≡ map class_of first → (next : List Row)
+    → each_listed blank (keep_row (map class_of first ++ added)) marked first ≡ each_listed blank (keep_row (map class_of first ++ added)) (drop i marked) rows → map class_of rows ≡ map class_of first → (next : List Row)
     → next ≡ slice_set rows (get_or marked i 0) (keep_row (map class_of rows ++ added) (get_or marked i 0) (row_at rows (get_or marked i 0)))
-    → (each (keep_row (map class_of first ++ added)) marked first ≡ each (keep_row (map class_of first ++ added)) (drop (i + 1) marked) next) × (map class_of next ≡ map class_of first)
-keep_more added first rows marked i lt changed same next is = (changed ∙ ap (λ us. each g us rows) (drop-cons marked i 0 lt) ∙ ap (λ us. each g us (step (map class_of first))) (ap (λ n. drop n marked) (sym (add-one i))) ∙ ap (each g (drop (i + 1) marked)) (ap step (sym same) ∙ sym is), ap (map class_of) is ∙ map-set_same class_of rows u (keep_row (map class_of rows ++ added) u (row_at rows u)) blank refl ∙ same) where
+    → (each_listed blank (keep_row (map class_of first ++ added)) marked first ≡ each_listed blank (keep_row (map class_of first ++ added)) (drop (i + 1) marked) next) × (map class_of next ≡ map class_of first)
+keep_more added first rows marked i lt changed same next is = (changed ∙ ap (λ us. each_listed blank g us rows) (drop-cons marked i 0 lt) ∙ ap (λ us. each_listed blank g us (step (map class_of first))) (ap (λ n. drop n marked) (sym (add-one i))) ∙ ap (each_listed blank g (drop (i + 1) marked)) (ap step (sym same) ∙ sym is), ap (map class_of) is ∙ map-set_same class_of rows u (keep_row (map class_of rows ++ added) u (row_at rows u)) blank refl ∙ same) where
   u : ℕ
   u = get_or marked i 0
 

@@ -3,6 +3,7 @@ use Rattle.std.proofs.Common.{◌≡◌, inl, inr, ℕ, List, [], ◌∷◌, zer
 use Rattle.std.specs.Prelude.{replicate}
 use Rattle.std.proofs.lemmas.List.{get_or-set_other}
 use Rattle.lemmas.specs.Numbers.{test_same}
+use Rattle.std.proofs.lemmas.Bool.{cases_eq}
 use Rattle.shadow_stack.specs.Slots.{SlotTable, slot_of}
 use Rattle.certs.specs.declared.section.Fact.{Fact}
 use Rattle.certs.specs.declared.section.Fact.TheVariants as fact
@@ -13,7 +14,6 @@ use Rattle.facts.specs.declared.known.Known.TheVariants.{Nothing, Number, Cell, 
 use Rattle.facts.specs.Facts.{FactSet, known_at}
 use Rattle.facts.specs.Lines.{list_value, list_slot, list_line, list_lines, is_stale}
 use Rattle.facts.specs.Ties.{is_own, AreOwn}
-use Rattle.facts.proofs.Sheets.{same_or_not}
 
 -- ---- what is listed
 
@@ -33,7 +33,7 @@ at_set P (x ∷ values) zero known here none = here
 at_set P (x ∷ values) (suc v) known here none = at_set P values v known here none
 
 own_set : (values : List Known) (v : ℕ) (known : Known) → is_own v known ≡ true → AreOwn values → AreOwn (slice_set values v known)
-own_set values v known here own u = elim (same_or_not v u) [
+own_set values v known here own u = elim (cases_eq v u) [
   | inl same ↦ subst (λ x. is_own x (known_at (slice_set values v known) x) ≡ true) same (at_set (λ k. is_own v k ≡ true) values v known here refl)
   | inr ne ↦ ap (is_own u) (get_or-set_other values v u known Nothing (λ e. ne (sym e))) ∙ own u
 ]

@@ -1,13 +1,14 @@
 -- A row that is of a class from now on.
 use Rattle.std.proofs.Common.{◌≡◌, ◌⊎◌, ◌∙◌, ℕ, List, length, refl, sym, ap, subst, inl, inr, true, false, Bool}
 use Rattle.std.specs.Prelude.{not, ◌&&◌}
+use Rattle.facts.specs.EachListed.{IsOne}
 use Rattle.facts.specs.declared.owners.Owners.{Owners}
 use Rattle.facts.specs.declared.known.Known.{Known}
 use Rattle.facts.specs.declared.known.Known.TheVariants.{Nothing, Number, Cell, Null, Address, GlobalAddress}
 use Rattle.facts.specs.declared.row.Row.{Row}
 use Rattle.facts.specs.Owners.{owns_class, ListsNonOwners}
 use Rattle.facts.specs.Owned.{with_owner_of, is_new_non_owner}
-use Rattle.facts.specs.Sheets.{row_at, IsOne}
+use Rattle.facts.specs.Sheets.{row_at}
 use Rattle.facts.proofs.OwnersOf.{with_owner_non_owners, was_non_owner}
 
 with_owner_of_non_owners : (at : ℕ) (known : Known) (non_owners : List ℕ) (class_owners : List Owners) (rows : List Row) → ListsNonOwners non_owners class_owners rows → ListsNonOwners non_owners (with_owner_of rows at known class_owners) rows

@@ -5,6 +5,8 @@ use Rattle.std.proofs.lemmas.List.{get_or_past, length-set}
 use Rattle.std.specs.Prelude.{◌==◌, ◌-◌, ◌||◌, not, replicate, slice_get, nat_lt, if◌then◌else◌}
 use Rattle.lemmas.specs.Bools.{yes_or_no, or_parts, or_first}
 use Rattle.lemmas.specs.Numbers.{test_true, test_same, lt_yes, lt_false}
+use Rattle.facts.specs.EachListed.{IsOne}
+use Rattle.facts.proofs.EachListed.{one_more}
 use Rattle.facts.specs.declared.owners.Owners.{Owners}
 use Rattle.facts.specs.declared.known.Class.{Class}
 use Rattle.facts.specs.declared.known.Known.{Known}
@@ -12,9 +14,9 @@ use Rattle.facts.specs.declared.known.Known.TheVariants.{Nothing, Number, Cell, 
 use Rattle.facts.specs.declared.row.Row.{Row}
 use Rattle.facts.specs.Facts.{is_of, off_base, stale_of}
 use Rattle.facts.specs.Owners.{owners_of, is_owner, owns_class_of, owns_class, ListsNonOwners, with_second, no_owners, with_owner, members}
-use Rattle.facts.specs.Sheets.{blank, row_at, IsOne, EachRow, off_row, stale_row, row_is_of}
+use Rattle.facts.specs.Sheets.{blank, row_at, EachRow, off_row, stale_row, row_is_of}
 use Rattle.facts.proofs.Listed.{Unless, put_unless, change_unless}
-use Rattle.facts.proofs.Sheets.{blank_at, one_more}
+use Rattle.facts.proofs.Sheets.{blank_at}
 
 -- as many rows as before
 pub as_many : (class_owners : List Owners) (non_owners : List ℕ) (before after : List Row) → length after ≡ length before → Unless (owns_class (length before) class_owners) non_owners after → ListsNonOwners non_owners class_owners after

@@ -1,16 +1,8 @@
 -- What is at a place of a list after a write, and small facts on tests.
-use Rattle.std.proofs.Common.{◌≡◌, ◌<◌, ℕ, length, zero, suc, List, [], ◌∷◌, get_or, refl, ap, arith, true, false, Bool, slice_set}
+use Rattle.std.proofs.Common.{◌≡◌, ◌<◌, ℕ, length, zero, suc, List, [], ◌∷◌, get_or, refl, arith, true, false, Bool, slice_set}
 use Rattle.std.specs.Prelude.{◌||◌}
 use Rattle.std.specs.List.{list_any}
 use Rattle.lemmas.specs.Bools.{or_second, or_first}
-
--- another place is as before
-pub set_other : {X : Type 0} (xs : List X) (i j : ℕ) (a d : X) → (i ≡ j → ⊥) → get_or (slice_set xs i a) j d ≡ get_or xs j d
-set_other [] i j a d ne = refl
-set_other (x ∷ xs) zero zero a d ne = absurd (ne refl)
-set_other (x ∷ xs) zero (suc j) a d ne = refl
-set_other (x ∷ xs) (suc i) zero a d ne = refl
-set_other (x ∷ xs) (suc i) (suc j) a d ne = set_other xs i j a d (λ e. ne (ap suc e))
 
 -- the place is empty where it was emptied
 pub set_empty : {X : Type 0} (xs : List X) (i : ℕ) (d : X) → get_or (slice_set xs i d) i d ≡ d

@@ -1,20 +1,19 @@
 -- Values that were tied, each of the class that it has now.
 use Rattle.std.proofs.Common.{◌≡◌, ◌<◌, ◌≤◌, ◌⊎◌, inl, inr, ℕ, List, [], ◌∷◌, length, map, refl, sym, ap, ◌∙◌, subst, true, Option, Some, None, slice_set, Result, Ok, Err, OnOk}
 use Rattle.std.specs.Prelude.{◌==◌, ◌||◌, if◌then◌else◌}
-use Rattle.std.proofs.lemmas.Bool.{cases_lt}
+use Rattle.std.proofs.lemmas.Bool.{cases_eq, cases_lt}
 use Rattle.std.proofs.lemmas.List.{ext_get_or, get_or_past, get_or-set_same, get_or-set_other, length-set, length-map}
 use Rattle.lemmas.specs.Lists.{at_map}
 use Rattle.lemmas.specs.Numbers.{test_true}
+use Rattle.facts.specs.EachListed.{IsOne}
 use Rattle.facts.specs.declared.known.Class.{Class}
 use Rattle.facts.specs.declared.known.Known.{Known}
 use Rattle.facts.specs.declared.known.Known.TheVariants.{Nothing, Number, Cell, Null, Address, GlobalAddress}
 use Rattle.facts.specs.declared.ties.Ties.{Ties}
 use Rattle.facts.specs.Facts.{FactSet, known_at, class_at, set_class}
 use Rattle.facts.specs.Lines.{moved, move, join}
-use Rattle.facts.specs.Sheets.{IsOne}
 use Rattle.facts.specs.Ties.{is_own, AreOwn, class_in, class_of_place, group_of, class_now, known_now, facts_now, settle_value, in_group, AreTies}
 use Rattle.facts.proofs.Groups.{merged_class}
-use Rattle.facts.proofs.Sheets.{same_or_not}
 
 -- each value but the rest is what it is now, and each of the rest that or as before
 abbrev pub AreSettled : Ties → (rest : List ℕ) → (before after : List Known) → Type 0
@@ -76,7 +75,7 @@ module _ (ties : Ties) (are : AreTies ties) where
     here (inr past) = get_or_past (slice_set after v now) v Nothing (rw length-set past) ∙ ap (known_now ties) (sym (get_or_past before v Nothing (rw (← was.0) past)))
 
     at : (u : ℕ) → (known_at (slice_set after v now) u ≡ known_now ties (known_at before u)) ⊎ (IsOne u rest × (known_at (slice_set after v now) u ≡ known_at before u))
-    at u = elim (same_or_not v u) [
+    at u = elim (cases_eq v u) [
       | inl same ↦ inl (subst (λ x. known_at (slice_set after v now) x ≡ known_now ties (known_at before x)) same (here (cases_lt v (length after))))
       | inr ne ↦ other ne (was.1 u)
     ] where

@@ -7,13 +7,13 @@ use Rattle.std.proofs.lemmas.List.{get_or_past}
 use Rattle.std.proofs.lemmas.List.FromFn.{length-enumerate_from, get_or-enumerate_from}
 use Rattle.std.proofs.lemmas.List.Sums.{AllPass-from_list_all}
 use Rattle.lemmas.specs.Bools.{and_true}
+use Rattle.facts.specs.EachListed.{IsOne}
 use Rattle.facts.specs.declared.chains.Chains.{Chains}
 use Rattle.facts.specs.declared.known.SlotFact.{SlotFact}
 use Rattle.facts.specs.declared.uses.Use.{Use}
 use Rattle.facts.specs.Chains.{listed}
 use Rattle.facts.specs.Facts.{open_slot, slot_at, holds_class, holds}
 use Rattle.facts.specs.Lines.{covers_slot}
-use Rattle.facts.specs.Sheets.{IsOne}
 use Rattle.facts.specs.SlotRows.{OnlyKeepers, covers_at}
 use Rattle.facts.specs.Uses.{use_at, users_of, chain}
 use Rattle.facts.proofs.Sets.{or_true}

@@ -1,85 +1,25 @@
 -- Slots of which few are filled, and of which few hold a class.
-use Rattle.std.proofs.Common.{◌≡◌, ◌<◌, ◌⊎◌, inl, inr, ℕ, List, [], ◌∷◌, ◌++◌, zero, suc, length, map, refl, sym, ap, ◌∙◌, subst, true, false, Bool, Option, Some, None, slice_set}
-use Rattle.std.specs.Prelude.{◌||◌, if◌then◌else◌, replicate}
-use Rattle.std.proofs.lemmas.Bool.{cases_lt}
-use Rattle.std.proofs.lemmas.List.{ext_get_or, get_or_past, get_or-set_same, get_or-set_other, length-set, length-map, length-replicate, get_or-replicate}
+use Rattle.std.proofs.Common.{◌≡◌, ◌⊎◌, inl, inr, ℕ, List, [], ◌∷◌, ◌++◌, zero, suc, length, map, refl, sym, ap, ◌∙◌, subst, true, false, Bool, Option, Some, None, slice_set}
+use Rattle.std.specs.Prelude.{◌||◌, replicate, if◌then◌else◌}
+use Rattle.std.proofs.lemmas.Bool.{cases_eq, cases_lt}
+use Rattle.std.proofs.lemmas.List.{ext_get_or, get_or_past, get_or-set_other, length-map}
 use Rattle.lemmas.specs.Bools.{or_false}
 use Rattle.lemmas.specs.Lists.{at_map}
+use Rattle.facts.specs.EachListed.{IsOne, each_listed}
+use Rattle.facts.proofs.EachListed.{length_each, each_at, one_more, one_last}
 use Rattle.facts.specs.declared.known.Class.{Class}
 use Rattle.facts.specs.declared.known.SlotFact.{SlotFact}
 use Rattle.facts.specs.Facts.{open_slot, slot_at, holds_class, slot_nonnull, held_nonnull, holds, let_go, end_hold}
-use Rattle.facts.specs.Sheets.{IsOne}
-use Rattle.facts.specs.SlotRows.{is_open, OnlyFilled, OnlyHolding, NamesAll, with_filled, with_holding, each_slot, copied_slot, let_go_last, let_go_others}
+use Rattle.facts.specs.SlotRows.{is_open, OnlyFilled, OnlyHolding, NamesAll, with_filled, with_holding, let_go_last, let_go_others}
 use Rattle.facts.proofs.Sets.{set_is}
-use Rattle.facts.proofs.Sheets.{same_or_not, one_more, one_last}
-
--- ---- a change of the slots that are listed
-
-pub length_each : (change : ℕ → SlotFact → SlotFact) (listed : List ℕ) (slots : List SlotFact) → length (each_slot change listed slots) ≡ length slots
-length_each change [] slots = refl
-length_each change (s ∷ listed) slots = length_each change listed (slice_set slots s (change s (slot_at slots s))) ∙ length-set slots s (change s (slot_at slots s))
-
-module _ (change : ℕ → SlotFact → SlotFact) (twice : (s : ℕ) (slot : SlotFact) → change s (change s slot) ≡ change s slot) where
-  -- a change that the slots that are not listed do not see is one of all slots
-  pub each_at : (listed : List ℕ) (slots : List SlotFact) → ((s : ℕ) → s < length slots → IsOne s listed ⊎ (change s (slot_at slots s) ≡ slot_at slots s)) → (w : ℕ) → w < length slots → slot_at (each_slot change listed slots) w ≡ change w (slot_at slots w)
-  each_at [] slots h w lt = elim (h w lt) [ inl one ↦ absurd one | inr e ↦ sym e ]
-  each_at (s ∷ listed) slots h w lt = each_at listed next more w (rw length-set lt) ∙ now where
-    next : List SlotFact
-    next = slice_set slots s (change s (slot_at slots s))
-
-    changed : s < length slots → slot_at next s ≡ change s (slot_at slots s)
-    changed at = get_or-set_same slots s (change s (slot_at slots s)) open_slot at
-
-    kept : (u : ℕ) → (s ≡ u → ⊥) → slot_at next u ≡ slot_at slots u
-    kept u ne = get_or-set_other slots s u (change s (slot_at slots s)) open_slot (λ e. ne (sym e))
-
-    more : (u : ℕ) → u < length next → IsOne u listed ⊎ (change u (slot_at next u) ≡ slot_at next u)
-    more u at = pick (same_or_not s u) where
-      pick : (s ≡ u) ⊎ (s ≡ u → ⊥) → IsOne u listed ⊎ (change u (slot_at next u) ≡ slot_at next u)
-      pick (inl e) = inr (subst (λ x. change x (slot_at next x) ≡ slot_at next x) e (ap (change s) (changed here) ∙ twice s (slot_at slots s) ∙ sym (changed here))) where
-        here : s < length slots
-        here = rw (← length-set slots s (change s (slot_at slots s))) (subst (λ x. x < length next) (sym e) at)
-      pick (inr ne) = elim (h u (rw (← length-set slots s (change s (slot_at slots s))) at)) [
-        | inl (inl e) ↦ absurd (ne e)
-        | inl (inr one) ↦ inl one
-        | inr e ↦ inr (ap (change u) (kept u ne) ∙ e ∙ sym (kept u ne))
-      ]
-
-    now : change w (slot_at next w) ≡ change w (slot_at slots w)
-    now = pick (same_or_not s w) where
-      pick : (s ≡ w) ⊎ (s ≡ w → ⊥) → change w (slot_at next w) ≡ change w (slot_at slots w)
-      pick (inl e) = subst (λ x. change x (slot_at next x) ≡ change x (slot_at slots x)) e (ap (change s) (changed (subst (λ x. x < length slots) (sym e) lt)) ∙ twice s (slot_at slots s))
-      pick (inr ne) = ap (change w) (kept w ne)
-
--- all slots that are filled are open
-pub wiped_all : (filled : List ℕ) (slots : List SlotFact) → OnlyFilled filled slots → each_slot (copied_slot []) filled slots ≡ replicate (length slots) open_slot
-wiped_all filled slots only = ext_get_or open_slot (each_slot (copied_slot []) filled slots) (replicate (length slots) open_slot) (length_each (copied_slot []) filled slots ∙ sym (length-replicate (length slots) open_slot))
-    (λ s lt. each_at (copied_slot []) (λ u slot. refl) filled slots seen s (rw (← length_each (copied_slot []) filled slots) lt) ∙ sym (get_or-replicate (length slots) s open_slot open_slot (rw (← length_each (copied_slot []) filled slots) lt)))
-  where
-    seen : (s : ℕ) → s < length slots → IsOne s filled ⊎ (open_slot ≡ slot_at slots s)
-    seen s lt = elim (only s) [ inl one ↦ inl one | inr e ↦ inr (sym e) ]
-
--- open slots become those of another list
-pub copied_all : (filled : List ℕ) (slots others : List SlotFact) → OnlyFilled filled others → slots ≡ replicate (length others) open_slot → each_slot (copied_slot others) filled slots ≡ others
-copied_all filled slots others only empty = ext_get_or open_slot (each_slot (copied_slot others) filled slots) others long
-    (λ s lt. each_at (copied_slot others) (λ u slot. refl) filled slots seen s (rw (← length_each (copied_slot others) filled slots) lt))
-  where
-    same : length slots ≡ length others
-    same = ap length empty ∙ length-replicate (length others) open_slot
-
-    long : length (each_slot (copied_slot others) filled slots) ≡ length others
-    long = length_each (copied_slot others) filled slots ∙ same
-
-    seen : (s : ℕ) → s < length slots → IsOne s filled ⊎ (slot_at others s ≡ slot_at slots s)
-    seen s lt = elim (only s) [ inl one ↦ inl one | inr e ↦ inr (e ∙ sym (ap (λ l. slot_at l s) empty ∙ get_or-replicate (length others) s open_slot open_slot (rw (← same) lt))) ]
 
 module _ (change : SlotFact → SlotFact) (opens : change open_slot ≡ open_slot) where
   changed_filled : (filled : List ℕ) (slots : List SlotFact) → OnlyFilled filled slots → OnlyFilled filled (map change slots)
   changed_filled filled slots only s = elim (only s) [ inl one ↦ inl one | inr e ↦ inr (at_map change slots s open_slot opens ∙ ap change e ∙ opens) ]
 
-  changed_all : ((slot : SlotFact) → change (change slot) ≡ change slot) → (listed : List ℕ) (slots : List SlotFact) → ((s : ℕ) → IsOne s listed ⊎ (change (slot_at slots s) ≡ slot_at slots s)) → each_slot (λ s. change) listed slots ≡ map change slots
-  changed_all twice listed slots seen = ext_get_or open_slot (each_slot (λ s. change) listed slots) (map change slots) (length_each (λ s. change) listed slots ∙ sym (length-map slots change))
-      (λ s lt. each_at (λ u. change) (λ u. twice) listed slots (λ u at. seen u) s (rw (← length_each (λ u. change) listed slots) lt) ∙ sym (at_map change slots s open_slot opens))
+  changed_all : ((slot : SlotFact) → change (change slot) ≡ change slot) → (listed : List ℕ) (slots : List SlotFact) → ((s : ℕ) → IsOne s listed ⊎ (change (slot_at slots s) ≡ slot_at slots s)) → each_listed open_slot (λ s. change) listed slots ≡ map change slots
+  changed_all twice listed slots seen = ext_get_or open_slot (each_listed open_slot (λ s. change) listed slots) (map change slots) (length_each open_slot (λ s. change) listed slots ∙ sym (length-map slots change))
+      (λ s lt. each_at open_slot (λ u. change) (λ u. twice) listed slots (λ u at. seen u) s (rw (← length_each open_slot (λ u. change) listed slots) lt) ∙ sym (at_map change slots s open_slot opens))
 
 -- ---- a slot that holds no class any more
 
@@ -96,7 +36,7 @@ module _ (c : ℕ) (nonnull : Bool) where
   let_go_not : (slot : SlotFact) → holds c slot ≡ false → let_go c nonnull slot ≡ slot
   let_go_not slot e = ap (λ (b : Bool). if b then record slot { nonnull = slot.nonnull || nonnull; holds = None } else slot) e
 
-  pub let_go_listed : (listed : List ℕ) (slots : List SlotFact) → ((s : ℕ) → IsOne s listed ⊎ (holds c (slot_at slots s) ≡ false)) → each_slot (λ s. let_go c nonnull) listed slots ≡ map (let_go c nonnull) slots
+  pub let_go_listed : (listed : List ℕ) (slots : List SlotFact) → ((s : ℕ) → IsOne s listed ⊎ (holds c (slot_at slots s) ≡ false)) → each_listed open_slot (λ s. let_go c nonnull) listed slots ≡ map (let_go c nonnull) slots
   let_go_listed listed slots seen = changed_all (let_go c nonnull) refl let_go_twice listed slots (λ s. elim (seen s) [ inl one ↦ inl one | inr e ↦ inr (let_go_not (slot_at slots s) e) ])
 
   pub let_go_filled : (filled : List ℕ) (slots : List SlotFact) → OnlyFilled filled slots → OnlyFilled filled (map (let_go c nonnull) slots)
@@ -112,7 +52,7 @@ module _ (classes : List Class) where
   end_free : (slot : SlotFact) → slot.holds ≡ None → end_hold classes slot ≡ slot
   end_free slot e = ap (λ (h : Option ℕ). record slot { nonnull = slot.nonnull || held_nonnull classes h; holds = None }) e ∙ ap (λ (b : Bool). record slot { nonnull = b; holds = None }) (or_false slot.nonnull) ∙ ap (λ (h : Option ℕ). record slot { holds = h }) (sym e)
 
-  pub end_all : (holding : List ℕ) (slots : List SlotFact) → OnlyHolding holding slots → each_slot (λ s. end_hold classes) holding slots ≡ map (end_hold classes) slots
+  pub end_all : (holding : List ℕ) (slots : List SlotFact) → OnlyHolding holding slots → each_listed open_slot (λ s. end_hold classes) holding slots ≡ map (end_hold classes) slots
   end_all holding slots only = changed_all (end_hold classes) refl end_twice holding slots (λ s. elim (only s) [ inl one ↦ inl one | inr e ↦ inr (end_free (slot_at slots s) e) ])
 
   pub end_filled : (filled : List ℕ) (slots : List SlotFact) → OnlyFilled filled slots → OnlyFilled filled (map (end_hold classes) slots)
@@ -148,7 +88,7 @@ module _ (s : ℕ) (slot : SlotFact) (slots : List SlotFact) where
   as_before u ne = get_or-set_other slots s u slot open_slot (λ x. ne (sym x))
 
   pub set_filled : (filled : List ℕ) → OnlyFilled filled slots → OnlyFilled (with_filled s (slot_at slots s) filled) (slice_set slots s slot)
-  set_filled filled only u = pick (is_open (slot_at slots s)) refl (same_or_not s u) (only u) where
+  set_filled filled only u = pick (is_open (slot_at slots s)) refl (cases_eq s u) (only u) where
     pick : (b : Bool) → is_open (slot_at slots s) ≡ b → (s ≡ u) ⊎ (s ≡ u → ⊥) → IsOne u filled ⊎ (slot_at slots u ≡ open_slot) → IsOne u (with_filled s (slot_at slots s) filled) ⊎ (slot_at (slice_set slots s slot) u ≡ open_slot)
     pick true e (inl same) was = inl (rw e (subst (λ x. IsOne x (filled ++ s ∷ [])) same (one_last s filled)))
     pick true e (inr ne) (inl one) = inl (rw e (one_more u s filled one))
@@ -158,7 +98,7 @@ module _ (s : ℕ) (slot : SlotFact) (slots : List SlotFact) where
     pick b e (inr ne) (inr empty) = inr (as_before u ne ∙ empty)
 
   pub set_holding : (holding : List ℕ) → OnlyHolding holding slots → OnlyHolding (with_holding s slot.holds holding) (slice_set slots s slot)
-  set_holding holding only u = pick slot.holds refl (same_or_not s u) (only u) where
+  set_holding holding only u = pick slot.holds refl (cases_eq s u) (only u) where
     pick : (h : Option ℕ) → slot.holds ≡ h → (s ≡ u) ⊎ (s ≡ u → ⊥) → IsOne u holding ⊎ ((slot_at slots u).holds ≡ None) → IsOne u (with_holding s h holding) ⊎ ((slot_at (slice_set slots s slot) u).holds ≡ None)
     pick None e (inl same) was = inr (subst (λ x. (slot_at (slice_set slots s slot) x).holds ≡ None) same (set_is (λ (x : SlotFact). x.holds) slots s slot open_slot None e refl))
     pick (Some c) e (inl same) was = inl (subst (λ x. IsOne x (holding ++ s ∷ [])) same (one_last s holding))
@@ -172,7 +112,7 @@ module _ (s : ℕ) (slot : SlotFact) (slots : List SlotFact) where
 
   -- a slot that is open only where it was
   pub change_filled : (slot_at slots s ≡ open_slot → slot ≡ open_slot) → (filled : List ℕ) → OnlyFilled filled slots → OnlyFilled filled changed_slots
-  change_filled keeps filled only u = pick (same_or_not s u) where
+  change_filled keeps filled only u = pick (cases_eq s u) where
     pick : (s ≡ u) ⊎ (s ≡ u → ⊥) → IsOne u filled ⊎ (slot_at changed_slots u ≡ open_slot)
     pick (inl same) = elim (only s) [
       | inl one ↦ inl (subst (λ x. IsOne x filled) same one)
@@ -182,7 +122,7 @@ module _ (s : ℕ) (slot : SlotFact) (slots : List SlotFact) where
 
   -- a slot that holds no class where it held none
   pub change_holding : ((slot_at slots s).holds ≡ None → slot.holds ≡ None) → (holding : List ℕ) → OnlyHolding holding slots → OnlyHolding holding changed_slots
-  change_holding keeps holding only u = pick (same_or_not s u) where
+  change_holding keeps holding only u = pick (cases_eq s u) where
     pick : (s ≡ u) ⊎ (s ≡ u → ⊥) → IsOne u holding ⊎ ((slot_at changed_slots u).holds ≡ None)
     pick (inl same) = elim (only s) [
       | inl one ↦ inl (subst (λ x. IsOne x holding) same one)
@@ -194,7 +134,7 @@ module _ (s : ℕ) (slot : SlotFact) (slots : List SlotFact) where
 
 module _ (s : ℕ) (last : Option ℕ) (nonnull : Bool) (slots : List SlotFact) where
   pub others_filled : (filled : List ℕ) → OnlyFilled filled slots → OnlyFilled filled (let_go_others s last nonnull slots)
-  others_filled filled only u = pick (same_or_not s u) where
+  others_filled filled only u = pick (cases_eq s u) where
     gone : (last : Option ℕ) → OnlyFilled filled (let_go_last last nonnull slots)
     gone None = only
     gone (Some c) = let_go_filled c nonnull filled slots only
@@ -205,7 +145,7 @@ module _ (s : ℕ) (last : Option ℕ) (nonnull : Bool) (slots : List SlotFact) 
     pick (inr ne) = elim (gone last u) [ inl one ↦ inl one | inr e ↦ inr (as_before s (slot_at slots s) (let_go_last last nonnull slots) u ne ∙ e) ]
 
   pub others_holding : (holding : List ℕ) → OnlyHolding holding slots → OnlyHolding holding (let_go_others s last nonnull slots)
-  others_holding holding only u = pick (same_or_not s u) where
+  others_holding holding only u = pick (cases_eq s u) where
     gone : (last : Option ℕ) → OnlyHolding holding (let_go_last last nonnull slots)
     gone None = only
     gone (Some c) = let_go_holding c nonnull holding slots only

@@ -1,11 +1,12 @@
 -- What phis change, and how it is taken back.
 use Rattle.std.proofs.Common.{◌≡◌, ◌<◌, ◌≤◌, ◌⊎◌, inl, inr, ℕ, zero, suc, List, [], ◌∷◌, ◌++◌, ◌+◌, length, get_or, take, map, refl, sym, ap, subst, arith, ◌∙◌, true, Option, None, slice_set}
-use Rattle.std.proofs.lemmas.Bool.{cases_lt}
-use Rattle.std.proofs.lemmas.List.{ext_get_or, get_or_past, get_or-set_same, get_or-take, get_or_append_left, length-append, length-map, length-set, length-take-le, map-set}
+use Rattle.std.proofs.lemmas.Bool.{cases_eq, cases_lt}
+use Rattle.std.proofs.lemmas.List.{ext_get_or, get_or_past, get_or-set_same, get_or-set_other, get_or-take, get_or_append_left, length-append, length-map, length-set, length-take-le, map-set}
 use Rattle.std.proofs.Math.Seq.{map-set_same, take-append-add}
 use Rattle.std.specs.Prelude.{false}
 use Rattle.lemmas.specs.Bools.{yes_or_no}
 use Rattle.lemmas.specs.Numbers.{test_true, test_yes}
+use Rattle.facts.specs.EachListed.{IsOne}
 use Rattle.facts.specs.declared.known.Class.{Class}
 use Rattle.facts.specs.declared.known.Entry.{Entry}
 use Rattle.facts.specs.declared.known.Known.{Known}
@@ -16,12 +17,10 @@ use Rattle.facts.specs.declared.row.Row.{Row}
 use Rattle.facts.specs.declared.sweeps.Change.TheVariants.{Off}
 use Rattle.facts.specs.declared.uses.Use.{Use}
 use Rattle.facts.specs.Facts.{FactSet, known_at, class_at, lost_class, is_of, off_base, off_test, values_without, tests_without, set_known, define, drop_fresh_of, drop_fresh_all, enter_phi}
-use Rattle.facts.specs.Sheets.{blank, row_at, known_of, class_of, test_of, names, IsOne, EachRow, changed}
+use Rattle.facts.specs.Sheets.{blank, row_at, known_of, class_of, test_of, names, EachRow, changed}
 use Rattle.facts.specs.Uses.{chain, IsUser, OnlyUsers}
 use Rattle.facts.specs.TakenBack.{IsPhi, ComesIn, DifferBy, EndsAlone, class_back, entry_back}
 use Rattle.facts.proofs.Says.{each_mapped}
-use Rattle.facts.proofs.Sets.{set_other}
-use Rattle.facts.proofs.Sheets.{same_or_not}
 use Rattle.facts.proofs.Users.{chain_none, off_same}
 
 -- ---- a value that nothing names
@@ -72,9 +71,9 @@ module _ (entries : List Entry) where
       many = d.many;
       values = d.values;
       more = rw length-set d.more;
-      classes = λ b lt. elim (same_or_not c b) [
+      classes = λ b lt. elim (cases_eq c b) [
         | inl same ↦ inl (comes b (test_yes c b same))
-        | inr ne ↦ elim (d.classes b lt) [ inl one ↦ inl one | inr e ↦ inr (set_other f.classes c b (record (class_at f.classes c) { fresh = false }) lost_class ne ∙ e) ]
+        | inr ne ↦ elim (d.classes b lt) [ inl one ↦ inl one | inr e ↦ inr (get_or-set_other f.classes c b (record (class_at f.classes c) { fresh = false }) lost_class (λ e. ne (sym e)) ∙ e) ]
       ];
     }
     dropped Nothing comes f d = d
@@ -94,9 +93,9 @@ module _ (entries : List Entry) where
         slots = d.slots;
         tests = d.tests;
         many = length-set (slice_set f.values v Nothing) v known ∙ length-set f.values v Nothing ∙ d.many;
-        values = λ u. elim (same_or_not v u) [
+        values = λ u. elim (cases_eq v u) [
           | inl same ↦ inl (subst (λ x. IsPhi x entries) same phi)
-          | inr ne ↦ elim (d.values u) [ inl one ↦ inl one | inr e ↦ inr (set_other (slice_set f.values v Nothing) v u known Nothing ne ∙ set_other f.values v u Nothing Nothing ne ∙ e) ]
+          | inr ne ↦ elim (d.values u) [ inl one ↦ inl one | inr e ↦ inr (get_or-set_other (slice_set f.values v Nothing) v u known Nothing (λ e. ne (sym e)) ∙ get_or-set_other f.values v u Nothing Nothing (λ e. ne (sym e)) ∙ e) ]
         ];
         more = omega (arith, d.more, longer);
         classes = λ c lt. elim (d.classes c lt) [ inl one ↦ inl one | inr e ↦ inr (kept c (omega (arith, lt, d.more)) ∙ e) ];
@@ -146,11 +145,11 @@ module _ (rest : List Entry) (before : FactSet) where
       many = many;
       values = values;
       more = rw length-set more;
-      classes = λ b lt. elim (same_or_not c b) [
+      classes = λ b lt. elim (cases_eq c b) [
         | inl same ↦ inr (subst (λ (x : ℕ). class_at (slice_set g.classes c (class_at before.classes c)) x ≡ class_at before.classes x) same (get_or-set_same g.classes c (class_at before.classes c) lost_class (within b lt same)))
         | inr ne ↦ elim (classes b lt) [
           | inl one ↦ elim one [ inl of ↦ absurd (ne (test_true c b of)) | inr there ↦ inl there ]
-          | inr e ↦ inr (set_other g.classes c b (class_at before.classes c) lost_class ne ∙ e)
+          | inr e ↦ inr (get_or-set_other g.classes c b (class_at before.classes c) lost_class (λ e. ne (sym e)) ∙ e)
         ]
       ];
     } where
@@ -176,11 +175,11 @@ module _ (rest : List Entry) (before : FactSet) where
     here (inr past) = get_or_past (slice_set f.values v known) v Nothing (rw length-set past) ∙ sym (get_or_past before.values v Nothing (rw (← d.many) past))
 
     values : (u : ℕ) → IsPhi u rest ⊎ (known_at (slice_set f.values v known) u ≡ known_at before.values u)
-    values u = elim (same_or_not v u) [
+    values u = elim (cases_eq v u) [
       | inl same ↦ inr (subst (λ (x : ℕ). known_at (slice_set f.values v known) x ≡ known_at before.values x) same (here (cases_lt v (length f.values))))
       | inr ne ↦ elim (d.values u) [
         | inl one ↦ elim one [ inl same ↦ absurd (ne same) | inr there ↦ inl there ]
-        | inr e ↦ inr (set_other f.values v u known Nothing ne ∙ e)
+        | inr e ↦ inr (get_or-set_other f.values v u known Nothing (λ e. ne (sym e)) ∙ e)
       ]
     ]
 

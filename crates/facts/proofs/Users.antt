@@ -1,10 +1,11 @@
 -- Chains of uses, and which rows use a value.
 use Rattle.std.proofs.Common.{◌≡◌, ◌<◌, ◌≤◌, ◌⊎◌, ◌+◌, ◌-◌, arith, ℕ, length, zero, suc, List, [], ◌∷◌, ◌++◌, refl, sym, ap, subst, inl, inr, ◌∙◌, true, false, Bool, Option, Some, None, slice_set, slice_get}
-use Rattle.std.proofs.lemmas.Bool.{cases_lt}
+use Rattle.std.proofs.lemmas.Bool.{cases_eq, cases_lt}
 use Rattle.std.proofs.lemmas.List.{get_or_past, get_or-set_same, get_or-set_other, length-set}
 use Rattle.std.proofs.Math.Seq.{map-set_same}
 use Rattle.std.specs.Prelude.{replicate, if◌then◌else◌}
 use Rattle.lemmas.specs.Bools.{or_first, or_second, or_parts, or_neither, yes_or_no}
+use Rattle.facts.specs.EachListed.{IsOne, each_listed}
 use Rattle.facts.specs.declared.known.Class.{Class}
 use Rattle.facts.specs.declared.known.Known.{Known}
 use Rattle.facts.specs.declared.known.Test.{Test}
@@ -13,11 +14,11 @@ use Rattle.facts.specs.declared.uses.Use.{Use}
 use Rattle.facts.specs.declared.known.Known.TheVariants.{Nothing}
 use Rattle.facts.specs.declared.sweeps.Change.TheVariants.{Off}
 use Rattle.facts.specs.Facts.{is_on, off_test}
-use Rattle.facts.specs.Sheets.{blank, row_at, known_of, class_of, test_of, tests, names, IsOne, each, EachRow, off_row, changed}
+use Rattle.facts.specs.Sheets.{blank, row_at, known_of, class_of, test_of, tests, names, EachRow, off_row, changed}
 use Rattle.facts.specs.Uses.{use_at, users_of, chain, IsUser, OnlyUsers, use_more, use_row, SayTheSame}
 use Rattle.facts.proofs.Sets.{set_part}
-use Rattle.facts.proofs.Sheets.{same_or_not, blank_at}
-use Rattle.facts.proofs.Current.{each_listed}
+use Rattle.facts.proofs.Sheets.{blank_at}
+use Rattle.facts.proofs.Current.{all_listed}
 use Rattle.facts.proofs.Marked.{changed_twice}
 use Rattle.facts.proofs.Says.{same_facts}
 
@@ -74,7 +75,7 @@ module _ (u v : ℕ) (uses : List Use) (rows : List Row) where
 
   -- v is used by u, and by what used it
   pub use_users : OnlyUsers uses rows → OnlyUsers (use_more u v rows uses) (use_row v uses rows)
-  use_users only a w e lt = pick (same_or_not v w) where
+  use_users only a w e lt = pick (cases_eq v w) where
     long : w < length rows
     long = rw (← length-set rows v row) lt
 
@@ -99,7 +100,7 @@ module _ (u v : ℕ) (uses : List Use) (rows : List Row) where
 
 -- a row that is written names only what it is noted for, and is used as it was
 pub users_set : (uses : List Use) (rows : List Row) (v : ℕ) (row : Row) → OnlyUsers uses rows → row.used ≡ (row_at rows v).used → ((w : ℕ) → names w row ≡ true → w < length rows → IsUser uses rows v w) → OnlyUsers uses (slice_set rows v row)
-users_set uses rows v row only same says u w e lt = subst (λ (used : Option ℕ). IsOne u (chain (length uses) uses used)) (sym (set_part (λ r. r.used) rows v w row blank same)) (pick (same_or_not v u)) where
+users_set uses rows v row only same says u w e lt = subst (λ (used : Option ℕ). IsOne u (chain (length uses) uses used)) (sym (set_part (λ r. r.used) rows v w row blank same)) (pick (cases_eq v u)) where
   long : w < length rows
   long = rw (← length-set rows v row) lt
 
@@ -156,11 +157,11 @@ off_same v row e = let parts = or_neither (is_on v row.known) (tests v row.test)
   same (Some test) e = ap (λ (b : Bool). if b then None else Some test) e
 
 -- a row of the users that ends to name a value is every row
-pub off_users : (v : ℕ) (uses : List Use) (rows : List Row) → v < length rows → OnlyUsers uses rows → EachRow (changed (Off v)) rows (each (changed (Off v)) (chain (length uses) uses (row_at rows v).used) rows)
-off_users v uses rows at only = each_listed (changed (Off v)) (changed_twice (Off v)) (chain (length uses) uses (row_at rows v).used) rows (λ u lt. elim (yes_or_no (names v (row_at rows u))) [ inl e ↦ inl (only u v e at) | inr e ↦ inr (off_same v (row_at rows u) e) ])
+pub off_users : (v : ℕ) (uses : List Use) (rows : List Row) → v < length rows → OnlyUsers uses rows → EachRow (changed (Off v)) rows (each_listed blank (changed (Off v)) (chain (length uses) uses (row_at rows v).used) rows)
+off_users v uses rows at only = all_listed (changed (Off v)) (changed_twice (Off v)) (chain (length uses) uses (row_at rows v).used) rows (λ u lt. elim (yes_or_no (names v (row_at rows u))) [ inl e ↦ inl (only u v e at) | inr e ↦ inr (off_same v (row_at rows u) e) ])
 
-pub chain_step : (g : ℕ → Row → Row) (count step : ℕ) (uses : List Use) (at : Option ℕ) (found : Use) (first rows next : List Row) → step < count → first ≡ each g (chain (count - step) uses at) rows → use_at uses at ≡ Some found
-    → next ≡ slice_set rows found.user (g found.user (row_at rows found.user)) → first ≡ each g (chain (count - (step + 1)) uses found.before) next
+pub chain_step : (g : ℕ → Row → Row) (count step : ℕ) (uses : List Use) (at : Option ℕ) (found : Use) (first rows next : List Row) → step < count → first ≡ each_listed blank g (chain (count - step) uses at) rows → use_at uses at ≡ Some found
+    → next ≡ slice_set rows found.user (g found.user (row_at rows found.user)) → first ≡ each_listed blank g (chain (count - (step + 1)) uses found.before) next
 chain_step g count step uses at found first rows next lt e is changed =
     let left : count - step ≡ suc (count - (step + 1)) = omega arith in
-    e ∙ ap (λ n. each g (chain n uses at) rows) left ∙ ap (λ (f : Option Use). each g (users_of f (chain (count - (step + 1)) uses)) rows) is ∙ ap (each g (chain (count - (step + 1)) uses found.before)) (sym changed)
+    e ∙ ap (λ n. each_listed blank g (chain n uses at) rows) left ∙ ap (λ (f : Option Use). each_listed blank g (users_of f (chain (count - (step + 1)) uses)) rows) is ∙ ap (each_listed blank g (chain (count - (step + 1)) uses found.before)) (sym changed)

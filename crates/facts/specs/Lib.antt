@@ -4,6 +4,7 @@ pub mod Contents
 pub mod Parts
 pub mod Lines
 pub mod Ties
+pub mod EachListed
 pub mod Sheets
 pub mod Owners
 pub mod Owned

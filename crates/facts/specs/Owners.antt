@@ -1,10 +1,11 @@
 -- The values that own a class, and the values that are of a class which they do not own.
-use Rattle.std.specs.Prelude.{◌≡◌, ◌⊎◌, ℕ, ◌-◌, ◌==◌, Bool, true, false, not, ◌||◌, slice_set, slice_index_or, if◌then◌else◌, List, ◌∷◌, length, slice_get, nat_lt, Option, Some, None}
+use Rattle.std.specs.Prelude.{◌≡◌, ◌⊎◌, ℕ, ◌-◌, ◌==◌, Bool, true, false, not, ◌||◌, slice_set, slice_index_or, List, ◌∷◌, length, slice_get, nat_lt, Option, Some, None, if◌then◌else◌}
+use Rattle.facts.specs.EachListed.{IsOne}
 use Rattle.facts.specs.declared.owners.Owners.{Owners}
 use Rattle.facts.specs.declared.known.Known.{Known}
 use Rattle.facts.specs.declared.known.Known.TheVariants.{Cell}
 use Rattle.facts.specs.declared.row.Row.{Row}
-use Rattle.facts.specs.Sheets.{row_at, row_is_of, IsOne}
+use Rattle.facts.specs.Sheets.{row_at, row_is_of}
 
 -- the values that own a class: the first classes are one for each value, and the owners of those that were added are listed
 abbrev pub owners_of : (count : ℕ) → (class_owners : List Owners) → (c : ℕ) → Option Owners

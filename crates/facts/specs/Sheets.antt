@@ -1,5 +1,5 @@
 -- A row for each value, of which few are filled.
-use Rattle.std.specs.Prelude.{◌≡◌, ◌<◌, ◌⊎◌, ℕ, Bool, true, false, not, ◌&&◌, ◌||◌, ◌==◌, if◌then◌else◌, List, [], ◌∷◌, ◌++◌, length, slice_index_or, slice_set, Option, Some, None}
+use Rattle.std.specs.Prelude.{◌≡◌, ◌<◌, ◌⊎◌, ℕ, Bool, true, false, not, ◌&&◌, ◌||◌, ◌==◌, List, [], ◌∷◌, ◌++◌, length, slice_index_or, Option, Some, None, if◌then◌else◌}
 use Rattle.facts.specs.declared.known.Class.{Class}
 use Rattle.facts.specs.declared.known.Known.{Known}
 use Rattle.facts.specs.declared.known.Known.TheVariants.{Nothing, Cell}
@@ -8,6 +8,7 @@ use Rattle.facts.specs.declared.row.Row.{Row}
 use Rattle.facts.specs.declared.sweeps.Change.{Change}
 use Rattle.facts.specs.declared.sweeps.Change.TheVariants.{Off, Settle}
 use Rattle.facts.specs.Facts.{lost_class, class_at, is_of, is_on, off_base, off_test, stale_of}
+use Rattle.facts.specs.EachListed.{IsOne, OnlyListed}
 use Rattle.facts.specs.Lines.{covers_value}
 
 -- ---- rows
@@ -53,14 +54,9 @@ is_blank row = is_nothing row.known && is_no_test row.test && not row.class.nonn
 
 -- ---- rows that are marked
 
--- v is one of these
-abbrev pub IsOne : ℕ → List ℕ → Type 0
-IsOne v [] = ⊥
-IsOne v (u ∷ us) = (u ≡ v) ⊎ IsOne v us
-
 -- each row that is not marked is blank
 abbrev pub OnlyMarked : (marked : List ℕ) → List Row → Type 0
-OnlyMarked marked rows = (v : ℕ) → IsOne v marked ⊎ (row_at rows v ≡ blank)
+OnlyMarked marked rows = OnlyListed blank marked rows
 
 -- a safepoint leaves a row whose value is known to be this as it is: a reference is stale and of the class that the value has for itself, and whether that is null is noted
 abbrev pub is_settled_as : (u : ℕ) → (aside : Bool) → (own : Class) → Known → Bool
@@ -87,20 +83,11 @@ with_current v before after current = if is_unsettled v before after then curren
 abbrev pub with_mark : (v : ℕ) → Row → (marked : List ℕ) → List ℕ
 with_mark v row marked = if is_blank row then marked ++ v ∷ [] else marked
 
--- a change of each row that is marked
-abbrev pub each : (ℕ → Row → Row) → (marked : List ℕ) → List Row → List Row
-each change [] rows = rows
-each change (v ∷ marked) rows = each change marked (slice_set rows v (change v (row_at rows v)))
-
 -- each row is changed
 abbrev pub EachRow : (ℕ → Row → Row) → (before after : List Row) → Type 0
 EachRow change before after = (length after ≡ length before) × ((v : ℕ) → v < length before → row_at after v ≡ change v (row_at before v))
 
 -- ---- changes of rows
-
--- a row is as another sheet has it
-abbrev pub copied : List Row → ℕ → Row → Row
-copied others u row = row_at others u
 
 -- a row names v no more
 abbrev pub off_row : (v : ℕ) → Row → Row

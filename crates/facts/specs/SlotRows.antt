@@ -1,11 +1,11 @@
 -- The slots of a function, of which few are filled, and of which few hold a class.
-use Rattle.std.specs.Prelude.{◌≡◌, ◌<◌, ◌⊎◌, ℕ, Bool, true, false, not, ◌&&◌, if◌then◌else◌, List, [], ◌∷◌, ◌++◌, map, slice_set, Option, Some, None}
+use Rattle.std.specs.Prelude.{◌≡◌, ◌<◌, ◌⊎◌, ℕ, Bool, true, false, not, ◌&&◌, List, [], ◌∷◌, ◌++◌, map, slice_set, Option, Some, None, if◌then◌else◌}
 use Rattle.facts.specs.declared.chains.Chains.{Chains}
 use Rattle.facts.specs.declared.known.SlotFact.{SlotFact}
 use Rattle.facts.specs.Chains.{listed}
+use Rattle.facts.specs.EachListed.{IsOne, OnlyListed, each_listed}
 use Rattle.facts.specs.Facts.{open_slot, slot_at, holds, let_go}
 use Rattle.facts.specs.Lines.{covers_slot}
-use Rattle.facts.specs.Sheets.{IsOne}
 
 -- a slot holds no class
 abbrev pub is_free : (holds : Option ℕ) → Bool
@@ -18,7 +18,7 @@ is_open slot = not slot.rooted && not slot.nonnull && is_free slot.holds
 
 -- each slot that is not listed is open
 abbrev pub OnlyFilled : (filled : List ℕ) → List SlotFact → Type 0
-OnlyFilled filled slots = (s : ℕ) → IsOne s filled ⊎ (slot_at slots s ≡ open_slot)
+OnlyFilled filled slots = OnlyListed open_slot filled slots
 
 -- each slot that is not listed holds no class
 abbrev pub OnlyHolding : (holding : List ℕ) → List SlotFact → Type 0
@@ -49,15 +49,6 @@ with_holding s (Some c) holding = holding ++ s ∷ []
 abbrev pub empty_slot : SlotFact → SlotFact
 empty_slot slot = record slot { nonnull = false; holds = None }
 
--- a change of each slot that is listed
-abbrev pub each_slot : (ℕ → SlotFact → SlotFact) → (listed : List ℕ) → List SlotFact → List SlotFact
-each_slot change [] slots = slots
-each_slot change (s ∷ listed) slots = each_slot change listed (slice_set slots s (change s (slot_at slots s)))
-
--- a slot is as another list has it
-abbrev pub copied_slot : List SlotFact → ℕ → SlotFact → SlotFact
-copied_slot others s slot = slot_at others s
-
 -- a slot that holds a class which has no value any more, if there is such a class
 abbrev pub let_go_slot : (last : Option ℕ) → (nonnull : Bool) → SlotFact → SlotFact
 let_go_slot None nonnull slot = slot
@@ -71,7 +62,7 @@ let_go_last (Some c) nonnull slots = map (let_go c nonnull) slots
 -- the slots, once the keepers of such a class let it go
 abbrev pub each_let_go : (last : Option ℕ) → (nonnull : Bool) → (keepers : Chains) → List SlotFact → List SlotFact
 each_let_go None nonnull keepers slots = slots
-each_let_go (Some c) nonnull keepers slots = each_slot (λ s. let_go c nonnull) (listed keepers c) slots
+each_let_go (Some c) nonnull keepers slots = each_listed open_slot (λ s. let_go c nonnull) (listed keepers c) slots
 
 -- the slots but one, once such a class is let go
 abbrev pub let_go_others : (s : ℕ) → (last : Option ℕ) → (nonnull : Bool) → List SlotFact → List SlotFact

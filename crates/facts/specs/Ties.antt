@@ -1,5 +1,6 @@
 -- Values that are listed as the same, one after the other, in groups that have one class each.
 use Rattle.std.specs.Prelude.{◌≡◌, ◌<◌, ◌⊎◌, ℕ, ◌==◌, ◌||◌, Bool, true, false, List, map, length, nat_eq, slice_index_or, Option, Some, None}
+use Rattle.facts.specs.EachListed.{IsOne}
 use Rattle.indexmap.specs.IndexMap.{get}
 use Rattle.facts.specs.declared.known.Class.{Class}
 use Rattle.facts.specs.declared.known.Known.{Known}
@@ -9,7 +10,6 @@ use Rattle.facts.specs.declared.ties.Ties.{Ties}
 use Rattle.facts.specs.Chains.{listed}
 use Rattle.facts.specs.Facts.{FactSet, known_at, set_known}
 use Rattle.facts.specs.Lines.{moved}
-use Rattle.facts.specs.Sheets.{IsOne}
 
 -- ---- references that are listed
 

@@ -1,9 +1,10 @@
 -- The rows that name a value.
 use Rattle.std.specs.Prelude.{◌≡◌, ◌<◌, ℕ, zero, suc, true, List, [], ◌∷◌, ◌++◌, length, slice_get, slice_set, Option, Some, None}
+use Rattle.facts.specs.EachListed.{IsOne}
 use Rattle.facts.specs.declared.known.Class.{Class}
 use Rattle.facts.specs.declared.row.Row.{Row}
 use Rattle.facts.specs.declared.uses.Use.{Use}
-use Rattle.facts.specs.Sheets.{row_at, names, IsOne}
+use Rattle.facts.specs.Sheets.{row_at, names}
 use Rattle.facts.specs.Values.{facts_of_rows}
 
 -- the use at a place, if there is one

@@ -1,8 +1,8 @@
 //! Lists by number, each as a chain of links from the newest on.
 ghost use Rattle.std.specs.Prelude.{◌≡◌, ℕ, [], nat_eq, IfOk, OnOk};
+ghost use Rattle.facts.specs.EachListed.{IsOne};
 ghost use Rattle.indexmap.specs.IndexMap.{get};
 ghost use Rattle.facts.specs.Chains.{listed};
-ghost use Rattle.facts.specs.Sheets.{IsOne};
 
 use crate::uses::{Use, use_at};
 use indexmap::IndexMap;

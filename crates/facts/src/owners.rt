@@ -1,9 +1,10 @@
 //! The values that own a class, and the values that are of a class which they do not own.
 ghost use Rattle.std.specs.Prelude.{◌≡◌, ◌⊎◌, true, length, OnOk, OnErr};
 ghost use Rattle.std.specs.List.{list_any, list_all};
+ghost use Rattle.facts.specs.EachListed.{IsOne};
 ghost use Rattle.facts.specs.Owners.{owners_of, is_owner, owns_class, with_second, with_owner, members, ListsNonOwners};
 ghost use Rattle.facts.specs.Owned.{with_owner_of, is_new_non_owner};
-ghost use Rattle.facts.specs.Sheets.{row_is_of, other_is_of, covers_row, IsOne};
+ghost use Rattle.facts.specs.Sheets.{row_is_of, other_is_of, covers_row};
 
 use crate::class_id::ClassId;
 use crate::known::Known;

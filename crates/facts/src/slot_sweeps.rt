@@ -1,10 +1,10 @@
 //! What changes in the slots that are listed, and what is asked of them.
 ghost use Rattle.std.specs.Prelude.{◌≡◌, ◌<◌, ℕ, true, slice_set, IfOk, OnOk, OnErr};
 ghost use Rattle.std.specs.List.{list_all};
+ghost use Rattle.facts.specs.EachListed.{IsOne, each_listed, copied};
 ghost use Rattle.facts.specs.Chains.{listed};
-ghost use Rattle.facts.specs.Facts.{slot_at, holds, let_go, end_hold};
-ghost use Rattle.facts.specs.Sheets.{IsOne};
-ghost use Rattle.facts.specs.SlotRows.{is_open, each_slot, copied_slot, with_filled, with_holding, each_let_go, covers_at, NamesAll, OnlyHolding, OnlyKeepers, AreNoted};
+ghost use Rattle.facts.specs.Facts.{open_slot, slot_at, holds, let_go, end_hold};
+ghost use Rattle.facts.specs.SlotRows.{is_open, with_filled, with_holding, each_let_go, covers_at, NamesAll, OnlyHolding, OnlyKeepers, AreNoted};
 
 use crate::chains::Chains;
 use crate::class_id::ClassId;
@@ -121,7 +121,7 @@ fn all_below(alloc: Global, count: usize) -> Result<Vec<usize>, AllocError>
 
 /// The slots are those of another list, which are open where it is shorter.
 pub fn copy(slots: &mut Vec<SlotFact>, listed: &[usize], others: &[SlotFact])
-    ensures { slots.new.items ≡ each_slot (copied_slot others.now) listed.now slots.old.items }
+    ensures { slots.new.items ≡ each_listed open_slot (copied open_slot others.now) listed.now slots.old.items }
 {
     for s in listed {
         let at = *s;
@@ -133,7 +133,7 @@ pub fn copy(slots: &mut Vec<SlotFact>, listed: &[usize], others: &[SlotFact])
 
 /// The keepers of a class do not hold it.
 pub fn let_go_each(slots: &mut Vec<SlotFact>, keepers: &Chains, c: ClassId, nonnull: bool)
-    ensures { slots.new.items ≡ each_slot (λ s. let_go c nonnull) (listed keepers.now c) slots.old.items }
+    ensures { slots.new.items ≡ each_listed open_slot (λ s. let_go c nonnull) (listed keepers.now c) slots.old.items }
 {
     let mut at = keepers.newest(c.number());
     for step in 0..keepers.links.len() {
@@ -171,7 +171,7 @@ pub fn write(slots: &mut Vec<SlotFact>, at: usize, slot: SlotFact)
 
 /// The slots that are listed hold no class.
 pub fn end_holds(slots: &mut Vec<SlotFact>, listed: &[usize], values: &Values)
-    ensures { slots.new.items ≡ each_slot (λ s. end_hold values.now.classes) listed.now slots.old.items }
+    ensures { slots.new.items ≡ each_listed open_slot (λ s. end_hold values.now.classes) listed.now slots.old.items }
 {
     for s in listed {
         let at = *s;

@@ -1,10 +1,11 @@
 //! What changes in the rows that are marked, and what is asked of them.
 ghost use Rattle.std.specs.Prelude.{◌≡◌, ℕ, true, ◌++◌, map, length, replicate, slice_set, IfOk, OnOk, OnErr};
 ghost use Rattle.std.specs.List.{list_any, list_all};
+ghost use Rattle.facts.specs.EachListed.{each_listed, copied, IsOne};
 ghost use Rattle.facts.specs.Facts.{class_at};
 ghost use Rattle.facts.specs.Uses.{chain, OnlyUsers};
 ghost use Rattle.facts.specs.declared.sweeps.Change.TheVariants.{Off};
-ghost use Rattle.facts.specs.Sheets.{blank, each, copied, changed, row_at, with_mark, class_of, known_nonnull, keep_row, settled_class, row_is_of, other_is_of, covers_row, IsOne, is_settled, is_settled_as, is_unsettled, with_current, EachRow, OnlyMarked};
+ghost use Rattle.facts.specs.Sheets.{blank, changed, row_at, with_mark, class_of, known_nonnull, keep_row, settled_class, row_is_of, other_is_of, covers_row, is_settled, is_settled_as, is_unsettled, with_current, EachRow, OnlyMarked};
 
 use crate::class_id::ClassId;
 use crate::known::{Class, Known};
@@ -101,7 +102,7 @@ fn is_settled(at: usize, row: &Row) -> bool
 
 /// The rows are those of another sheet, which are blank where it is shorter.
 pub fn copy(rows: &mut Vec<Row>, marked: &[usize], others: &[Row])
-    ensures { rows.new.items ≡ each (copied others.now) marked.now rows.old.items }
+    ensures { rows.new.items ≡ each_listed blank (copied blank others.now) marked.now rows.old.items }
 {
     for v in marked {
         let at = *v;
@@ -122,7 +123,7 @@ pub fn write(rows: &mut Vec<Row>, at: usize, row: Row)
 
 /// All rows that are marked change.
 pub fn sweep(rows: &mut Vec<Row>, marked: &[usize], change: &Change)
-    ensures { rows.new.items ≡ each (changed change.now) marked.now rows.old.items }
+    ensures { rows.new.items ≡ each_listed blank (changed change.now) marked.now rows.old.items }
 {
     for u in marked {
         let at = *u;
@@ -147,7 +148,7 @@ pub fn end_names(rows: &mut Vec<Row>, marked: &[usize], uses: &[Use], v: ValueId
 
 /// The rows that have named a value change, from this use of it back.
 fn sweep_uses(rows: &mut Vec<Row>, uses: &[Use], newest: Option<usize>, change: &Change)
-    ensures { rows.new.items ≡ each (changed change.now) (chain (length uses.now) uses.now newest) rows.old.items }
+    ensures { rows.new.items ≡ each_listed blank (changed change.now) (chain (length uses.now) uses.now newest) rows.old.items }
 {
     let mut at = newest;
     for step in 0..uses.len() {
@@ -198,7 +199,7 @@ pub fn class_of(rows: &[Row], added: &[Class], c: ClassId) -> Class
 
 /// Each value's class is noted: whether it is not null.
 pub fn keep_rows(rows: &mut Vec<Row>, marked: &[usize], added: &[Class])
-    ensures { rows.new.items ≡ each (keep_row (map class_of rows.old.items ++ added.now)) marked.now rows.old.items }
+    ensures { rows.new.items ≡ each_listed blank (keep_row (map class_of rows.old.items ++ added.now)) marked.now rows.old.items }
 {
     for u in marked {
         keep_row(rows, added, *u);

@@ -1,12 +1,13 @@
 use Rattle.std.proofs.Common.{◌≡◌, ◌∙◌, ap, sym, subst, inl, length, false, ℕ, List}
+use Rattle.facts.specs.EachListed.{IsOne}
+use Rattle.facts.proofs.EachListed.{one_last}
 use Rattle.facts.specs.declared.owners.Owners.{Owners}
 use Rattle.facts.specs.declared.row.Row.{Row}
 use Rattle.facts.specs.Owners.{ListsNonOwners}
 use Rattle.facts.specs.Owned.{is_new_non_owner}
-use Rattle.facts.specs.Sheets.{row_at, IsOne}
+use Rattle.facts.specs.Sheets.{row_at}
 use Rattle.facts.proofs.OwnersOf.{more_non_owners}
 use Rattle.facts.proofs.OwnersChange.{after_owner, stays_owner}
-use Rattle.facts.proofs.Sheets.{one_last}
 use Rattle.facts.proofs.owners.note_non_owner.Goals as goal
 
 pub returns-in_err-push-clause-kept : goal.returns-in_err-push-clause-kept

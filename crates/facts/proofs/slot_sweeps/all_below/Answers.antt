@@ -1,7 +1,7 @@
 use Rattle.std.proofs.Common.{◌≡◌, ◌++◌, ◌∷◌, [], arith, inl, inr, sym, subst}
 use Rattle.std.proofs.lemmas.Bool.{cases_lt}
-use Rattle.facts.specs.Sheets.{IsOne}
-use Rattle.facts.proofs.Sheets.{one_more, one_last}
+use Rattle.facts.specs.EachListed.{IsOne}
+use Rattle.facts.proofs.EachListed.{one_more, one_last}
 use Rattle.facts.proofs.slot_sweeps.all_below.Goals as goal
 
 pub loop-at-preserved : goal.loop-at-preserved

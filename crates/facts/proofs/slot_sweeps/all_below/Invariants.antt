@@ -1,5 +1,5 @@
 use Rattle.std.proofs.Common.{ℕ, ◌<◌}
-use Rattle.facts.specs.Sheets.{IsOne}
+use Rattle.facts.specs.EachListed.{IsOne}
 use Rattle.facts.proofs.slot_sweeps.all_below.Given as goal
 
 abbrev pub invariant-loop-at : goal.invariant-loop-at

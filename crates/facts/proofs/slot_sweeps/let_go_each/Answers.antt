@@ -1,10 +1,10 @@
 use Rattle.std.proofs.Common.{◌≡◌, ◌<◌, ◌-◌, ◌∙◌, ap, arith, sym, length, slice_set, List, ℕ, Option, Some, None}
 use Rattle.std.specs.Prelude.{nat_eq}
+use Rattle.facts.specs.EachListed.{each_listed}
 use Rattle.indexmap.specs.IndexMap.{get}
 use Rattle.facts.specs.declared.known.SlotFact.{SlotFact}
 use Rattle.facts.specs.declared.uses.Use.{Use}
-use Rattle.facts.specs.Facts.{slot_at, let_go}
-use Rattle.facts.specs.SlotRows.{each_slot}
+use Rattle.facts.specs.Facts.{open_slot, slot_at, let_go}
 use Rattle.facts.specs.Uses.{use_at, chain}
 use Rattle.facts.proofs.Keepers.{slots_step}
 use Rattle.facts.proofs.Users.{chain_none}
@@ -25,4 +25,4 @@ returns-in_default c =
     let links : List Use = c.args.keepers.now.links.items in
     let none : use_at links c.loop-step.at ≡ None = ap (λ (uses : List Use). use_at uses c.loop-step.at) (sym c.deref.ensures.value) ∙ sym c.in_default.ensures in
     let newest : c.newest-at.result ≡ get nat_eq c.args.keepers.now.newest c.args.c = c.newest-at.ensures ∙ ap (get nat_eq c.args.keepers.now.newest) c.number.ensures in
-    sym (ap (λ (at : Option ℕ). each_slot (λ s. let_go c.args.c c.args.nonnull) (chain (length links) links at) c.args.slots.now.items) (sym newest) ∙ c.loop-step.invariant ∙ ap (λ (us : List ℕ). each_slot (λ s. let_go c.args.c c.args.nonnull) us c.loop-step.slots.items) (chain_none (length links - c.loop-step.step) links c.loop-step.at none))
+    sym (ap (λ (at : Option ℕ). each_listed open_slot (λ s. let_go c.args.c c.args.nonnull) (chain (length links) links at) c.args.slots.now.items) (sym newest) ∙ c.loop-step.invariant ∙ ap (λ (us : List ℕ). each_listed open_slot (λ s. let_go c.args.c c.args.nonnull) us c.loop-step.slots.items) (chain_none (length links - c.loop-step.step) links c.loop-step.at none))

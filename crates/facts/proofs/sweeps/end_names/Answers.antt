@@ -1,7 +1,8 @@
 use Rattle.std.proofs.Common.{◌≡◌, ◌<◌, ◌∙◌, ap, arith, sym, subst, refl, length, List, ℕ, Option}
+use Rattle.facts.specs.EachListed.{each_listed}
 use Rattle.facts.specs.declared.row.Row.{Row}
 use Rattle.facts.specs.declared.sweeps.Change.TheVariants.{Off}
-use Rattle.facts.specs.Sheets.{each, EachRow, row_at, changed}
+use Rattle.facts.specs.Sheets.{blank, EachRow, row_at, changed}
 use Rattle.facts.specs.Uses.{chain}
 use Rattle.facts.proofs.Marked.{each_all, changed_twice}
 use Rattle.facts.proofs.Users.{off_users}
@@ -12,7 +13,7 @@ returns-then-at-len c =
     let before : List Row = c.args.rows.now.items in
     let used : c.row_at-row.result.used ≡ (row_at before c.args.v).used = ap (λ (row : Row). row.used) (c.row_at-row.ensures ∙ ap (λ (rows : List Row). row_at rows c.number-at.result) c.deref.ensures.value ∙ ap (row_at before) c.number-at.ensures) in
     let lt : c.args.v < length before = omega (arith, c.number-at.ensures, c.if-at-len.true, c.len.ensures, c.args.rows.now.ok.0) in
-    λ users marked. subst (λ (rows : List Row). EachRow (changed (Off c.args.v)) before rows) (sym (c.sweep_uses.ensures ∙ ap (λ (newest : Option ℕ). each (changed (Off c.args.v)) (chain (length c.args.uses.now) c.args.uses.now newest) before) used)) (off_users c.args.v c.args.uses.now before lt users)
+    λ users marked. subst (λ (rows : List Row). EachRow (changed (Off c.args.v)) before rows) (sym (c.sweep_uses.ensures ∙ ap (λ (newest : Option ℕ). each_listed blank (changed (Off c.args.v)) (chain (length c.args.uses.now) c.args.uses.now newest) before) used)) (off_users c.args.v c.args.uses.now before lt users)
 
 pub returns-else-at-len : goal.returns-else-at-len
 returns-else-at-len c = λ users marked. subst (λ (rows : List Row). EachRow (changed (Off c.args.v)) c.args.rows.now.items rows) (sym c.sweep.ensures) (each_all (changed (Off c.args.v)) (changed_twice (Off c.args.v)) (λ u. refl) c.args.marked.now c.args.rows.now.items marked)

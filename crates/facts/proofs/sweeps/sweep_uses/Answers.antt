@@ -1,5 +1,6 @@
 use Rattle.std.proofs.Common.{◌<◌, ◌-◌, ◌∙◌, ap, arith, sym, length, List, ℕ}
-use Rattle.facts.specs.Sheets.{each, changed}
+use Rattle.facts.specs.EachListed.{each_listed}
+use Rattle.facts.specs.Sheets.{blank, changed}
 use Rattle.facts.proofs.Users.{chain_none, chain_step}
 use Rattle.facts.proofs.sweeps.sweep_uses.Goals as goal
 
@@ -10,4 +11,4 @@ loop-step-preserved c =
 
 pub returns-in_default : goal.returns-in_default
 returns-in_default c =
-    sym (c.loop-step.invariant ∙ ap (λ (us : List ℕ). each (changed c.args.change.now) us c.loop-step.rows.items) (chain_none (length c.args.uses.now - c.loop-step.step) c.args.uses.now c.loop-step.at (sym c.in_default.ensures)))
+    sym (c.loop-step.invariant ∙ ap (λ (us : List ℕ). each_listed blank (changed c.args.change.now) us c.loop-step.rows.items) (chain_none (length c.args.uses.now - c.loop-step.step) c.args.uses.now c.loop-step.at (sym c.in_default.ensures)))

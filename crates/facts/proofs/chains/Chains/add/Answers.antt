@@ -1,9 +1,9 @@
 use Rattle.std.proofs.Common.{◌≡◌, ◌∙◌, ◌++◌, ◌∷◌, [], ap, arith, cond, sym, subst, length, List, ℕ, Option, Some}
 use Rattle.std.specs.Prelude.{◌==◌, nat_eq}
 use Rattle.std.specs.Map.{lookup}
+use Rattle.facts.specs.EachListed.{IsOne}
 use Rattle.indexmap.specs.IndexMap.{get}
 use Rattle.facts.specs.declared.uses.Use.{Use}
-use Rattle.facts.specs.Sheets.{IsOne}
 use Rattle.facts.specs.Uses.{chain}
 use Rattle.facts.proofs.Links.{listed_kept, listed_there}
 use Rattle.facts.proofs.Users.{user_kept}

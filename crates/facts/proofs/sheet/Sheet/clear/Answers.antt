@@ -1,12 +1,14 @@
 use Rattle.std.proofs.Common.{◌≡◌, ◌∙◌, ap, length, replicate, [], ℕ, List}
-use Rattle.facts.specs.Sheets.{blank, each, copied}
+use Rattle.facts.specs.EachListed.{each_listed, copied}
+use Rattle.facts.proofs.EachListed.{wiped_all}
+use Rattle.facts.specs.Sheets.{blank}
 use Rattle.facts.proofs.Current.{blank_current}
 use Rattle.facts.proofs.OwnersOf.{blank_non_owners}
-use Rattle.facts.proofs.Sheets.{wiped_all, all_blank}
+use Rattle.facts.proofs.Sheets.{all_blank}
 use Rattle.facts.proofs.sheet.Sheet.clear.Goals as goal
 
 empty : (c : goal.After-clear-4) → c.copy.new.rows.items ≡ replicate (length c.self.inside.rows.items) blank
-empty c = c.copy.ensures ∙ ap (λ (m : List ℕ). each (copied []) m c.self.inside.rows.items) c.deref.ensures.value ∙ wiped_all c.self.inside.marked.items c.self.inside.rows.items c.self.invariant.0
+empty c = c.copy.ensures ∙ ap (λ (m : List ℕ). each_listed blank (copied blank []) m c.self.inside.rows.items) c.deref.ensures.value ∙ wiped_all blank c.self.inside.marked.items c.self.inside.rows.items c.self.invariant.0
 
 pub invariant_of-self : goal.invariant_of-self
 invariant_of-self c = (

@@ -1,8 +1,9 @@
 use Rattle.std.proofs.Common.{◌≡◌, ◌⊎◌, ◌∙◌, ap, length, sym, subst, map, true, List, ℕ, slice_set}
+use Rattle.facts.specs.EachListed.{IsOne}
 use Rattle.facts.specs.declared.row.Row.{Row}
 use Rattle.facts.specs.declared.sweeps.Change.TheVariants.{Off}
 use Rattle.facts.specs.Owners.{owns_class, ListsNonOwners}
-use Rattle.facts.specs.Sheets.{row_at, IsOne, is_settled, with_mark, with_current, EachRow, OnlyMarked, OnlyCurrent, changed, off_row}
+use Rattle.facts.specs.Sheets.{row_at, is_settled, with_mark, with_current, EachRow, OnlyMarked, OnlyCurrent, changed, off_row}
 use Rattle.facts.specs.Uses.{OnlyUsers}
 use Rattle.facts.proofs.Defines.{off_all, defined_marked, defined_current, defined_non_owners}
 use Rattle.facts.proofs.OwnersOf.{kept_non_owners, noted_non_owners}

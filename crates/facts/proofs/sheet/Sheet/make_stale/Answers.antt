@@ -2,10 +2,11 @@ use Rattle.std.proofs.Common.{◌≡◌, ◌<◌, ◌∙◌, ◌++◌, ap, sym, 
 use Rattle.std.proofs.Math.ListN.{get_or-map}
 use Rattle.std.proofs.lemmas.List.{get_or_append_left, length-map}
 use Rattle.std.specs.Prelude.{map}
+use Rattle.facts.specs.EachListed.{each_listed}
 use Rattle.facts.specs.declared.known.Class.{Class}
 use Rattle.facts.specs.declared.row.Row.{Row}
 use Rattle.facts.specs.Facts.{lost_class, class_at}
-use Rattle.facts.specs.Sheets.{blank, row_at, each, EachRow, OnlyMarked, OnlyCurrent, class_of, keep_row, settle_row, stale_row}
+use Rattle.facts.specs.Sheets.{blank, row_at, EachRow, OnlyMarked, OnlyCurrent, class_of, keep_row, settle_row, stale_row}
 use Rattle.facts.proofs.Current.{stale_all, stale_marked, stale_none}
 use Rattle.facts.proofs.OwnersOf.{stale_non_owners}
 use Rattle.facts.proofs.Marked.{settle_twice}
@@ -22,14 +23,14 @@ module _ (c : goal.After-clear-3) where
   classes = map class_of before ++ c.args.added.now
 
   abbrev between : List Row
-  between = each (keep_row classes) current before
+  between = each_listed blank (keep_row classes) current before
 
   own : (v : ℕ) → v < length before → class_at classes v ≡ (row_at before v).class
   own v lt = get_or_append_left (map class_of before) c.args.added.now lost_class v (rw length-map lt) ∙ get_or-map class_of before v blank
 
-  is : c.sweep.new.rows.items ≡ each settle_row current between
-  is = c.sweep.ensures ∙ ap (λ (us : List ℕ). each settle_row us c.keep_rows.new.rows.items) c.deref-2.ensures.value
-      ∙ ap (each settle_row current) (c.keep_rows.ensures ∙ ap (λ (us : List ℕ). each (keep_row classes) us before) c.deref.ensures.value)
+  is : c.sweep.new.rows.items ≡ each_listed blank settle_row current between
+  is = c.sweep.ensures ∙ ap (λ (us : List ℕ). each_listed blank settle_row us c.keep_rows.new.rows.items) c.deref-2.ensures.value
+      ∙ ap (each_listed blank settle_row current) (c.keep_rows.ensures ∙ ap (λ (us : List ℕ). each_listed blank (keep_row classes) us before) c.deref.ensures.value)
 
   stale : EachRow (stale_row classes) before c.sweep.new.rows.items
   stale = subst (λ (rows : List Row). EachRow (stale_row classes) before rows) (sym is) (stale_all classes current before own c.self.invariant.1 settle_twice)

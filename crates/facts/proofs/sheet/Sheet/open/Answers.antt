@@ -1,11 +1,12 @@
 use Rattle.std.proofs.Common.{◌≡◌, ◌∙◌, ap, length, map, replicate, [], sym, List, ℕ, subst}
+use Rattle.facts.specs.EachListed.{each_listed, copied}
+use Rattle.facts.proofs.EachListed.{wiped_all}
 use Rattle.facts.specs.declared.numbered.Numbered.{Numbered}
 use Rattle.facts.specs.declared.row.Row.{Row}
 use Rattle.facts.specs.Numbered.{number_of, written, among_blank}
-use Rattle.facts.specs.Sheets.{OnlyMarked, OnlyCurrent, blank, each, copied}
+use Rattle.facts.specs.Sheets.{OnlyMarked, OnlyCurrent, blank}
 use Rattle.facts.proofs.OwnersOf.{non_owners_of}
 use Rattle.facts.proofs.KeptRows.{length_among, written_marked}
-use Rattle.facts.proofs.Sheets.{wiped_all}
 use Rattle.facts.proofs.sheet.Sheet.open.Goals as goal
 use Rattle.facts.proofs.sheet.Sheet.open.Goals.{After-drop-self-inside-4}
 
@@ -29,7 +30,7 @@ module _ (c : After-drop-self-inside-4) where
   long = ap length c.self.view_is ∙ c.requires ∙ sym (ap length c.kept.view_is) ∙ length_among c.kept.inside.count c.kept.inside.rows.items
 
   cleared : c.copy.new.rows.items ≡ replicate c.kept.inside.count blank
-  cleared = c.copy.ensures ∙ ap (λ (m : List ℕ). each (copied []) m c.self.inside.rows.items) c.deref-5.ensures.value ∙ wiped_all c.self.inside.marked.items c.self.inside.rows.items c.self.invariant.0 ∙ ap (λ (n : ℕ). replicate n blank) long
+  cleared = c.copy.ensures ∙ ap (λ (m : List ℕ). each_listed blank (copied blank []) m c.self.inside.rows.items) c.deref-5.ensures.value ∙ wiped_all blank c.self.inside.marked.items c.self.inside.rows.items c.self.invariant.0 ∙ ap (λ (n : ℕ). replicate n blank) long
 
   same_rows : c.write_rows.new.rows.items ≡ kept
   same_rows = c.write_rows.ensures ∙ ap (λ (numbered : List Numbered). written numbered c.copy.new.rows.items) c.deref-6.ensures.value ∙ ap (written c.kept.inside.rows.items) cleared

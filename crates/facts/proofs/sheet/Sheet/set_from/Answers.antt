@@ -1,8 +1,9 @@
 use Rattle.std.proofs.Common.{◌≡◌, ◌∙◌, ap, length, replicate, [], sym, List, ℕ, subst}
+use Rattle.facts.specs.EachListed.{each_listed, copied}
+use Rattle.facts.proofs.EachListed.{wiped_all, copied_all}
 use Rattle.facts.specs.declared.row.Row.{Row}
-use Rattle.facts.specs.Sheets.{OnlyMarked, OnlyCurrent, blank, each, copied}
+use Rattle.facts.specs.Sheets.{OnlyMarked, OnlyCurrent, blank}
 use Rattle.facts.proofs.OwnersOf.{non_owners_of}
-use Rattle.facts.proofs.Sheets.{wiped_all, copied_all}
 use Rattle.facts.proofs.sheet.Sheet.set_from.Goals as goal
 use Rattle.facts.proofs.sheet.Sheet.set_from.Goals.{After-drop-self-inside-4}
 
@@ -23,9 +24,9 @@ module _ (c : After-drop-self-inside-4) where
   long = ap length c.self.view_is ∙ c.requires ∙ sym (ap length c.other.view_is)
 
   same_rows : c.copy-2.new.rows.items ≡ c.other.inside.rows.items
-  same_rows = c.copy-2.ensures ∙ ap (λ others. each (copied others) c.deref-6.result.now c.copy.new.rows.items) c.deref-7.ensures.value ∙ copied_all c.deref-6.result.now c.copy.new.rows.items c.other.inside.rows.items
+  same_rows = c.copy-2.ensures ∙ ap (λ others. each_listed blank (copied blank others) c.deref-6.result.now c.copy.new.rows.items) c.deref-7.ensures.value ∙ copied_all blank c.deref-6.result.now c.copy.new.rows.items c.other.inside.rows.items
       (subst (λ (marked : List ℕ). OnlyMarked marked c.other.inside.rows.items) (sym (c.deref-6.ensures.value ∙ same_marks)) c.other.invariant.0)
-      (c.copy.ensures ∙ ap (λ m. each (copied []) m c.self.inside.rows.items) c.deref-5.ensures.value ∙ wiped_all c.self.inside.marked.items c.self.inside.rows.items c.self.invariant.0 ∙ ap (λ n. replicate n blank) long)
+      (c.copy.ensures ∙ ap (λ m. each_listed blank (copied blank []) m c.self.inside.rows.items) c.deref-5.ensures.value ∙ wiped_all blank c.self.inside.marked.items c.self.inside.rows.items c.self.invariant.0 ∙ ap (λ n. replicate n blank) long)
 
 pub invariant_of-self : goal.invariant_of-self
 invariant_of-self c = (

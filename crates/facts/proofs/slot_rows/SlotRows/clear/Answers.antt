@@ -1,12 +1,13 @@
 use Rattle.std.proofs.Common.{◌≡◌, ◌∙◌, ap, length, replicate, ℕ, List, []}
+use Rattle.facts.specs.EachListed.{each_listed, copied}
+use Rattle.facts.proofs.EachListed.{wiped_all}
 use Rattle.facts.specs.Facts.{open_slot}
-use Rattle.facts.specs.SlotRows.{each_slot, copied_slot}
 use Rattle.facts.proofs.Keepers.{none_keep}
-use Rattle.facts.proofs.SlotLists.{wiped_all, all_open, none_holding}
+use Rattle.facts.proofs.SlotLists.{all_open, none_holding}
 use Rattle.facts.proofs.slot_rows.SlotRows.clear.Goals as goal
 
 empty : (c : goal.After-drop-self-inside-5) → c.copy.new.slots.items ≡ replicate (length c.self.inside.slots.items) open_slot
-empty c = c.copy.ensures ∙ ap (λ (m : List ℕ). each_slot (copied_slot []) m c.self.inside.slots.items) c.deref.ensures.value ∙ wiped_all c.self.inside.filled.items c.self.inside.slots.items c.self.invariant.0
+empty c = c.copy.ensures ∙ ap (λ (m : List ℕ). each_listed open_slot (copied open_slot []) m c.self.inside.slots.items) c.deref.ensures.value ∙ wiped_all open_slot c.self.inside.filled.items c.self.inside.slots.items c.self.invariant.0
 
 pub invariant_of-self : goal.invariant_of-self
 invariant_of-self c = (

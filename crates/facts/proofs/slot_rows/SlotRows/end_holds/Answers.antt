@@ -1,7 +1,8 @@
 use Rattle.std.proofs.Common.{◌≡◌, ◌∙◌, ap, sym, subst, map, List, ℕ, []}
+use Rattle.facts.specs.EachListed.{each_listed}
 use Rattle.facts.specs.declared.known.SlotFact.{SlotFact}
-use Rattle.facts.specs.Facts.{end_hold}
-use Rattle.facts.specs.SlotRows.{OnlyFilled, OnlyHolding, OnlyKeepers, each_slot}
+use Rattle.facts.specs.Facts.{open_slot, end_hold}
+use Rattle.facts.specs.SlotRows.{OnlyFilled, OnlyHolding, OnlyKeepers}
 use Rattle.facts.proofs.Keepers.{end_keepers}
 use Rattle.facts.proofs.SlotLists.{end_all, end_filled, end_none}
 use Rattle.facts.proofs.slot_rows.SlotRows.end_holds.Goals as goal
@@ -11,7 +12,7 @@ module _ (c : goal.After-drop-self-inside-5) where
   before = c.self.inside.slots.items
 
   is : c.end_holds.new.slots.items ≡ map (end_hold c.args.values.now.classes) before
-  is = c.end_holds.ensures ∙ ap (λ (us : List ℕ). each_slot (λ s. end_hold c.args.values.now.classes) us before) c.deref.ensures.value ∙ end_all c.args.values.now.classes c.self.inside.holding.items before c.self.invariant.1
+  is = c.end_holds.ensures ∙ ap (λ (us : List ℕ). each_listed open_slot (λ s. end_hold c.args.values.now.classes) us before) c.deref.ensures.value ∙ end_all c.args.values.now.classes c.self.inside.holding.items before c.self.invariant.1
 
 pub invariant_of-self : goal.invariant_of-self
 invariant_of-self c = (

@@ -1,6 +1,6 @@
 use Rattle.std.proofs.Common.{◌≡◌, ◌<◌, arith, length, sym, subst}
 use Rattle.std.proofs.lemmas.Result.{IfOk-weaker}
-use Rattle.facts.specs.Sheets.{IsOne}
+use Rattle.facts.specs.EachListed.{IsOne}
 use Rattle.facts.specs.SlotRows.{OnlyFilled}
 use Rattle.facts.proofs.SlotLists.{names_filled}
 use Rattle.facts.proofs.slot_rows.SlotRows.filled.Goals as goal

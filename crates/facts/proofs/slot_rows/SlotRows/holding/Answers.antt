@@ -1,6 +1,6 @@
 use Rattle.std.proofs.Common.{◌≡◌, ◌<◌, arith, length, sym, subst}
 use Rattle.std.proofs.lemmas.Result.{IfOk-weaker}
-use Rattle.facts.specs.Sheets.{IsOne}
+use Rattle.facts.specs.EachListed.{IsOne}
 use Rattle.facts.specs.SlotRows.{OnlyHolding}
 use Rattle.facts.proofs.SlotLists.{names_holding}
 use Rattle.facts.proofs.slot_rows.SlotRows.holding.Goals as goal

@@ -1,8 +1,9 @@
 use Rattle.std.proofs.Common.{◌≡◌, ◌∙◌, ap, length, replicate, sym, List, ℕ, [], subst}
+use Rattle.facts.specs.EachListed.{each_listed, copied}
+use Rattle.facts.proofs.EachListed.{wiped_all, copied_all}
 use Rattle.facts.specs.declared.known.SlotFact.{SlotFact}
 use Rattle.facts.specs.Facts.{open_slot}
-use Rattle.facts.specs.SlotRows.{OnlyFilled, OnlyHolding, OnlyKeepers, each_slot, copied_slot}
-use Rattle.facts.proofs.SlotLists.{wiped_all, copied_all}
+use Rattle.facts.specs.SlotRows.{OnlyFilled, OnlyHolding, OnlyKeepers}
 use Rattle.facts.proofs.slot_rows.SlotRows.set_from.Goals as goal
 
 module _ (c : goal.After-drop-self-inside-7) where
@@ -16,9 +17,9 @@ module _ (c : goal.After-drop-self-inside-7) where
   long = ap length c.self.view_is ∙ c.requires.long ∙ sym (ap length c.other.view_is)
 
   same_slots : c.copy-2.new.slots.items ≡ others
-  same_slots = c.copy-2.ensures ∙ ap (λ (from : List SlotFact). each_slot (copied_slot from) c.deref-2.result.now c.copy.new.slots.items) c.deref-3.ensures.value ∙ copied_all c.deref-2.result.now c.copy.new.slots.items others
+  same_slots = c.copy-2.ensures ∙ ap (λ (from : List SlotFact). each_listed open_slot (copied open_slot from) c.deref-2.result.now c.copy.new.slots.items) c.deref-3.ensures.value ∙ copied_all open_slot c.deref-2.result.now c.copy.new.slots.items others
       (subst (λ (filled : List ℕ). OnlyFilled filled others) (sym c.deref-2.ensures.value) only)
-      (c.copy.ensures ∙ ap (λ (m : List ℕ). each_slot (copied_slot []) m c.self.inside.slots.items) c.deref.ensures.value ∙ wiped_all c.self.inside.filled.items c.self.inside.slots.items c.self.invariant.0 ∙ ap (λ n. replicate n open_slot) long)
+      (c.copy.ensures ∙ ap (λ (m : List ℕ). each_listed open_slot (copied open_slot []) m c.self.inside.slots.items) c.deref.ensures.value ∙ wiped_all open_slot c.self.inside.filled.items c.self.inside.slots.items c.self.invariant.0 ∙ ap (λ n. replicate n open_slot) long)
 
 pub invariant_of-self : goal.invariant_of-self
 invariant_of-self c = (

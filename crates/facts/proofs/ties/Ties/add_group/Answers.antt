@@ -1,9 +1,9 @@
 use Rattle.std.proofs.Common.{◌≡◌, ◌∙◌, ap, arith, cond, sym, subst, length, List, ℕ, Option, Some}
 use Rattle.std.specs.Prelude.{◌==◌, nat_eq}
+use Rattle.facts.specs.EachListed.{IsOne}
 use Rattle.indexmap.specs.IndexMap.{get}
 use Rattle.facts.specs.declared.ties.Group.{Group}
 use Rattle.facts.specs.Chains.{listed}
-use Rattle.facts.specs.Sheets.{IsOne}
 use Rattle.facts.specs.Ties.{class_of_place, AreClasses, AreTied}
 use Rattle.facts.proofs.Groups.{same_class, more_classes, more_tied, more_listed}
 use Rattle.facts.proofs.ties.Ties.add_group.Goals as goal
