@@ -26,8 +26,7 @@ use Rattle.ir_print.specs.Names.{name_at}
 use Rattle.ir_print_law.specs.Definitions.{defined_structs, declared_functions, defined_functions, used_symbols}
 use Rattle.ir_print_law.specs.ModuleNames.{HasModuleNames}
 use Rattle.ir_print_law.specs.Shapes.{IsIn}
-use Rattle.ir_print_law.proofs.Known.{in_after}
-use Rattle.ir_print_law.proofs.LocalNames.{in_longer, in_at_end}
+use Rattle.ir_print_law.proofs.InLists.{in_after, in_front, is_last}
 use Rattle.ir_print_law.proofs.LongerTypes.{with_types}
 use Rattle.ir_print_law.proofs.ModuleState.{Kept, kept_of, Made, made_of, next_bytes, next_spells, number_spells, struct_name_begins, symbol_begins}
 use Rattle.ir_print_law.proofs.NameBytes.{spelled_bytes}
@@ -35,7 +34,6 @@ use Rattle.ir_print_law.proofs.NumberTokens.{AllSpell}
 use Rattle.ir_print_law.proofs.Outside.{Outside}
 use Rattle.ir_print_law.proofs.Reading.{Reading}
 use Rattle.ir_print_law.proofs.Tables.{Begins, IsRestBefore, AreOrdered, begins_further, type_begins, type_ordered, name_there, stays}
-use Rattle.ir_print_law.proofs.Uses.{in_further}
 
 -- the names of globals and functions are those of the module, or one is used that the module does not have
 abbrev pub AreItsSymbols : Module → Input → Type 0
@@ -89,7 +87,7 @@ symbol_use is_call i = record { symbol = symbol_number i; is_call = is_call; sta
 
 module _ (m : Module) where
   structs_used : (i : Input) (place : Option ℕ) → place_of (spelled i.cursor) i.struct_names.names ≡ place → AreItsStructs m i → AreItsStructs m (with_struct_use i)
-  structs_used i place e (inr h) = inr (h.0, in_longer i.struct_uses (struct_use i) h.0 h.1, h.2)
+  structs_used i place e (inr h) = inr (h.0, in_front i.struct_uses (struct_use i ∷ []) h.0 h.1, h.2)
   structs_used i (Some n) e (inl h) = inl (
     names_same (spelled i.cursor) i.struct_names.names n e ∙ h.0,
     ap (λ (o : Option ℕ). sorts_with o None i.struct_names.sorts) e ∙ h.1,
@@ -97,7 +95,7 @@ module _ (m : Module) where
   structs_used i None e (inl h) =
       let next = number_next (spelled i.cursor) i.struct_names.names e in
       let same = ap (λ (l : List Text). length l) h.0 in
-      inr (struct_use i, in_at_end i.struct_uses (struct_use i), subst (λ (k : ℕ). length m.struct_names ≤ k) (sym (next ∙ same)) (omega arith))
+      inr (struct_use i, is_last i.struct_uses (struct_use i), subst (λ (k : ℕ). length m.struct_names ≤ k) (sym (next ∙ same)) (omega arith))
 
   layouts_used : (sorts : List (Option ℕ)) (place : Option ℕ) → AreItsLayouts m sorts → AreItsLayouts m (sorts_with place None sorts)
   layouts_used sorts (Some n) h = h
@@ -107,12 +105,12 @@ module _ (m : Module) where
   ]
 
   symbols_used : (i : Input) (is_call : Bool) (place : Option ℕ) → place_of (spelled i.cursor) i.symbols.names ≡ place → AreItsSymbols m i → AreItsSymbols m (with_symbol_use is_call i)
-  symbols_used i is_call place e (inr h) = inr (h.0, in_longer i.symbol_uses (symbol_use is_call i) h.0 h.1, h.2)
+  symbols_used i is_call place e (inr h) = inr (h.0, in_front i.symbol_uses (symbol_use is_call i ∷ []) h.0 h.1, h.2)
   symbols_used i is_call (Some n) e (inl h) = inl (names_same (spelled i.cursor) i.symbols.names n e ∙ h)
   symbols_used i is_call None e (inl h) =
       let next = number_next (spelled i.cursor) i.symbols.names e in
       let same = ap (λ (l : List Text). length l) h in
-      inr (symbol_use is_call i, in_at_end i.symbol_uses (symbol_use is_call i), subst (λ (k : ℕ). length m.symbols ≤ k) (sym (next ∙ same)) (omega arith))
+      inr (symbol_use is_call i, is_last i.symbol_uses (symbol_use is_call i), subst (λ (k : ℕ). length m.symbols ≤ k) (sym (next ∙ same)) (omega arith))
 
   -- ---- before and after a token, a type and a name
 
@@ -182,7 +180,7 @@ module _ (m : Module) where
       begins = b.begins;
       struct_names = struct_name_begins i m.struct_names b.struct_names;
       symbols = b.symbols;
-      struct_uses = λ u there. b.struct_uses u (in_longer i.struct_uses (struct_use i) u there);
+      struct_uses = λ u there. b.struct_uses u (in_front i.struct_uses (struct_use i ∷ []) u there);
       symbol_uses = b.symbol_uses;
       missing = b.missing;
     }
@@ -193,7 +191,7 @@ module _ (m : Module) where
       struct_names = b.struct_names;
       symbols = symbol_begins i m.symbols b.symbols;
       struct_uses = b.struct_uses;
-      symbol_uses = λ u there. b.symbol_uses u (in_longer i.symbol_uses (symbol_use is_call i) u there);
+      symbol_uses = λ u there. b.symbol_uses u (in_front i.symbol_uses (symbol_use is_call i ∷ []) u there);
       missing = b.missing;
     }
 
@@ -206,7 +204,7 @@ module _ (m : Module) where
 
     module _ (names : HasModuleNames m) where
       pub struct_is : (i : Input) → Arrives m types (with_struct_use i) → IsIn (defined_structs m) (spelled i.cursor)
-      struct_is i b = by (slice_get m.struct_of (struct_number i)) refl (b.struct_uses (struct_use i) (in_at_end i.struct_uses (struct_use i))) where
+      struct_is i b = by (slice_get m.struct_of (struct_number i)) refl (b.struct_uses (struct_use i) (is_last i.struct_uses (struct_use i))) where
         at : slice_get m.struct_names (struct_number i) ≡ Some (spelled i.cursor)
         at =
             let name = spelled i.cursor in
@@ -221,7 +219,7 @@ module _ (m : Module) where
             (ap (name_at m.struct_names) x.2 ∙ ap (λ (o : Option Text). unwrap_or o []) at)
 
       pub symbol_is : (i : Input) (is_call : Bool) → Arrives m types (with_symbol_use is_call i) → IsIn (used_symbols m is_call) (spelled i.cursor)
-      symbol_is i is_call b = by is_call (slice_get m.sorts (symbol_number i)) refl (b.symbol_uses (symbol_use is_call i) (in_at_end i.symbol_uses (symbol_use is_call i))) where
+      symbol_is i is_call b = by is_call (slice_get m.sorts (symbol_number i)) refl (b.symbol_uses (symbol_use is_call i) (is_last i.symbol_uses (symbol_use is_call i))) where
         name : Text
         name = spelled i.cursor
 
@@ -241,7 +239,7 @@ module _ (m : Module) where
         by false (Some (symbol.Declared d)) same is = absurd cc
         by true (Some (symbol.Declared d)) same is =
             let x = names.named_declares (symbol_number i) d same in
-            in_further (declared_functions m) (defined_functions m) name (named (λ (d : Declare). name_at m.symbols d.symbol) m.declares d x.0 name x.1 (its x.0.symbol x.2))
+            in_front (declared_functions m) (defined_functions m) name (named (λ (d : Declare). name_at m.symbols d.symbol) m.declares d x.0 name x.1 (its x.0.symbol x.2))
         by false (Some (symbol.Defined f)) same is = absurd cc
         by true (Some (symbol.Defined f)) same is =
             let x = names.named_functions (symbol_number i) f same in

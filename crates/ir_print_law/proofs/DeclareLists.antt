@@ -18,6 +18,7 @@ use Rattle.ir_print.specs.Items.{function_text, declare_line}
 use Rattle.ir_print.specs.Operands.{listed}
 use Rattle.ir_print.specs.Types.{type_text}
 use Rattle.ir_ast.specs.declared.items_of_module.Declare.{Declare}
+use Rattle.ir_print_law.proofs.InLists.{in_front}
 use Rattle.ir_print_law.proofs.Tables.{begins_further, begins_itself}
 use Rattle.ir_print_law.proofs.Types.{Comes}
 use Rattle.ir_print_law.proofs.DeclareLines.{declare_goes}
@@ -34,7 +35,7 @@ use Rattle.ir_print_law.specs.Again.{IsDeclareAgain, IsFunctionAgain}
 use Rattle.ir_print_law.proofs.State.{Ready, IsLater}
 use Rattle.ir_print_law.proofs.Steps.{unlike}
 use Rattle.ir_print_law.proofs.WholeFunctionEnds.{nobody, Reaches, reaches_further, widens_reaches, IsModuleLater}
-use Rattle.ir_print_law.proofs.Known.{Far, AreNamed, known, in_front}
+use Rattle.ir_print_law.proofs.Known.{Far, AreNamed, known}
 use Rattle.ir_print_law.proofs.OpsGiven.{types_given}
 use Rattle.ir_print_law.proofs.Steady.{outside}
 use Rattle.ir_print_law.proofs.WholeEnds.{ends_there}

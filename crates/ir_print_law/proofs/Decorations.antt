@@ -29,7 +29,7 @@ module _ {m : Module} (r : Reading m) where
     by true = skip_passes r
     by false = pure_passes r tt
 
-  any_token_passes : Passes r any_token
+  pub any_token_passes : Passes r any_token
   unfolding any_token
   any_token_passes =
       past r (checked (λ i. not (sees k.End i.cursor)) unexpected) (look (λ i. kind i.cursor) (λ x. skip >> pure x)) (check_passes r (λ i. not (sees k.End i.cursor)) unexpected)

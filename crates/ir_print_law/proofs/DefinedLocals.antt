@@ -5,7 +5,7 @@ use Rattle.std.specs.Fmt.{decimal}
 use Rattle.std.proofs.lemmas.Bool.Decides.{nat_tests}
 use Rattle.std.proofs.lemmas.Option.{slice_get_within}
 use Rattle.std.proofs.lemmas.List.{length-set}
-use Rattle.lemmas.specs.Lists.{get_end}
+use Rattle.lemmas.specs.Lists.{get_end, set_here, set_either}
 use Rattle.ir_ast.specs.declared.function.LocalSort.{LocalSort}
 use Rattle.ir_ast.specs.declared.function.LocalSort.TheVariants as local
 use Rattle.ir_forms.specs.Table.{defined}
@@ -15,8 +15,9 @@ use Rattle.ir_forms.specs.declared.uses.Wanted.TheVariants as wants
 use Rattle.ir_forms.specs.Names.{is_local, is_wanted}
 use Rattle.ir_tokens.specs.Bytes.{Text}
 use Rattle.ir_print_law.specs.Shapes.{IsIn}
+use Rattle.ir_print_law.proofs.InLists.{in_last, is_last}
 use Rattle.ir_print_law.proofs.DefinedNames.{Defines, IsNameKey, defines_name, defines_number, number_is_new}
-use Rattle.ir_print_law.proofs.LocalNames.{Locals, IsSortOf, keys_at, keys_more, key_is_new, in_or_end, in_at_end, set_there, set_was, set_known}
+use Rattle.ir_print_law.proofs.LocalNames.{Locals, IsSortOf, keys_at, keys_more, key_is_new, set_known}
 use Rattle.ir_print_law.proofs.Reading.{Progress, with_named_value, with_named_label, IsValueSort}
 use Rattle.ir_print_law.proofs.Tables.{begins_with, stays}
 
@@ -44,19 +45,19 @@ value_known (local.Block b) is = absurd is
 pub value_sorted : (g : Progress) (n : ℕ) (t : Table LocalSort) (unnamed : ℕ) (sort : LocalSort) → IsValueSort sort → Locals (with_named_value g n) (Some n) t unnamed
     → Locals (with_named_value g n) None (defined n sort t) unnamed
 value_sorted g n t unnamed sort is h =
-    let less : n < length t.sorts = (let w = h.within n (in_at_end g.names n) in let s = h.same in omega (arith, w, s)) in
+    let less : n < length t.sorts = (let w = h.within n (is_last g.names n) in let s = h.same in omega (arith, w, s)) in
     sorted_as n sort t less (λ x. Locals (with_named_value g n) None x unnamed) (record {
       same = length-set t.sorts n sort ∙ h.same;
       places = h.places;
       within = h.within;
       defines = h.defines;
-      sorted = λ k x there. elim (set_was t.sorts n sort k x there) [
+      sorted = λ k x there. elim (set_either t.sorts n sort k x there) [
         | inl p ↦ h.sorted k x p
-        | inr p ↦ subst (λ (j : ℕ). IsSortOf (with_named_value g n) j x) (sym p.0) (subst (IsSortOf (with_named_value g n) n) p.1 (value_sort (with_named_value g n) n sort (in_at_end g.values n) is))
+        | inr p ↦ subst (λ (j : ℕ). IsSortOf (with_named_value g n) j x) (sym p.0) (subst (IsSortOf (with_named_value g n) n) p.1 (value_sort (with_named_value g n) n sort (is_last g.values n) is))
       ];
       known = λ k there. elim (h.known k there) [
         | inl p ↦ inl (set_known t.sorts n sort k (value_known sort is) p)
-        | inr p ↦ inl (let same : n ≡ k = cc in subst (λ (j : ℕ). is_local (slice_get (slice_set t.sorts n sort) j) ≡ true) same (ap is_local (set_there t.sorts n sort less) ∙ value_known sort is))
+        | inr p ↦ inl (let same : n ≡ k = cc in subst (λ (j : ℕ). is_local (slice_get (slice_set t.sorts n sort) j) ≡ true) same (ap is_local (set_here t.sorts n sort less) ∙ value_known sort is))
       ];
     })
 
@@ -75,21 +76,21 @@ labelled g t unnamed next n within h defines =
     sorted_as n sort t less (λ x. Locals (with_named_label g n) None x next) (record {
       same = length-set t.sorts n sort ∙ h.same;
       places = h.places;
-      within = λ k there. elim (in_or_end g.names n k there) [
+      within = λ k there. elim (in_last g.names n k there) [
         | inl p ↦ h.within k p
         | inr p ↦ subst (λ (x : ℕ). x < length t.names) p within
       ];
       defines = defines;
-      sorted = λ k x there. elim (set_was t.sorts n sort k x there) [
+      sorted = λ k x there. elim (set_either t.sorts n sort k x there) [
         | inl p ↦ label_further g n k x (h.sorted k x p)
         | inr p ↦ subst (λ (j : ℕ). IsSortOf (with_named_label g n) j x) (sym p.0) (subst (IsSortOf (with_named_label g n) n) p.1 (get_end g.labels n))
       ];
-      known = λ k there. elim (in_or_end g.names n k there) [
+      known = λ k there. elim (in_last g.names n k there) [
         | inl p ↦ elim (h.known k p) [
           | inl is ↦ inl (set_known t.sorts n sort k refl is)
           | inr is ↦ absurd cc
         ]
-        | inr p ↦ inl (subst (λ (j : ℕ). is_local (slice_get (slice_set t.sorts n sort) j) ≡ true) p (ap is_local (set_there t.sorts n sort less)))
+        | inr p ↦ inl (subst (λ (j : ℕ). is_local (slice_get (slice_set t.sorts n sort) j) ≡ true) p (ap is_local (set_here t.sorts n sort less)))
       ];
     })
 

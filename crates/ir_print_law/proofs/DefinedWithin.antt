@@ -17,6 +17,7 @@ use Rattle.ir_tokens.specs.Bytes.{Text}
 use Rattle.ir_print_law.specs.FunctionNames.{HasNames}
 use Rattle.ir_print_law.specs.PartsWithin.{HasLocal, IsOfValue, HasValue, HasBlock, HasResult}
 use Rattle.ir_print_law.specs.Shapes.{IsIn}
+use Rattle.ir_print_law.proofs.InLists.{in_front, is_last}
 use Rattle.ir_print_law.proofs.Blocks.{with_block, with_blocks, with_parameters}
 use Rattle.ir_print_law.proofs.Choices.{with_phis}
 use Rattle.ir_print_law.proofs.DefinedLocals.{in_list}
@@ -24,7 +25,7 @@ use Rattle.ir_print_law.proofs.FunctionEnds.{nothing, whole_of}
 use Rattle.ir_print_law.proofs.FunctionNames.{blocks_labels}
 use Rattle.ir_print_law.proofs.FunctionPlaces.{Places}
 use Rattle.ir_print_law.proofs.Instructions.{with_result, with_results}
-use Rattle.ir_print_law.proofs.LocalNames.{Locals, in_longer, in_at_end}
+use Rattle.ir_print_law.proofs.LocalNames.{Locals}
 use Rattle.ir_print_law.proofs.Progresses.{parameters_labels}
 use Rattle.ir_print_law.proofs.Reading.{Progress, with_named_value, with_named_label}
 use Rattle.ir_print_law.proofs.ValueLists.{with_values}
@@ -49,11 +50,11 @@ both P Q (x ∷ xs) p q = ((p.0, q.0), both P Q xs p.1 q.1)
 
 values_more : {A : Type 0} (value_of : A → ℕ) (g : Progress) (xs : List A) (n : ℕ) → IsIn g.values n → IsIn (with_values value_of g xs).values n
 values_more value_of g [] n h = h
-values_more value_of g (x ∷ xs) n h = values_more value_of (with_named_value g (value_of x)) xs n (in_longer g.values (value_of x) n h)
+values_more value_of g (x ∷ xs) n h = values_more value_of (with_named_value g (value_of x)) xs n (in_front g.values (value_of x ∷ []) n h)
 
 result_more : (g : Progress) (r : Option ℕ) (n : ℕ) → IsIn g.values n → IsIn (with_result g r).values n
 result_more g None n h = h
-result_more g (Some value) n h = in_longer g.values value n h
+result_more g (Some value) n h = in_front g.values (value ∷ []) n h
 
 results_more : (g : Progress) (xs : List Instr) (n : ℕ) → IsIn g.values n → IsIn (with_results g xs).values n
 results_more g [] n h = h
@@ -78,11 +79,11 @@ module _ (f : Function) where
   values_local value_of g [] h = tt
   values_local value_of g (x ∷ xs) h =
       let next = with_named_value g (value_of x) in
-      (h (value_of x) (values_more value_of next xs (value_of x) (in_at_end g.values (value_of x))), values_local value_of next xs h)
+      (h (value_of x) (values_more value_of next xs (value_of x) (is_last g.values (value_of x))), values_local value_of next xs h)
 
   result_local : (g : Progress) (r : Option ℕ) → AreLocal (with_result g r) → HasResult f r
   result_local g None h = tt
-  result_local g (Some value) h = h value (in_at_end g.values value)
+  result_local g (Some value) h = h value (is_last g.values value)
 
   results_local : (g : Progress) (xs : List Instr) → AreLocal (with_results g xs) → AllByRecursion (λ x. HasResult f x.result) xs
   results_local g [] h = tt

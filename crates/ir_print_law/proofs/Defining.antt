@@ -24,8 +24,10 @@ use Rattle.ir_text.specs.Late.{is_right}
 use Rattle.ir_text.specs.Late as late
 use Rattle.ir_print_law.specs.Definitions.{defined_globals}
 use Rattle.ir_print_law.specs.Shapes.{IsIn}
+use Rattle.ir_print_law.proofs.InLists.{in_front, in_last, is_last}
 use Rattle.ir_print_law.proofs.Named.{sort_at, sort_number, even_defined, place_numbered}
-use Rattle.ir_print_law.proofs.Known.{in_front, in_last, is_last, Tells, tells_defined, known_keys, StructsKnown, SymbolsKnown, LocalsKnown, structs_mentioned, symbols_mentioned, locals_mentioned}
+use Rattle.ir_print_law.proofs.Reading.{IsValueSort}
+use Rattle.ir_print_law.proofs.Known.{Tells, tells_defined, known_keys, StructsKnown, SymbolsKnown, LocalsKnown, structs_mentioned, symbols_mentioned, locals_mentioned}
 
 -- an element before the last one
 before_last : (xs : List Text) (k name : Text) → IsIn (xs ++ k ∷ []) name → (name ≡ k → ⊥) → IsIn xs name
@@ -132,13 +134,6 @@ value_begun f seen values labels t uses k h =
       waits = (place_numbered k t.names, tt);
       uses_so = g.uses_so;
     }
-
--- the sort of a value
-abbrev pub IsValueSort : LocalSort → Type 0
-IsValueSort (local.Value shown) = Unit {0}
-IsValueSort (local.Slot held) = Unit {0}
-IsValueSort (local.Element block place) = Unit {0}
-IsValueSort _ = ⊥
 
 right_value : (sort : LocalSort) → IsValueSort sort → is_wanted wants.Value (Some sort) ≡ true
 right_value local.Unknown is = absurd is

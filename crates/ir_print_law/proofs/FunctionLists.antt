@@ -17,6 +17,7 @@ use Rattle.ir_text.specs.ItemsOfText.{item, at_end_of_text}
 use Rattle.ir_print.specs.Items.{function_text}
 use Rattle.ir_print.specs.Names.{name_at}
 use Rattle.ir_print.specs.Standing.{Stands, AreBlanks}
+use Rattle.ir_print_law.proofs.InLists.{in_front}
 use Rattle.ir_print_law.proofs.Words.{word_comes, seen}
 use Rattle.ir_print_law.specs.Definitions.{AreNew, defined_globals}
 use Rattle.ir_print_law.specs.Printable.{IsFunction, IsPrintable, IsSymbol}
@@ -28,7 +29,7 @@ use Rattle.ir_print_law.proofs.State.{Ready}
 use Rattle.ir_print_law.proofs.Steps.{unlike}
 use Rattle.ir_print_law.proofs.WholeFunctionEnds.{nobody, Reaches, reaches_further, IsModuleLater}
 use Rattle.ir_print_law.proofs.FunctionLines.{definition_goes}
-use Rattle.ir_print_law.proofs.Known.{Far, AreNamed, known, in_front}
+use Rattle.ir_print_law.proofs.Known.{Far, AreNamed, known}
 use Rattle.ir_print_law.proofs.OpsGiven.{types_given, ops_given}
 use Rattle.ir_print_law.proofs.Starts.{function_named, function_keys}
 use Rattle.ir_print_law.proofs.Steady.{outside}

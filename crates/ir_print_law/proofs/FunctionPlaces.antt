@@ -1,9 +1,10 @@
 -- The places of a function's names while it is read: each one is defined or used, and those of blocks mean their blocks.
-use Rattle.std.proofs.Common.{◌≡◌, ℕ, zero, suc, ◌+◌, ◌<◌, Bool, true, false, List, [], ◌∷◌, ◌++◌, length, slice_get, if◌then◌else◌, is_some, unwrap_or, Option, None, Some, refl, sym, ap, subst, ◌∙◌, arith, length-append, inl, inr, ◌⊎◌}
-use Rattle.lemmas.specs.Lists.{get_either}
+use Rattle.std.proofs.Common.{◌≡◌, ℕ, ◌+◌, ◌<◌, Bool, true, false, List, [], ◌∷◌, ◌++◌, length, slice_get, if◌then◌else◌, is_some, unwrap_or, Option, None, Some, refl, sym, ap, subst, ◌∙◌, arith, length-append, inl, inr, ◌⊎◌}
+use Rattle.lemmas.specs.Lists.{get_either, set_here, set_other}
 use Rattle.std.specs.Prelude.{nat_lt, slice_set}
 use Rattle.std.proofs.lemmas.Bool.Decides.{nat_tests}
 use Rattle.std.proofs.lemmas.Option.{slice_get_within}
+use Rattle.ir_print_law.proofs.InLists.{in_last, in_front, is_last}
 use Rattle.ir_print_law.proofs.DefinedLocals.{in_list}
 use Rattle.ir_print_law.proofs.Named.{place_name}
 use Rattle.ir_ast.specs.Names.{place_of, number_of, numbered}
@@ -15,7 +16,7 @@ use Rattle.ir_forms.specs.declared.uses.LocalUse.{LocalUse}
 use Rattle.ir_tokens.specs.Bytes.{Text}
 use Rattle.ir_print.specs.Names.{name_at}
 use Rattle.ir_print_law.specs.Shapes.{IsIn}
-use Rattle.ir_print_law.proofs.LocalNames.{keys_at, in_or_end, in_longer, in_at_end, set_there}
+use Rattle.ir_print_law.proofs.LocalNames.{keys_at}
 use Rattle.ir_print_law.proofs.Reading.{Progress, with_named_value, with_named_label}
 use Rattle.ir_print_law.proofs.Tables.{Begins, begins_itself, begins_with, stays, name_there}
 
@@ -39,13 +40,6 @@ pub record Places (g : Progress) (pending : Option ℕ) (t : Table LocalSort) (u
   pub first : uses ≡ [] → AreFirst g.names (length t.names)
 
 -- ---- lists
-
-set_other : (xs : List LocalSort) (n : ℕ) (y : LocalSort) (k : ℕ) → (n ≡ k → ⊥) → slice_get (slice_set xs n y) k ≡ slice_get xs k
-set_other [] n y k other = refl
-set_other (x ∷ xs) zero y zero other = absurd (other refl)
-set_other (x ∷ xs) zero y (suc k) other = refl
-set_other (x ∷ xs) (suc n) y zero other = refl
-set_other (x ∷ xs) (suc n) y (suc k) other = set_other xs n y k (λ e. other (ap suc e))
 
 pub key_there : (names : List Text) (ns : List ℕ) (n : ℕ) → IsIn ns n → IsIn (keys_at names ns) (name_at names n)
 key_there names [] n there = absurd there
@@ -105,9 +99,9 @@ use_places g pending t uses key u is h = record {
   covered = λ n less. elim (old_or_key key t.names n less) [
     | inl old ↦ elim (h.covered n old) [
       | inl named ↦ inl named
-      | inr used ↦ inr (used.0, in_longer uses u used.0 used.1, used.2)
+      | inr used ↦ inr (used.0, in_front uses (u ∷ []) used.0 used.1, used.2)
     ]
-    | inr new ↦ inr (u, in_at_end uses u, is ∙ new)
+    | inr new ↦ inr (u, is_last uses u, is ∙ new)
   ];
   first = λ none. absurd (let longer = length-append uses (u ∷ []) in let empty = ap length none in omega (arith, longer, empty));
 }
@@ -118,10 +112,10 @@ covered_more : (g : Progress) (t : Table LocalSort) (uses : List LocalUse) (key 
     → (n : ℕ) → n < length (numbered key t.names) → IsIn (g.names ++ number_of key t.names ∷ []) n ⊎ IsUsed uses n
 covered_more g t uses key h n less = elim (old_or_key key t.names n less) [
   | inl old ↦ elim (h.covered n old) [
-    | inl named ↦ inl (in_longer g.names (number_of key t.names) n named)
+    | inl named ↦ inl (in_front g.names (number_of key t.names ∷ []) n named)
     | inr used ↦ inr used
   ]
-  | inr new ↦ inl (subst (IsIn (g.names ++ number_of key t.names ∷ [])) new (in_at_end g.names (number_of key t.names)))
+  | inr new ↦ inl (subst (IsIn (g.names ++ number_of key t.names ∷ [])) new (is_last g.names (number_of key t.names)))
 ]
 
 unused : (n : ℕ) (uses : List LocalUse) → uses ≡ [] → IsUsed uses n → ⊥
@@ -143,13 +137,13 @@ pub value_places : (g : Progress) (t : Table LocalSort) (uses : List LocalUse) (
     → Places (with_named_value g (number_of key t.names)) (Some (number_of key t.names)) (mentioned key local.Unknown t) uses
 value_places g t uses key h fresh =
     let n = number_of key t.names in record {
-      value_names = λ k there. elim (in_or_end g.values n k there) [
-        | inl old ↦ in_longer g.names n k (h.value_names k old)
-        | inr new ↦ subst (IsIn (g.names ++ n ∷ [])) new (in_at_end g.names n)
+      value_names = λ k there. elim (in_last g.values n k there) [
+        | inl old ↦ in_front g.names (n ∷ []) k (h.value_names k old)
+        | inr new ↦ subst (IsIn (g.names ++ n ∷ [])) new (is_last g.names n)
       ];
-      label_names = λ k there. in_longer g.names n k (h.label_names k there);
+      label_names = λ k there. in_front g.names (n ∷ []) k (h.label_names k there);
       apart = λ k is there. let same : k ≡ n = cc in fresh (subst (IsIn g.names) same (h.label_names k there));
-      disjoint = λ k is there. elim (in_or_end g.values n k is) [
+      disjoint = λ k is there. elim (in_last g.values n k is) [
         | inl old ↦ h.disjoint k old there
         | inr new ↦ fresh (subst (IsIn g.names) (sym new) (h.label_names k there))
       ];
@@ -174,7 +168,7 @@ sort_places g n t uses sort h = record {
   disjoint = h.disjoint;
   labels = λ b k e.
       let other : n ≡ k → ⊥ = λ same. h.apart n refl (subst (IsIn g.labels) (sym same) (in_list g.labels b k e)) in
-      sorted_as n sort t (λ sorts. slice_get sorts k ≡ Some (local.Block b)) (h.labels b k e) (set_other t.sorts n sort k other ∙ h.labels b k e);
+      sorted_as n sort t (λ sorts. slice_get sorts k ≡ Some (local.Block b)) (h.labels b k e) (set_other t.sorts n k sort (λ e. other (sym e)) ∙ h.labels b k e);
   covered = h.covered;
   first = h.first;
 }
@@ -190,13 +184,13 @@ label_places g t uses key h fresh same =
     let within : n < length next.names = slice_get_within next.names n key (name_there key t.names) in
     let less : n < length next.sorts = omega (arith, within, same) in
     let there : nat_lt n (length next.sorts) ≡ true = grind (arith, nat_tests) in record {
-      value_names = λ k there. in_longer g.names n k (h.value_names k there);
-      label_names = λ k there. elim (in_or_end g.labels n k there) [
-        | inl old ↦ in_longer g.names n k (h.label_names k old)
-        | inr new ↦ subst (IsIn (g.names ++ n ∷ [])) new (in_at_end g.names n)
+      value_names = λ k there. in_front g.names (n ∷ []) k (h.value_names k there);
+      label_names = λ k there. elim (in_last g.labels n k there) [
+        | inl old ↦ in_front g.names (n ∷ []) k (h.label_names k old)
+        | inr new ↦ subst (IsIn (g.names ++ n ∷ [])) new (is_last g.names n)
       ];
       apart = λ k is there. absurd cc;
-      disjoint = λ k is there. elim (in_or_end g.labels n k there) [
+      disjoint = λ k is there. elim (in_last g.labels n k there) [
         | inl old ↦ h.disjoint k is old
         | inr new ↦ fresh (subst (IsIn g.names) (sym new) (h.value_names k is))
       ];
@@ -204,10 +198,10 @@ label_places g t uses key h fresh same =
         | inl old ↦
             let before = stays t.sorts next.sorts k (local.Block b) (sorts_begin (place_of key t.names) t.sorts) (h.labels b k old) in
             let other : n ≡ k → ⊥ = λ is. fresh (subst (IsIn g.names) (sym is) (h.label_names k (in_list g.labels b k old))) in
-            sorted_as n sort next (λ sorts. slice_get sorts k ≡ Some (local.Block b)) before (set_other next.sorts n sort k other ∙ before)
+            sorted_as n sort next (λ sorts. slice_get sorts k ≡ Some (local.Block b)) before (set_other next.sorts n k sort (λ e. other (sym e)) ∙ before)
         | inr new ↦
             let at : slice_get (slice_set next.sorts n sort) k ≡ Some (local.Block b) =
-            ap (slice_get (slice_set next.sorts n sort)) new.1 ∙ set_there next.sorts n sort less ∙ ap (λ (x : ℕ). Some (local.Block x)) (sym new.0) in
+            ap (slice_get (slice_set next.sorts n sort)) new.1 ∙ set_here next.sorts n sort less ∙ ap (λ (x : ℕ). Some (local.Block x)) (sym new.0) in
             subst (λ (x : Bool). slice_get (if x then slice_set next.sorts n sort else next.sorts) k ≡ Some (local.Block b)) (sym there) at
       ];
       covered = covered_more g t uses key h;

@@ -16,10 +16,11 @@ use Rattle.ir_forms.specs.Names.{is_wanted, local_number, with_local_use, with_s
 use Rattle.ir_tokens.specs.Bytes.{Text}
 use Rattle.ir_print_law.specs.Shapes.{IsIn}
 use Rattle.ir_print_law.specs.Definitions.{used_keys}
+use Rattle.ir_print_law.proofs.InLists.{in_front, is_last}
 use Rattle.ir_print_law.proofs.DefinedLocals.{value_sorted, wanted_is}
 use Rattle.ir_print_law.proofs.FunctionEnds.{whole_of, function_uses}
 use Rattle.ir_print_law.proofs.FunctionPlaces.{Places, use_places, sort_places}
-use Rattle.ir_print_law.proofs.LocalNames.{Locals, mention_keeps, in_longer, in_at_end}
+use Rattle.ir_print_law.proofs.LocalNames.{Locals, mention_keeps}
 use Rattle.ir_print_law.proofs.Outside.{Outside, with_own}
 use Rattle.ir_print_law.proofs.Reading.{Progress, with_named_value, with_named_label, Kit, IsValueSort}
 use Rattle.ir_print_law.proofs.Tables.{Begins, begins_itself, begins_further, stays, name_begins, name_there}
@@ -109,14 +110,14 @@ module _ {m : Module} (w : Outside m) where
       let key = local_key i.cursor in
       token_ends f t unnamed i
       (own_ends f t unnamed (advanced i) (mentioned key local.Unknown i.locals) (i.local_uses ++ use_here wanted i ∷ []) i.values i.unnamed h (name_begins key i.locals.names)
-      (λ u there. in_longer i.local_uses (use_here wanted i) u there))
+      (λ u there. in_front i.local_uses (use_here wanted i ∷ []) u there))
 
   -- what is used is what the function defines
   pub use_is : (f : Function) (t : Table LocalSort) (unnamed : ℕ) (i : Input) (wanted : Wanted) → Ends m w f t unnamed (with_local_use wanted i)
       → IsIn (used_keys f wanted) (local_key i.cursor)
   use_is f t unnamed i wanted h =
       let key = local_key i.cursor in
-      let right = h.right (use_here wanted i) (in_at_end i.local_uses (use_here wanted i)) in
+      let right = h.right (use_here wanted i) (is_last i.local_uses (use_here wanted i)) in
       let defined = wanted_is (whole_of f) t unnamed wanted (local_number i) h.names right in
       let there = ap (λ (x : Option Text). unwrap_or x []) (stays (numbered key i.locals.names) f.locals (local_number i) key h.begins (name_there key i.locals.names)) in
       subst (IsIn (used_keys f wanted)) there (function_uses f wanted (local_number i) defined)

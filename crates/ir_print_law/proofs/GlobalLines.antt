@@ -106,7 +106,7 @@ initial_ends bits k.Star e = absurd cc
 initial_ends bits k.OpenRound e = absurd cc
 initial_ends bits _ e = refl
 
-word_seam : (c : Bool) (rest : Text) → IsSeam (global_word c ++ rest)
+pub word_seam : (c : Bool) (rest : Text) → IsSeam (global_word c ++ rest)
 unfolding class_of
 word_seam true rest = refl
 word_seam false rest = refl

@@ -7,7 +7,7 @@ use Rattle.ir_ast.specs.declared.function.Function.{Function}
 use Rattle.ir_ast.specs.declared.module.Module.{Module}
 use Rattle.ir_tokens.specs.declared.token.Kind.{Kind}
 use Rattle.ir_tokens.specs.declared.token.Kind.TheVariants as k
-use Rattle.ir_tokens.specs.Bytes.{Text, class_of}
+use Rattle.ir_tokens.specs.Bytes.{Text}
 use Rattle.ir_tokens.specs.Tokens.{past_gap}
 use Rattle.ir_forms.specs.Cursor.{kind}
 use Rattle.ir_forms.specs.declared.input.Input.{Input}
@@ -15,7 +15,7 @@ use Rattle.ir_text.specs.ItemsOfText.{item, at_end_of_text}
 use Rattle.name_text.specs.Readings.{AreBytes}
 use Rattle.ir_print.specs.Items.{function_text, declare_line, global_line, global_word}
 use Rattle.ir_ast.specs.declared.items_of_module.Global.{Global}
-use Rattle.ir_print_law.proofs.GlobalLines.{global_goes, line_is, after_word}
+use Rattle.ir_print_law.proofs.GlobalLines.{global_goes, line_is, after_word, word_seam}
 use Rattle.ir_print_law.proofs.DeclareLists.{declared_names, declares_begin, declares_go, later_than}
 use Rattle.ir_print_law.proofs.Words.{global_comes}
 use Rattle.ir_ast.specs.declared.items_of_module.Declare.{Declare}
@@ -23,7 +23,7 @@ use Rattle.ir_print_law.proofs.Types.{Comes}
 use Rattle.ir_print_law.proofs.Results.{begins_item}
 use Rattle.ir_print_law.proofs.FunctionLists.{function_names}
 use Rattle.ir_print.specs.Names.{name_at}
-use Rattle.ir_print.specs.Standing.{Stands, IsSeam, AreBlanks}
+use Rattle.ir_print.specs.Standing.{Stands, AreBlanks}
 use Rattle.ir_print_law.specs.Definitions.{AreNew, defined_globals}
 use Rattle.ir_print_law.specs.Printable.{IsFunction, IsGlobal, IsDeclare, IsPrintable, IsSymbol}
 use Rattle.ir_print_law.specs.Shapes.{IsIn}
@@ -42,11 +42,6 @@ global_names m ys = map (λ (y : Global). name_at m.symbols y.symbol) ys
 abbrev is_global_kind : Kind → Bool
 is_global_kind k.GlobalName = true
 is_global_kind _ = false
-
-word_seam : (c : Bool) (rest : Text) → IsSeam (global_word c ++ rest)
-unfolding class_of
-word_seam true rest = refl
-word_seam false rest = refl
 
 global_kind : (m : Module) (y : Global) (i : Input) (gap rest : Text) → AreBytes (name_at m.symbols y.symbol) → AreBlanks gap → Stands i.cursor (gap ++ (global_line m y ++ rest)) → kind i.cursor ≡ k.GlobalName
 global_kind m y i gap rest own blanks at =

@@ -19,12 +19,13 @@ use Rattle.ir_print.specs.Standing.{Stands}
 use Rattle.ir_print_law.specs.Again.{IsInstrAgain}
 use Rattle.ir_print_law.specs.Printable.{IsOp, gives_value}
 use Rattle.ir_print_law.specs.Shapes.{IsIn}
+use Rattle.ir_print_law.proofs.InLists.{is_last}
 use Rattle.ir_print_law.proofs.Tables.{stays}
 use Rattle.ir_print_law.proofs.State.{Ready, Reads}
 use Rattle.ir_print_law.proofs.Steps.{sign_reads, unlike}
 use Rattle.ir_print_law.proofs.Empty.{not_trailed}
 use Rattle.ir_print_law.proofs.WholeForms.{widens_further, grows_widens, Leads}
-use Rattle.ir_print_law.proofs.Known.{Far, AreNamed, known, is_last}
+use Rattle.ir_print_law.proofs.Known.{Far, AreNamed, known}
 use Rattle.ir_print_law.proofs.NewValues.{IsNext, unnamed_then, far_value, value_by, value_goes, kind_then}
 use Rattle.ir_print_law.proofs.OpNeeds.{begins_body_line, EndsOp, OpsRead}
 use Rattle.ir_print_law.proofs.OpsAgain.{plain, PlainAgain}

@@ -1,3 +1,4 @@
+pub mod InLists
 pub mod Tables
 pub mod OneTypes
 pub mod Forms

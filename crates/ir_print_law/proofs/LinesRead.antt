@@ -1,11 +1,11 @@
 -- Items without effect, and parameters of declared functions, as they are read.
-use Rattle.std.proofs.Common.{Bool, true, false, not, sym, subst}
+use Rattle.std.proofs.Common.{Bool, true, false, sym, subst}
 use Rattle.std.specs.List.{AllByRecursion}
-use Rattle.grammar.specs.Grammar.{pure, look, checked, ◌>>◌}
+use Rattle.grammar.specs.Grammar.{pure, look, ◌>>◌}
 use Rattle.ir_ast.specs.declared.module.Module.{Module}
 use Rattle.ir_tokens.specs.declared.token.Kind.{Kind}
 use Rattle.ir_tokens.specs.declared.token.Kind.TheVariants as k
-use Rattle.ir_forms.specs.Cursor.{kind, sees, spelling, begins_line}
+use Rattle.ir_forms.specs.Cursor.{kind, spelling, begins_line}
 use Rattle.ir_forms.specs.declared.input.Input.{Input}
 use Rattle.ir_forms.specs.Input.{skip, expect, unexpected}
 use Rattle.ir_forms.specs.Names.{take_number, next_number, is_next, with_number_taken}
@@ -16,7 +16,7 @@ use Rattle.ir_text.specs.ItemsOfText.{is_constant_by, is_constant}
 use Rattle.ir_text.specs.Lines.{text_after, source_name, target_part_by, target_part, target_after, target_line, at_brace, braced, group_after, group, begins_dollar, is_dollar, is_comdat_name, dollar_name_by, dollar_name, comdat_after, named_comdat, comdat, at_line_end, rest_of_line, is_first, line_after, whole_line, metadata_line}
 use Rattle.ir_text.specs.Parameters.{declared_name_by, declared_name, declared_parameter, declared_parameter_takes, declared_parameters}
 use Rattle.ir_print_law.specs.Printable.{IsAnyType}
-use Rattle.ir_print_law.proofs.Decorations.{decorations_pass, separator_passes}
+use Rattle.ir_print_law.proofs.Decorations.{decorations_pass, separator_passes, any_token_passes}
 use Rattle.ir_print_law.proofs.Forms.{Keeps, Same, all}
 use Rattle.ir_print_law.proofs.Passes.{Passes, skip_passes, expect_passes, check_passes, pure_passes, refuse_passes, past, look_passes, all_pass}
 use Rattle.ir_print_law.proofs.Reading.{Reading}
@@ -24,12 +24,6 @@ use Rattle.ir_print_law.proofs.TypesThat.{any_type_keeps, type_of}
 
 module _ {m : Module} (r : Reading m) where
   -- ---- items without effect
-
-  token_passes : Passes r any_token
-  unfolding any_token
-  token_passes =
-      past r (checked (λ i. not (sees k.End i.cursor)) unexpected) (look (λ i. kind i.cursor) (λ x. skip >> pure x)) (check_passes r (λ i. not (sees k.End i.cursor)) unexpected)
-      (look_passes r (λ i. kind i.cursor) (λ x. skip >> pure x) (λ x. past r skip (pure x) (skip_passes r) (pure_passes r x)))
 
   text_passes : Passes r text_after
   text_passes = past r (expect k.Equals) (expect k.Quoted) (expect_passes r k.Equals) (expect_passes r k.Quoted)
@@ -55,7 +49,7 @@ module _ {m : Module} (r : Reading m) where
 
   braced_passes : Passes r braced
   unfolding braced
-  braced_passes = all_pass r at_brace any_token any_token_takes token_passes
+  braced_passes = all_pass r at_brace any_token any_token_takes (any_token_passes r)
 
   -- a group of attributes
   pub group_passes : Passes r group
@@ -86,7 +80,7 @@ module _ {m : Module} (r : Reading m) where
 
   line_passes : Passes r rest_of_line
   unfolding rest_of_line
-  line_passes = all_pass r at_line_end any_token any_token_takes token_passes
+  line_passes = all_pass r at_line_end any_token any_token_takes (any_token_passes r)
 
   -- a line of metadata
   pub metadata_passes : Passes r metadata_line

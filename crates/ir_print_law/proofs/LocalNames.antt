@@ -14,46 +14,17 @@ use Rattle.ir_forms.specs.Names.{is_local}
 use Rattle.ir_tokens.specs.Bytes.{Text}
 use Rattle.ir_print.specs.Names.{name_at}
 use Rattle.ir_print_law.specs.Shapes.{IsIn}
+use Rattle.ir_print_law.proofs.InLists.{in_front, in_last}
 use Rattle.ir_print_law.proofs.DefinedNames.{Defines, IsNameKey, defines_name, defines_number, number_is_new}
 use Rattle.ir_print_law.proofs.Reading.{Progress, with_named_value}
 use Rattle.ir_print_law.proofs.Tables.{Begins, begins_with, stays, place_there, place_stays}
 
 -- ---- lists
 
-pub in_or_end : {A : Type 0} (xs : List A) (y x : A) → IsIn (xs ++ y ∷ []) x → IsIn xs x ⊎ (y ≡ x)
-in_or_end [] y x (inl e) = inr e
-in_or_end [] y x (inr e) = absurd e
-in_or_end (z ∷ xs) y x (inl e) = inl (inl e)
-in_or_end (z ∷ xs) y x (inr e) = elim (in_or_end xs y x e) [ inl h ↦ inl (inr h) | inr h ↦ inr h ]
-
-pub in_longer : {A : Type 0} (xs : List A) (y x : A) → IsIn xs x → IsIn (xs ++ y ∷ []) x
-in_longer (z ∷ xs) y x (inl e) = inl e
-in_longer (z ∷ xs) y x (inr e) = inr (in_longer xs y x e)
-in_longer [] y x e = absurd e
-
-pub in_at_end : {A : Type 0} (xs : List A) (y : A) → IsIn (xs ++ y ∷ []) y
-in_at_end [] y = inl refl
-in_at_end (z ∷ xs) y = inr (in_at_end xs y)
-
 pub in_map : {A B : Type 0} (h : A → B) (xs : List A) (y : B) → IsIn (map h xs) y → (x : A) × IsIn xs x × (h x ≡ y)
 in_map h [] y e = absurd e
 in_map h (x ∷ xs) y (inl e) = (x, inl refl, e)
 in_map h (x ∷ xs) y (inr e) = let p = in_map h xs y e in (p.0, inr p.1, p.2)
-
-pub set_there : {A : Type 0} (xs : List A) (n : ℕ) (y : A) → n < length xs → slice_get (slice_set xs n y) n ≡ Some y
-set_there [] n y less = absurd (omega (arith, less))
-set_there (x ∷ xs) zero y less = refl
-set_there (x ∷ xs) (suc n) y less = set_there xs n y (omega (arith, less))
-
-pub set_was : {A : Type 0} (xs : List A) (n : ℕ) (y : A) (k : ℕ) (x : A) → slice_get (slice_set xs n y) k ≡ Some x → (slice_get xs k ≡ Some x) ⊎ ((k ≡ n) × (y ≡ x))
-set_was [] n y k x e = inl e
-set_was (z ∷ xs) zero y zero x e = inr (refl, cc)
-set_was (z ∷ xs) zero y (suc k) x e = inl e
-set_was (z ∷ xs) (suc n) y zero x e = inl e
-set_was (z ∷ xs) (suc n) y (suc k) x e = elim (set_was xs n y k x e) [
-  | inl h ↦ inl h
-  | inr h ↦ inr (ap suc h.0, h.1)
-]
 
 pub set_known : (xs : List LocalSort) (n : ℕ) (y : LocalSort) (k : ℕ) → is_local (Some y) ≡ true → is_local (slice_get xs k) ≡ true → is_local (slice_get (slice_set xs n y) k) ≡ true
 set_known [] n y k is e = e
@@ -155,9 +126,9 @@ key_is_new g t unnamed key n h at none there =
 
 sort_further : (g : Progress) (n k : ℕ) (sort : LocalSort) → IsSortOf g k sort → IsSortOf (with_named_value g n) k sort
 sort_further g n k local.Unknown h = tt
-sort_further g n k (local.Value t) h = in_longer g.values n k h
-sort_further g n k (local.Slot held) h = in_longer g.values n k h
-sort_further g n k (local.Element block place) h = in_longer g.values n k h
+sort_further g n k (local.Value t) h = in_front g.values (n ∷ []) k h
+sort_further g n k (local.Slot held) h = in_front g.values (n ∷ []) k h
+sort_further g n k (local.Element block place) h = in_front g.values (n ∷ []) k h
 sort_further g n k (local.Block b) h = h
 
 -- the keys with one more
@@ -170,13 +141,13 @@ opened : (g : Progress) (t : Table LocalSort) (unnamed next n : ℕ) → n < len
 opened g t unnamed next n less h defines = record {
   same = h.same;
   places = h.places;
-  within = λ k there. elim (in_or_end g.names n k there) [
+  within = λ k there. elim (in_last g.names n k there) [
     | inl p ↦ h.within k p
     | inr p ↦ subst (λ (x : ℕ). x < length t.names) p less
   ];
   defines = defines;
   sorted = λ k sort there. sort_further g n k sort (h.sorted k sort there);
-  known = λ k there. elim (in_or_end g.names n k there) [
+  known = λ k there. elim (in_last g.names n k there) [
     | inl p ↦ elim (h.known k p) [
       | inl is ↦ inl is
       | inr is ↦ absurd cc

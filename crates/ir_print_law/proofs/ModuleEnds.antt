@@ -18,7 +18,8 @@ use Rattle.ir_print.specs.Names.{name_at}
 use Rattle.ir_print_law.specs.Definitions.{AreNew, defined_structs, defined_globals, declared_functions, defined_functions, functions_of}
 use Rattle.ir_print_law.specs.Printable.{IsSymbol}
 use Rattle.ir_print_law.specs.Shapes.{IsIn}
-use Rattle.ir_print_law.proofs.LocalNames.{in_or_end, keys_at}
+use Rattle.ir_print_law.proofs.InLists.{in_last}
+use Rattle.ir_print_law.proofs.LocalNames.{keys_at}
 use Rattle.ir_print_law.proofs.ModuleState.{no_one, struct_names_of, symbols_of, Stands}
 use Rattle.ir_print_law.proofs.ModuleTables.{IsTable, OwnsStruct, OwnsSymbol}
 
@@ -49,7 +50,7 @@ new_keys names seen (n ∷ ns) apart others =
       further p o a b x y e = let same = apart (suc p) (suc o) a b x y e in omega (arith, same)
 
       next : AreOthers (seen ++ name_at names n ∷ []) (keys_at names ns)
-      next x there later = elim (in_or_end seen (name_at names n) x there) [
+      next x there later = elim (in_last seen (name_at names n) x there) [
         | inl p ↦ others x p (inr later)
         | inr p ↦ let q = key_at names ns x later in let same = apart 0 (suc q.0) n q.1 refl q.2 (p ∙ sym q.3) in omega (arith, same)
       ]

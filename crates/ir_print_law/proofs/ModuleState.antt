@@ -1,5 +1,5 @@
 -- What is known of a state between and within the items of a module, and of where reading ends.
-use Rattle.std.proofs.Common.{◌≡◌, ℕ, zero, suc, ◌+◌, ◌≤◌, Bool, true, false, List, [], ◌∷◌, ◌++◌, length, map, slice_get, unwrap_or, Option, None, Some, refl, ap, ◌∙◌, inl, inr, ◌⊎◌}
+use Rattle.std.proofs.Common.{◌≡◌, ℕ, ◌+◌, ◌≤◌, Bool, true, false, List, [], ◌∷◌, ◌++◌, length, map, slice_get, unwrap_or, Option, None, Some, refl, ap, ◌∙◌, inl, inr, ◌⊎◌}
 use Rattle.ir_ast.specs.Names.{numbered}
 use Rattle.ir_ast.specs.Types.{numbered_type}
 use Rattle.ir_ast.specs.declared.function.Function.{Function}
@@ -29,18 +29,18 @@ use Rattle.name_text.specs.Readings.{AreBytes}
 use Rattle.ir_print.specs.Names.{name_at}
 use Rattle.ir_print.specs.Standing.{AreDigits}
 use Rattle.ir_print_law.specs.OneTypes.{AreOnce}
+use Rattle.ir_print_law.proofs.InLists.{in_after, in_front, is_last}
 use Rattle.ir_print_law.proofs.OneTypes.{once_more}
 use Rattle.ir_print_law.specs.Definitions.{defined_structs, declared_functions, defined_functions, used_symbols}
 use Rattle.ir_print_law.specs.Printable.{IsSymbol}
 use Rattle.ir_print_law.specs.Shapes.{IsIn}
-use Rattle.ir_print_law.proofs.LocalNames.{in_longer, in_at_end}
 use Rattle.ir_print_law.proofs.ModuleTables.{AreStructs, AreSymbols, Owned, OwnsStruct, OwnsSymbol, table_mentions}
 use Rattle.ir_print_law.proofs.NameBytes.{spelled_bytes}
 use Rattle.ir_print_law.proofs.NumberTokens.{AllSpell}
 use Rattle.ir_print_law.proofs.Outside.{Outside, with_own}
+use Rattle.ir_print_law.proofs.DefinedLocals.{in_list}
 use Rattle.ir_print_law.proofs.Reading.{Reading}
 use Rattle.ir_print_law.proofs.Tables.{Begins, IsRestBefore, AreOrdered, begins_further, type_begins, type_ordered, name_begins, name_there, stays}
-use Rattle.ir_print_law.proofs.Uses.{in_further}
 
 -- ---- before a place
 
@@ -148,15 +148,6 @@ named_in number names [] n name there at = absurd there
 named_in number names (x ∷ xs) n name (inl e) at = inl (ap (name_at names) e ∙ ap (λ (o : Option Text). unwrap_or o []) at)
 named_in number names (x ∷ xs) n name (inr there) at = inr (named_in number names xs n name there at)
 
-in_list : (xs : List ℕ) (place n : ℕ) → slice_get xs place ≡ Some n → IsIn xs n
-in_list [] place n e = absurd cc
-in_list (x ∷ xs) zero n e = inl cc
-in_list (x ∷ xs) (suc place) n e = inr (in_list xs place n e)
-
-afterwards : {A : Type 0} (xs ys : List A) (y : A) → IsIn ys y → IsIn (xs ++ ys) y
-afterwards [] ys y there = there
-afterwards (x ∷ xs) ys y there = inr (afterwards xs ys y there)
-
 -- a name that is used as a struct's is one of theirs
 pub struct_named : (e i : Input) → Leads e (with_struct_use i) → IsIn (defined_structs (module_of e)) (spelled i.cursor)
 struct_named e i b = by (slice_get e.struct_names.sorts (struct_number i)) refl right where
@@ -169,7 +160,7 @@ struct_named e i b = by (slice_get e.struct_names.sorts (struct_number i)) refl 
   use_here = record { name = struct_number i; start = start i.cursor }
 
   right : is_struct (slice_get e.struct_names.sorts (struct_number i)) ≡ true
-  right = b.struct_uses use_here (in_at_end i.struct_uses use_here)
+  right = b.struct_uses use_here (is_last i.struct_uses use_here)
 
   by : (x : Option (Option ℕ)) → slice_get e.struct_names.sorts (struct_number i) ≡ x → is_struct x ≡ true → IsIn (defined_structs (module_of e)) (spelled i.cursor)
   by None same is = absurd cc
@@ -191,7 +182,7 @@ symbol_named e i is_call b = by is_call (slice_get e.symbols.sorts (symbol_numbe
   use_here = record { symbol = symbol_number i; is_call = is_call; start = start i.cursor; length = size i.cursor }
 
   right : is_right is_call (slice_get e.symbols.sorts (symbol_number i)) ≡ true
-  right = b.symbol_uses use_here (in_at_end i.symbol_uses use_here)
+  right = b.symbol_uses use_here (is_last i.symbol_uses use_here)
 
   owned : (x : SymbolSort) → slice_get e.symbols.sorts (symbol_number i) ≡ Some x → (x ≡ symbol.Unknown) ⊎ OwnsSymbol (symbols_of no_one e) x (symbol_number i)
   owned x same = b.end.symbols.owned (symbol_number i) x same
@@ -210,14 +201,14 @@ symbol_named e i is_call b = by is_call (slice_get e.symbols.sorts (symbol_numbe
   by false (Some (symbol.Declared d)) same is = absurd cc
   by true (Some (symbol.Declared d)) same is = elim (owned (symbol.Declared d) same) [
     | inl none ↦ absurd cc
-    | inr own ↦ in_further (declared_functions (module_of e)) (defined_functions (module_of e)) (spelled i.cursor)
+    | inr own ↦ in_front (declared_functions (module_of e)) (defined_functions (module_of e)) (spelled i.cursor)
         (named_in (λ (x : Declare). x.symbol) e.symbols.names e.declares (symbol_number i) (spelled i.cursor)
         (in_list (symbols_of no_one e).declares d (symbol_number i) own) at)
   ]
   by false (Some (symbol.Defined f)) same is = absurd cc
   by true (Some (symbol.Defined f)) same is = elim (owned (symbol.Defined f) same) [
     | inl none ↦ absurd cc
-    | inr own ↦ afterwards (declared_functions (module_of e)) (defined_functions (module_of e)) (spelled i.cursor)
+    | inr own ↦ in_after (declared_functions (module_of e)) (defined_functions (module_of e)) (spelled i.cursor)
         (named_in (λ (x : Function). x.symbol) e.symbols.names e.functions (symbol_number i) (spelled i.cursor)
         (in_list (symbols_of no_one e).functions f (symbol_number i) own) at)
   ]
@@ -319,7 +310,7 @@ leads_struct e i b = record {
   types = b.types;
   struct_names = struct_name_begins i e.struct_names.names b.struct_names;
   symbols = b.symbols;
-  struct_uses = λ u there. b.struct_uses u (in_longer i.struct_uses (record { name = struct_number i; start = start i.cursor }) u there);
+  struct_uses = λ u there. b.struct_uses u (in_front i.struct_uses (record { name = struct_number i; start = start i.cursor } ∷ []) u there);
   symbol_uses = b.symbol_uses;
   missing = b.missing;
 }
@@ -333,7 +324,7 @@ leads_symbol e i is_call b = record {
   symbols = symbol_begins i e.symbols.names b.symbols;
   struct_uses = b.struct_uses;
   symbol_uses = λ u there. b.symbol_uses u
-      (in_longer i.symbol_uses (record { symbol = symbol_number i; is_call = is_call; start = start i.cursor; length = size i.cursor }) u there);
+      (in_front i.symbol_uses (record { symbol = symbol_number i; is_call = is_call; start = start i.cursor; length = size i.cursor } ∷ []) u there);
   missing = b.missing;
 }
 

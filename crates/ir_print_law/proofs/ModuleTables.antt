@@ -1,10 +1,11 @@
 -- Tables of the names of a module while it is read: each name has one place, and each item has its name.
 use Rattle.std.proofs.Common.{◌≡◌, ℕ, zero, suc, ◌+◌, ◌<◌, Bool, true, false, List, [], ◌∷◌, ◌++◌, length, slice_get, if◌then◌else◌, is_some, unwrap_or, Option, None, Some, refl, sym, ap, subst, ◌∙◌, arith, length-append, inl, inr, ◌⊎◌}
 use Rattle.std.specs.Prelude.{nat_lt, slice_set}
+use Rattle.std.proofs.lemmas.Bool.{cases_eq}
 use Rattle.std.proofs.lemmas.Bool.Decides.{nat_tests}
 use Rattle.std.proofs.lemmas.Option.{slice_get_within}
 use Rattle.std.proofs.lemmas.List.{length-set}
-use Rattle.lemmas.specs.Lists.{get_end, get_either}
+use Rattle.lemmas.specs.Lists.{get_end, get_either, set_here, set_other, set_either}
 use Rattle.ir_ast.specs.Names.{place_of}
 use Rattle.ir_ast.specs.declared.items_of_module.SymbolSort.{SymbolSort}
 use Rattle.ir_ast.specs.declared.items_of_module.SymbolSort.TheVariants as symbol
@@ -14,7 +15,6 @@ use Rattle.ir_forms.specs.Names.{is_struct, is_symbol}
 use Rattle.ir_tokens.specs.Bytes.{Text}
 use Rattle.name_text.specs.Readings.{AreBytes}
 use Rattle.ir_print_law.specs.Printable.{IsSymbol}
-use Rattle.ir_print_law.proofs.LocalNames.{set_there, set_was}
 use Rattle.ir_print_law.proofs.Tables.{begins_with, stays, place_there, place_stays}
 
 -- Each name is bytes and is at its first place. What a name means, if anything, owns it. What owns a name is what it means, and such a name is good.
@@ -63,14 +63,6 @@ table_mentions {S = S} nothing Owns Good t name is h = by (place_of name t.names
     ];
   }
 
--- another place keeps what it has
-set_or_here : {A : Type 0} (xs : List A) (n : ℕ) (y : A) (k : ℕ) (x : A) → slice_get xs k ≡ Some x → (slice_get (slice_set xs n y) k ≡ Some x) ⊎ (k ≡ n)
-set_or_here [] n y k x e = absurd cc
-set_or_here (z ∷ xs) zero y zero x e = inr refl
-set_or_here (z ∷ xs) zero y (suc k) x e = inl e
-set_or_here (z ∷ xs) (suc n) y zero x e = inl e
-set_or_here (z ∷ xs) (suc n) y (suc k) x e = elim (set_or_here xs n y k x e) [ inl h ↦ inl h | inr h ↦ inr (ap suc h) ]
-
 -- a name that meant nothing so far means this from now on
 table_defines : {S : Type 0} (nothing : S) (Owns Later : S → ℕ → Type 0) (Good : Text → Type 0) (t : Table S) (n : ℕ) (sort : S) (name : Text)
     → slice_get t.names n ≡ Some name → slice_get t.sorts n ≡ Some nothing → Good name → ((k : ℕ) → Owns nothing k → ⊥)
@@ -81,16 +73,16 @@ table_defines {S = S} nothing Owns Later Good t n sort name at none is no_one up
       same = length-set t.sorts n sort ∙ h.same;
       bytes = h.bytes;
       places = h.places;
-      owned = λ k x e. elim (set_was t.sorts n sort k x e) [
+      owned = λ k x e. elim (set_either t.sorts n sort k x e) [
         | inl p ↦ elim (h.owned k x p) [ inl q ↦ inl q | inr own ↦ inr (up k x own) ]
         | inr p ↦ inr (subst (λ (j : ℕ). Later x j) (sym p.0) (subst (λ (y : S). Later y n) p.1 here))
       ];
       known = λ k x later. elim (down k x later) [
-        | inl own ↦ elim (set_or_here t.sorts n sort k x (h.known k x own)) [
-          | inl p ↦ p
-          | inr p ↦ absurd (no_one k (subst (λ (y : S). Owns y k) (same_sort x (sym (h.known k x own) ∙ ap (slice_get t.sorts) p)) own))
+        | inl own ↦ elim (cases_eq k n) [
+          | inl p ↦ absurd (no_one k (subst (λ (y : S). Owns y k) (same_sort x (sym (h.known k x own) ∙ ap (slice_get t.sorts) p)) own))
+          | inr differs ↦ set_other t.sorts n k sort differs ∙ h.known k x own
         ]
-        | inr p ↦ ap (slice_get (slice_set t.sorts n sort)) p.0 ∙ set_there t.sorts n sort less ∙ ap Some (sym p.1)
+        | inr p ↦ ap (slice_get (slice_set t.sorts n sort)) p.0 ∙ set_here t.sorts n sort less ∙ ap Some (sym p.1)
       ];
       good = λ k x other later e. elim (down k x later) [
         | inl own ↦ h.good k x other own e

@@ -6,7 +6,7 @@ use Rattle.std.specs.Str.{bytes_eq}
 use Rattle.std.proofs.lemmas.Bool.Decides.{nat_tests}
 use Rattle.std.proofs.lemmas.List.{length-set}
 use Rattle.std.proofs.lemmas.Slice.Eq.{bytes_eq-Decides}
-use Rattle.lemmas.specs.Lists.{get_end}
+use Rattle.lemmas.specs.Lists.{get_end, set_here, set_other}
 use Rattle.ir_ast.specs.Names.{place_of, number_of, numbered}
 use Rattle.ir_tokens.specs.Bytes.{Text}
 use Rattle.ir_forms.specs.declared.table.Table.{Table}
@@ -116,18 +116,6 @@ get_front [] more n less = absurd (omega (arith, less))
 get_front (x ∷ xs) more zero less = refl
 get_front (x ∷ xs) more (suc n) less = get_front xs more n (omega (arith, less))
 
-get_set : {A : Type 0} (xs : List A) (n : ℕ) (x : A) → n < length xs → slice_get (slice_set xs n x) n ≡ Some x
-get_set [] n x less = absurd (omega (arith, less))
-get_set (y ∷ xs) zero x less = refl
-get_set (y ∷ xs) (suc n) x less = get_set xs n x (omega (arith, less))
-
-get_set_other : {A : Type 0} (xs : List A) (n m : ℕ) (x : A) → (m ≡ n → ⊥) → slice_get (slice_set xs n x) m ≡ slice_get xs m
-get_set_other [] n m x ne = refl
-get_set_other (y ∷ xs) zero zero x ne = absurd (ne refl)
-get_set_other (y ∷ xs) zero (suc m) x ne = refl
-get_set_other (y ∷ xs) (suc n) zero x ne = refl
-get_set_other (y ∷ xs) (suc n) (suc m) x ne = get_set_other xs n m x (λ e. ne (ap suc e))
-
 pub even_mentioned : {S : Type 0} (t : Table S) (k : Text) (nothing : S) → IsEven t → IsEven (mentioned k nothing t)
 even_mentioned {S = S} t k nothing even = by (place_of k t.names) where
   by : (o : Option ℕ) → length (if is_some o then t.names else t.names ++ k ∷ []) ≡ length (sorts_with o nothing t.sorts)
@@ -191,7 +179,7 @@ pub sort_defined : {S : Type 0} (t : Table S) (k : Text) (n : ℕ) (s : S) → I
 sort_defined t k n s even e =
     let less = place_within k t.names n (sym (place_is k t.names) ∙ e) in
     ap (λ (b : Bool). option_and_then (slice_get (if b then slice_set t.sorts n s else t.sorts)) (place_of k t.names)) (within t k n even e)
-    ∙ ap (option_and_then (slice_get (slice_set t.sorts n s))) e ∙ get_set t.sorts n s (omega (arith, less, even))
+    ∙ ap (option_and_then (slice_get (slice_set t.sorts n s))) e ∙ set_here t.sorts n s (omega (arith, less, even))
 
 same_some : {A : Type 0} (x y : A) → ◌≡◌ {A = Option A} (Some x) (Some y) → x ≡ y
 same_some x y e = cc
@@ -202,4 +190,4 @@ sort_defined_other {S = S} t k name n s ne e = by (place_of name t.names) refl (
   by o f false = refl
   by None f true = refl
   by (Some m) f true =
-      get_set_other t.sorts n m s (λ (same : m ≡ n). ne (same_some name k (sym (place_name name t.names m f) ∙ ap (slice_get t.names) same ∙ place_name k t.names n e)))
+      set_other t.sorts n m s (λ (same : m ≡ n). ne (same_some name k (sym (place_name name t.names m f) ∙ ap (slice_get t.names) same ∙ place_name k t.names n e)))

@@ -187,13 +187,6 @@ module _ {m : Module} {f : Function} (v : Invariant m f) where
     structs = begins_itself i.struct_names.names;
     symbols = begins_itself i.symbols.names;
     locals = name_begins (local_key i.cursor) i.locals.names;
-    same_structs = refl;
-    same_globals = refl;
-    same_declares = refl;
-    same_functions = refl;
-    same_missing = refl;
-    same_values = refl;
-    same_unnamed = refl;
   }
 
   -- a local name was used
@@ -229,13 +222,6 @@ module _ {m : Module} {f : Function} (v : Invariant m f) where
     structs = begins_itself i.struct_names.names;
     symbols = name_begins (spelled i.cursor) i.symbols.names;
     locals = begins_itself i.locals.names;
-    same_structs = refl;
-    same_globals = refl;
-    same_declares = refl;
-    same_functions = refl;
-    same_missing = refl;
-    same_values = refl;
-    same_unnamed = refl;
   }
 
   -- a global name was used

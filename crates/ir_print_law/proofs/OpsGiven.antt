@@ -20,7 +20,8 @@ use Rattle.ir_print_law.proofs.Parts as parts
 use Rattle.ir_print_law.proofs.PhisAgain.{phi_reads}
 use Rattle.ir_print_law.proofs.PrintedTypes.{type_shown, any_type_reads, passed_type_reads, held_type_reads, struct_body_reads}
 use Rattle.ir_print_law.proofs.WholeTypes.{shape_comes}
-use Rattle.ir_print_law.proofs.Defining.{IsValueSort, value_set}
+use Rattle.ir_print_law.proofs.Defining.{value_set}
+use Rattle.ir_print_law.proofs.Reading.{IsValueSort}
 use Rattle.ir_print_law.proofs.Known.{Far, AreNamed, LocalsKnown, known}
 use Rattle.ir_print_law.proofs.Needs.{TypesRead}
 use Rattle.ir_print_law.proofs.OpNeeds.{begins_body_line, EndsOp, OpsRead, far_set}

@@ -3,6 +3,7 @@ use Rattle.std.proofs.Common.{◌≡◌, ℕ, ◌+◌, ◌<◌, ◌≤◌, Bool,
 use Rattle.std.specs.Prelude.{codes}
 use Rattle.std.specs.List.{AllByRecursion, flat_map}
 use Rattle.std.proofs.lemmas.List.{append-nil}
+use Rattle.ir_print_law.proofs.InLists.{is_last}
 use Rattle.ir_print_law.proofs.ArgumentsAgain.{decorations_said}
 use Rattle.grammar.specs.Grammar.{pure}
 use Rattle.grammar.specs.Many.{Listed}
@@ -43,7 +44,7 @@ use Rattle.ir_print_law.proofs.Types.{EndsType, ends_type}
 use Rattle.ir_print_law.proofs.Begins.{IsLocalKind, local_kind}
 use Rattle.ir_print_law.proofs.Defining.{value_set}
 use Rattle.ir_print_law.proofs.WholeForms.{Widens, widens_itself, widens_further, grows_widens, Goes, Leads, later_widened}
-use Rattle.ir_print_law.proofs.Known.{Far, AreNamed, known, is_last}
+use Rattle.ir_print_law.proofs.Known.{Far, AreNamed, known}
 use Rattle.ir_print_law.proofs.Needs.{TypesRead}
 use Rattle.ir_print_law.proofs.NewValues.{IsNext, unnamed_then, kind_then, value_by, value_goes}
 use Rattle.ir_print_law.proofs.Steady.{Steady, Onward, onward_itself, onward_further, next_key, steady_value}

@@ -21,10 +21,10 @@ use Rattle.ir_print_law.specs.ModuleNames.{HasModuleNames}
 use Rattle.ir_print_law.specs.Parts.{IsType, IsVoid, IsPointer, IsOperand, IsArgument, ArePair, IsConverted, IsReturned}
 use Rattle.ir_print_law.specs.PartsWithin.{HasType, HasSymbol, HasGlobal, HasFunction, HasLocal, HasValue, HasBlock, HasTarget, IsOperandWithin, IsArgumentWithin, ArePairWithin, IsConvertedWithin}
 use Rattle.ir_print_law.specs.Shapes.{IsIn, Shape, Integer, Pointer, Array, Empty, Struct, Named, HasShape, bits_of_shape}
+use Rattle.ir_print_law.proofs.InLists.{in_parts}
 use Rattle.ir_print_law.proofs.DefinedWithin.{AreDefinedWithin, all_at, any_all}
 use Rattle.ir_print_law.proofs.FoundNames.{found_number, in_all, place_in, place_after, item_in, each_number, item_keys, items_stay}
 use Rattle.ir_print_law.proofs.FunctionEnds.{whole_of, values_are, labels_are, rest_keys}
-use Rattle.ir_print_law.proofs.Known.{in_parts}
 use Rattle.ir_print_law.proofs.LocalNames.{keys_at, names_stay}
 use Rattle.ir_print_law.proofs.Tables.{begins_with}
 

@@ -25,11 +25,12 @@ use Rattle.ir_print_law.specs.Again.{IsPhiAgain}
 use Rattle.ir_print_law.specs.Definitions.{phi_key}
 use Rattle.ir_print_law.specs.Printable.{IsPhi}
 use Rattle.ir_print_law.specs.Readings.{IsKey}
+use Rattle.ir_print_law.proofs.InLists.{is_last}
 use Rattle.ir_print_law.proofs.Tables.{stays}
 use Rattle.ir_print_law.proofs.State.{Ready}
 use Rattle.ir_print_law.proofs.Begins.{IsLocalKind}
 use Rattle.ir_print_law.proofs.InnerLines.{far_result}
-use Rattle.ir_print_law.proofs.Known.{Far, AreNamed, known, is_last}
+use Rattle.ir_print_law.proofs.Known.{Far, AreNamed, known}
 use Rattle.ir_print_law.proofs.NamesRead.{digits_text, name_key_text}
 use Rattle.ir_print_law.proofs.NewValues.{IsNext, unnamed_then, far_value, value_by, value_goes, kind_then}
 use Rattle.ir_print_law.proofs.OpNeeds.{begins_body_line, EndsOp, OpsRead, phi_rest}

@@ -3,7 +3,7 @@ use Rattle.std.proofs.Common.{◌≡◌, ℕ, zero, suc, ◌<◌, ◌≤◌, Lis
 use Rattle.std.specs.Prelude.{slice_set}
 use Rattle.std.specs.List.{AllByRecursion}
 use Rattle.std.proofs.lemmas.List.{length-set}
-use Rattle.lemmas.specs.Lists.{get_some}
+use Rattle.lemmas.specs.Lists.{get_some, set_either}
 use Rattle.ir_ast.specs.declared.function.Function.{Function}
 use Rattle.ir_ast.specs.declared.items_of_module.SymbolSort.TheVariants as symbol
 use Rattle.ir_ast.specs.declared.ir_type.IrType.{IrType}
@@ -21,7 +21,6 @@ use Rattle.ir_print_law.specs.Printable.{IsFunction, IsStructType, IsGlobal, IsD
 use Rattle.ir_print_law.specs.Wholes.{IsWhole}
 use Rattle.ir_print_law.proofs.AnewRead.{IsRead, function_read}
 use Rattle.ir_print_law.proofs.Known.{all_so}
-use Rattle.ir_print_law.proofs.LocalNames.{set_was}
 use Rattle.ir_print_law.proofs.LongerOps.{function_again, struct_again, global_again, declare_again}
 use Rattle.ir_print_law.proofs.LongerTypes.{with_types}
 use Rattle.ir_print_law.proofs.ModuleRead.{read_is_printable, read_has_names, read_is_ordered}
@@ -91,7 +90,7 @@ module _ (m : Module) (whole : IsWhole m) (func : ℕ) (old : Function) (at : sl
         sorts = n.sorts;
         globals = n.globals;
         declares = n.declares;
-        functions = λ number g there. elim (set_was m.functions func f number g there) [
+        functions = λ number g there. elim (set_either m.functions func f number g there) [
           | inl p ↦ n.functions number g p
           | inr p ↦
               let its : g.symbol ≡ old.symbol = ap (λ (x : Function). x.symbol) (sym p.1) ∙ symbol_is in
@@ -101,7 +100,7 @@ module _ (m : Module) (whole : IsWhole m) (func : ℕ) (old : Function) (at : sl
         named_declares = n.named_declares;
         named_functions = λ name number there.
             numbered_set (λ (g : Function). g.symbol) m.functions func old f at symbol_is number name (n.named_functions name number there);
-        own = λ number g there. elim (set_was m.functions func f number g there) [
+        own = λ number g there. elim (set_either m.functions func f number g there) [
           | inl p ↦ n.own number g p
           | inr p ↦ subst HasNames p.1 has_names
         ];

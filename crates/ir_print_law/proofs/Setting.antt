@@ -59,13 +59,6 @@ module _ {m : Module} {f : Function} (v u : Invariant m f) where
       structs = g.structs;
       symbols = g.symbols;
       locals = g.locals;
-      same_structs = refl;
-      same_globals = refl;
-      same_declares = refl;
-      same_functions = refl;
-      same_missing = refl;
-      same_values = refl;
-      same_unnamed = refl;
     }),
     λ n others later. same n others (later_set value sort i n others later),
   )

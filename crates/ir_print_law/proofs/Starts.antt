@@ -16,11 +16,12 @@ use Rattle.ir_print_law.specs.Readings.{IsKey}
 use Rattle.ir_print_law.specs.Definitions.{AreDefined, defined_keys, parameter_keys, block_keys, value_keys_of, value_keys, label_keys, defined_globals, functions_of, used_keys, used_symbols}
 use Rattle.ir_print_law.specs.Printable.{IsFunction, IsPrintable, IsSymbol}
 use Rattle.ir_print_law.specs.Shapes.{IsIn}
+use Rattle.ir_print_law.proofs.InLists.{in_front, in_after}
 use Rattle.ir_print_law.proofs.State.{Ready}
 use Rattle.ir_print_law.proofs.Bodies.{front_keys, back_keys}
 use Rattle.ir_print_law.proofs.Defining.{dropped}
 use Rattle.ir_print_law.proofs.WholeFunctionEnds.{nobody, no_key, locals_empty}
-use Rattle.ir_print_law.proofs.Known.{Far, AreNamed, known, in_front, in_after}
+use Rattle.ir_print_law.proofs.Known.{Far, AreNamed, known}
 use Rattle.ir_print_law.proofs.NewLabels.{decimal_key}
 use Rattle.ir_print_law.proofs.NewValues.{IsNext, unnamed_then}
 use Rattle.ir_print_law.proofs.Steady.{next_key, taken}

@@ -53,13 +53,6 @@ pub record Grows (i o : Input) : Type 0 where
   pub structs : Begins i.struct_names.names o.struct_names.names
   pub symbols : Begins i.symbols.names o.symbols.names
   pub locals : Begins i.locals.names o.locals.names
-  pub same_structs : o.structs ≡ i.structs
-  pub same_globals : o.globals ≡ i.globals
-  pub same_declares : o.declares ≡ i.declares
-  pub same_functions : o.functions ≡ i.functions
-  pub same_missing : o.missing ≡ i.missing
-  pub same_values : o.values ≡ i.values
-  pub same_unnamed : o.unnamed ≡ i.unnamed
 
 -- a module, with the names of a function in it, whose tables begin with those that were read so far
 pub record IsLater (i : Input) (n : Module) (others : List Text) : Type 0 where

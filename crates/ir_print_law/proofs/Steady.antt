@@ -4,7 +4,8 @@ use Rattle.std.proofs.lemmas.List.{append-nil}
 use Rattle.ir_tokens.specs.Bytes.{Text}
 use Rattle.ir_print_law.specs.Definitions.{AreDefined}
 use Rattle.ir_print_law.specs.Shapes.{IsIn}
-use Rattle.ir_print_law.proofs.Known.{Far, in_front, in_last, is_last}
+use Rattle.ir_print_law.proofs.InLists.{in_front, in_last, is_last}
+use Rattle.ir_print_law.proofs.Known.{Far}
 use Rattle.ir_print_law.proofs.NewValues.{IsNext, unnamed_then}
 
 -- no value waits for its type, and these keys are defined next

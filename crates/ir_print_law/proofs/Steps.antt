@@ -29,13 +29,6 @@ grows_itself i = record {
   structs = begins_itself i.struct_names.names;
   symbols = begins_itself i.symbols.names;
   locals = begins_itself i.locals.names;
-  same_structs = refl;
-  same_globals = refl;
-  same_declares = refl;
-  same_functions = refl;
-  same_missing = refl;
-  same_values = refl;
-  same_unnamed = refl;
 }
 
 -- what was read stays as further parts are read
@@ -45,13 +38,6 @@ grows_further i m o a b = record {
   structs = begins_further i.struct_names.names m.struct_names.names o.struct_names.names a.structs b.structs;
   symbols = begins_further i.symbols.names m.symbols.names o.symbols.names a.symbols b.symbols;
   locals = begins_further i.locals.names m.locals.names o.locals.names a.locals b.locals;
-  same_structs = b.same_structs ∙ a.same_structs;
-  same_globals = b.same_globals ∙ a.same_globals;
-  same_declares = b.same_declares ∙ a.same_declares;
-  same_functions = b.same_functions ∙ a.same_functions;
-  same_missing = b.same_missing ∙ a.same_missing;
-  same_values = b.same_values ∙ a.same_values;
-  same_unnamed = b.same_unnamed ∙ a.same_unnamed;
 }
 
 -- what comes later than a state comes later than those before it
@@ -132,13 +118,6 @@ module _ {m : Module} {f : Function} (v : Invariant m f) where
     structs = begins_itself i.struct_names.names;
     symbols = begins_itself i.symbols.names;
     locals = begins_itself i.locals.names;
-    same_structs = refl;
-    same_globals = refl;
-    same_declares = refl;
-    same_functions = refl;
-    same_missing = refl;
-    same_values = refl;
-    same_unnamed = refl;
   }
 
   -- a token is skipped
@@ -217,13 +196,6 @@ module _ {m : Module} {f : Function} (v : Invariant m f) where
     structs = begins_itself i.struct_names.names;
     symbols = begins_itself i.symbols.names;
     locals = begins_itself i.locals.names;
-    same_structs = refl;
-    same_globals = refl;
-    same_declares = refl;
-    same_functions = refl;
-    same_missing = refl;
-    same_values = refl;
-    same_unnamed = refl;
   }
 
   -- a type comes into the table, and is at its number

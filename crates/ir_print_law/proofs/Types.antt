@@ -24,7 +24,7 @@ use Rattle.ir_forms.specs.declared.written.WrittenType.{WrittenType}
 use Rattle.ir_forms.specs.Input.{limit, advanced, skip}
 use Rattle.ir_forms.specs.Names.{struct_name, with_struct_use}
 use Rattle.ir_forms.specs.Written as w
-use Rattle.ir_forms.specs.Written.{intern, integer, pointers, star_or, at_star, starred as with_starred, with_stars, no_parameters, part_of, interned, part, firm, over, type_within}
+use Rattle.ir_forms.specs.Written.{intern, integer, pointers, star_or, at_star, starred as with_starred, with_stars, no_parameters, part_of, interned, part, firm}
 use Rattle.name_text.specs.Names.{name_text, is_plain, quoted_text}
 use Rattle.name_text.specs.Readings.{AreBytes}
 use Rattle.name_text.specs.declared.blank.Blank.TheVariants as blank
@@ -210,13 +210,6 @@ module _ {m : Module} {f : Function} (v : Invariant m f) where
           structs = name_begins (spelled i.cursor) names;
           symbols = begins_itself i.symbols.names;
           locals = begins_itself i.locals.names;
-          same_structs = refl;
-          same_globals = refl;
-          same_declares = refl;
-          same_functions = refl;
-          same_missing = refl;
-          same_values = refl;
-          same_unnamed = refl;
         },
         subst (λ (x : Text). place_of name (numbered x names) ≡ Some (number_of name names)) (sym r.1) (place_there name names),
       )

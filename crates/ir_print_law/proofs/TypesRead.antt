@@ -20,7 +20,7 @@ use Rattle.ir_forms.specs.declared.written.WrittenType.{WrittenType}
 use Rattle.ir_forms.specs.Input.{limit, advanced, advanced_falls, skip}
 use Rattle.ir_forms.specs.Names.{struct_name}
 use Rattle.ir_forms.specs.Written as w
-use Rattle.ir_forms.specs.Written.{intern, integer, bits_at, has_bits, length_at, has_length, array_length, pointers, star_or, at_star, at_brace, comma_or, after_field, field, field_takes, before, struct_of, starred as with_starred, with_stars, no_parameters, part_of, interned, part, firm, Firm, over, no_type, type_within}
+use Rattle.ir_forms.specs.Written.{intern, integer, bits_at, length_at, array_length, pointers, star_or, at_star, at_brace, comma_or, after_field, field, field_takes, before, struct_of, starred as with_starred, with_stars, interned, part, firm, Firm, no_type}
 use Rattle.ir_print_law.specs.Definitions.{defined_structs}
 use Rattle.ir_print_law.specs.Shapes.{Shape, Integer, Pointer, Array, Empty, Struct, Named, HasShape, IsWritten, IsStruct, levels}
 use Rattle.ir_print_law.proofs.Forms.{Keeps, Same, Any, stepped, where_true, all}

@@ -1,5 +1,5 @@
 -- Uses of names that are right in the end.
-use Rattle.std.proofs.Common.{◌≡◌, ℕ, Bool, true, false, not, List, [], ◌∷◌, ◌++◌, slice_get, Option, None, Some, refl, sym, ap, subst, ◌∙◌, inl, inr}
+use Rattle.std.proofs.Common.{◌≡◌, ℕ, Bool, true, false, not, List, [], ◌∷◌, slice_get, Option, None, Some, refl, sym, ap, subst, ◌∙◌, inl, inr}
 use Rattle.std.specs.Prelude.{find, option_map, if◌then◌else◌}
 use Rattle.lemmas.specs.Bools.{not_false}
 use Rattle.ir_ast.specs.declared.function.LocalSort.{LocalSort}
@@ -12,6 +12,7 @@ use Rattle.ir_forms.specs.declared.input.Input.{Input}
 use Rattle.ir_forms.specs.Names.{is_wanted, first_missing}
 use Rattle.ir_text.specs.Late.{is_right_symbol, is_right_struct, function_operand, wrong_symbol, wrong_struct, earliest, first_of_faults, late_fault}
 use Rattle.ir_print_law.specs.Shapes.{IsIn}
+use Rattle.ir_print_law.proofs.InLists.{in_front}
 use Rattle.ir_print_law.proofs.Tables.{Begins}
 
 none_found : {A : Type 0} (p : A → Bool) (xs : List A) → find p xs ≡ None → (x : A) → IsIn xs x → p x ≡ false
@@ -28,13 +29,8 @@ none_mapped : {A B : Type 0} (g : A → B) (x : Option A) → option_map g x ≡
 none_mapped g None e = refl
 none_mapped g (Some x) e = absurd cc
 
-pub in_further : {A : Type 0} (xs more : List A) (x : A) → IsIn xs x → IsIn (xs ++ more) x
-in_further [] more x there = absurd there
-in_further (y ∷ xs) more x (inl e) = inl e
-in_further (y ∷ xs) more x (inr e) = inr (in_further xs more x e)
-
 pub in_later : {A : Type 0} (xs ys : List A) (x : A) → Begins xs ys → IsIn xs x → IsIn ys x
-in_later {A = A} xs ys x b there = subst (λ (l : List A). IsIn l x) (sym b.1) (in_further xs b.0 x there)
+in_later {A = A} xs ys x b there = subst (λ (l : List A). IsIn l x) (sym b.1) (in_front xs b.0 x there)
 
 -- each use of a local name is right where none is missing
 pub local_right : (t : Table LocalSort) (uses : List LocalUse) → first_missing t uses ≡ None → (u : LocalUse) → IsIn uses u → is_wanted u.wanted (slice_get t.sorts u.value) ≡ true

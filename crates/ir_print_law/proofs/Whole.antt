@@ -14,13 +14,14 @@ use Rattle.ir_print.specs.Items.{struct_line, global_line, declare_line, functio
 use Rattle.ir_print_law.specs.Definitions.{AreNew, defined_globals, functions_of}
 use Rattle.ir_print_law.specs.Printable.{IsPrintable, IsSymbol}
 use Rattle.ir_print_law.specs.Shapes.{IsIn}
+use Rattle.ir_print_law.proofs.InLists.{in_front, in_after, is_last}
 use Rattle.ir_print_law.proofs.Tables.{begins_itself}
 use Rattle.ir_print_law.specs.PartsAgain.{AreAlike}
 use Rattle.ir_print_law.specs.Again.{IsStructAgain, IsGlobalAgain, IsDeclareAgain, IsFunctionAgain, IsAgain}
 use Rattle.ir_print_law.proofs.State.{Ready}
 use Rattle.ir_print_law.proofs.WholeFunctionEnds.{nobody, IsModuleLater}
 use Rattle.ir_print_law.proofs.GlobalLists.{globals_go}
-use Rattle.ir_print_law.proofs.Known.{known, in_front, in_after, is_last}
+use Rattle.ir_print_law.proofs.Known.{known}
 use Rattle.ir_print_law.proofs.Starts.{nobody_named, far_start, ready_at_start}
 use Rattle.ir_print_law.proofs.StructLists.{structs_go}
 use Rattle.ir_print_law.proofs.SameText.{same_text}
