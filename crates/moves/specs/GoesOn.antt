@@ -19,7 +19,7 @@ use Rattle.moves.specs.Calls.{action_of, move_in}
 use Rattle.moves.specs.Stands.{cells_to_try, phase_at, standing}
 
 -- the call of an action
-call_of : Action → Call
+pub call_of : Action → Call
 call_of machine.Local = call.Local
 call_of (machine.Read base word) = call.Read base word
 call_of (machine.StorePlain base word value) = call.StorePlain base word value
@@ -40,6 +40,18 @@ call_of-action_of (call.Alloc layout) = refl
 call_of-action_of call.Safepoint = refl
 call_of-action_of call.End = refl
 call_of-action_of call.Wrong = refl
+
+-- and from an action's call to the action
+pub action_of-call_of : (a : Action) → action_of (call_of a) ≡ a
+unfolding call_of
+action_of-call_of machine.Local = refl
+action_of-call_of (machine.Read base word) = refl
+action_of-call_of (machine.StorePlain base word value) = refl
+action_of-call_of (machine.Write base word value) = refl
+action_of-call_of (machine.Alloc layout) = refl
+action_of-call_of machine.Safepoint = refl
+action_of-call_of machine.End = refl
+action_of-call_of machine.Wrong = refl
 
 -- calls of one action are one
 pub same-call : (a b : Call) → action_of a ≡ action_of b → a ≡ b

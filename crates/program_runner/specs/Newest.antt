@@ -1,7 +1,6 @@
 -- What the roots of a thread's newest frames refer to, and which frames stay as they are.
 use Rattle.std.proofs.Common.{◌≡◌, ℕ, List, [], ◌∷◌, ◌++◌, length, map, take, drop, Option, slice_get, inl, inr, refl, sym, ap, ◌∙◌, subst}
 use Rattle.std.proofs.lemmas.List.{append-nil, append_assoc, map-append, take-append-drop}
-use Rattle.std.specs.Prelude.{◌⊎◌}
 use Rattle.ir_ast.specs.declared.module.Module.{Module}
 use Rattle.machine.specs.declared.frame.Frame.{Frame}
 use Rattle.machine.specs.declared.value.Value.{Value}
@@ -10,6 +9,7 @@ use Rattle.moves.specs.RootsAfter.{AddsNewest}
 use Rattle.runs.specs.Machine as runs
 use Rattle.runs.specs.Machine.{Reference}
 use Rattle.runs.specs.Moves.{IsIn}
+use Rattle.runs.specs.Joined.{in_either, in_first}
 use Rattle.program_safety.specs.Threads.{ProgramThread, goes_on, given_as, names, reference_in}
 use Rattle.program_runner.specs.Steps.{by_step}
 
@@ -29,21 +29,6 @@ pub record AreKept (count : ℕ) (before after : List Frame) : Type 0 where
   pub before_is : before ≡ newest ++ kept
   pub after_is : after ≡ others ++ kept
   pub count_is : length kept ≡ count
-
--- what is in two lists is in one of them
-in_either : (r : Reference) (first second : List Reference) → IsIn r (first ++ second) → IsIn r first ⊎ IsIn r second
-in_either r [] second is = inr is
-in_either r (q ∷ first) second (inl same) = inl (inl same)
-in_either r (q ∷ first) second (inr later) = elim (in_either r first second later) [
-  | inl is ↦ inl (inr is)
-  | inr is ↦ inr is
-]
-
--- and what is in the first is in both
-in_first : (r : Reference) (first second : List Reference) → IsIn r first → IsIn r (first ++ second)
-in_first r [] second is = absurd is
-in_first r (q ∷ first) second (inl same) = inl same
-in_first r (q ∷ first) second (inr later) = inr (in_first r first second later)
 
 module _ (m : Module) where
   -- the roots of older frames come before those of newer ones

@@ -1,10 +1,10 @@
 -- Where a thread wins a cell, there is a hint for the cell's layout.
-use Rattle.std.proofs.Common.{◌≡◌, ◌≢◌, ◌≤◌, ◌<◌, ◌^◌, ◌-◌, ℕ, suc, Bool, true, false, List, [], ◌∷◌, length, sum, take, slice_index, if◌then◌else◌, nat_lt, sym, refl, subst, arith}
+use Rattle.std.proofs.Common.{◌≡◌, ◌≤◌, ◌^◌, ◌-◌, ℕ, suc, Bool, true, false, List, [], ◌∷◌, length, sum, take, if◌then◌else◌, nat_lt, sym, refl, subst, arith}
 use Rattle.lemmas.specs.Lists.{sum_cons}
 use Rattle.lemmas.specs.Numbers.{lt_false}
 use Rattle.pools.specs.Heap.{Setup, IsOfLayout, layout_of, layout_at, cells}
 use Rattle.pools.specs.Pools.{first_cell}
-use Rattle.runs.specs.Machine.{Reference, Action, Alloc}
+use Rattle.runs.specs.Machine.{Reference, Action}
 use Rattle.runs.specs.TryLemmas.{within}
 use Rattle.moves.specs.declared.moves.Move.{Move}
 use Rattle.moves.specs.declared.moves.Move.TheVariants as made

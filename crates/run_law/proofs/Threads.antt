@@ -6,7 +6,7 @@ use Rattle.colours.specs.Steps.{Step}
 use Rattle.colours.specs.Mutator.{Phase, Ended, HasBegun, phase_of}
 use Rattle.runs.specs.Machine.{Reference, Action, Alloc, Machine}
 use Rattle.runs.specs.Moves as moves
-use Rattle.runs.specs.Moves.{steps_of, state_after}
+use Rattle.runs.specs.Moves.{steps_of}
 use Rattle.runs.specs.ModuleRuns.{Happening, share_of}
 use Rattle.runs.specs.NextMoves.{Sight, next_move}
 use Rattle.runs.specs.Ends.{next_move_of}

@@ -1,5 +1,5 @@
 -- The collector's next step is at a place that is there, and leaves it at a thread or a cell of the heap.
-use Rattle.std.proofs.Common.{◌≡◌, ◌≤◌, ◌<◌, ◌^◌, ◌+◌, ◌-◌, ℕ, zero, suc, ◌==◌, ◌%◌, nat_lt, Bool, true, false, List, [], ◌∷◌, ◌&&◌, length, slice_index_or, if◌then◌else◌, refl, sym, ap, subst, IsTrue, arith}
+use Rattle.std.proofs.Common.{◌≡◌, ◌≤◌, ◌<◌, ◌+◌, ◌-◌, ℕ, zero, suc, ◌==◌, ◌%◌, nat_lt, Bool, true, false, List, [], ◌∷◌, ◌&&◌, length, slice_index_or, if◌then◌else◌, refl, sym, ap, subst, IsTrue, arith}
 use Rattle.std.proofs.lemmas.Bool.Decides.{nat_tests}
 use Rattle.std.proofs.lemmas.List.{get_or_past}
 use Rattle.lemmas.specs.Numbers.{lt_true}

@@ -1,17 +1,17 @@
 -- A thread makes no other move next than the one that its state and the heap determine, but for the cell that an alloc tries.
-use Rattle.std.proofs.Common.{◌≡◌, ◌≢◌, ℕ, zero, suc, ◌==◌, ◌||◌, not, Bool, true, false, Option, Some, None, List, [], ◌⊎◌, length, reverse, filter, slice_get, slice_index, if◌then◌else◌, refl, sym, ap, ◌∙◌, subst, MatchOption, inl, inr, arith}
+use Rattle.std.proofs.Common.{◌≡◌, ◌≢◌, ℕ, suc, ◌==◌, ◌||◌, not, Bool, true, false, Option, Some, None, List, [], ◌⊎◌, length, reverse, filter, slice_index, if◌then◌else◌, refl, sym, ap, ◌∙◌, subst, MatchOption, inl, inr, arith}
 use Rattle.std.proofs.lemmas.List.{length-reverse}
 use Rattle.std.proofs.lemmas.Option.{slice_get_past}
 use Rattle.lemmas.specs.Numbers.{test_yes, test_no}
-use Rattle.pools.specs.Heap.{Setup, IsOfLayout}
-use Rattle.colours.specs.declared.place.Place.TheVariants.{Posted, Colour, Word}
-use Rattle.colours.specs.Colours.{is_async, done}
+use Rattle.pools.specs.Heap.{Setup}
+use Rattle.colours.specs.declared.place.Place.TheVariants.{Colour, Word}
+use Rattle.colours.specs.Colours.{is_async}
 use Rattle.colours.specs.Steps.{Step, Found, ask_of, place_of}
-use Rattle.colours.specs.Mutator.{Phase, Ready, MarkingOld, MarkingNew, Writing, Trying, Answering, Ended, Absent, Arriving, Entering, Leaving, MayFollow, non_null, stage_of, phase_of}
+use Rattle.colours.specs.Mutator.{Phase, Ready, MarkingOld, MarkingNew, Writing, Trying, Answering, Absent, Arriving, Entering, Leaving, MayFollow, non_null, stage_of, phase_of}
 use Rattle.colours.specs.Runs.{word_after, log_of, ByThread, MayHappen}
 use Rattle.runs.specs.Machine.{Reference, Action, Local, Read, StorePlain, Write, Alloc, Safepoint, End, Wrong, Machine}
 use Rattle.runs.specs.Moves.{Move, Works, GoesWrong, ReadsWord, ReadsOldValue, Marks, StoresAfterBarrier, StoresPlain, Claims, ReadsPosted, StoresStage, ReadsPostedFirst, EntersStage, ReadsPostedAgain, cells_of, step_of, steps_of, state_after, next_root, old_of, IsOfTry, AsksFor, Follows}
-use Rattle.runs.specs.ModuleRuns.{Happening, OfThread, share_of, heap_of, birth_of, FindsBirth, IsNext}
+use Rattle.runs.specs.ModuleRuns.{Happening, share_of, heap_of, birth_of, FindsBirth}
 use Rattle.runs.specs.NextMoves.{Sight, IsSightOf, next_move, next_move_in, mark_or_answer, try_of, IsThisMove, NextMovesAreOnly}
 use Rattle.runs.specs.NextMoveLemmas.{non_null_cells, length_cells}
 use Rattle.runs.specs.TryLemmas.{some_cell}

@@ -1,5 +1,5 @@
 -- Cells that are tried from a hint on are cells of the pool, each once.
-use Rattle.std.proofs.Common.{◌≡◌, ◌≢◌, ◌≤◌, ◌<◌, ◌⊎◌, ◌+◌, ◌-◌, inl, inr, ℕ, zero, suc, ◌==◌, Bool, true, false, Option, Some, None, List, [], ◌∷◌, length, sum, slice_index, if◌then◌else◌, nat_lt, min, refl, subst, ◌∙◌, MatchOption, arith}
+use Rattle.std.proofs.Common.{◌≡◌, ◌≢◌, ◌≤◌, ◌<◌, ◌⊎◌, ◌-◌, inl, inr, ℕ, zero, suc, ◌==◌, Bool, true, false, Option, Some, None, List, [], ◌∷◌, length, sum, slice_index, if◌then◌else◌, nat_lt, min, refl, subst, ◌∙◌, MatchOption, arith}
 use Rattle.std.proofs.lemmas.Bool.Decides.{nat_tests}
 use Rattle.lemmas.specs.Lists.{sum_cons}
 use Rattle.lemmas.specs.Numbers.{test_false}

@@ -22,7 +22,7 @@ use Rattle.stepping.specs.declared.walk.Walk.{Walk}
 use Rattle.stepping.specs.Reach.{AreRoots, LosesNothing}
 use Rattle.stepping.specs.Walks.{IsAtMost, IsSeen, IsClosed, IsNearlyClosed}
 use Rattle.stepping.specs.Covers.{IsMet, IsKept, held_in, Covers, IsOver, IsStored, FreesNoneOf}
-use Rattle.stepping.proofs.Losses.{IsNoBegin, was-under_way, is_quiet, quiet-keeps, word-stays, stays-claimed, same-birth, root-before}
+use Rattle.stepping.proofs.Losses.{IsNoBegin, was-under_way, adds-nothing, nothing-freed, word-stays, stays-claimed, same-birth, root-before}
 use Rattle.stepping.proofs.Exact.{held-kind, listed-met, word-is}
 
 -- ---- none of it is gone
@@ -49,7 +49,7 @@ module _ (s : Setup) (m : Machine) (starts : ℕ → m.State) (run : List Happen
 
   pub quiet-covers : (happening : Happening) → IsNext s m starts run happening → LosesNothing s m starts run happening → Covers s m starts (happening ∷ run) met
   quiet-covers happening next loses = record {
-    claimed = λ cell is_met. stays-claimed s run happening (quiet-keeps happening (is_quiet s m starts run happening loses)) cell (covers.claimed cell is_met);
+    claimed = λ cell is_met. stays-claimed s run happening (nothing-freed happening (adds-nothing s m starts run happening loses)) cell (covers.claimed cell is_met);
     globals = kept-after happening next null covers.globals;
     roots = λ r is_root n. kept-after happening next r (covers.roots r (root-before s m starts run happening next loses r is_root) n);
     words = words;
@@ -57,7 +57,7 @@ module _ (s : Setup) (m : Machine) (starts : ℕ → m.State) (run : List Happen
     where
       words : (cell word : ℕ) → IsMet met cell → IsTrue (is_reference_kind (kind_of s cell word)) → (held_in s (happening ∷ run) cell word).cell ≢ 0 → IsKept s (happening ∷ run) met (held_in s (happening ∷ run) cell word)
       words cell word is_met is n =
-          let same = word-stays s run happening (is_quiet s m starts run happening loses) cell word n in
+          let same = word-stays s run happening (adds-nothing s m starts run happening loses) cell word n in
           let whole : held_in s run cell word ≡ held_in s (happening ∷ run) cell word =
           sym (ap (λ c. record { cell = c; birth = birth_in (happening ∷ run) cell word }) same.0 ∙ ap (λ b. record { cell = word_after s (heap_of run) (Word cell word); birth = b }) same.1) in
           subst (λ (q : Reference). IsKept s (happening ∷ run) met q) whole (kept-after happening next (held_in s run cell word) (covers.words cell word is_met is (λ z. n (same.0 ∙ z))))

@@ -2,18 +2,16 @@
 use mathlib.Core.HLevel.{is_prop→PathP}
 use native.Mathlib.Nat.{ℕ_set}
 use native.Mathlib.Bridge.{le_prop}
-use Rattle.std.proofs.Common.{Result, Ok, Err, OnErr, ◌≡◌, ◌≢◌, ◌≤◌, ◌⊎◌, inl, inr, ℕ, zero, suc, Some, Vec, List, [], ◌∷◌, length, slice_get, slice_set, refl, ap}
+use Rattle.std.proofs.Common.{Result, Ok, Err, OnErr, ◌≡◌, ◌≢◌, ◌≤◌, ◌⊎◌, inl, inr, ℕ, Some, Vec, List, length, slice_get, slice_set, sym, subst, ◌∙◌}
+use Rattle.std.proofs.lemmas.Bool.{cases_eq}
 use Rattle.std.specs.Vec.{with_item}
+use Rattle.lemmas.specs.Lists.{set_is, set_other}
 
 -- the element at a place is what was put there, or what was there before
 pub got-set : {X : Type 0} (xs : List X) (t u : ℕ) (y z : X) → slice_get (slice_set xs t y) u ≡ Some z → ((u ≡ t) × (z ≡ y)) ⊎ ((u ≢ t) × (slice_get xs u ≡ Some z))
-got-set [] t u y z e = absurd cc
-got-set (x ∷ xs) zero zero y z e = inl (refl, cc)
-got-set (x ∷ xs) zero (suc u) y z e = inr (λ q. absurd cc, e)
-got-set (x ∷ xs) (suc t) zero y z e = inr (λ q. absurd cc, e)
-got-set (x ∷ xs) (suc t) (suc u) y z e = elim (got-set xs t u y z e) [
-  | inl h ↦ inl (ap suc h.0, h.1)
-  | inr h ↦ inr (λ q. h.0 cc, h.1)
+got-set xs t u y z e = elim (cases_eq u t) [
+  | inl same ↦ inl (same, sym (set_is xs t y z (subst (λ v. slice_get (slice_set xs t y) v ≡ Some z) same e)))
+  | inr differs ↦ inr (differs, sym (set_other xs t u y differs) ∙ e)
 ]
 
 -- a Vec with the element put back that was there

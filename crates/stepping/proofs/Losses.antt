@@ -17,15 +17,15 @@ use Rattle.runs.specs.Broken.{IsUnderWay, IsRoot, globals, from, further, IsReac
 use Rattle.stepping.specs.Reach.{AddsNothing, LosesNothing}
 
 -- the step frees no cell, stores no reference and begins no thread
-abbrev pub IsQuiet : Happening → Type 0
-IsQuiet (OfThread t move) = AddsNothing move
-IsQuiet (OfCollector (Free cell)) = ⊥
-IsQuiet (OfCollector turn) = Unit {0}
+abbrev pub AddsAndFreesNothing : Happening → Type 0
+AddsAndFreesNothing (OfThread t move) = AddsNothing move
+AddsAndFreesNothing (OfCollector (Free cell)) = ⊥
+AddsAndFreesNothing (OfCollector turn) = Unit {0}
 
-pub is_quiet : (s : Setup) (m : Machine) (starts : ℕ → m.State) (run : List Happening) (happening : Happening) → LosesNothing s m starts run happening → IsQuiet happening
-is_quiet s m starts run (OfThread t move) loses = loses.0
-is_quiet s m starts run (OfCollector (Free cell)) loses = loses
-is_quiet s m starts run (OfCollector turn) loses = tt
+pub adds-nothing : (s : Setup) (m : Machine) (starts : ℕ → m.State) (run : List Happening) (happening : Happening) → LosesNothing s m starts run happening → AddsAndFreesNothing happening
+adds-nothing s m starts run (OfThread t move) loses = loses.0
+adds-nothing s m starts run (OfCollector (Free cell)) loses = loses
+adds-nothing s m starts run (OfCollector turn) loses = tt
 
 -- ---- words
 
@@ -40,7 +40,7 @@ stored-none : (b : Bool) (value was birth other : ℕ) → value ≡ 0 → (if b
 stored-none true value was birth other z n = absurd (n z)
 stored-none false value was birth other z n = (refl, refl)
 
-pub word-stays : (s : Setup) (run : List Happening) (happening : Happening) → IsQuiet happening → (cell word : ℕ) → IsAsItWas s run happening cell word
+pub word-stays : (s : Setup) (run : List Happening) (happening : Happening) → AddsAndFreesNothing happening → (cell word : ℕ) → IsAsItWas s run happening cell word
 unfolding word_after
 word-stays s run (OfThread t (StoresAfterBarrier base place value)) quiet cell word n =
     stored-none ((base.cell == cell) && (place == word)) value.cell (word_after s (heap_of run) (Word cell word)) value.birth (birth_in run cell word) quiet n
@@ -62,10 +62,10 @@ abbrev pub KeepsClaims : Happening → Type 0
 KeepsClaims (OfCollector (Free cell)) = ⊥
 KeepsClaims happening = Unit {0}
 
-pub quiet-keeps : (happening : Happening) → IsQuiet happening → KeepsClaims happening
-quiet-keeps (OfThread t move) quiet = tt
-quiet-keeps (OfCollector (Free cell)) quiet = quiet
-quiet-keeps (OfCollector turn) quiet = tt
+pub nothing-freed : (happening : Happening) → AddsAndFreesNothing happening → KeepsClaims happening
+nothing-freed (OfThread t move) quiet = tt
+nothing-freed (OfCollector (Free cell)) quiet = quiet
+nothing-freed (OfCollector turn) quiet = tt
 
 -- a cell that is not free stays so
 pub stays-claimed : (s : Setup) (run : List Happening) (happening : Happening) → KeepsClaims happening → (cell : ℕ) → word_after s (heap_of run) (Colour cell) ≢ 0 → word_after s (heap_of (happening ∷ run)) (Colour cell) ≢ 0
@@ -156,7 +156,7 @@ reached-before s m starts run happening next loses _ globals = globals
 reached-before s m starts run happening next loses _ (from r is_root n) = from r (root-before s m starts run happening next loses r is_root) n
 reached-before s m starts run happening next loses _ (further r word reached is n) =
     let before = reached-before s m starts run happening next loses r reached in
-    let same = word-stays s run happening (is_quiet s m starts run happening loses) r.cell word n in
+    let same = word-stays s run happening (adds-nothing s m starts run happening loses) r.cell word n in
     let whole : (record { cell = word_after s (heap_of run) (Word r.cell word); birth = birth_in run r.cell word }) ≡ (record { cell = word_after s (heap_of (happening ∷ run)) (Word r.cell word); birth = birth_in (happening ∷ run) r.cell word })
     = sym (ap (λ c. record { cell = c; birth = birth_in (happening ∷ run) r.cell word }) same.0 ∙ ap (λ b. record { cell = word_after s (heap_of run) (Word r.cell word); birth = b }) same.1) in
     subst (λ (q : Reference). IsReachable s m starts run q) whole (further r word before is (λ z. n (same.0 ∙ z)))
@@ -169,6 +169,6 @@ nothing-lost s m starts run happening is_run loses none r reached gone =
     let before = reached-before s m starts run happening next loses r reached in
     let not_free : word_after s (heap_of run) (Colour r.cell) ≢ 0 = λ z. none r before (inl z) in
     elim gone [
-      | inl free ↦ stays-claimed s run happening (quiet-keeps happening (is_quiet s m starts run happening loses)) r.cell not_free free
+      | inl free ↦ stays-claimed s run happening (nothing-freed happening (adds-nothing s m starts run happening loses)) r.cell not_free free
       | inr reborn ↦ none r before (inr (λ e. reborn (same-birth s m starts run happening next r.cell not_free ∙ e)))
     ]

@@ -1,11 +1,12 @@
 -- The roots of the threads under way are the roots of the run.
-use Rattle.std.proofs.Common.{◌≡◌, ◌<◌, ◌⊎◌, inl, inr, ℕ, zero, suc, ◌+◌, Some, List, [], ◌∷◌, ◌++◌, length, slice_get, slice_index_or, take, refl, sym, ap, ◌∙◌, subst, arith, append_assoc, append-nil}
+use Rattle.std.proofs.Common.{◌≡◌, ◌<◌, inl, inr, ℕ, zero, suc, ◌+◌, Some, List, [], ◌∷◌, ◌++◌, length, slice_get, slice_index_or, take, refl, sym, ap, ◌∙◌, subst, arith, append_assoc, append-nil}
 use Rattle.std.proofs.lemmas.List.{take_more}
 use Rattle.std.proofs.lemmas.Option.{slice_get_within}
 use Rattle.pools.specs.Heap.{Setup}
 use Rattle.colours.specs.Mutator.{Phase}
 use Rattle.runs.specs.Machine.{Reference, Machine}
 use Rattle.runs.specs.Moves.{IsIn}
+use Rattle.runs.specs.Joined.{in_either, in_first, in_second}
 use Rattle.runs.specs.Broken.{IsUnderWay}
 use Rattle.moves.specs.declared.actor.Actor.{Actor}
 use Rattle.moves.specs.declared.stand.Stance.{Stance}
@@ -32,21 +33,6 @@ pub roots-of-more : {State : Type 0} (roots : State → List Reference) (xs : Li
 roots-of-more roots xs i stand lt e =
     ap (roots_of roots) (take_more xs i stand lt) ∙ roots-of-append roots (take i xs) (slice_index_or xs i stand) ∙ ap (λ (v : Stand _). roots_of roots (take i xs) ++ own_roots roots v) (sym e)
 
--- what is in a joined list is in one of the two
-in-either : (r : Reference) (xs ys : List Reference) → IsIn r (xs ++ ys) → IsIn r xs ⊎ IsIn r ys
-in-either r [] ys e = inr e
-in-either r (x ∷ xs) ys (inl e) = inl (inl e)
-in-either r (x ∷ xs) ys (inr e) = elim (in-either r xs ys e) [ inl h ↦ inl (inr h) | inr h ↦ inr h ]
-
-in-left : (r : Reference) (xs ys : List Reference) → IsIn r xs → IsIn r (xs ++ ys)
-in-left r [] ys e = absurd e
-in-left r (x ∷ xs) ys (inl e) = inl e
-in-left r (x ∷ xs) ys (inr e) = inr (in-left r xs ys e)
-
-in-right : (r : Reference) (xs ys : List Reference) → IsIn r ys → IsIn r (xs ++ ys)
-in-right r [] ys e = e
-in-right r (x ∷ xs) ys e = inr (in-right r xs ys e)
-
 -- ---- one thread's
 
 -- the reference is a root of this thread
@@ -59,7 +45,7 @@ record IsOwn {State : Type 0} (roots : State → List Reference) (stands : List 
 -- each of them is one of a thread
 root-is-own : {State : Type 0} (roots : State → List Reference) (stands : List (Stand State)) (r : Reference) → IsIn r (roots_of roots stands) → IsOwn roots stands r
 root-is-own roots [] r e = absurd e
-root-is-own roots (stand ∷ stands) r e = elim (in-either r (own_roots roots stand) (roots_of roots stands) e) [
+root-is-own roots (stand ∷ stands) r e = elim (in_either r (own_roots roots stand) (roots_of roots stands) e) [
   | inl h ↦ record { thread = 0; stand = stand; is = refl; own = h }
   | inr h ↦ let o = root-is-own roots stands r h in record { thread = suc o.thread; stand = o.stand; is = o.is; own = o.own }
 ]
@@ -68,11 +54,11 @@ root-is-own roots (stand ∷ stands) r e = elim (in-either r (own_roots roots st
 own-is-root : {State : Type 0} (roots : State → List Reference) (stands : List (Stand State)) (r : Reference) (t : ℕ) (stand : Stand State) → slice_get stands t ≡ Some stand → IsIn r (own_roots roots stand)
     → IsIn r (roots_of roots stands)
 own-is-root {State} roots [] r t stand e own = absurd cc
-own-is-root {State} roots (x ∷ xs) r zero stand e own = in-left r (own_roots roots x) (roots_of roots xs) (subst (λ (v : Stand State). IsIn r (own_roots roots v)) (sym (same x stand e)) own)
+own-is-root {State} roots (x ∷ xs) r zero stand e own = in_first r (own_roots roots x) (roots_of roots xs) (subst (λ (v : Stand State). IsIn r (own_roots roots v)) (sym (same x stand e)) own)
   where
     same : (x y : Stand State) → Some x ≡ Some y → x ≡ y
     same x y e = cc
-own-is-root {State} roots (x ∷ xs) r (suc t) stand e own = in-right r (own_roots roots x) (roots_of roots xs) (own-is-root roots xs r t stand e own)
+own-is-root {State} roots (x ∷ xs) r (suc t) stand e own = in_second r (own_roots roots x) (roots_of roots xs) (own-is-root roots xs r t stand e own)
 
 -- a thread with roots is under way
 own-is-under-way : (cells : List ℕ) (rs others : List Reference) (at : Stance) (r : Reference) → IsIn r (under_way at rs) → IsUnderWay (phase_at cells others at) × IsIn r rs

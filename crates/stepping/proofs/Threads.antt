@@ -3,8 +3,7 @@ use Rattle.std.proofs.Common.{◌≡◌, ◌<◌, inl, inr, ℕ, Bool, Option, S
 use Rattle.std.specs.Vec.{with_item}
 use Rattle.lemmas.specs.Numbers.{test_yes}
 use Rattle.pools.specs.Heap.{Setup, cells}
-use Rattle.runs.specs.Machine as machine
-use Rattle.runs.specs.Machine.{Reference, Action, Machine}
+use Rattle.runs.specs.Machine.{Reference, Machine}
 use Rattle.runs.specs.Moves as moves
 use Rattle.runs.specs.Moves.{step_of, state_after}
 use Rattle.runs.specs.ModuleRuns.{Happening, OfThread, share_of, heap_of}
@@ -12,12 +11,10 @@ use Rattle.runs.specs.Ends.{Standing, StandsAfter, moved, next_move_of}
 use Rattle.runs.specs.Standings.{goes_on}
 use Rattle.moves.specs.declared.actor.Actor.{Actor}
 use Rattle.moves.specs.declared.actor.Actor.TheVariants.{Thread}
-use Rattle.moves.specs.declared.call.Call.{Call}
-use Rattle.moves.specs.declared.call.Call.TheVariants as call
 use Rattle.moves.specs.declared.cause.Cause.{Cause}
 use Rattle.moves.specs.declared.moves.Move.{Move}
 use Rattle.moves.specs.declared.stand.Stand.{Stand}
-use Rattle.moves.specs.Calls.{action_of, move_in}
+use Rattle.moves.specs.Calls.{move_in}
 use Rattle.moves.specs.Causes.{Breaks}
 use Rattle.moves.specs.Runs.{collector_after, by_thread, next_by, run_by}
 use Rattle.moves.specs.Shared.{with_move}
@@ -35,31 +32,6 @@ use Rattle.stepping.specs.declared.happening.Happening.TheVariants as happening
 use Rattle.stepping.specs.Ends.{AreAfterSteps, IsEnd, IsOneStep}
 use Rattle.stepping.proofs.Lists.{got-set, put-back}
 use Rattle.stepping.proofs.Ends.{run_more, run_same, KeepsAll, is_longer_run}
-
--- ---- what it asks for
-
--- a call that asks for this
-pub call-of : Action → Call
-call-of machine.Local = call.Local
-call-of (machine.Read base word) = call.Read base word
-call-of (machine.StorePlain base word value) = call.StorePlain base word value
-call-of (machine.Write base word value) = call.Write base word value
-call-of (machine.Alloc layout) = call.Alloc layout
-call-of machine.Safepoint = call.Safepoint
-call-of machine.End = call.End
-call-of machine.Wrong = call.Wrong
-
--- it does
-pub asks-for : (a : Action) → action_of (call-of a) ≡ a
-unfolding call-of
-asks-for machine.Local = refl
-asks-for (machine.Read base word) = refl
-asks-for (machine.StorePlain base word value) = refl
-asks-for (machine.Write base word value) = refl
-asks-for (machine.Alloc layout) = refl
-asks-for machine.Safepoint = refl
-asks-for machine.End = refl
-asks-for machine.Wrong = refl
 
 -- ---- where it is
 

@@ -35,7 +35,7 @@ impl<'a> HeapSchema<'a> {
     }
 
     /// What a word of a cell holds; None outside the cells and outside the cell.
-    pub fn kind(&self, cell: u64, word: u32) -> Option<WordKind>
+    pub(crate) fn kind(&self, cell: u64, word: u32) -> Option<WordKind>
         ensures { (s : Setup) → IsSchemaOf s self.now → cell < cells s → result ≡ kind_of s cell word }
     {
         if cell < u64::from(self.pools.cells()) {

@@ -16,10 +16,11 @@ use Rattle.moves.specs.RootsAfter.{IsToldOfRoots}
 use Rattle.moves.specs.Moving.{HasHint, HasRoom, HasRoomForNext, MayMake}
 use Rattle.moves.specs.Runs.{run_by}
 use Rattle.moves.specs.Stands.{standing, HasTryLeft}
+use Rattle.moves.specs.GoesOn.{call_of, action_of-call_of}
 use Rattle.stepping.specs.declared.happening.Happening.TheVariants as happening
 use Rattle.stepping.specs.Ends.{IsOneStep}
 use Rattle.stepping.proofs.Lists.{on-err}
-use Rattle.stepping.proofs.Threads.{call-of, asks-for, thread_is_after, same-actors, moved-none, moved-on}
+use Rattle.stepping.proofs.Threads.{thread_is_after, same-actors, moved-none, moved-on}
 use Rattle.stepping.proofs.acting.Actors.step_of_thread.Goals as goal
 
 -- a place holds one element
@@ -122,8 +123,8 @@ returns-clause-ok g c s starts before b lt =
     let moves = grows.move move asked in
     let afterwards : standing s m c.go_on.new.stand ≡ moved s m (standing s m stand) (move_in (m.roots stand.state) move) =
     subst (λ (v : Stand g.row.M.Denot). standing s m c.go_on.new.stand ≡ moved s m (standing s m v) (move_in (m.roots v.state) move)) (sym same)
-    (c.in_ok-roots_after.ensures.ok s (call-of (m.action c.index_mut.result.now.state)) b.schema.pools (asks-for (m.action c.index_mut.result.now.state))
-    (subst (λ (v : Stand g.row.M.Denot). MayMake s v.hints (m.roots v.state) (call-of (m.action v.state)) v.stance move) same (moves.may_make (call-of (m.action stand.state)) (asks-for (m.action stand.state))))) in
+    (c.in_ok-roots_after.ensures.ok s (call_of (m.action c.index_mut.result.now.state)) b.schema.pools (action_of-call_of (m.action c.index_mut.result.now.state))
+    (subst (λ (v : Stand g.row.M.Denot). MayMake s v.hints (m.roots v.state) (call_of (m.action v.state)) v.stance move) same (moves.may_make (call_of (m.action stand.state)) (action_of-call_of (m.action stand.state))))) in
     let told = c.loss_of_move-loss.ensures (m.roots stand.state) (m.roots c.go_on.new.stand.state)
     (subst (λ (v : Stand g.row.M.Denot). IsToldOfRoots c.in_ok-roots_after.roots_after (m.roots v.state) (m.roots c.go_on.new.stand.state)) (sym same) c.in_ok-roots_after.ensures.roots) in
     let done = moved-on s m (g.M.Runner.fits s) starts before a b c.args.thread lt stand is move asked moves c.go_on.new.stand afterwards c.broken_by-broke.result c.broken_by-broke.ensures
