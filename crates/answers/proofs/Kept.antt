@@ -1,5 +1,5 @@
 -- The answers that are kept are answers after the edit.
-use Rattle.std.proofs.Common.{◌≡◌, ◌≢◌, ◌<◌, ◌⊎◌, inl, inr, ◌==◌, ◌&&◌, ℕ, Bool, true, false, not, List, [], ◌∷◌, slice_get, Option, Some, None, refl, ap, sym, subst, ◌∙◌, eqb-true, eq-eqb, ◌+◌, ◌++◌, zero, suc, length, arith}
+use Rattle.std.proofs.Common.{◌≡◌, ◌≢◌, ◌<◌, inl, inr, ◌==◌, ◌&&◌, ℕ, Bool, true, false, not, List, [], ◌∷◌, slice_get, Option, Some, None, refl, ap, sym, subst, ◌∙◌, eqb-true, eq-eqb, ◌+◌, ◌++◌, zero, suc, length, arith}
 use Rattle.std.specs.Prelude.{if◌then◌else◌}
 use Rattle.std.proofs.lemmas.Option.{slice_get_within}
 use Rattle.ir_ast.specs.declared.block.Block.{Block}
@@ -19,8 +19,8 @@ use Rattle.answers.specs.Edited.{is_number, instruction_calls, block_calls, call
 use Rattle.answers.specs.declared.callers.Callers.{Callers}
 use Rattle.answers.specs.declared.callers.Callers.TheVariants.{SeeChange, SeeNone}
 use Rattle.std.proofs.lemmas.List.{length-append}
-use Rattle.lemmas.specs.Lists.{get_end}
-use Rattle.answers.proofs.Lists.{one_more, none_pass, none_passes_at, all_so, before_end}
+use Rattle.lemmas.specs.Lists.{get_end, get_front}
+use Rattle.answers.proofs.Lists.{one_more, none_pass, none_passes_at, all_so}
 use Rattle.answers.proofs.Put.{length_put, IsPutAt, put_at}
 
 -- what an operation calls does not depend on functions
@@ -104,7 +104,7 @@ stands_below m called (suc count) func less e = by (func == count) refl (is_call
     by false differs true is earlier =
         let other : func ≢ count = λ h. let t = eq-eqb func count h in absurd cc in
         let there = earlier (omega (arith, less, other)) in
-        (there.0, before_end (callers_below m called count) count there.0 func there.1)
+        (there.0, get_front (callers_below m called count) (count ∷ []) there.0 func there.1)
     by false differs false is earlier =
         let other : func ≢ count = λ h. let t = eq-eqb func count h in absurd cc in
         earlier (omega (arith, less, other))

@@ -26,9 +26,3 @@ none_passes_at test (y ∷ xs) (suc n) x e at = none_passes_at test xs n x (or_n
 pub all_so : {A : Type 0} (P Q : A → Type 0) (xs : List A) → ((x : A) → P x → Q x) → AllByRecursion P xs → AllByRecursion Q xs
 all_so P Q [] so h = tt
 all_so P Q (x ∷ xs) so h = (so x h.0, all_so P Q xs so h.1)
-
--- where a list grows at its end, the elements before are the same
-pub before_end : {A : Type 0} (xs : List A) (x : A) (n : ℕ) (y : A) → slice_get xs n ≡ Some y → slice_get (xs ++ x ∷ []) n ≡ Some y
-before_end [] x n y e = absurd cc
-before_end (z ∷ xs) x zero y e = e
-before_end (z ∷ xs) x (suc n) y e = before_end xs x n y e

@@ -8,8 +8,7 @@ use Rattle.block_rules.specs.declared.block_fault.Refusal.{Refusal}
 use Rattle.answers.specs.Answers.{IsAnswer}
 use Rattle.answers.specs.Edited.{AreAnswersToFirst, put_answer, put_first}
 use Rattle.std.proofs.lemmas.List.{length-set}
-use Rattle.lemmas.specs.Lists.{get_some}
-use Rattle.answers.specs.OneReplaced.{get_set, get_other}
+use Rattle.lemmas.specs.Lists.{get_some, set_is, set_other}
 use Rattle.answers.proofs.Lists.{one_more}
 
 -- there are as many
@@ -57,11 +56,11 @@ put_at funcs anew answers (suc count) func answer few at = by (slice_get funcs c
         here : (b : Bool) → (func == f) ≡ b → IsPutAt funcs anew answers (suc count) func answer
         here true e =
             let same : func ≡ f = eqb-true func f e in
-            let put : x ≡ answer = get_set (put_first funcs anew answers count) f x answer (subst (λ n. slice_get (slice_set (put_first funcs anew answers count) f x) n ≡ Some answer) same was) in
+            let put : x ≡ answer = set_is (put_first funcs anew answers count) f x answer (subst (λ n. slice_get (slice_set (put_first funcs anew answers count) f x) n ≡ Some answer) same was) in
             inl (count, some ∙ ap Some (sym same), is ∙ ap Some put)
         here false e =
             let differs : func ≢ f = λ h. let t = eq-eqb func f h in absurd cc in
-            as_before funcs anew answers count func answer (earlier (sym (get_other (put_first funcs anew answers count) f x func differs) ∙ was)) (λ h. let one : f ≡ func = cc in absurd (differs (sym one)))
+            as_before funcs anew answers count func answer (earlier (sym (set_other (put_first funcs anew answers count) f func x differs) ∙ was)) (λ h. let one : f ≡ func = cc in absurd (differs (sym one)))
 
 -- ---- one answer more
 

@@ -2,6 +2,7 @@
 use Rattle.std.proofs.Common.{◌≡◌, ◌≢◌, ◌==◌, ◌++◌, ℕ, zero, suc, Bool, true, false, List, [], ◌∷◌, map, length, slice_get, Option, Some, None, refl, ap, sym, subst, ◌∙◌, eqb-true, eq-eqb}
 use Rattle.std.specs.List.{range_with_len}
 use Rattle.std.specs.Prelude.{slice_set, unwrap_or, IfSome}
+use Rattle.lemmas.specs.Lists.{set_is, set_other}
 use Rattle.ir_ast.specs.declared.function.Function.{Function}
 use Rattle.certs.specs.declared.section.Section.{Section}
 use Rattle.layout.specs.Layouts.{LaidOut}
@@ -11,7 +12,6 @@ use Rattle.block_check.specs.Rows.{given_all, AreRowsIn, AreRowsOf}
 use Rattle.locality.specs.Laws.{StayGiven}
 use Rattle.locality.specs.Local.{laid_with}
 use Rattle.answers.specs.KeptRows.{rows_at, AreEmpty, AreKept, AreOthersKept, RowsStay, OthersStay}
-use Rattle.answers.specs.OneReplaced.{get_set, get_other}
 
 abbrev Places : Type 0
 Places = List (Option (List FactSet))
@@ -54,10 +54,10 @@ there (Some found) rows e = ap Some e
 -- what is kept after something was put in a place is that, or what was kept before in another place
 at_put : (places : Places) (func : ℕ) (put : Option (List FactSet)) (other : ℕ) (rows : List FactSet) → rows_at (slice_set places func put) other ≡ Some rows → other ≡ func → put ≡ Some rows
 at_put places func put other rows at same =
-    get_set places func put (Some rows) (there (slice_get (slice_set places func put) func) rows (ap (rows_at (slice_set places func put)) (sym same) ∙ at))
+    set_is places func put (Some rows) (there (slice_get (slice_set places func put) func) rows (ap (rows_at (slice_set places func put)) (sym same) ∙ at))
 
 at_other : (places : Places) (func : ℕ) (put : Option (List FactSet)) (other : ℕ) → other ≢ func → rows_at (slice_set places func put) other ≡ rows_at places other
-at_other places func put other differs = ap (λ (x : Option (Option (List FactSet))). unwrap_or x None) (get_other places func put other differs)
+at_other places func put other differs = ap (λ (x : Option (Option (List FactSet))). unwrap_or x None) (set_other places func other put differs)
 
 -- what a function's blocks begin with is put in its place
 pub kept_more : (program : LaidOut) (certs : List Section) (replaced func : ℕ) (rows : List FactSet) (places after : Places) → after ≡ slice_set places func (Some rows) → (func == replaced) ≡ false → AreRowsOf program certs func rows
@@ -81,7 +81,7 @@ kept_more program certs replaced func rows places after is apart here h =
 -- a place is emptied
 none_there : (places : Places) (func : ℕ) (x : Option (Option (List FactSet))) → slice_get (slice_set places func None) func ≡ x → unwrap_or x None ≡ None
 none_there places func None e = refl
-none_there places func (Some found) e = sym (get_set places func None found e)
+none_there places func (Some found) e = sym (set_is places func None found e)
 
 pub kept_less : (program : LaidOut) (certs : List Section) (func : ℕ) (places after : Places) → after ≡ slice_set places func None → AreKept program certs places → AreOthersKept program certs func after
 kept_less program certs func places after is h =

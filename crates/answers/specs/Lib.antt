@@ -1,4 +1,3 @@
 pub mod Answers
 pub mod Edited
-pub mod OneReplaced
 pub mod KeptRows

@@ -31,8 +31,8 @@ fn find_rows(
     kept: &mut KeptRows,
 )
     requires within { func < length program.now.of_module.functions }
-    requires kept { AreOthersKept program.now certs.now replaced kept.old }
-    ensures { AreOthersKept program.now certs.now replaced kept.new }
+    requires kept { AreOthersKept program.now certs.now.sections replaced kept.old }
+    ensures { AreOthersKept program.now certs.now.sections replaced kept.new }
 {
     if func == replaced {
         return;
@@ -56,8 +56,8 @@ fn find_all_rows(
     kept: &mut KeptRows,
 )
     requires within { AreWithin (length program.now.of_module.functions) funcs.now }
-    requires kept { AreOthersKept program.now certs.now replaced kept.old }
-    ensures { AreOthersKept program.now certs.now replaced kept.new }
+    requires kept { AreOthersKept program.now certs.now.sections replaced kept.old }
+    ensures { AreOthersKept program.now certs.now.sections replaced kept.new }
 {
     for place in 0..funcs.len() {
         find_rows(alloc, program, certs, replaced, funcs[place], kept);
@@ -75,9 +75,9 @@ fn add_answers(
     answers: &mut Items<Option<Refusal>>,
 ) -> Result<(), AllocError>
     requires within { AreWithin (length program.now.of_module.functions) funcs.now }
-    requires kept { AreKept program.now certs.now kept.now }
+    requires kept { AreKept program.now certs.now.sections kept.now }
     requires empty { answers.old ≡ [] }
-    ensures { OnOk result (AreAnswersTo program.now certs.now funcs.now answers.new) }
+    ensures { OnOk result (AreAnswersTo program.now certs.now.sections funcs.now answers.new) }
 {
     for place in 0..funcs.len() {
         let func = funcs[place];
@@ -96,8 +96,8 @@ fn answers_of(
     funcs: &[FuncId],
 ) -> Result<Items<Option<Refusal>>, AllocError>
     requires within { AreWithin (length program.now.of_module.functions) funcs.now }
-    requires kept { AreKept program.now certs.now kept.now }
-    ensures { IfOk result (AreAnswersTo program.now certs.now funcs.now) }
+    requires kept { AreKept program.now certs.now.sections kept.now }
+    ensures { IfOk result (AreAnswersTo program.now certs.now.sections funcs.now) }
 {
     let mut answers = Items::new(alloc);
     add_answers(alloc, program, certs, kept, funcs, &mut answers)?;
@@ -128,11 +128,11 @@ pub fn answers_again(
 ) -> Result<usize, AllocError>
     requires within { replaced < length program.now.of_module.functions }
     requires one_each { length kept.old.answers ≡ length program.now.of_module.functions }
-    requires rows { AreOthersKept program.now certs.now replaced kept.old.rows }
-    ensures again { (p : LaidOut) (old : List ASection) → AreAnswers p old kept.old.answers → IsEdited p old program.now certs.now replaced callers → OnOk result (AreAnswers program.now certs.now kept.new.answers) }
+    requires rows { AreOthersKept program.now certs.now.sections replaced kept.old.rows }
+    ensures again { (p : LaidOut) (old : List ASection) → AreAnswers p old kept.old.answers → IsEdited p old program.now certs.now.sections replaced callers → OnOk result (AreAnswers program.now certs.now.sections kept.new.answers) }
     ensures checked { IfOk result (λ count. count ≡ length (spec.touched program.now.of_module replaced callers)) }
     ensures kept { OnErr result (kept.new.answers ≡ kept.old.answers) }
-    ensures rows { AreOthersKept program.now certs.now replaced kept.new.rows }
+    ensures rows { AreOthersKept program.now certs.now.sections replaced kept.new.rows }
 {
     locality_law();
     let touched = touched_by(alloc, program.module(), replaced, callers)?;

@@ -22,8 +22,8 @@ pub fn answer_to(
     func: FuncId,
 ) -> Result<Option<Refusal>, AllocError>
     requires func { func < length program.now.of_module.functions }
-    requires rows { IfSome (option_copied rows) (AreRowsOf program.now certs.now func) }
-    ensures { IfOk result (IsAnswer program.now certs.now func) }
+    requires rows { IfSome (option_copied rows) (AreRowsOf program.now certs.now.sections func) }
+    ensures { IfOk result (IsAnswer program.now certs.now.sections func) }
 {
     let checked = match rows {
         Some(rows) => check_function_rows(alloc, program, certs, rows, func),
@@ -47,7 +47,7 @@ fn put_answers(
 ) -> Result<(), AllocError>
     requires within { count ≤ length program.now.of_module.functions }
     requires empty { answers.old ≡ [] }
-    ensures { OnOk result ((length answers.new ≡ count) × AreAnswersSoFar program.now certs.now answers.new) }
+    ensures { OnOk result ((length answers.new ≡ count) × AreAnswersSoFar program.now certs.now.sections answers.new) }
 {
     for number in 0..count {
         let answer = [answer_to(alloc, program, certs, None, FuncId::new(number))?];
@@ -63,7 +63,7 @@ pub fn answers_to(
     program: &Program,
     certs: &Certs,
 ) -> Result<Items<Option<Refusal>>, AllocError>
-    ensures { IfOk result (AreAnswers program.now certs.now) }
+    ensures { IfOk result (AreAnswers program.now certs.now.sections) }
 {
     // No memory holds more functions than there are numbers for them.
     let Ok(count) = u32::try_from(program.module().functions.len()) else {

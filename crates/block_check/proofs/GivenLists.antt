@@ -69,12 +69,12 @@ count_of None = zero
 count_of (Some f) = length f.blocks
 
 -- and so is what is found of all blocks of a subject
-pub rows_seen : (program : LaidOut) (certs : List Section) (func : ℕ) (f : Function) (s : Subject) (count : ℕ) (rows : List FactSet) → IsReady s → s.func ≡ func → s.scene.program.now ≡ program → s.scene.certs.now ≡ certs
+pub rows_seen : (program : LaidOut) (certs : List Section) (func : ℕ) (f : Function) (s : Subject) (count : ℕ) (rows : List FactSet) → IsReady s → s.func ≡ func → s.scene.program.now ≡ program → s.scene.certs.now.sections ≡ certs
     → slice_get program.of_module.functions func ≡ Some f → count ≡ length f.blocks → rows ≡ given_first (seen s) count → AreRowsOf program certs func rows
 rows_seen program certs func f s count rows ready same_func same_program same_certs there all h =
     let here : slice_get program.of_module.functions func ≡ Some s.scene.function.now = subst (λ (p : LaidOut). slice_get p.of_module.functions func ≡ Some s.scene.function.now) same_program (subst (λ (n : ℕ). slice_get s.scene.program.now.of_module.functions n ≡ Some s.scene.function.now) same_func ready.there) in
     let long : count ≡ length s.scene.function.now.blocks = all ∙ ap count_of (sym there ∙ here) in
-    let found : AreRowsOf s.scene.program.now s.scene.certs.now s.func rows = rows_there s.scene.program.now s.scene.certs.now s.func s.scene.function.now s.scene.slots.now rows ready.there ready.slots (h ∙ ap (given_first (seen s)) long) in
+    let found : AreRowsOf s.scene.program.now s.scene.certs.now.sections s.func rows = rows_there s.scene.program.now s.scene.certs.now.sections s.func s.scene.function.now s.scene.slots.now rows ready.there ready.slots (h ∙ ap (given_first (seen s)) long) in
     subst (λ (p : LaidOut). AreRowsOf p certs func rows) same_program
     (subst (λ (c : List Section). AreRowsOf s.scene.program.now c func rows) same_certs
-    (subst (λ (n : ℕ). AreRowsOf s.scene.program.now s.scene.certs.now n rows) same_func found))
+    (subst (λ (n : ℕ). AreRowsOf s.scene.program.now s.scene.certs.now.sections n rows) same_func found))

@@ -15,9 +15,9 @@ found_of w s wb b place broken e k h = subst (λ n. BreaksAt (seen s) n place br
 
 -- the first place of a block where a rule is broken is its refusal
 pub refused_at : (s : Subject) (b place : ℕ) (broken : Breach) → IsReady s → BreaksAt (seen s) b place broken
-    → FirstRefusal s.scene.program.now s.scene.certs.now s.func b (record { func = s.func; block = b; instr = place; rule = broken.rule; detail = broken.detail })
+    → FirstRefusal s.scene.program.now s.scene.certs.now.sections s.func b (record { func = s.func; block = b; instr = place; rule = broken.rule; detail = broken.detail })
 refused_at s b place broken ready h =
-    let certs = s.scene.certs.now in
+    let certs = s.scene.certs.now.sections in
     let section = slice_get certs s.func in
     let here = subst (λ slots. BreaksAt (record { program = s.scene.program.now; certs = certs; function = s.scene.function.now; slots = slots; section = section }) b place broken) ready.slots h in
     record { of_func = refl; of_block = refl; breaks = subst (λ f. BreaksIn s.scene.program.now certs section f b place broken) (sym ready.there) here }

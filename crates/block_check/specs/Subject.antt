@@ -10,7 +10,7 @@ use Rattle.block_check.specs.declared.subject.Subject.{Subject}
 
 -- the function with its slots and its certificate
 abbrev pub seen : Subject → Scene
-seen s = record { program = s.scene.program.now; certs = s.scene.certs.now; function = s.scene.function.now; slots = s.scene.slots.now; section = slice_get s.scene.certs.now s.func }
+seen s = record { program = s.scene.program.now; certs = s.scene.certs.now.sections; function = s.scene.function.now; slots = s.scene.slots.now; section = slice_get s.scene.certs.now.sections s.func }
 
 -- what is found of a function once is right: it is the one with its number, with its slots. Its blank facts are those where nothing is known, its predecessors are listed, what comes in to its phis is noted, and what was found before is what its first blocks begin with
 pub record IsReady (s : Subject) : Type 0 where

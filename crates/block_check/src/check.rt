@@ -26,9 +26,9 @@ pub fn check_block(
     block: BlockId,
 ) -> Result<(), BlockFault>
     requires func { func < length program.now.of_module.functions }
-    ensures answer { MatchResult result (λ _. BlockCertified program.now certs.now func block) (λ fault. IfRefused fault (FirstRefusal program.now certs.now func block)) }
-    ensures certified { BlockCertified program.now certs.now func block → IsOkUnless result Memory }
-    ensures refused { (refusal : Refusal) → FirstRefusal program.now certs.now func block refusal → (result ≡ Err (Refused refusal)) ⊎ (result ≡ Err Memory) }
+    ensures answer { MatchResult result (λ _. BlockCertified program.now certs.now.sections func block) (λ fault. IfRefused fault (FirstRefusal program.now certs.now.sections func block)) }
+    ensures certified { BlockCertified program.now certs.now.sections func block → IsOkUnless result Memory }
+    ensures refused { (refusal : Refusal) → FirstRefusal program.now certs.now.sections func block refusal → (result ≡ Err (Refused refusal)) ⊎ (result ≡ Err Memory) }
 {
     answer_block(alloc, program, certs, &[], func, block)
 }
@@ -43,10 +43,10 @@ pub fn check_rows(
     block: BlockId,
 ) -> Result<(), BlockFault>
     requires func { func < length program.now.of_module.functions }
-    requires rows { AreRowsOf program.now certs.now func rows.now }
-    ensures answer { MatchResult result (λ _. BlockCertified program.now certs.now func block) (λ fault. IfRefused fault (FirstRefusal program.now certs.now func block)) }
-    ensures certified { BlockCertified program.now certs.now func block → IsOkUnless result Memory }
-    ensures refused { (refusal : Refusal) → FirstRefusal program.now certs.now func block refusal → (result ≡ Err (Refused refusal)) ⊎ (result ≡ Err Memory) }
+    requires rows { AreRowsOf program.now certs.now.sections func rows.now }
+    ensures answer { MatchResult result (λ _. BlockCertified program.now certs.now.sections func block) (λ fault. IfRefused fault (FirstRefusal program.now certs.now.sections func block)) }
+    ensures certified { BlockCertified program.now certs.now.sections func block → IsOkUnless result Memory }
+    ensures refused { (refusal : Refusal) → FirstRefusal program.now certs.now.sections func block refusal → (result ≡ Err (Refused refusal)) ⊎ (result ≡ Err Memory) }
 {
     answer_block(alloc, program, certs, rows.blocks(), func, block)
 }
@@ -59,9 +59,9 @@ pub fn check_function(
     func: FuncId,
 ) -> Result<(), BlockFault>
     requires func { func < length program.now.of_module.functions }
-    ensures answer { MatchResult result (λ _. IsFunctionCertified program.now certs.now func) (IsFunctionFault program.now certs.now func (blocks_in program.now func)) }
-    ensures certified { IsFunctionCertified program.now certs.now func → IsOkUnless result Memory }
-    ensures refused { (refusal : Refusal) → IsFirstInFunction program.now certs.now func (blocks_in program.now func) refusal → (result ≡ Err (Refused refusal)) ⊎ (result ≡ Err Memory) }
+    ensures answer { MatchResult result (λ _. IsFunctionCertified program.now certs.now.sections func) (IsFunctionFault program.now certs.now.sections func (blocks_in program.now func)) }
+    ensures certified { IsFunctionCertified program.now certs.now.sections func → IsOkUnless result Memory }
+    ensures refused { (refusal : Refusal) → IsFirstInFunction program.now certs.now.sections func (blocks_in program.now func) refusal → (result ≡ Err (Refused refusal)) ⊎ (result ≡ Err Memory) }
 {
     answer_function(alloc, program, certs, &[], func)
 }
@@ -75,10 +75,10 @@ pub fn check_function_rows(
     func: FuncId,
 ) -> Result<(), BlockFault>
     requires func { func < length program.now.of_module.functions }
-    requires rows { AreRowsOf program.now certs.now func rows.now }
-    ensures answer { MatchResult result (λ _. IsFunctionCertified program.now certs.now func) (IsFunctionFault program.now certs.now func (blocks_in program.now func)) }
-    ensures certified { IsFunctionCertified program.now certs.now func → IsOkUnless result Memory }
-    ensures refused { (refusal : Refusal) → IsFirstInFunction program.now certs.now func (blocks_in program.now func) refusal → (result ≡ Err (Refused refusal)) ⊎ (result ≡ Err Memory) }
+    requires rows { AreRowsOf program.now certs.now.sections func rows.now }
+    ensures answer { MatchResult result (λ _. IsFunctionCertified program.now certs.now.sections func) (IsFunctionFault program.now certs.now.sections func (blocks_in program.now func)) }
+    ensures certified { IsFunctionCertified program.now certs.now.sections func → IsOkUnless result Memory }
+    ensures refused { (refusal : Refusal) → IsFirstInFunction program.now certs.now.sections func (blocks_in program.now func) refusal → (result ≡ Err (Refused refusal)) ⊎ (result ≡ Err Memory) }
 {
     answer_function(alloc, program, certs, rows.blocks(), func)
 }
@@ -92,8 +92,8 @@ fn answer_block(
     block: BlockId,
 ) -> Result<(), BlockFault>
     requires func { func < length program.now.of_module.functions }
-    requires rows { AreGivenOf program.now certs.now func rows.now }
-    ensures { MatchResult result (λ _. BlockCertified program.now certs.now func block) (λ fault. IfRefused fault (FirstRefusal program.now certs.now func block)) }
+    requires rows { AreGivenOf program.now certs.now.sections func rows.now }
+    ensures { MatchResult result (λ _. BlockCertified program.now certs.now.sections func block) (λ fault. IfRefused fault (FirstRefusal program.now certs.now.sections func block)) }
 {
     let function = function_of(program.module(), func);
     let tables = FunctionTables::of(alloc, program.module(), function)?;
@@ -110,7 +110,7 @@ fn answer_block(
 
 fn answer_alone(alloc: Global, subject: &Subject, block: BlockId) -> Result<(), BlockFault>
     requires { IsReady subject.now }
-    ensures { MatchResult result (λ _. BlockCertified subject.now.scene.program.now subject.now.scene.certs.now subject.now.func block) (λ fault. IfRefused fault (FirstRefusal subject.now.scene.program.now subject.now.scene.certs.now subject.now.func block)) }
+    ensures { MatchResult result (λ _. BlockCertified subject.now.scene.program.now subject.now.scene.certs.now.sections subject.now.func block) (λ fault. IfRefused fault (FirstRefusal subject.now.scene.program.now subject.now.scene.certs.now.sections subject.now.func block)) }
 {
     let mut facts = Facts::new(alloc, 0, 0)?;
     let Ok(mut rooms) = Rooms::new(alloc) else {
@@ -131,8 +131,8 @@ fn answer_function(
     func: FuncId,
 ) -> Result<(), BlockFault>
     requires func { func < length program.now.of_module.functions }
-    requires rows { AreGivenOf program.now certs.now func rows.now }
-    ensures { MatchResult result (λ _. IsFunctionCertified program.now certs.now func) (IsFunctionFault program.now certs.now func (blocks_in program.now func)) }
+    requires rows { AreGivenOf program.now certs.now.sections func rows.now }
+    ensures { MatchResult result (λ _. IsFunctionCertified program.now certs.now.sections func) (IsFunctionFault program.now certs.now.sections func (blocks_in program.now func)) }
 {
     let function = function_of(program.module(), func);
     // No memory holds more blocks than there are numbers for them.
@@ -153,7 +153,7 @@ fn answer_function(
 
 fn answer_blocks(alloc: Global, subject: &Subject, count: u32) -> Result<(), BlockFault>
     requires { IsReady subject.now }
-    ensures { MatchResult result (λ _. AreBlocksCertified subject.now.scene.program.now subject.now.scene.certs.now subject.now.func count) (IsFunctionFault subject.now.scene.program.now subject.now.scene.certs.now subject.now.func count) }
+    ensures { MatchResult result (λ _. AreBlocksCertified subject.now.scene.program.now subject.now.scene.certs.now.sections subject.now.func count) (IsFunctionFault subject.now.scene.program.now subject.now.scene.certs.now.sections subject.now.func count) }
 {
     let mut facts = Facts::new(alloc, 0, 0)?;
     let Ok(mut rooms) = Rooms::new(alloc) else {
@@ -178,7 +178,7 @@ fn first_fault(
     count: u32,
 ) -> Option<BlockFault>
     requires { IsReady subject.now }
-    ensures { MatchOption result (AreBlocksCertified subject.now.scene.program.now subject.now.scene.certs.now subject.now.func count) (IsFunctionFault subject.now.scene.program.now subject.now.scene.certs.now subject.now.func count) }
+    ensures { MatchOption result (AreBlocksCertified subject.now.scene.program.now subject.now.scene.certs.now.sections subject.now.func count) (IsFunctionFault subject.now.scene.program.now subject.now.scene.certs.now.sections subject.now.func count) }
 {
     for number in 0..count {
         if let Err(fault) = answer(alloc, subject, facts, rooms, BlockId::new(number)) {
@@ -196,7 +196,7 @@ fn answer(
     block: BlockId,
 ) -> Result<(), BlockFault>
     requires { IsReady subject.now }
-    ensures { MatchResult result (λ _. BlockCertified subject.now.scene.program.now subject.now.scene.certs.now subject.now.func block) (λ fault. IfRefused fault (FirstRefusal subject.now.scene.program.now subject.now.scene.certs.now subject.now.func block)) }
+    ensures { MatchResult result (λ _. BlockCertified subject.now.scene.program.now subject.now.scene.certs.now.sections subject.now.func block) (λ fault. IfRefused fault (FirstRefusal subject.now.scene.program.now subject.now.scene.certs.now.sections subject.now.func block)) }
 {
     match BlockWalk::over(subject, block).first_breach(alloc, facts, rooms)? {
         None => Ok(()),

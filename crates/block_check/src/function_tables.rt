@@ -52,11 +52,11 @@ impl FunctionTables {
         requires of { IsOf scene.program.now.of_module scene.function.now self.now }
         requires slots { scene.slots.now ≡ self.now.slots }
         requires there { slice_get scene.program.now.of_module.functions func ≡ Some scene.function.now }
-        requires rows { AreGiven (scene_of scene.program.now scene.certs.now scene.function.now (slice_get scene.certs.now func)) rows.now }
+        requires rows { AreGiven (scene_of scene.program.now scene.certs.now.sections scene.function.now (slice_get scene.certs.now.sections func)) rows.now }
         ensures ready { IsReady result }
         ensures func { result.func ≡ func }
         ensures program { result.scene.program.now ≡ scene.entry.program.now }
-        ensures certs { result.scene.certs.now ≡ scene.entry.certs.now }
+        ensures certs { result.scene.certs.now.sections ≡ scene.entry.certs.now.sections }
     {
         Subject {
             func,

@@ -23,7 +23,7 @@ pub fn rows(
     func: FuncId,
 ) -> Result<Rows, AllocError>
     requires func { func < length program.now.of_module.functions }
-    ensures { IfOk result (λ rows. AreRowsOf program.now certs.now func rows) }
+    ensures { IfOk result (λ rows. AreRowsOf program.now certs.now.sections func rows) }
 {
     let function = function_of(program.module(), func);
     // No memory holds more blocks than there are numbers for them.

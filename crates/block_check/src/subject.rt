@@ -29,7 +29,7 @@ pub struct Subject<'a> {
 impl<'a> Subject<'a> {
     /// The lines of a block in the certificate.
     pub fn lines(&self, block: BlockId) -> &'a [Line]
-        ensures { result.now ≡ lines_in (slice_get self.now.scene.certs.now self.now.func) block }
+        ensures { result.now ≡ lines_in (slice_get self.now.scene.certs.now.sections self.now.func) block }
     {
         match self.scene.certs.section(self.func) {
             Some(section) => match section.blocks.get(block.number() as usize) {
@@ -59,7 +59,7 @@ impl<'a> Subject<'a> {
 
     /// What is promised of each parameter.
     pub fn promises(&self) -> &'a [Option<Promise>]
-        ensures { result.now ≡ promises_in (slice_get self.now.scene.certs.now self.now.func) }
+        ensures { result.now ≡ promises_in (slice_get self.now.scene.certs.now.sections self.now.func) }
     {
         match self.scene.certs.section(self.func) {
             Some(section) => section.parameters.as_slice(),
@@ -69,7 +69,7 @@ impl<'a> Subject<'a> {
 
     /// What is promised of the result.
     pub fn promised(&self) -> Option<Promise>
-        ensures { result ≡ promised_in (slice_get self.now.scene.certs.now self.now.func) }
+        ensures { result ≡ promised_in (slice_get self.now.scene.certs.now.sections self.now.func) }
     {
         match self.scene.certs.section(self.func) {
             Some(section) => section.result,
@@ -79,7 +79,7 @@ impl<'a> Subject<'a> {
 
     /// How it is marked.
     pub fn mark(&self) -> Mark
-        ensures { result ≡ own_mark (slice_get self.now.scene.certs.now self.now.func) }
+        ensures { result ≡ own_mark (slice_get self.now.scene.certs.now.sections self.now.func) }
     {
         match self.scene.certs.section(self.func) {
             Some(section) => section.mark,

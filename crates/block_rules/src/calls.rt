@@ -39,7 +39,7 @@ pub fn call_refusal(
     callee: SymbolId,
     arguments: &[Argument],
 ) -> Option<Rule>
-    ensures { result ≡ first_failing (call_conditions scene.now.program.now scene.now.certs.now scene.now.function.now scene.now.slots.now here facts.now returned arguments.now (callee_of scene.now.program.now.of_module callee (length arguments.now))) }
+    ensures { result ≡ first_failing (call_conditions scene.now.program.now scene.now.certs.now.sections scene.now.function.now scene.now.slots.now here facts.now returned arguments.now (callee_of scene.now.program.now.of_module callee (length arguments.now))) }
 {
     let callee = callee_of(scene.module(), callee, arguments.len());
     match &callee {
@@ -166,7 +166,7 @@ fn defined_refusal(
     arguments: &[Argument],
     called: FuncId,
 ) -> Option<Rule>
-    ensures { result ≡ first_failing (defined_conditions scene.now.program.now.of_module scene.now.function.now scene.now.slots.now here facts.now returned arguments.now (slice_get scene.now.program.now.of_module.functions called) (slice_get scene.now.certs.now called)) }
+    ensures { result ≡ first_failing (defined_conditions scene.now.program.now.of_module scene.now.function.now scene.now.slots.now here facts.now returned arguments.now (slice_get scene.now.program.now.of_module.functions called) (slice_get scene.now.certs.now.sections called)) }
 {
     let section = scene.certs.section(called);
     first_failing(&[
@@ -456,7 +456,7 @@ pub fn after_call(
     arguments: &[Argument],
     callee: &Callee,
 ) -> Result<(), AllocError>
-    ensures { OnOk result (facts.new ≡ after_call scene.now.program.now scene.now.certs.now scene.now.slots.now defined returned arguments.now callee.now facts.old) }
+    ensures { OnOk result (facts.new ≡ after_call scene.now.program.now scene.now.certs.now.sections scene.now.slots.now defined returned arguments.now callee.now facts.old) }
 {
     match callee {
         Callee::OfRuntime(Runtime::Alloc) => after_alloc_call(facts, defined, arguments),

@@ -16,7 +16,7 @@ use std::alloc::AllocError;
 
 /// Goes on to what is known after an instruction. Where memory is refused the facts are of no more use.
 pub fn advance(scene: &Scene, facts: &mut Facts, instr: &Instr) -> Result<(), AllocError>
-    ensures { OnOk result (facts.new ≡ after scene.now.program.now scene.now.certs.now scene.now.slots.now facts.old instr.now) }
+    ensures { OnOk result (facts.new ≡ after scene.now.program.now scene.now.certs.now.sections scene.now.slots.now facts.old instr.now) }
 {
     match &instr.op {
         Op::Memory(op) => after_memory(scene, facts, instr.result, op),

@@ -16,7 +16,7 @@ use ir_ast::{Instr, Op};
 
 /// The rule that an instruction of a block's body breaks, if it breaks one.
 pub fn refusal(scene: &Scene, here: Standing, facts: &Facts, instr: &Instr) -> Option<Rule>
-    ensures { result ≡ first_failing (conditions scene.now.program.now scene.now.certs.now scene.now.function.now scene.now.slots.now here facts.now instr.now) }
+    ensures { result ≡ first_failing (conditions scene.now.program.now scene.now.certs.now.sections scene.now.function.now scene.now.slots.now here facts.now instr.now) }
 {
     match &instr.op {
         Op::Number(op) => number_refusal(scene, here, facts, op),

@@ -4,6 +4,7 @@ use Rattle.ir_ast.specs.declared.module.Module.{Module}
 use Rattle.layout.specs.Layouts.{LaidOut}
 use Rattle.layout.specs.declared.fault.LayoutFault.{LayoutFault}
 use Rattle.layout.specs.declared.fault.LayoutFault.TheVariants as layout
+use Rattle.certs.specs.declared.certs.Certs.{Certs}
 use Rattle.certs.specs.Fits.{fits}
 use Rattle.certs.specs.declared.section.Section.{Section}
 use Rattle.block_rules.specs.declared.block_fault.Refusal.{Refusal}
@@ -28,9 +29,9 @@ fault_of_layout layout.Memory = Memory
 fault_of_layout fault = Layout fault
 
 -- they are certificates of a program's module, and with them each of its functions is certified
-pub record AreGood (program : LaidOut) (certs : List Section) : Type 0 where
-  pub fit : fits program.of_module certs ≡ true
-  pub certified : IsModuleCertified program certs (length program.of_module.functions)
+pub record AreGood (program : LaidOut) (certs : Certs) : Type 0 where
+  pub fit : fits program.of_module certs.sections ≡ true
+  pub certified : IsModuleCertified program certs.sections (length program.of_module.functions)
 
 -- with these certificates this is the first instruction of a program that is refused
 abbrev pub IsFirstIn : LaidOut → List Section → Refusal → Type 0
@@ -42,8 +43,8 @@ AreRefused program certs = (refusal : Refusal) × IsFirstIn program certs refusa
 
 -- they are certificates of a program's module, and with them this is the first instruction that is refused
 pub record AreTried (program : LaidOut) (refused : Refused) : Type 0 where
-  pub fit : fits program.of_module refused.certs ≡ true
-  pub first : IsFirstIn program refused.certs refused.refusal
+  pub fit : fits program.of_module refused.certs.sections ≡ true
+  pub first : IsFirstIn program refused.certs.sections refused.refusal
 
 -- where an instruction is refused with proposed certificates, they are certificates of the module and it is the first one
 abbrev pub IsTried : LaidOut → Tried → Type 0
@@ -57,8 +58,8 @@ fault_of_lack lack.Memory = Memory
 
 -- these are certificates of a module, and its first instruction that is refused with them
 pub record IsRefusedWith (m : Module) (refused : Refused) : Type 0 where
-  pub fit : fits m refused.certs ≡ true
-  pub first : IsFirstRefusal m refused.certs refused.refusal
+  pub fit : fits m refused.certs.sections ≡ true
+  pub first : IsFirstRefusal m refused.certs.sections refused.refusal
 
 -- a module has layouts, and with its plain certificates some instruction is refused
 abbrev pub IsPlainlyRefused : Module → Type 0

@@ -29,8 +29,8 @@ struct NoCerts {
 /// where none is taken the module is given back.
 pub fn make(alloc: Global, of_module: Module) -> Result<Accepted, NotMade>
     ensures kept { IfOk result (λ accepted. accepted.program.of_module ≡ of_module) }
-    ensures fits { IfOk result (λ accepted. fits of_module accepted.certs ≡ true) }
-    ensures certified { IfOk result (λ accepted. IsAccepted of_module accepted.certs) }
+    ensures fits { IfOk result (λ accepted. fits of_module accepted.certs.sections ≡ true) }
+    ensures certified { IfOk result (λ accepted. IsAccepted of_module accepted.certs.sections) }
     ensures none { IfErr result (λ unmade. unmade.fault ≡ fault.NoAnswer → IsAccepted of_module (plain of_module) → ⊥) }
     ensures plain { IfErr result (λ unmade. unmade.fault ≡ fault.NoAnswer → IsPlainlyRefused of_module) }
     ensures layout { IfErr result (λ unmade. IfLayout unmade.fault (IsLayoutFault of_module)) }

@@ -10,11 +10,11 @@ use std::alloc::{AllocError, Global};
 
 /// Certificates that mark each function `may`, promise nothing and list nothing.
 pub fn plain(alloc: Global, of_module: &Module) -> Result<Certs, AllocError>
-    ensures plain { IfOk result (λ certs. certs ≡ plain of_module.now) }
+    ensures plain { IfOk result (λ certs. certs.sections ≡ plain of_module.now) }
     ensures fits { fits of_module.now (plain of_module.now) ≡ true }
 {
     let sections = plain_sections(alloc, of_module.functions.as_slice())?;
-    Ok(Certs::new(sections))
+    Ok(Certs { sections })
 }
 
 fn plain_sections(alloc: Global, functions: &[Function]) -> Result<Items<Section>, AllocError>

@@ -4,10 +4,11 @@ use Rattle.std.specs.Prelude.{◌==◌, if◌then◌else◌, replicate, map}
 use Rattle.std.specs.List.{list_all, list_any, zip}
 use Rattle.std.proofs.lemmas.Bool.{cases_eq, eqb-true, eq-eqb, ne_eqb}
 use Rattle.std.proofs.lemmas.List.{length-set}
+use Rattle.std.proofs.lemmas.Option.{slice_get_within}
 use Rattle.std.proofs.lemmas.List.Folds.{list_any-append}
-use Rattle.lemmas.specs.Lists.{get_some, length_replicate, all_end}
+use Rattle.lemmas.specs.Lists.{length_replicate, all_end, set_here, set_other, set_either}
 use Rattle.lemmas.specs.Numbers.{test_same}
-use Rattle.lemmas.specs.Bools.{never_true, or_neither, and_second, and_first, and_true, or_false}
+use Rattle.lemmas.specs.Bools.{never_true, or_neither, and_second, and_first, and_true, or_false, or_second}
 use Rattle.ir_ast.specs.declared.function.Function.{Function}
 use Rattle.ir_ast.specs.declared.function.Parameter.{Parameter}
 use Rattle.ir_ast.specs.declared.module.Module.{Module}
@@ -24,28 +25,6 @@ use Rattle.certs.specs.declared.section.Line.TheVariants as line
 use Rattle.certs.specs.declared.section.Promise.{Promise}
 
 -- ---- lists
-
-pub got_set : {A : Type 0} (xs : List A) (i : ℕ) (x y : A) → slice_get xs i ≡ Some x → slice_get (slice_set xs i y) i ≡ Some y
-got_set [] i x y e = absurd cc
-got_set (z ∷ xs) zero x y e = refl
-got_set (z ∷ xs) (suc i) x y e = got_set xs i x y e
-
--- what is at a place after a write: what is written, or what was there
-got_cases : {A : Type 0} (xs : List A) (i j : ℕ) (y : A) → ((i ≡ j) × (slice_get (slice_set xs i y) j ≡ Some y)) ⊎ (slice_get (slice_set xs i y) j ≡ slice_get xs j)
-got_cases [] i j y = inr refl
-got_cases (x ∷ xs) zero zero y = inl (refl, refl)
-got_cases (x ∷ xs) zero (suc j) y = inr refl
-got_cases (x ∷ xs) (suc i) zero y = inr refl
-got_cases (x ∷ xs) (suc i) (suc j) y = elim (got_cases xs i j y) [
-  | inl h ↦ inl (ap suc h.0, h.1)
-  | inr h ↦ inr h
-]
-
-got_other : {A : Type 0} (xs : List A) (i j : ℕ) (y : A) → (i ≡ j → ⊥) → slice_get (slice_set xs i y) j ≡ slice_get xs j
-got_other xs i j y differ = elim (got_cases xs i j y) [
-  | inl h ↦ absurd (differ h.0)
-  | inr h ↦ h
-]
 
 and_on : (a b c : Bool) → (a && b) ≡ true → (b ≡ true → c ≡ true) → (a && c) ≡ true
 and_on true b c e on = on e
@@ -318,17 +297,14 @@ block_ends m f block d new listed h =
     )
   where
     still_given : slice_get (slice_set d.given block true) 0 ≡ Some false → ⊥
-    still_given e = elim (got_cases d.given block 0 true) [
-      | inl w ↦ let k = w.1 in absurd cc
-      | inr w ↦ h.0.entry_given (sym w ∙ e)
-    ]
+    still_given e = elim (set_either d.given block true 0 false e) [ inl was ↦ h.0.entry_given was | inr put ↦ absurd (let t = put.1 in cc) ]
+
+    here : (b : ℕ) → b ≡ block → slice_get (slice_set d.given block true) b ≡ Some true
+    here b e = ap (slice_get (slice_set d.given block true)) e ∙ set_here d.given block true (slice_get_within d.given block false new)
 
     after : (b : ℕ) → (b ≡ block) ⊎ (slice_get d.given b ≡ Some true) → slice_get (slice_set d.given block true) b ≡ Some true
-    after b (inl e) = ap (slice_get (slice_set d.given block true)) e ∙ got_set d.given block false true new
-    after b (inr e) = elim (got_cases d.given block b true) [
-      | inl w ↦ w.1
-      | inr w ↦ w ∙ e
-    ]
+    after b (inl e) = here b e
+    after b (inr e) = elim (cases_eq b block) [ inl same ↦ here b same | inr differ ↦ set_other d.given block b true differ ∙ e ]
 
 -- ---- lines
 
@@ -357,19 +333,14 @@ with_wanted m f block value left d h = (
 )
 
 pub last_wanted : (wanted : List RequiredValue) (value left : ℕ) → is_wanted (wanted ++ record { value = value; left = left } ∷ []) (Some value) ≡ true
-last_wanted wanted value left = any_more (λ (w : RequiredValue). w.value == value) wanted (record { value = value; left = left }) ∙ or_true (list_any (λ (w : RequiredValue). w.value == value) wanted) (value == value) (test_same value)
-  where
-    or_true : (a b : Bool) → b ≡ true → (a || b) ≡ true
-    or_true true b e = refl
-    or_true false b e = e
+last_wanted wanted value left = any_more (λ (w : RequiredValue). w.value == value) wanted (record { value = value; left = left }) ∙ or_second (list_any (λ (w : RequiredValue). w.value == value) wanted) (value == value) (test_same value)
 
 -- which values a block lists, with one more
 listed_with : (block value : ℕ) (values : List (Option ℕ)) (listed : ℕ → Bool) → value < length values → ((u : ℕ) → is_in block (slice_get values u) ≡ listed u) → (u : ℕ) → is_in block (slice_get (slice_set values value (Some block)) u) ≡ (listed u || value == u)
 listed_with block value values listed within old u = elim (cases_eq value u) [
   | inl same ↦
-      let p = get_some values value within in
-      ap (λ x. is_in block (slice_get (slice_set values value (Some block)) x)) (sym same) ∙ ap (is_in block) (got_set values value p.0 (Some block) p.1) ∙ test_same block ∙ sym (ap (λ b. listed u || b) (eq-eqb value u same) ∙ always (listed u))
-  | inr differ ↦ ap (is_in block) (got_other values value u (Some block) differ) ∙ old u ∙ sym (ap (λ b. listed u || b) (ne_eqb value u differ) ∙ or_false (listed u))
+      ap (λ x. is_in block (slice_get (slice_set values value (Some block)) x)) (sym same) ∙ ap (is_in block) (set_here values value (Some block) within) ∙ test_same block ∙ sym (ap (λ b. listed u || b) (eq-eqb value u same) ∙ always (listed u))
+  | inr differ ↦ ap (is_in block) (set_other values value u (Some block) (λ e. differ (sym e))) ∙ old u ∙ sym (ap (λ b. listed u || b) (ne_eqb value u differ) ∙ or_false (listed u))
 ]
   where
     always : (b : Bool) → (b || true) ≡ true
@@ -378,10 +349,15 @@ listed_with block value values listed within old u = elim (cases_eq value u) [
 
 before_with : (block value : ℕ) (values : List (Option ℕ)) (given : List Bool) → ((b u : ℕ) → is_in b (slice_get values u) ≡ true → (b ≡ block) ⊎ (slice_get given b ≡ Some true))
     → (b u : ℕ) → is_in b (slice_get (slice_set values value (Some block)) u) ≡ true → (b ≡ block) ⊎ (slice_get given b ≡ Some true)
-before_with block value values given old b u e = elim (got_cases values value u (Some block)) [
-  | inl w ↦ inl (sym (eqb-true block b (sym (ap (is_in b) w.1) ∙ e)))
-  | inr w ↦ old b u (sym (ap (is_in b) w) ∙ e)
+before_with block value values given old b u e = elim (set_either values value (Some block) u (Some b) (listed_in _ b e)) [
+  | inl was ↦ old b u (ap (is_in b) was ∙ test_same b)
+  | inr put ↦ inl (let same : block ≡ b = cc in sym same)
 ]
+  where
+    listed_in : (listed : Option (Option ℕ)) (b : ℕ) → is_in b listed ≡ true → listed ≡ Some (Some b)
+    listed_in (Some (Some last)) b h = ap (λ (n : ℕ). Some (Some n)) (eqb-true last b h)
+    listed_in (Some None) b h = absurd cc
+    listed_in None b h = absurd cc
 
 -- the block lists a value more
 pub with_value : (m : Module) (f : Function) (block value : ℕ) (fact : Fact) (d : SectionDraft) → value < length f.locals → is_in block (slice_get d.values value) ≡ false

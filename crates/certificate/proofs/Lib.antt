@@ -11,4 +11,5 @@ pub mod PrintedLines
 pub mod PrintedPromises
 pub mod PrintedBlocks
 pub mod PrintedCerts
+pub mod OfSections
 pub mod AnewFits

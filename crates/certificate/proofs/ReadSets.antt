@@ -4,6 +4,7 @@ use Rattle.std.specs.Prelude.{◌==◌, if◌then◌else◌, slice_index_or, sli
 use Rattle.std.specs.List.{list_any, range_with_len}
 use Rattle.std.proofs.lemmas.Bool.{cases_eq, eq-eqb, ne_eqb, lt-ltb, ltb-true}
 use Rattle.std.proofs.lemmas.List.{length-set, get_or-set_same, get_or-set_other, ext_get_or}
+use Rattle.lemmas.specs.Bools.{or_second}
 use Rattle.ir_tokens.specs.Bytes.{Text, is_digit}
 use Rattle.pools.specs.WordSets.{no_words, has_word, adds_word}
 use Rattle.pools.specs.declared.word_set.WordSet.{WordSet}
@@ -117,12 +118,8 @@ some_word : (test : ℕ → Bool) (count first i : ℕ) → first ≤ i → i < 
 some_word test zero first i le lt e = absurd (omega arith)
 some_word test (suc count) first i le lt e = elim (cases_eq i first) [
   | inl same ↦ let here : test first ≡ true = ap test (sym same) ∙ e in rw here refl
-  | inr differ ↦ or_true (test first) (list_any test (range_with_len (first + 1) count)) (some_word test count (first + 1) i (omega (arith, le, differ)) (omega (arith, lt)) e)
+  | inr differ ↦ or_second (test first) (list_any test (range_with_len (first + 1) count)) (some_word test count (first + 1) i (omega (arith, le, differ)) (omega (arith, lt)) e)
 ]
-  where
-    or_true : (a b : Bool) → b ≡ true → (a || b) ≡ true
-    or_true true b e = refl
-    or_true false b e = e
 
 -- a set of 64 with some word
 set_fits : (set : List Bool) (i : ℕ) → length set ≡ 64 → i < 64 → has_word set i ≡ true → words_fit set ≡ true
@@ -141,16 +138,12 @@ closed_fits : (set : WordSet) (number : Option ℕ) (found : WordSet) → length
 closed_fits set None found len small e = absurd cc
 closed_fits set (Some n) found len small e =
     let is : found.members ≡ adds_word set.members n = ap (λ (o : Option WordSet). members_of o) (sym e) in
-    let has : has_word (adds_word set.members n) n ≡ true = added_at set.members n n len ∙ or_true (has_word set.members n) (n == n && nat_lt n 64) (rw (eq-eqb n n refl, lt-ltb n 64 small) refl) in
+    let has : has_word (adds_word set.members n) n ≡ true = added_at set.members n n len ∙ or_second (has_word set.members n) (n == n && nat_lt n 64) (rw (eq-eqb n n refl, lt-ltb n 64 small) refl) in
     subst (λ (x : List Bool). words_fit x ≡ true) (sym is) (set_fits (adds_word set.members n) n (added_len set.members n ∙ len) small has)
   where
     members_of : Option WordSet → List Bool
     members_of None = []
     members_of (Some w) = w.members
-
-    or_true : (a b : Bool) → b ≡ true → (a || b) ≡ true
-    or_true true b e = refl
-    or_true false b e = e
 
 closed_len : (set : WordSet) (number : Option ℕ) (more : WordSet) → length set.members ≡ 64 → closed set number ≡ Some more → length more.members ≡ 64
 closed_len set None more len e = absurd cc

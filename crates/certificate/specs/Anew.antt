@@ -2,7 +2,7 @@
 use Rattle.std.specs.Prelude.{◌≡◌, ℕ, Bool, false, ◌==◌, List, [], ◌∷◌, Option, Some, None, slice_get, codes}
 use Rattle.ir_ast.specs.declared.function.Function.{Function}
 use Rattle.ir_ast.specs.declared.module.Module.{Module}
-use Rattle.grammar.specs.Grammar.{◌>>=◌, ◌>>◌, step, checked, look, refuse}
+use Rattle.grammar.specs.Grammar.{◌>>◌, step, checked, look, refuse}
 use Rattle.ir_tokens.specs.Bytes.{Text as Bytes}
 use Rattle.name_text.specs.Words.{past_lines}
 use Rattle.name_text.specs.Reader.{left, ended, word, noted, noted_falls}

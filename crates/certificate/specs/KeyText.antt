@@ -1,5 +1,5 @@
 -- The key of a name, as it is printed.
-use Rattle.std.proofs.Common.{◌≡◌, refl, ap}
+use Rattle.std.proofs.Common.{◌≡◌, ap}
 use Rattle.ir_ast.specs.Keys.{name_again, no_number}
 use Rattle.ir_ast.specs.LocalKeys.{key_of_name}
 use Rattle.ir_tokens.specs.Bytes.{Text}

@@ -167,7 +167,7 @@ pub(crate) fn put_line(
 }
 
 fn line_at(certs: &Certs, function: FuncId, block: BlockId, place: usize) -> Option<&Line>
-    ensures { option_copied result ≡ spec.line_at (slice_get certs.now function) block place }
+    ensures { option_copied result ≡ spec.line_at (slice_get certs.now.sections function) block place }
 {
     let section = certs.section(function)?;
     let lines = section.blocks.get(block.number() as usize)?;
@@ -184,7 +184,7 @@ pub fn print_line(
     block: BlockId,
     place: usize,
 ) -> Result<Vec<u8>, AllocError>
-    ensures { IfOk result (λ text. text.items ≡ spec.line_shown certs.now «module».now function block place) }
+    ensures { IfOk result (λ text. text.items ≡ spec.line_shown certs.now.sections «module».now function block place) }
 {
     let mut out = Vec::new(alloc);
     let body = module.functions.get(function.number() as usize);

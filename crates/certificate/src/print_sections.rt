@@ -227,13 +227,19 @@ pub fn print_section(
 /// The text of certificates: sections in the module's order, parameters and blocks in their function's, lines as they
 /// were given.
 pub fn print_cert(alloc: Global, certs: &Certs, module: &Module) -> Result<Vec<u8>, AllocError>
-    ensures text { IfOk result (λ text. text.items ≡ spec.cert_text certs.now «module».now) }
+    ensures text { IfOk result (λ text. text.items ≡ spec.cert_text certs.now.sections «module».now) }
     // It is a text of certificates that fit, where each of the module's names is of bytes, is printed in fewer than 2 to the 24 of them, and is found as what it names.
-    ensures same { IsNamed «module».now → fits «module».now certs.now ≡ true → IfOk result (λ text. IsCert text.items «module».now certs.now) }
+    ensures same { IsNamed «module».now → fits «module».now certs.now.sections ≡ true → IfOk result (λ text. IsCert text.items «module».now certs.now.sections) }
 {
     let mut out = Vec::new(alloc);
     out.extend_from_slice(b"cert 1\n")?;
     let functions = module.functions.as_slice();
-    put_sections(alloc, &mut out, module, functions, certs.sections())?;
+    put_sections(
+        alloc,
+        &mut out,
+        module,
+        functions,
+        certs.sections.as_slice(),
+    )?;
     Ok(out)
 }

@@ -405,18 +405,18 @@ pub fn placed(bytes: &[u8], found: Found) -> CertFault
 /// Reads the certificates of a module.
 pub fn read_cert(alloc: Global, bytes: &[u8], module: &Module) -> Result<Certs, CertFault>
     // What is read is a text of these certificates.
-    ensures found { IfOk result (λ certs. IsCert bytes.now «module».now certs) }
+    ensures found { IfOk result (λ certs. IsCert bytes.now «module».now certs.sections) }
     // They are certificates of the module.
-    ensures fits { IfOk result (λ certs. fits «module».now certs ≡ true) }
+    ensures fits { IfOk result (λ certs. fits «module».now certs.sections ≡ true) }
     // What is a text of some certificates is read, unless memory runs out.
-    ensures only { (certs : List ASection) → IsCert bytes.now «module».now certs → Gives fault.Memory result (Ok certs) }
+    ensures only { (sections : List ASection) → IsCert bytes.now «module».now sections → Gives fault.Memory result (Ok (record { sections = sections })) }
     // What is refused is refused for its first fault.
     ensures fault { IfErr result (λ e. e ≢ fault.Memory → IsFault bytes.now «module».now e) }
     // What has a first fault is refused for it, unless memory runs out.
     ensures only_fault { (e : AFault) → IsFault bytes.now «module».now e → Gives fault.Memory result (Err e) }
 {
     match sections_of(alloc, bytes, module) {
-        Ok(sections) => Ok(Certs::new(sections)),
+        Ok(sections) => Ok(Certs { sections }),
         Err(found) => Err(placed(bytes, found)),
     }
 }

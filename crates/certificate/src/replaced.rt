@@ -57,13 +57,13 @@ pub fn replace_section(
     function: FuncId,
     bytes: &[u8],
 ) -> Result<Certs, CertFault>
-    requires { function < length certs.now }
+    requires { function < length certs.now.sections }
     // The text is a section, which stands in the old one's place.
-    ensures found { IfOk result (λ new. IsReplaced bytes.now «module».now function certs.now new) }
+    ensures found { IfOk result (λ new. IsReplaced bytes.now «module».now function certs.now.sections new.sections) }
     // They are certificates of the module where all other sections are.
-    ensures fits { FitOthers «module».now function certs.now → IfOk result (λ new. fits «module».now new ≡ true) }
+    ensures fits { FitOthers «module».now function certs.now.sections → IfOk result (λ new. fits «module».now new.sections ≡ true) }
     // What is a text of some section is read, unless memory runs out.
-    ensures only { (new : List ASection) → IsReplaced bytes.now «module».now function certs.now new → Gives fault.Memory result (Ok new) }
+    ensures only { (new : List ASection) → IsReplaced bytes.now «module».now function certs.now.sections new → Gives fault.Memory result (Ok (record { sections = new })) }
     // What is refused is refused for its first fault.
     ensures fault { IfErr result (λ e. e ≢ fault.Memory → IsSectionFault bytes.now «module».now function e) }
     // What has a first fault is refused for it, unless memory runs out.
@@ -73,10 +73,10 @@ pub fn replace_section(
         Ok(section) => section,
         Err(fault) => return Err(fault),
     };
-    let mut sections = match copied_sections(alloc, certs.sections()) {
+    let mut sections = match copied_sections(alloc, certs.sections.as_slice()) {
         Ok(sections) => sections,
         Err(_) => return Err(CertFault::Memory),
     };
     sections.set(function.number() as usize, section);
-    Ok(Certs::new(sections))
+    Ok(Certs { sections })
 }

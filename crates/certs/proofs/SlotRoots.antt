@@ -6,7 +6,7 @@ use Rattle.std.proofs.lemmas.Bool.{cases_eq, eq-eqb, ne_eqb}
 use Rattle.std.proofs.lemmas.List.{length-set, get_or-set_same, get_or-set_other}
 use Rattle.std.proofs.lemmas.List.Folds.{list_any-append}
 use Rattle.std.proofs.lemmas.Option.{unwrap_or-slice_get}
-use Rattle.lemmas.specs.Lists.{length_replicate}
+use Rattle.lemmas.specs.Lists.{length_replicate, get_front, get_end}
 use Rattle.ir_ast.specs.declared.argument.Argument.{Argument}
 use Rattle.ir_ast.specs.declared.block.Block.{Block}
 use Rattle.ir_ast.specs.declared.function.Function.{Function}
@@ -45,18 +45,9 @@ Agrees held (Held written) (origin.Slot slot) = slice_get held slot ≡ Some wri
 Agrees held (Same value) (origin.Same other) = value ≡ other
 Agrees held _ _ = ⊥
 
-got_more : {A : Type 0} (xs ys : List A) (i : ℕ) (a : A) → slice_get xs i ≡ Some a → slice_get (xs ++ ys) i ≡ Some a
-got_more [] ys i a e = absurd cc
-got_more (x ∷ xs) ys zero a e = e
-got_more (x ∷ xs) ys (suc i) a e = got_more xs ys i a e
-
-got_last : {A : Type 0} (xs : List A) (a : A) → slice_get (xs ++ a ∷ []) (length xs) ≡ Some a
-got_last [] a = refl
-got_last (x ∷ xs) a = got_last xs a
-
 agrees_more : (held : List ℕ) (written : ℕ) (s : Source) (o : Origin) → Agrees held s o → Agrees (held ++ written ∷ []) s o
 agrees_more held written Nowhere origin.Nowhere h = tt
-agrees_more held written (Held w) (origin.Slot slot) h = got_more held (written ∷ []) slot w h
+agrees_more held written (Held w) (origin.Slot slot) h = get_front held (written ∷ []) slot w h
 agrees_more held written (Same v) (origin.Same w) h = h
 agrees_more held written Nowhere (origin.Slot slot) h = absurd h
 agrees_more held written Nowhere (origin.Same w) h = absurd h
@@ -93,7 +84,7 @@ noted_agrees : (value : ℕ) (name : Option ℕ) (op : Op) (d : Draft) (s : Sour
     → Agrees (noted_op name op d).held (source_noted value name op s) (origin_at (noted_op name op d).origins value)
 noted_agrees value None (Memory (Alloca held)) d s within h = agrees_more d.held held s (origin_at d.origins value) h
 noted_agrees value (Some name) (Memory (Alloca held)) d s within h =
-    set_agrees value name (d.held ++ held ∷ []) d.origins (Held held) s (origin.Slot (length d.held)) within (got_last d.held held) (agrees_more d.held held s (origin_at d.origins value) h)
+    set_agrees value name (d.held ++ held ∷ []) d.origins (Held held) s (origin.Slot (length d.held)) within (get_end d.held held) (agrees_more d.held held s (origin_at d.origins value) h)
 noted_agrees value None (Cast x) d s within h = h
 noted_agrees value (Some name) (Cast x) d s within h =
     set_agrees value name d.held d.origins (source_of_operand x.operand) s (origin_of x.operand) within (operand_agrees d.held x.operand) h

@@ -1,5 +1,5 @@
 -- Sessions under edits, and the lines that are printed of them.
-use Rattle.std.proofs.Common.{◌≡◌, ◌∙◌, ◌&&◌, ◌==◌, ℕ, zero, suc, ◌+◌, List, [], ◌∷◌, ◌++◌, Some, true, take, length, slice_get, unwrap_or, refl, sym, ap, ap₂, subst, append_assoc, append-nil, eqb-true, arith}
+use Rattle.std.proofs.Common.{◌≡◌, ◌∙◌, ◌==◌, ℕ, zero, suc, ◌+◌, List, [], ◌∷◌, ◌++◌, Some, true, take, length, slice_get, unwrap_or, refl, sym, ap, subst, append_assoc, append-nil, eqb-true, arith}
 use Rattle.std.specs.List.{list_all, zip}
 use Rattle.lemmas.specs.Bools.{and_first}
 use Rattle.ir_ast.specs.declared.module.Module.{Module}

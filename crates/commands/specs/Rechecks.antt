@@ -80,14 +80,14 @@ refused_text number fault = decimal number ++ codes " refused " ++ edit_code fau
 -- a session begins with this module and these certificates
 pub record IsBegun (m : Module) (certs : List Section) (s : State) : Type 0 where
   pub of_module : module_in s ≡ m
-  pub of_certs : s.certs ≡ certs
+  pub of_certs : s.certs.sections ≡ certs
   pub none_checked : s.rechecked ≡ 0
 
 -- what is printed of the verdict on a session: that its module is accepted, or its first refusal
 pub data OfSession (s : State) : Answer → Type 0 where
-  session_accepted : IsAccepted (module_in s) s.certs → OfSession s (yes (length (module_in s).functions))
-  session_refused : (refusal : Refusal) → IsFirstRefusal (module_in s) s.certs refusal
-      → OfSession s (no (module_in s) (line_of s.certs (module_in s) refusal.func refusal.detail) refusal)
+  session_accepted : IsAccepted (module_in s) s.certs.sections → OfSession s (yes (length (module_in s).functions))
+  session_refused : (refusal : Refusal) → IsFirstRefusal (module_in s) s.certs.sections refusal
+      → OfSession s (no (module_in s) (line_of s.certs.sections (module_in s) refusal.func refusal.detail) refusal)
 
 -- the session after the edit of this number, and the line that is printed of it: the edit is taken; or it is refused, and the session stays
 pub data OfEdit (number : ℕ) (s : State) (e : Edit) : (t : State) → (line : List ℕ) → Type 0 where

@@ -22,8 +22,8 @@ fn report_refusal<O: Write, E: Write>(
     out: &mut O,
     err: &mut E,
 ) -> io::Result<u8>
-    requires { IsFirstRefusal answer.now.of_module answer.now.certs refusal.now }
-    ensures { IfOk result (Says (OfVerdict answer.now.of_module answer.now.certs) (O.contents out.old) (O.contents out.new) (E.contents err.old) (E.contents err.new)) }
+    requires { IsFirstRefusal answer.now.of_module answer.now.certs.sections refusal.now }
+    ensures { IfOk result (Says (OfVerdict answer.now.of_module answer.now.certs.sections) (O.contents out.old) (O.contents out.new) (E.contents err.old) (E.contents err.new)) }
 {
     match crate::verdicts::line_of_refusal(alloc, &answer.of_module, &answer.certs, refusal) {
         Ok(line) => crate::verdicts::refused(out, &answer.of_module, refusal, line.as_slice()),
@@ -38,8 +38,8 @@ pub fn report_verdict<O: Write, E: Write>(
     out: &mut O,
     err: &mut E,
 ) -> io::Result<u8>
-    requires { IsVerdictOf answer.now.of_module answer.now.certs answer.now.verdict }
-    ensures { IfOk result (Says (OfVerdict answer.now.of_module answer.now.certs) (O.contents out.old) (O.contents out.new) (E.contents err.old) (E.contents err.new)) }
+    requires { IsVerdictOf answer.now.of_module answer.now.certs.sections answer.now.verdict }
+    ensures { IfOk result (Says (OfVerdict answer.now.of_module answer.now.certs.sections) (O.contents out.old) (O.contents out.new) (E.contents err.old) (E.contents err.new)) }
 {
     match answer.verdict {
         Verdict::Refused(refusal) => report_refusal(alloc, answer, &refusal, out, err),
@@ -59,7 +59,7 @@ fn check_certified<O: Write, E: Write>(
 ) -> io::Result<u8>
     requires some { 1 ≤ workers }
     requires few { workers ≤ 64 }
-    ensures { IfOk result (Says (OfCerts certified.of_module certified.certs) (O.contents out.old) (O.contents out.new) (E.contents err.old) (E.contents err.new)) }
+    ensures { IfOk result (Says (OfCerts certified.of_module certified.certs.sections) (O.contents out.old) (O.contents out.new) (E.contents err.old) (E.contents err.new)) }
 {
     match check_with(
         rt,

@@ -79,8 +79,8 @@ fn certified_in<'a>(
     of_module: Module,
 ) -> Result<Certified, Unread<'a>>
     ensures of_module { IfOk result (λ certified. certified.of_module ≡ of_module) }
-    ensures ok { IfOk result (λ certified. HasCerts (file_at files.now 1) certified.of_module certified.certs) }
-    ensures fits { IfOk result (λ certified. fits certified.of_module certified.certs ≡ true) }
+    ensures ok { IfOk result (λ certified. HasCerts (file_at files.now 1) certified.of_module certified.certs.sections) }
+    ensures fits { IfOk result (λ certified. fits certified.of_module certified.certs.sections ≡ true) }
     ensures err { IfErr result (IsNoCertificate path.now (file_at files.now 1) of_module) }
 {
     let Some(text) = file_at(files, 1) else {
@@ -101,8 +101,8 @@ pub fn read_certified<'a>(
     files: &[Option<Vec<u8>>],
 ) -> Result<Certified, Unread<'a>>
     ensures of_module { IfOk result (λ certified. HasModule (file_at files.now 0) certified.of_module) }
-    ensures certs { IfOk result (λ certified. HasCerts (file_at files.now 1) certified.of_module certified.certs) }
-    ensures fits { IfOk result (λ certified. fits certified.of_module certified.certs ≡ true) }
+    ensures certs { IfOk result (λ certified. HasCerts (file_at files.now 1) certified.of_module certified.certs.sections) }
+    ensures fits { IfOk result (λ certified. fits certified.of_module certified.certs.sections ≡ true) }
     ensures err { IfErr result (IsUncertified paths.entry.0.now paths.entry.1.now (file_at files.now 0) (file_at files.now 1)) }
 {
     let of_module = module_in(alloc, paths.0, files)?;

@@ -32,8 +32,8 @@ fn print_made<O: Write, E: Write>(
     out: &mut O,
     err: &mut E,
 ) -> io::Result<u8>
-    requires fits { fits accepted.now.program.of_module accepted.now.certs ≡ true }
-    requires certified { IsAccepted accepted.now.program.of_module accepted.now.certs }
+    requires fits { fits accepted.now.program.of_module accepted.now.certs.sections ≡ true }
+    requires certified { IsAccepted accepted.now.program.of_module accepted.now.certs.sections }
     ensures { IfOk result (Says (OfMade why accepted.now.program.of_module) (O.contents out.old) (O.contents out.new) (E.contents err.old) (E.contents err.new)) }
 {
     match print_cert(alloc, accepted.certs(), accepted.program().module()) {

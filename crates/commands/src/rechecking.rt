@@ -124,7 +124,7 @@ fn edit_session<O: Write, E: Write>(
     err: &mut E,
 ) -> io::Result<u8>
     requires { session.old.rechecked ≡ 0 }
-    ensures { IfOk result (Says (OfRechecked session.old.program.of_module session.old.certs edits.now) (O.contents out.old) (O.contents out.new) (E.contents err.old) (E.contents err.new)) }
+    ensures { IfOk result (Says (OfRechecked session.old.program.of_module session.old.certs.sections edits.now) (O.contents out.old) (O.contents out.new) (E.contents err.old) (E.contents err.new)) }
 {
     match lines_of(alloc, session, edits) {
         Ok(lines) => {
@@ -153,8 +153,8 @@ fn recheck_certified<O: Write, E: Write>(
     out: &mut O,
     err: &mut E,
 ) -> io::Result<u8>
-    requires { fits certified.of_module certified.certs ≡ true }
-    ensures { IfOk result (Says (OfRechecked certified.of_module certified.certs edits.now) (O.contents out.old) (O.contents out.new) (E.contents err.old) (E.contents err.new)) }
+    requires { fits certified.of_module certified.certs.sections ≡ true }
+    ensures { IfOk result (Says (OfRechecked certified.of_module certified.certs.sections edits.now) (O.contents out.old) (O.contents out.new) (E.contents err.old) (E.contents err.new)) }
 {
     match Session::new(alloc, certified.of_module, certified.certs) {
         Ok(mut session) => {
@@ -179,8 +179,8 @@ fn recheck_edits<O: Write, E: Write>(
     out: &mut O,
     err: &mut E,
 ) -> io::Result<u8>
-    requires { fits certified.of_module certified.certs ≡ true }
-    ensures { IfOk result (Says (OfEditsFile path.now (file_at files.now 2) certified.of_module certified.certs) (O.contents out.old) (O.contents out.new) (E.contents err.old) (E.contents err.new)) }
+    requires { fits certified.of_module certified.certs.sections ≡ true }
+    ensures { IfOk result (Says (OfEditsFile path.now (file_at files.now 2) certified.of_module certified.certs.sections) (O.contents out.old) (O.contents out.new) (E.contents err.old) (E.contents err.new)) }
 {
     match edits_in(alloc, path, files, 2) {
         Ok(edits) => {

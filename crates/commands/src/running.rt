@@ -29,7 +29,7 @@ fn run_threads<O: Write, E: Write>(
     err: &mut E,
 ) -> io::Result<u8>
     requires { IsTraceOf accepted.now.program trace.now }
-    ensures { IfOk result (Says (OfThreads limits accepted.now.program accepted.now.certs trace.now) (O.contents out.old) (O.contents out.new) (E.contents err.old) (E.contents err.new)) }
+    ensures { IfOk result (Says (OfThreads limits accepted.now.program accepted.now.certs.sections trace.now) (O.contents out.old) (O.contents out.new) (E.contents err.old) (E.contents err.new)) }
 {
     match run(rt, alloc, accepted, &trace.setup, limits, &OpenGate) {
         Ok(report) => ran(out, &report),
@@ -48,7 +48,7 @@ fn run_accepted<O: Write, E: Write>(
     out: &mut O,
     err: &mut E,
 ) -> io::Result<u8>
-    ensures { IfOk result (Says (OfTraceFile limits accepted.now.program accepted.now.certs path.now (spec.file_at files.now 2)) (O.contents out.old) (O.contents out.new) (E.contents err.old) (E.contents err.new)) }
+    ensures { IfOk result (Says (OfTraceFile limits accepted.now.program accepted.now.certs.sections path.now (spec.file_at files.now 2)) (O.contents out.old) (O.contents out.new) (E.contents err.old) (E.contents err.new)) }
 {
     match trace_in(alloc, path, files, 2, accepted.program()) {
         Ok(trace) => {
@@ -71,7 +71,7 @@ fn run_certified<O: Write, E: Write>(
     out: &mut O,
     err: &mut E,
 ) -> io::Result<u8>
-    ensures { IfOk result (Says (OfRunCerts limits path.now (spec.file_at files.now 2) certified.of_module certified.certs) (O.contents out.old) (O.contents out.new) (E.contents err.old) (E.contents err.new)) }
+    ensures { IfOk result (Says (OfRunCerts limits path.now (spec.file_at files.now 2) certified.of_module certified.certs.sections) (O.contents out.old) (O.contents out.new) (E.contents err.old) (E.contents err.new)) }
 {
     match check(alloc, certified.of_module, certified.certs) {
         Ok(accepted) => {

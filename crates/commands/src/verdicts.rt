@@ -50,7 +50,7 @@ pub fn line_of_refusal(
     certs: &Certs,
     refusal: &Refusal,
 ) -> Result<Vec<u8>, AllocError>
-    ensures { IfOk result (λ line. line.items ≡ spec.line_of certs.now of_module.now refusal.now.func refusal.now.detail) }
+    ensures { IfOk result (λ line. line.items ≡ spec.line_of certs.now.sections of_module.now refusal.now.func refusal.now.detail) }
 {
     match refusal.detail {
         Some(Detail { target, line }) => {

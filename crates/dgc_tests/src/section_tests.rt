@@ -37,7 +37,7 @@ fn printed_with(
     module: &Module,
     section: &[u8],
 ) -> Result<SectionOutcome, AllocError> {
-    if certs.sections().len() != 2 {
+    if certs.sections.as_slice().len() != 2 {
         return Ok(SectionOutcome::NotRead);
     }
     match replace_section(alloc, certs, module, FuncId::new(NUMBER), section) {

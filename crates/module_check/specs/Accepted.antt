@@ -6,6 +6,7 @@ use Rattle.pools.specs.declared.word_kind.WordKind.{WordKind}
 use Rattle.layout.specs.Layouts.{AreLayouts, AreSizes, IsLayoutFault, LaidOut}
 use Rattle.layout.specs.declared.fault.LayoutFault.{LayoutFault}
 use Rattle.layout.specs.declared.fault.LayoutFault.TheVariants as layout
+use Rattle.certs.specs.declared.certs.Certs.{Certs}
 use Rattle.certs.specs.declared.section.Section.{Section}
 use Rattle.block_rules.specs.Certified.{IfRefused}
 use Rattle.block_rules.specs.Functions.{IsFirstInFunction, IsFunctionCertified, blocks_in}
@@ -18,7 +19,7 @@ use Rattle.module_check.specs.declared.verdict.Verdict.TheVariants.{Refused, Lay
 -- a program with certificates
 pub record CertifiedProgram : Type 0 where
   pub program : LaidOut
-  pub certs : List Section
+  pub certs : Certs
 
 -- the first `count` functions of a module are certified
 abbrev pub IsModuleCertified : LaidOut → List Section → (count : ℕ) → Type 0

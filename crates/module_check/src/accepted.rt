@@ -23,17 +23,17 @@ impl Model for Accepted {
 
     ghost view = { λ accepted. record { program = accepted.program; certs = accepted.certs } };
 
-    ghost invariant = { λ accepted. IsModuleCertified accepted.program accepted.certs (length accepted.program.of_module.functions) };
+    ghost invariant = { λ accepted. IsModuleCertified accepted.program accepted.certs.sections (length accepted.program.of_module.functions) };
 }
 
 impl Accepted {
     /// A program and certificates with which each of its blocks is certified.
     pub fn of(program: Program, certs: Certs) -> Self
-        requires { IsModuleCertified program certs (length program.of_module.functions) }
+        requires { IsModuleCertified program certs.sections (length program.of_module.functions) }
         ensures holds { result ≡ record { program = program; certs = certs } }
-        ensures disciplined { AreDisciplined result.program result.certs }
-        ensures careful { IsCarefulProgram result.program result.certs }
-        ensures safe { IsSafeProgram result.program result.certs }
+        ensures disciplined { AreDisciplined result.program result.certs.sections }
+        ensures careful { IsCarefulProgram result.program result.certs.sections }
+        ensures safe { IsSafeProgram result.program result.certs.sections }
     {
         discipline_law();
         program_law();
@@ -44,10 +44,10 @@ impl Accepted {
     /// promised, and all runs of such threads and the collector are safe.
     pub fn program(&self) -> &Program
         ensures program { result.now ≡ self.now.program }
-        ensures certified { IsModuleCertified result.now self.now.certs (length result.now.of_module.functions) }
-        ensures disciplined { AreDisciplined result.now self.now.certs }
-        ensures careful { IsCarefulProgram result.now self.now.certs }
-        ensures safe { IsSafeProgram result.now self.now.certs }
+        ensures certified { IsModuleCertified result.now self.now.certs.sections (length result.now.of_module.functions) }
+        ensures disciplined { AreDisciplined result.now self.now.certs.sections }
+        ensures careful { IsCarefulProgram result.now self.now.certs.sections }
+        ensures safe { IsSafeProgram result.now self.now.certs.sections }
     {
         discipline_law();
         program_law();

@@ -64,7 +64,7 @@ fn fault_in_functions(
     count: u32,
 ) -> Option<BlockFault>
     requires { count ≤ length program.now.of_module.functions }
-    ensures { MatchOption result (IsModuleCertified program.now certs.now count) (IsModuleFault program.now certs.now count) }
+    ensures { MatchOption result (IsModuleCertified program.now certs.now.sections count) (IsModuleFault program.now certs.now.sections count) }
 {
     for number in 0..count {
         if let Err(fault) = check_function(alloc, program, certs, FuncId::new(number)) {
@@ -76,7 +76,7 @@ fn fault_in_functions(
 
 /// The first fault in a module, in text order.
 pub fn fault_in_module(alloc: Global, program: &Program, certs: &Certs) -> Option<BlockFault>
-    ensures { let count = length program.now.of_module.functions in MatchOption result (IsModuleCertified program.now certs.now count) (IsModuleFault program.now certs.now count) }
+    ensures { let count = length program.now.of_module.functions in MatchOption result (IsModuleCertified program.now certs.now.sections count) (IsModuleFault program.now certs.now.sections count) }
 {
     // No memory holds more functions than there are numbers for them.
     match u32::try_from(program.module().functions.len()) {
@@ -94,13 +94,13 @@ pub fn fault_in_module(alloc: Global, program: &Program, certs: &Certs) -> Optio
 /// touches a freed cell, and none is wrong.
 pub fn check(alloc: Global, of_module: Module, certs: Certs) -> Result<Accepted, NotAccepted>
     ensures kept { IfOk result (λ accepted. (accepted.program.of_module ≡ of_module) × (accepted.certs ≡ certs)) }
-    ensures accepted { OnOk result (IsAccepted of_module certs) }
-    ensures certified { IfOk result (λ accepted. IsProgramCertified accepted.program accepted.certs) }
-    ensures disciplined { IfOk result (λ accepted. AreDisciplined accepted.program accepted.certs) }
-    ensures careful { IfOk result (λ accepted. IsCarefulProgram accepted.program accepted.certs) }
-    ensures safe { IfOk result (λ accepted. IsSafeProgram accepted.program accepted.certs) }
-    ensures verdict { IfErr result (λ refused. IsVerdictOf of_module certs refused.verdict) }
-    ensures only { IsAccepted of_module certs → IfErr result (λ refused. refused.verdict ≡ Verdict.Memory) }
+    ensures accepted { OnOk result (IsAccepted of_module certs.sections) }
+    ensures certified { IfOk result (λ accepted. IsProgramCertified accepted.program accepted.certs.sections) }
+    ensures disciplined { IfOk result (λ accepted. AreDisciplined accepted.program accepted.certs.sections) }
+    ensures careful { IfOk result (λ accepted. IsCarefulProgram accepted.program accepted.certs.sections) }
+    ensures safe { IfOk result (λ accepted. IsSafeProgram accepted.program accepted.certs.sections) }
+    ensures verdict { IfErr result (λ refused. IsVerdictOf of_module certs.sections refused.verdict) }
+    ensures only { IsAccepted of_module certs.sections → IfErr result (λ refused. refused.verdict ≡ Verdict.Memory) }
     ensures given_back { IfErr result (λ refused. (refused.of_module ≡ of_module) × (refused.certs ≡ certs)) }
 {
     let program = match Program::new(alloc, of_module) {

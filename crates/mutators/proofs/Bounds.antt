@@ -2,6 +2,7 @@
 use Rattle.std.proofs.Common.{◌≡◌, ℕ, true, false, Option, Some, None, List, [], ◌∷◌, slice_get, refl, sym, ap, subst, ◌∙◌, true≢false}
 use Rattle.lemmas.specs.Bools.{and_parts, and_true}
 use Rattle.lemmas.specs.Numbers.{lt_true, lt_yes}
+use Rattle.certs.specs.declared.certs.Certs.{Certs}
 use Rattle.certs.specs.declared.section.Promise.{Promise}
 use Rattle.facts.specs.Lines.{promised_below}
 use Rattle.soundness.specs.Meaning.{IsBelow}
@@ -38,14 +39,14 @@ pub not_met : (promises : List (Option Promise)) (arguments : List ℕ) → are_
 not_met promises arguments e meets = true≢false (sym (all_under promises arguments meets) ∙ e)
 
 -- so of the arguments with which a thread begins, as the code finds them
-module _ (certs : List Section) (begun : Start) (given : List Section) (section : Option Section) (promises : List (Option Promise)) (arguments : List ℕ) (same : given ≡ certs)
-    (found : section ≡ slice_get given begun.function) (these : promises ≡ promises_in section) (those : arguments ≡ begun.arguments) where
-  promised : promises ≡ promises_in (slice_get certs begun.function)
-  promised = these ∙ ap promises_in (found ∙ ap (λ (all : List Section). slice_get all begun.function) same)
+module _ (certs : Certs) (begun : Start) (given : Certs) (section : Option Section) (promises : List (Option Promise)) (arguments : List ℕ) (same : given ≡ certs)
+    (found : section ≡ slice_get given.sections begun.function) (these : promises ≡ promises_in section) (those : arguments ≡ begun.arguments) where
+  promised : promises ≡ promises_in (slice_get certs.sections begun.function)
+  promised = these ∙ ap promises_in (found ∙ ap (λ (all : Certs). slice_get all.sections begun.function) same)
 
-  pub met_by : are_under promises arguments ≡ true → MeetsPromises certs begun
-  met_by e = subst (MeetPromises (promises_in (slice_get certs begun.function))) those (subst (λ (q : List (Option Promise)). MeetPromises q arguments) promised (met promises arguments e))
+  pub met_by : are_under promises arguments ≡ true → MeetsPromises certs.sections begun
+  met_by e = subst (MeetPromises (promises_in (slice_get certs.sections begun.function))) those (subst (λ (q : List (Option Promise)). MeetPromises q arguments) promised (met promises arguments e))
 
-  pub not_met_by : are_under promises arguments ≡ false → ¬ MeetsPromises certs begun
+  pub not_met_by : are_under promises arguments ≡ false → ¬ MeetsPromises certs.sections begun
   not_met_by e meets =
-      not_met promises arguments e (subst (λ (q : List (Option Promise)). MeetPromises q arguments) (sym promised) (subst (MeetPromises (promises_in (slice_get certs begun.function))) (sym those) meets))
+      not_met promises arguments e (subst (λ (q : List (Option Promise)). MeetPromises q arguments) (sym promised) (subst (MeetPromises (promises_in (slice_get certs.sections begun.function))) (sym those) meets))

@@ -31,8 +31,8 @@ pub(crate) fn new_jobs<'a>(
     requires tokens { AreNew heap.now 0 tokens.items }
     ensures ok { IfOk result (λ jobs. AreJobs accepted.now.program setup.now heap.now jobs.items) }
     ensures count { IfOk result (λ jobs. length jobs.items ≡ length setup.now.starts) }
-    ensures no_fault { IfOk result (λ _. HasNoRunFault accepted.now.program accepted.now.certs setup.now) }
-    ensures fault { IfErr result (λ e. e ≢ fault.Memory → IsRunFault accepted.now.program accepted.now.certs setup.now e) }
+    ensures no_fault { IfOk result (λ _. HasNoRunFault accepted.now.program accepted.now.certs.sections setup.now) }
+    ensures fault { IfErr result (λ e. e ≢ fault.Memory → IsRunFault accepted.now.program accepted.now.certs.sections setup.now e) }
 {
     let mut jobs = Vec::new(alloc);
     for (number, begun) in setup.starts.as_slice().iter().enumerate() {
@@ -58,8 +58,8 @@ fn new_job<'a>(
     requires heap { heap.now.setup ≡ heap_of accepted.now.program setup.now }
     requires token { IsNew heap.now number me }
     ensures ok { IfOk result (IsJobOf accepted.now.program setup.now heap.now number) }
-    ensures no_fault { IfOk result (λ _. MayStart accepted.now.program accepted.now.certs begun.now) }
-    ensures fault { IfErr result (λ e. e ≢ fault.Memory → IsStartFault accepted.now.program accepted.now.certs number begun.now e) }
+    ensures no_fault { IfOk result (λ _. MayStart accepted.now.program accepted.now.certs.sections begun.now) }
+    ensures fault { IfErr result (λ e. e ≢ fault.Memory → IsStartFault accepted.now.program accepted.now.certs.sections number begun.now e) }
 {
     begun_law();
     let machine = begun_thread(alloc, accepted.program(), setup, number, begun)?;

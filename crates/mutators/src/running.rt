@@ -50,8 +50,8 @@ pub fn run<T: Threads + Sync, G: Gate + Sync>(
     requires setup { IsSetupOf accepted.now.program setup.now }
     // There is one run of these threads and the collector on their heap, and this is what came of it.
     ensures report { IfOk result (IsReport accepted.now.program setup.now limits) }
-    ensures no_fault { IfOk result (λ _. HasNoRunFault accepted.now.program accepted.now.certs setup.now) }
-    ensures fault { IfErr result (λ e. e ≢ fault.Memory → IsRunFault accepted.now.program accepted.now.certs setup.now e) }
+    ensures no_fault { IfOk result (λ _. HasNoRunFault accepted.now.program accepted.now.certs.sections setup.now) }
+    ensures fault { IfErr result (λ e. e ≢ fault.Memory → IsRunFault accepted.now.program accepted.now.certs.sections setup.now e) }
 {
     let program = accepted.program();
     let globals = program.globals();

@@ -29,7 +29,7 @@ fn fault_by_workers<R: Threads + Sync, G: Gate + Sync>(
     requires some { 1 ≤ workers }
     requires few { workers ≤ 64 }
     requires count { count ≤ length program.now.of_module.functions }
-    ensures { MatchOption result (IsModuleCertified program.now certs.now count) (IsModuleFault program.now certs.now count) }
+    ensures { MatchOption result (IsModuleCertified program.now certs.now.sections count) (IsModuleFault program.now certs.now.sections count) }
 {
     let faults = map_indices(
         rt,
@@ -37,7 +37,7 @@ fn fault_by_workers<R: Threads + Sync, G: Gate + Sync>(
         workers as usize,
         &|worker: usize| -> Option<BlockFault>
             requires { (worker < workers) × (workers ≤ 64) × (count ≤ length program.now.of_module.functions) }
-            ensures { IsFirstFault program.entry.now certs.entry.now (IsOf workers worker) count result }
+            ensures { IsFirstFault program.entry.now certs.entry.now.sections (IsOf workers worker) count result }
         { fault_in_share(alloc, workers, worker as u32, gate, program, certs, count) },
     );
     match faults {
@@ -57,7 +57,7 @@ fn fault_in_module<R: Threads + Sync, G: Gate + Sync>(
 ) -> Option<BlockFault>
     requires some { 1 ≤ workers }
     requires few { workers ≤ 64 }
-    ensures { let count = length program.now.of_module.functions in MatchOption result (IsModuleCertified program.now certs.now count) (IsModuleFault program.now certs.now count) }
+    ensures { let count = length program.now.of_module.functions in MatchOption result (IsModuleCertified program.now certs.now.sections count) (IsModuleFault program.now certs.now.sections count) }
 {
     // No memory holds more functions than there are numbers for them.
     match u32::try_from(program.module().functions.len()) {
@@ -83,13 +83,13 @@ pub fn check_with<R: Threads + Sync, G: Gate + Sync>(
     requires some { 1 ≤ workers }
     requires few { workers ≤ 64 }
     ensures kept { IfOk result (λ accepted. (accepted.program.of_module ≡ of_module) × (accepted.certs ≡ certs)) }
-    ensures accepted { OnOk result (IsAccepted of_module certs) }
-    ensures certified { IfOk result (λ accepted. IsProgramCertified accepted.program accepted.certs) }
-    ensures disciplined { IfOk result (λ accepted. AreDisciplined accepted.program accepted.certs) }
-    ensures careful { IfOk result (λ accepted. IsCarefulProgram accepted.program accepted.certs) }
-    ensures safe { IfOk result (λ accepted. IsSafeProgram accepted.program accepted.certs) }
-    ensures verdict { IfErr result (λ refused. IsVerdictOf of_module certs refused.verdict) }
-    ensures only { IsAccepted of_module certs → IfErr result (λ refused. refused.verdict ≡ Verdict.Memory) }
+    ensures accepted { OnOk result (IsAccepted of_module certs.sections) }
+    ensures certified { IfOk result (λ accepted. IsProgramCertified accepted.program accepted.certs.sections) }
+    ensures disciplined { IfOk result (λ accepted. AreDisciplined accepted.program accepted.certs.sections) }
+    ensures careful { IfOk result (λ accepted. IsCarefulProgram accepted.program accepted.certs.sections) }
+    ensures safe { IfOk result (λ accepted. IsSafeProgram accepted.program accepted.certs.sections) }
+    ensures verdict { IfErr result (λ refused. IsVerdictOf of_module certs.sections refused.verdict) }
+    ensures only { IsAccepted of_module certs.sections → IfErr result (λ refused. refused.verdict ≡ Verdict.Memory) }
     ensures given_back { IfErr result (λ refused. (refused.of_module ≡ of_module) × (refused.certs ≡ certs)) }
 {
     let program = match Program::new(alloc, of_module) {

@@ -23,7 +23,7 @@ pub fn fault_in_share<G: Gate>(
     requires worker { worker < workers }
     requires few { workers ≤ 64 }
     requires count { count ≤ length program.now.of_module.functions }
-    ensures { IsFirstFault program.now certs.now (IsOf workers worker) count result }
+    ensures { IsFirstFault program.now certs.now.sections (IsOf workers worker) count result }
 {
     for number in (worker..count).step_by(workers as usize) {
         let piece = number as usize;

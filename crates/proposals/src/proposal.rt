@@ -76,7 +76,9 @@ fn walk_all(
     drafts: &mut [DraftLines],
 ) -> Result<(), AllocError> {
     let lengths = lengths_of(alloc, program.module())?;
-    let none = Certs::new(Items::new(alloc));
+    let none = Certs {
+        sections: Items::new(alloc),
+    };
     let context = ModuleContext {
         program,
         graph,
@@ -189,7 +191,7 @@ fn certs_of(
         sections.push(section)?;
         number = number.saturating_add(1);
     }
-    Ok(Certs::new(sections))
+    Ok(Certs { sections })
 }
 
 fn section_of(

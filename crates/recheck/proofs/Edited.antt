@@ -1,14 +1,15 @@
 -- What is put in the place of a function's code and section is what the edit asks for, and what is refused is refused for its first fault.
-use Rattle.std.proofs.Common.{◌≡◌, ◌≢◌, ◌⊎◌, inl, inr, ◌<◌, ℕ, List, length, slice_get, Option, Some, None, Result, Ok, Err, refl, ap, sym, subst, ◌∙◌}
+use Rattle.std.proofs.Common.{◌≡◌, ◌≢◌, ◌⊎◌, inl, inr, ℕ, List, length, slice_get, Option, Some, None, Result, Ok, Err, refl, ap, sym, subst, ◌∙◌}
 use Rattle.std.specs.Prelude.{slice_set, IfOk, IfErr, OnOk, OnErr, IfSome}
 use Rattle.ir_ast.specs.declared.function.Function.{Function}
 use Rattle.ir_ast.specs.declared.module.Module.{Module}
 use Rattle.ir_tokens.specs.Bytes.{Text}
 use Rattle.ir_text.specs.Read.{Gives}
-use Rattle.ir_text.specs.Replaced.{IsReplaced, IsReplaceFault, put_function, with_replacement}
+use Rattle.ir_text.specs.Replaced.{IsReplaced, IsReplaceFault, put_function}
 use Rattle.ir_text.specs.declared.anew.Tables.{Tables}
 use Rattle.ir_text.specs.declared.read_fault.ReadFault.{ReadFault}
 use Rattle.ir_text.specs.declared.read_fault.ReadFault.TheVariants as read
+use Rattle.certs.specs.declared.certs.Certs.{Certs}
 use Rattle.certs.specs.declared.section.Section.{Section}
 use Rattle.certificate.specs.Anew.{IsSection}
 use Rattle.layout.specs.Functions.{laid_with}
@@ -22,7 +23,7 @@ use Rattle.edit_text.specs.declared.edit.Edit.TheVariants as edit
 use Rattle.recheck.specs.Edits.{AreRead, IsReadAt, IsRead, IsEditedAt, IsEdited, HasSectionFault, HasCodeFault, IsFaultAt, IsEditFault, IsTaken, IsRefusedBy, code_fault, name_in, no_function, text_with}
 use Rattle.recheck.specs.Named.{function_named}
 use Rattle.recheck.specs.Put.{state, with_function, IsTextPut, IsBothPut, AreReady, IsKept}
-use Rattle.recheck.specs.Session.{State, IsAnswered}
+use Rattle.recheck.specs.Session.{IsAnswered}
 use Rattle.recheck.specs.Told.{rechecked_by}
 use Rattle.recheck.specs.declared.edit_fault.EditFault.{EditFault}
 use Rattle.recheck.specs.declared.edit_fault.EditFault.TheVariants.{Memory}
@@ -219,24 +220,34 @@ answered_as_before p q certs others before after kept same =
     subst (λ (x : LaidOut). IsAnswered x others after) (sym same.0) (subst (λ (x : List Section). IsAnswered p x after) (sym same.1) (subst (λ (x : List (Option Refusal)). IsAnswered p certs x) (sym same.2) kept))
 
 -- what a session keeps, where a section is put in its place or refused
-pub section_kept : (p : LaidOut) (certs others : List Section) (func : ℕ) (text : Text) (before after : KeptWork) (r : Result ℕ EditFault) → IsKept p certs before → after.tables ≡ before.tables → IfOk r (λ count. IsTextPut p certs func text p others count)
-    → OnOk r (AreAnswers p others after.functions.answers) → OnErr r ((others ≡ certs) × (after.functions.answers ≡ before.functions.answers)) → AreKept p others after.functions.rows → IsKept p others after
+pub section_kept : (p : LaidOut) (certs others : Certs) (func : ℕ) (text : Text) (before after : KeptWork) (r : Result ℕ EditFault) → IsKept p certs.sections before → after.tables ≡ before.tables
+    → IfOk r (λ count. IsTextPut p certs.sections func text p others.sections count) → OnOk r (AreAnswers p others.sections after.functions.answers)
+    → OnErr r ((others ≡ certs) × (after.functions.answers ≡ before.functions.answers)) → AreKept p others.sections after.functions.rows → IsKept p others.sections after
 section_kept p certs others func text before after (Ok count) kept tables put are same rows = record {
   rows = rows;
-  answered = section_answered p certs others func text before.functions.answers after.functions.answers count kept.answered put are;
+  answered = section_answered p certs.sections others.sections func text before.functions.answers after.functions.answers count kept.answered put are;
   ready = subst (AreReady p.of_module) (sym tables) kept.ready;
 }
 section_kept p certs others func text before after (Err x) kept tables put are same rows = record {
   rows = rows;
-  answered = answered_as_before p p certs others before.functions.answers after.functions.answers kept.answered (refl, same.0, same.1);
+  answered = answered_as_before p p certs.sections others.sections before.functions.answers after.functions.answers kept.answered (refl, ap (λ (c : Certs). c.sections) same.0, same.1);
   ready = subst (AreReady p.of_module) (sym tables) kept.ready;
 }
 
 -- and where code is
-pub code_kept : (p q : LaidOut) (certs others : List Section) (func : ℕ) (code text : Text) (before after : KeptWork) (r : Result ℕ EditFault) → IsKept p certs before → IfOk r (λ count. IsBothPut p certs func code text q others count)
-    → OnOk r (AreAnswers q others after.functions.answers) → AreReady q.of_module after.tables → OnErr r ((q ≡ p) × (others ≡ certs) × (after.functions.answers ≡ before.functions.answers)) → AreKept q others after.functions.rows → IsKept q others after
-code_kept p q certs others func code text before after (Ok count) kept put are ready same rows = record { rows = rows; answered = code_answered p q certs others func code text before.functions.answers after.functions.answers count kept.answered put are; ready = ready }
-code_kept p q certs others func code text before after (Err x) kept put are ready same rows = record { rows = rows; answered = answered_as_before p q certs others before.functions.answers after.functions.answers kept.answered same; ready = ready }
+pub code_kept : (p q : LaidOut) (certs others : Certs) (func : ℕ) (code text : Text) (before after : KeptWork) (r : Result ℕ EditFault) → IsKept p certs.sections before
+    → IfOk r (λ count. IsBothPut p certs.sections func code text q others.sections count) → OnOk r (AreAnswers q others.sections after.functions.answers) → AreReady q.of_module after.tables
+    → OnErr r ((q ≡ p) × (others ≡ certs) × (after.functions.answers ≡ before.functions.answers)) → AreKept q others.sections after.functions.rows → IsKept q others.sections after
+code_kept p q certs others func code text before after (Ok count) kept put are ready same rows = record {
+  rows = rows;
+  answered = code_answered p q certs.sections others.sections func code text before.functions.answers after.functions.answers count kept.answered put are;
+  ready = ready;
+}
+code_kept p q certs others func code text before after (Err x) kept put are ready same rows = record {
+  rows = rows;
+  answered = answered_as_before p q certs.sections others.sections before.functions.answers after.functions.answers kept.answered (same.0, ap (λ (c : Certs). c.sections) same.1, same.2);
+  ready = ready;
+}
 
 module _ (p : LaidOut) (certs : List Section) (func : ℕ) (e : Edit) where
   -- ---- of a section

@@ -1,9 +1,10 @@
 -- What comes of one function with its section in the place of another.
-use Rattle.std.proofs.Common.{◌≡◌, ◌≢◌, ◌<◌, ℕ, List, length, slice_get, Option, Some, None, refl, ap, sym, subst, ◌∙◌}
+use Rattle.std.proofs.Common.{◌≡◌, ℕ, List, length, slice_get, Option, Some, refl, ap, sym, subst, ◌∙◌}
 use Rattle.std.specs.Prelude.{slice_set}
 use Rattle.ir_ast.specs.declared.function.Function.{Function}
 use Rattle.ir_ast.specs.declared.module.Module.{Module}
 use Rattle.ir_tokens.specs.Bytes.{Text}
+use Rattle.certs.specs.declared.certs.Certs.{Certs}
 use Rattle.certs.specs.declared.section.Section.{Section}
 use Rattle.certificate.specs.Anew.{IsSection}
 use Rattle.layout.specs.Functions.{laid_with}
@@ -12,10 +13,10 @@ use Rattle.locality.specs.Local.{interface_of, LooksSame}
 use Rattle.answers.specs.Edited.{IfUnseen, IsEdited}
 use Rattle.answers.specs.declared.callers.Callers.{Callers}
 use Rattle.answers.specs.declared.callers.Callers.TheVariants.{SeeChange, SeeNone}
-use Rattle.recheck.specs.Put.{IsWithCode, IsWithSection, IsPutWith, IsTextPut}
+use Rattle.recheck.specs.Put.{IsWithCode, IsWithSection, IsTextPut}
 use Rattle.recheck.specs.Told.{rechecked_by}
 use Rattle.std.proofs.lemmas.List.{length-set}
-use Rattle.answers.specs.OneReplaced.{get_other}
+use Rattle.lemmas.specs.Lists.{set_other}
 use Rattle.recheck.proofs.Lists.{set_back}
 
 -- there are as many functions where one is another
@@ -49,7 +50,7 @@ edited p certs q others func callers old past n same h code section = record {
 -- the certificates with another section
 pub with_section : (certs others : List Section) (func : ℕ) (past section : Section) → others ≡ slice_set certs func section → slice_get certs func ≡ Some past → IsWithSection certs others func past
 with_section certs others func past section e at = record {
-  others_same = λ other differs. ap (λ (l : List Section). slice_get l other) e ∙ get_other certs func section other differs;
+  others_same = λ other differs. ap (λ (l : List Section). slice_get l other) e ∙ set_other certs func other section differs;
   section = at;
 }
 
@@ -63,7 +64,7 @@ with_other p q func old f e at =
     let functions : q.of_module.functions ≡ slice_set p.of_module.functions func f = ap (λ (r : LaidOut). r.of_module.functions) e in
     record {
       tables = e ∙ ap (laid_with p) (sym functions);
-      others = λ other differs. ap (λ (l : List Function). slice_get l other) functions ∙ get_other p.of_module.functions func f other differs;
+      others = λ other differs. ap (λ (l : List Function). slice_get l other) functions ∙ set_other p.of_module.functions func other f differs;
       code = at;
     }
 
@@ -74,8 +75,9 @@ program_back p q r func old f e at back =
     back ∙ ap (λ (x : LaidOut). laid_with x (slice_set x.of_module.functions func old)) e ∙ ap (laid_with p) (set_back p.of_module.functions func old f at)
 
 -- where the old section is put back, the certificates are as they were
-pub certs_back : (certs others again : List Section) (func : ℕ) (past section : Section) → others ≡ slice_set certs func section → slice_get certs func ≡ Some past → again ≡ slice_set others func past → again ≡ certs
-certs_back certs others again func past section e at back = back ∙ ap (λ (l : List Section). slice_set l func past) e ∙ set_back certs func past section at
+pub certs_back : (certs others again : Certs) (func : ℕ) (past section : Section) → others.sections ≡ slice_set certs.sections func section → slice_get certs.sections func ≡ Some past → again.sections ≡ slice_set others.sections func past → again ≡ certs
+certs_back certs others again func past section e at back =
+    ap (λ (l : List Section). record { sections = l }) (back ∙ ap (λ (l : List Section). slice_set l func past) e ∙ set_back certs.sections func past section at)
 
 -- the section that was read stands in its place, with the count
 pub put_so : (p : LaidOut) (certs : List Section) (q : LaidOut) (others : List Section) (func : ℕ) (old : Function) (past section : Section) (text : Text) (count : ℕ)

@@ -1,7 +1,6 @@
 -- The first refusal among the answers is that of the module.
 use Rattle.std.proofs.Common.{◌≡◌, ◌<◌, ℕ, zero, suc, List, [], ◌∷◌, length, slice_get, Option, Some, None, MatchOption, refl, ap, sym, subst, arith}
 use Rattle.certs.specs.declared.section.Section.{Section}
-use Rattle.ir_ast.specs.declared.module.Module.{Module}
 use Rattle.layout.specs.Layouts.{LaidOut}
 use Rattle.block_rules.specs.Functions.{blocks_in, IsFunctionCertified, IsFirstInFunction}
 use Rattle.block_rules.specs.declared.block_fault.Refusal.{Refusal}

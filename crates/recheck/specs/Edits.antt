@@ -1,5 +1,5 @@
 -- What an edit makes of a session, and which fault it has first.
-use Rattle.std.specs.Prelude.{◌≡◌, ◌≢◌, ◌⊎◌, ℕ, List, [], slice_get, slice_set, Option, Some, None, Result, Ok, Err}
+use Rattle.std.specs.Prelude.{◌≡◌, ◌≢◌, ◌⊎◌, ℕ, [], slice_get, slice_set, Option, Some, None, Result, Ok, Err}
 use Rattle.ir_ast.specs.declared.function.Function.{Function}
 use Rattle.ir_ast.specs.declared.module.Module.{Module}
 use Rattle.ir_tokens.specs.Bytes.{Text}
@@ -32,7 +32,7 @@ code_in s func = slice_get s.program.of_module.functions func
 
 -- the section of a function in a session
 abbrev pub section_in : State → (func : ℕ) → Option Section
-section_in s func = slice_get s.certs func
+section_in s func = slice_get s.certs.sections func
 
 -- a section's text with this code of its function
 abbrev pub text_with : Module → Option Function → Option Section → Text
@@ -50,8 +50,8 @@ pub record IsPut (s : State) (func : ℕ) (m : Module) (section : Section) (t : 
   pub of_module : t.program.of_module ≡ m
   pub laid_out : AreLayouts t.program.of_module t.program.layouts
   pub sized : AreSizes t.program.of_module t.program.sizes
-  pub certs : t.certs ≡ slice_set s.certs func section
-  pub rechecked : t.rechecked ≡ rechecked_by t.program.of_module t.certs func (code_in s func) (section_in s func)
+  pub certs : t.certs.sections ≡ slice_set s.certs.sections func section
+  pub rechecked : t.rechecked ≡ rechecked_by t.program.of_module t.certs.sections func (code_in s func) (section_in s func)
 
 -- a text of a function's code is read as this module, and with it a text of its section as this section
 abbrev pub AreRead : Module → (func : ℕ) → (code text : Text) → (n : Module) → Section → Type 0

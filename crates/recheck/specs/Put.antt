@@ -15,8 +15,8 @@ use Rattle.recheck.specs.Told.{rechecked_by}
 use Rattle.recheck.specs.declared.kept.KeptWork.{KeptWork}
 
 -- a session of these parts
-abbrev pub state : LaidOut → (certs : List Section) → (rechecked : ℕ) → State
-state program certs rechecked = record { program = program; certs = certs; rechecked = rechecked }
+abbrev pub state : LaidOut → (sections : List Section) → (rechecked : ℕ) → State
+state program sections rechecked = record { program = program; certs = record { sections = sections }; rechecked = rechecked }
 
 -- the module with this function in the place of the one with this number
 abbrev pub with_function : Module → (func : ℕ) → Function → Module

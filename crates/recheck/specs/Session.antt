@@ -1,5 +1,6 @@
 -- The state of a session, and what its type keeps.
 use Rattle.std.specs.Prelude.{◌≡◌, ℕ, List, Option, length}
+use Rattle.certs.specs.declared.certs.Certs.{Certs}
 use Rattle.certs.specs.declared.section.Section.{Section}
 use Rattle.ir_ast.specs.declared.module.Module.{Module}
 use Rattle.layout.specs.Layouts.{LaidOut, AreLayouts, AreSizes, IsLayoutFault}
@@ -11,7 +12,7 @@ use Rattle.module_check.specs.declared.verdict.Verdict.TheVariants.{Refused, Lay
 -- the present module with its layouts, its certificates, and how many functions the last edit concerns
 pub record State : Type 0 where
   pub program : LaidOut
-  pub certs : List Section
+  pub certs : Certs
   pub rechecked : ℕ
 
 -- the layouts are those of the module, there is a certificate for each function, and these are the answers to the functions

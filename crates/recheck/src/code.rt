@@ -95,10 +95,10 @@ fn put_anew(
     kept: &mut KeptWork,
 ) -> Result<u64, EditFault>
     requires function { func < length program.old.of_module.functions }
-    requires section { func < length certs.old }
-    ensures put { IfOk result (λ count. IsBothPut program.old certs.old func code.now text.now program.new certs.new count) }
-    ensures answers { OnOk result (AreAnswers program.new certs.new kept.new.functions.answers) }
-    ensures rows { OnOk result (AreKept program.new certs.new kept.new.functions.rows) }
+    requires section { func < length certs.old.sections }
+    ensures put { IfOk result (λ count. IsBothPut program.old certs.old.sections func code.now text.now program.new certs.new.sections count) }
+    ensures answers { OnOk result (AreAnswers program.new certs.new.sections kept.new.functions.answers) }
+    ensures rows { OnOk result (AreKept program.new certs.new.sections kept.new.functions.rows) }
     ensures ready { OnOk result (kept.new.tables ≡ None) }
     ensures kept { OnErr result ((program.new ≡ program.old) × (certs.new ≡ certs.old) × (kept.new ≡ kept.old)) }
     ensures fault { IfErr result (λ e. e ≢ Memory → HasCodeFault program.old.of_module func code.now text.now e) }
@@ -154,11 +154,11 @@ pub fn put_code(
     kept: &mut KeptWork,
 ) -> Result<u64, EditFault>
     requires function { func < length program.old.of_module.functions }
-    requires section { func < length certs.old }
-    requires kept { IsKept program.old certs.old kept.old }
-    ensures put { IfOk result (λ count. IsBothPut program.old certs.old func code.now text.now program.new certs.new count) }
-    ensures answers { OnOk result (AreAnswers program.new certs.new kept.new.functions.answers) }
-    ensures rows { AreKept program.new certs.new kept.new.functions.rows }
+    requires section { func < length certs.old.sections }
+    requires kept { IsKept program.old certs.old.sections kept.old }
+    ensures put { IfOk result (λ count. IsBothPut program.old certs.old.sections func code.now text.now program.new certs.new.sections count) }
+    ensures answers { OnOk result (AreAnswers program.new certs.new.sections kept.new.functions.answers) }
+    ensures rows { AreKept program.new certs.new.sections kept.new.functions.rows }
     ensures ready { AreReady program.new.of_module kept.new.tables }
     ensures kept { OnErr result ((program.new ≡ program.old) × (certs.new ≡ certs.old) × (kept.new.functions.answers ≡ kept.old.functions.answers)) }
     ensures fault { IfErr result (λ e. e ≢ Memory → HasCodeFault program.old.of_module func code.now text.now e) }

@@ -43,10 +43,10 @@ fn no_function(edit: &Edit) -> EditFault
 
 /// The section of the function with this number.
 fn section_at(certs: &Certs, func: FuncId) -> &Section
-    requires { func < length certs.now }
-    ensures { slice_get certs.now func ≡ Some result.now }
+    requires { func < length certs.now.sections }
+    ensures { slice_get certs.now.sections func ≡ Some result.now }
 {
-    &certs.sections()[func.number() as usize]
+    &certs.sections.as_slice()[func.number() as usize]
 }
 
 /// The text of a function's section, as it is printed with the code that is there.
@@ -57,8 +57,8 @@ fn kept_text(
     func: FuncId,
 ) -> Result<Vec<u8>, AllocError>
     requires function { func < length program.now.of_module.functions }
-    requires section { func < length certs.now }
-    ensures { IfOk result (λ text. text.items ≡ spec.text_with program.now.of_module (slice_get program.now.of_module.functions func) (slice_get certs.now func)) }
+    requires section { func < length certs.now.sections }
+    ensures { IfOk result (λ text. text.items ≡ spec.text_with program.now.of_module (slice_get program.now.of_module.functions func) (slice_get certs.now.sections func)) }
 {
     let of_module = program.module();
     let function = function_at(of_module, func);
@@ -76,13 +76,13 @@ fn put_at(
     edit: &Edit,
 ) -> Result<u64, EditFault>
     requires function { func < length program.old.of_module.functions }
-    requires kept { IsKept program.old certs.old kept.old }
-    ensures put { (n : ℕ) → IfOk result (λ count. spec.IsEditedAt (state program.old certs.old n) func edit.now (state program.new certs.new count)) }
-    ensures kept_so { IsKept program.new certs.new kept.new }
+    requires kept { IsKept program.old certs.old.sections kept.old }
+    ensures put { (n : ℕ) → IfOk result (λ count. spec.IsEditedAt (state program.old certs.old.sections n) func edit.now (state program.new certs.new.sections count)) }
+    ensures kept_so { IsKept program.new certs.new.sections kept.new }
     ensures kept { OnErr result ((program.new ≡ program.old) × (certs.new ≡ certs.old)) }
-    ensures fault { (n : ℕ) → IfErr result (λ e. e ≢ Memory → spec.IsFaultAt (state program.old certs.old n) func edit.now e) }
-    ensures only { (n : ℕ) (m : AModule) (section : ASection) → spec.IsReadAt (state program.old certs.old n) func edit.now m section → IsTaken result }
-    ensures only_fault { (n : ℕ) (e : AFault) → spec.IsFaultAt (state program.old certs.old n) func edit.now e → IsRefusedBy result e }
+    ensures fault { (n : ℕ) → IfErr result (λ e. e ≢ Memory → spec.IsFaultAt (state program.old certs.old.sections n) func edit.now e) }
+    ensures only { (n : ℕ) (m : AModule) (section : ASection) → spec.IsReadAt (state program.old certs.old.sections n) func edit.now m section → IsTaken result }
+    ensures only_fault { (n : ℕ) (e : AFault) → spec.IsFaultAt (state program.old certs.old.sections n) func edit.now e → IsRefusedBy result e }
 {
     match edit {
         Edit::Cert { section, .. } => put_section_of(
@@ -128,13 +128,13 @@ pub fn put_edit(
     kept: &mut KeptWork,
     edit: &Edit,
 ) -> Result<u64, EditFault>
-    requires { IsKept program.old certs.old kept.old }
-    ensures put { (n : ℕ) → IfOk result (λ count. IsEdited (state program.old certs.old n) edit.now (state program.new certs.new count)) }
-    ensures kept_so { IsKept program.new certs.new kept.new }
+    requires { IsKept program.old certs.old.sections kept.old }
+    ensures put { (n : ℕ) → IfOk result (λ count. IsEdited (state program.old certs.old.sections n) edit.now (state program.new certs.new.sections count)) }
+    ensures kept_so { IsKept program.new certs.new.sections kept.new }
     ensures kept { OnErr result ((program.new ≡ program.old) × (certs.new ≡ certs.old)) }
-    ensures fault { (n : ℕ) → IfErr result (λ e. e ≢ Memory → IsEditFault (state program.old certs.old n) edit.now e) }
-    ensures only { (n : ℕ) (m : AModule) (section : ASection) → IsRead (state program.old certs.old n) edit.now m section → IsTaken result }
-    ensures only_fault { (n : ℕ) (e : AFault) → IsEditFault (state program.old certs.old n) edit.now e → IsRefusedBy result e }
+    ensures fault { (n : ℕ) → IfErr result (λ e. e ≢ Memory → IsEditFault (state program.old certs.old.sections n) edit.now e) }
+    ensures only { (n : ℕ) (m : AModule) (section : ASection) → IsRead (state program.old certs.old.sections n) edit.now m section → IsTaken result }
+    ensures only_fault { (n : ℕ) (e : AFault) → IsEditFault (state program.old certs.old.sections n) edit.now e → IsRefusedBy result e }
 {
     match function_named(program.module(), name_in(edit)) {
         Some(func) => put_at(alloc, program, certs, kept, func, edit),

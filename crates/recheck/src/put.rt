@@ -42,11 +42,11 @@ fn answer_anew(
 ) -> Result<u64, AllocError>
     requires within { func < length program.now.of_module.functions }
     requires one_each { length kept.old.answers ≡ length program.now.of_module.functions }
-    requires rows { AreOthersKept program.now certs.now func kept.old.rows }
-    ensures answers { (p : LaidOut) (past_certs : List ASection) → AreAnswers p past_certs kept.old.answers → IsWithCode p program.now func old.now → IsWithSection past_certs certs.now func past.now → OnOk result (AreAnswers program.now certs.now kept.new.answers) }
-    ensures count { IfOk result (λ count. count ≡ rechecked_by program.now.of_module certs.now func (Some old.now) (Some past.now)) }
+    requires rows { AreOthersKept program.now certs.now.sections func kept.old.rows }
+    ensures answers { (p : LaidOut) (past_certs : List ASection) → AreAnswers p past_certs kept.old.answers → IsWithCode p program.now func old.now → IsWithSection past_certs certs.now.sections func past.now → OnOk result (AreAnswers program.now certs.now.sections kept.new.answers) }
+    ensures count { IfOk result (λ count. count ≡ rechecked_by program.now.of_module certs.now.sections func (Some old.now) (Some past.now)) }
     ensures kept { OnErr result (kept.new.answers ≡ kept.old.answers) }
-    ensures rows { AreOthersKept program.now certs.now func kept.new.rows }
+    ensures rows { AreOthersKept program.now certs.now.sections func kept.new.rows }
 {
     let callers = seen(program.module(), certs, func, old, past);
     let checked = answers_again(alloc, program, certs, func, callers, kept)?;
@@ -64,9 +64,9 @@ pub fn answer_all(
     past: &Section,
     kept: &mut KeptFunctions,
 ) -> Result<u64, AllocError>
-    ensures answers { OnOk result (AreAnswers program.now certs.now kept.new.answers) }
-    ensures rows { OnOk result (AreKept program.now certs.now kept.new.rows) }
-    ensures count { IfOk result (λ count. count ≡ rechecked_by program.now.of_module certs.now func (Some old.now) (Some past.now)) }
+    ensures answers { OnOk result (AreAnswers program.now certs.now.sections kept.new.answers) }
+    ensures rows { OnOk result (AreKept program.now certs.now.sections kept.new.rows) }
+    ensures count { IfOk result (λ count. count ≡ rechecked_by program.now.of_module certs.now.sections func (Some old.now) (Some past.now)) }
     ensures kept { OnErr result (kept.new ≡ kept.old) }
 {
     let callers = seen(program.module(), certs, func, old, past);
@@ -106,13 +106,13 @@ pub fn put_section(
     kept: &mut KeptFunctions,
 ) -> Result<u64, EditFault>
     requires function { func < length program.now.of_module.functions }
-    requires section { func < length certs.old }
+    requires section { func < length certs.old.sections }
     requires answers { length kept.old.answers ≡ length program.now.of_module.functions }
-    requires rows { AreOthersKept program.now certs.old func kept.old.rows }
-    ensures put { (p : LaidOut) → IsWithCode p program.now func old.now → IfOk result (λ count. IsTextPut p certs.old func text.now program.now certs.new count) }
-    ensures answers { (p : LaidOut) → AreAnswers p certs.old kept.old.answers → IsWithCode p program.now func old.now → OnOk result (AreAnswers program.now certs.new kept.new.answers) }
+    requires rows { AreOthersKept program.now certs.old.sections func kept.old.rows }
+    ensures put { (p : LaidOut) → IsWithCode p program.now func old.now → IfOk result (λ count. IsTextPut p certs.old.sections func text.now program.now certs.new.sections count) }
+    ensures answers { (p : LaidOut) → AreAnswers p certs.old.sections kept.old.answers → IsWithCode p program.now func old.now → OnOk result (AreAnswers program.now certs.new.sections kept.new.answers) }
     ensures kept { OnErr result ((certs.new ≡ certs.old) × (kept.new.answers ≡ kept.old.answers)) }
-    ensures rows { AreOthersKept program.now certs.new func kept.new.rows }
+    ensures rows { AreOthersKept program.now certs.new.sections func kept.new.rows }
     ensures fault { IfErr result (λ e. e ≢ Memory → HasSectionFault program.now.of_module func text.now e) }
     ensures only { (section : ASection) → IsSection text.now program.now.of_module func section → IsTaken result }
     ensures only_fault { (e : AFault) → HasSectionFault program.now.of_module func text.now e → IsRefusedBy result e }
@@ -143,14 +143,14 @@ pub fn put_in_place(
     kept: &mut KeptFunctions,
 ) -> Result<u64, EditFault>
     requires function { func < length program.old.of_module.functions }
-    requires section { func < length certs.old }
-    requires answers { AreAnswers program.old certs.old kept.old.answers }
-    requires rows { AreKept program.old certs.old kept.old.rows }
+    requires section { func < length certs.old.sections }
+    requires answers { AreAnswers program.old certs.old.sections kept.old.answers }
+    requires rows { AreKept program.old certs.old.sections kept.old.rows }
     ensures program { OnOk result (program.new ≡ laid_with program.old (slice_set program.old.of_module.functions func function)) }
-    ensures put { IfOk result (λ count. IsTextPut program.old certs.old func text.now program.new certs.new count) }
-    ensures answers { OnOk result (AreAnswers program.new certs.new kept.new.answers) }
+    ensures put { IfOk result (λ count. IsTextPut program.old certs.old.sections func text.now program.new certs.new.sections count) }
+    ensures answers { OnOk result (AreAnswers program.new certs.new.sections kept.new.answers) }
     ensures kept { OnErr result ((program.new ≡ program.old) × (certs.new ≡ certs.old) × (kept.new.answers ≡ kept.old.answers)) }
-    ensures rows { AreKept program.new certs.new kept.new.rows }
+    ensures rows { AreKept program.new certs.new.sections kept.new.rows }
     ensures fault { IfErr result (λ e. e ≢ Memory → HasSectionFault (with_function program.old.of_module func function) func text.now e) }
     ensures only { (section : ASection) → IsSection text.now (with_function program.old.of_module func function) func section → IsTaken result }
     ensures only_fault { (e : AFault) → HasSectionFault (with_function program.old.of_module func function) func text.now e → IsRefusedBy result e }
@@ -177,13 +177,13 @@ pub fn put_section_of(
     kept: &mut KeptFunctions,
 ) -> Result<u64, EditFault>
     requires function { func < length program.now.of_module.functions }
-    requires section { func < length certs.old }
-    requires answers { AreAnswers program.now certs.old kept.old.answers }
-    requires rows { AreKept program.now certs.old kept.old.rows }
-    ensures put { IfOk result (λ count. IsTextPut program.now certs.old func text.now program.now certs.new count) }
-    ensures answers { OnOk result (AreAnswers program.now certs.new kept.new.answers) }
+    requires section { func < length certs.old.sections }
+    requires answers { AreAnswers program.now certs.old.sections kept.old.answers }
+    requires rows { AreKept program.now certs.old.sections kept.old.rows }
+    ensures put { IfOk result (λ count. IsTextPut program.now certs.old.sections func text.now program.now certs.new.sections count) }
+    ensures answers { OnOk result (AreAnswers program.now certs.new.sections kept.new.answers) }
     ensures kept { OnErr result ((certs.new ≡ certs.old) × (kept.new.answers ≡ kept.old.answers)) }
-    ensures rows { AreKept program.now certs.new kept.new.rows }
+    ensures rows { AreKept program.now certs.new.sections kept.new.rows }
     ensures fault { IfErr result (λ e. e ≢ Memory → HasSectionFault program.now.of_module func text.now e) }
     ensures only { (section : ASection) → IsSection text.now program.now.of_module func section → IsTaken result }
     ensures only_fault { (e : AFault) → HasSectionFault program.now.of_module func text.now e → IsRefusedBy result e }

@@ -40,7 +40,7 @@ impl Model for Session {
 
     ghost view = { λ session. record { program = session.program; certs = session.certs; rechecked = session.rechecked } };
 
-    ghost invariant = { λ session. IsKept session.program session.certs session.kept };
+    ghost invariant = { λ session. IsKept session.program session.certs.sections session.kept };
 }
 
 impl Session {
@@ -48,7 +48,7 @@ impl Session {
     /// back then.
     #[tactic(auto, using(crate::proofs::Rows::none_kept))]
     pub fn new(alloc: Global, of_module: Module, certs: Certs) -> Result<Self, NotAccepted>
-        requires { length certs ≡ length of_module.functions }
+        requires { length certs.sections ≡ length of_module.functions }
         ensures of_module { IfOk result (λ session. session.program.of_module ≡ of_module) }
         ensures certs { IfOk result (λ session. session.certs ≡ certs) }
         ensures rechecked { IfOk result (λ session. session.rechecked ≡ 0) }
@@ -117,7 +117,7 @@ impl Session {
 
     /// What `check` finds in the present module with its certificates: nothing, or the first refused instruction.
     pub fn verdict(&self) -> Option<Refusal>
-        ensures { MatchOption result (IsAccepted self.now.program.of_module self.now.certs) (IsFirstRefusal self.now.program.of_module self.now.certs) }
+        ensures { MatchOption result (IsAccepted self.now.program.of_module self.now.certs.sections) (IsFirstRefusal self.now.program.of_module self.now.certs.sections) }
     {
         first_refusal(self.kept.functions.answers.as_slice())
     }

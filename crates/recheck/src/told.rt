@@ -47,8 +47,8 @@ fn looks_same(old: &Function, new: &Function, past: &Section, next: &Section) ->
 
 /// Whether the callers of a function see that it was replaced.
 pub fn seen(module: &Module, certs: &Certs, func: FuncId, old: &Function, past: &Section) -> Callers
-    ensures unseen { IfUnseen result (interface_of (slice_get «module».now.functions func) (slice_get certs.now func) ≡ interface_of (Some old.now) (Some past.now)) }
-    ensures told { IfUnseen result (spec.is_told_same «module».now (Some old.now) (slice_get «module».now.functions func) (Some past.now) (slice_get certs.now func) ≡ true) }
+    ensures unseen { IfUnseen result (interface_of (slice_get «module».now.functions func) (slice_get certs.now.sections func) ≡ interface_of (Some old.now) (Some past.now)) }
+    ensures told { IfUnseen result (spec.is_told_same «module».now (Some old.now) (slice_get «module».now.functions func) (Some past.now) (slice_get certs.now.sections func) ≡ true) }
 {
     let Some(new) = module.functions.get(func.number() as usize) else {
         return Callers::SeeChange;
@@ -136,7 +136,7 @@ fn is_told_same(
     old: &Function,
     past: &Section,
 ) -> bool
-    ensures { result ≡ spec.is_told_same «module».now (Some old.now) (slice_get «module».now.functions func) (Some past.now) (slice_get certs.now func) }
+    ensures { result ≡ spec.is_told_same «module».now (Some old.now) (slice_get «module».now.functions func) (Some past.now) (slice_get certs.now.sections func) }
 {
     let Some(new) = module.functions.get(func.number() as usize) else {
         return false;
@@ -157,8 +157,8 @@ pub fn count_checked(
     past: &Section,
     checked: usize,
 ) -> u64
-    requires { spec.is_told_same «module».now (Some old.now) (slice_get «module».now.functions func) (Some past.now) (slice_get certs.now func) ≡ false → checked ≡ 1 + spec.callers_before «module».now func (length «module».now.functions) }
-    ensures { result ≡ spec.rechecked_by «module».now certs.now func (Some old.now) (Some past.now) }
+    requires { spec.is_told_same «module».now (Some old.now) (slice_get «module».now.functions func) (Some past.now) (slice_get certs.now.sections func) ≡ false → checked ≡ 1 + spec.callers_before «module».now func (length «module».now.functions) }
+    ensures { result ≡ spec.rechecked_by «module».now certs.now.sections func (Some old.now) (Some past.now) }
 {
     if is_told_same(module, certs, func, old, past) {
         1

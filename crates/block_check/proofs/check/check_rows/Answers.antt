@@ -7,11 +7,11 @@ use Rattle.block_check.proofs.check.check_rows.Goals as goal
 
 pub answer_block-requires-clause-rows : goal.answer_block-requires-clause-rows
 answer_block-requires-clause-rows c =
-    let given : AreGivenOf c.args.program.now c.args.certs.now c.args.func c.args.rows.now = given_of_rows c.args.program.now c.args.certs.now c.args.func c.args.rows.now c.requires.rows in
-    subst (λ (l : List FactSet). AreGivenOf c.args.program.now c.args.certs.now c.args.func l) (sym c.blocks-2.ensures) given
+    let given : AreGivenOf c.args.program.now c.args.certs.now.sections c.args.func c.args.rows.now = given_of_rows c.args.program.now c.args.certs.now.sections c.args.func c.args.rows.now c.requires.rows in
+    subst (λ (l : List FactSet). AreGivenOf c.args.program.now c.args.certs.now.sections c.args.func l) (sym c.blocks-2.ensures) given
 
 pub returns-clause-certified : goal.returns-clause-certified
-returns-clause-certified c = certified_only c.args.program.now c.args.certs.now c.args.func c.args.block c.answer_block.result c.answer_block.ensures
+returns-clause-certified c = certified_only c.args.program.now c.args.certs.now.sections c.args.func c.args.block c.answer_block.result c.answer_block.ensures
 
 pub returns-clause-refused : goal.returns-clause-refused
-returns-clause-refused c = refused_only c.args.program.now c.args.certs.now c.args.func c.args.block c.answer_block.result c.answer_block.ensures
+returns-clause-refused c = refused_only c.args.program.now c.args.certs.now.sections c.args.func c.args.block c.answer_block.result c.answer_block.ensures

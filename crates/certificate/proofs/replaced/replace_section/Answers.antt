@@ -6,8 +6,8 @@ use Rattle.certificate.proofs.replaced.replace_section.Goals as goal
 
 pub returns-clause-fits : goal.returns-clause-fits
 returns-clause-fits c =
-    let is : IsReplaced c.args.bytes.now c.args.module.now c.args.function c.args.certs.now c.new.result = search rules in
-    λ others. stay_fitting c.args.bytes.now c.args.module.now c.args.function c.args.certs.now c.new.result is others
+    let is : IsReplaced c.args.bytes.now c.args.module.now c.args.function c.args.certs.now.sections c.set.new.self = search rules in
+    λ others. stay_fitting c.args.bytes.now c.args.module.now c.args.function c.args.certs.now.sections c.set.new.self is others
 
 pub returns-in-Err-clause-only_fault : goal.returns-in-Err-clause-only_fault
 returns-in-Err-clause-only_fault c = λ e h other.

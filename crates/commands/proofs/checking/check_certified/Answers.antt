@@ -1,7 +1,7 @@
-use Rattle.std.proofs.Common.{◌≡◌, List, length, refl, subst, rules}
+use Rattle.std.proofs.Common.{◌≡◌, length, refl, subst, rules}
 use Rattle.std.proofs.lemmas.Result.{IfOk-weaker}
+use Rattle.certs.specs.declared.certs.Certs.{Certs}
 use Rattle.ir_ast.specs.declared.module.Module.{Module}
-use Rattle.certs.specs.declared.section.Section.{Section}
 use Rattle.commands.specs.Report.{IsTold, yes}
 use Rattle.commands.specs.Commands.{OfVerdict, OnOutput, accepted, not_accepted}
 use Rattle.commands.proofs.checking.check_certified.Goals as goal
@@ -18,5 +18,5 @@ returns-in-Err g c =
     let answer = c.in-Err.answer in
     let back = c.in-Err.ensures.given_back in
     IfOk-weaker c.report_verdict-status.result _ _
-    (λ status told. (told.0, not_accepted told.0 (subst (λ (m : Module). OfVerdict m c.args.certified.certs told.0) back.0 (subst (λ (certs : List Section). OfVerdict answer.of_module certs told.0) back.1 told.1)), told.2))
+    (λ status told. (told.0, not_accepted told.0 (subst (λ (m : Module). OfVerdict m c.args.certified.certs.sections told.0) back.0 (subst (λ (certs : Certs). OfVerdict answer.of_module certs.sections told.0) back.1 told.1)), told.2))
     c.report_verdict-status.ensures

@@ -12,7 +12,7 @@ returns-in_ok-refused-in-Ok g c =
     let old = g.E.Write.contents c.args.err.now in
     let new = g.E.Write.contents c.refused.new.out in
     let told = subst (λ line. Appends old new (no m line tried.refusal).text) (c.as_slice.ensures.value ∙ c.in-Ok.ensures) c.in_ok-refused-in-Ok.ensures.1 in
-    (OnBoth no_answer _, none_made_why tried.certs tried.refusal refl c.requires.plain c.requires.refused.fit c.requires.refused.first, (c.in_ok-status-in-Ok.ensures, told))
+    (OnBoth no_answer _, none_made_why tried.certs.sections tried.refusal refl c.requires.plain c.requires.refused.fit c.requires.refused.first, (c.in_ok-status-in-Ok.ensures, told))
 
 pub returns-in-Err : goal.returns-in-Err
 returns-in-Err g c = IfOk-weaker c.memory.result _ _ (λ status told. (OnError _, not_made, (refl, told))) c.memory.ensures

@@ -10,7 +10,7 @@ returns-in_ok-write_all-in-Ok g c =
     let old = c.args.session.now in
     let told = c.in-Ok.ensures in
     let last = c.status_of_verdict.ensures in
-    let begun : IsBegun old.program.of_module old.certs old = record { of_module = refl; of_certs = refl; none_checked = c.requires } in
+    let begun : IsBegun old.program.of_module old.certs.sections old = record { of_module = refl; of_certs = refl; none_checked = c.requires } in
     let written = subst (Appends _ _) (c.as_slice.ensures.value ∙ told.4) c.in_ok-write_all-in-Ok.ensures.bytes in
     (OnOutput _, rechecked old c.lines_of.new.session told.0 last.0 told.1 begun told.2 told.3 last.1, ((last.2, written), refl))
 

@@ -1,7 +1,7 @@
-use Rattle.std.proofs.Common.{List, refl, subst, sym}
+use Rattle.std.proofs.Common.{refl, subst, sym}
 use Rattle.std.proofs.lemmas.Result.{IfOk-weaker}
+use Rattle.certs.specs.declared.certs.Certs.{Certs}
 use Rattle.ir_ast.specs.declared.module.Module.{Module}
-use Rattle.certs.specs.declared.section.Section.{Section}
 use Rattle.recheck.specs.Session.{IsBeginFault}
 use Rattle.commands.specs.Commands.{OfRechecked, OnError}
 use Rattle.commands.specs.Rechecks.{of_begin_fault}
@@ -9,7 +9,7 @@ use Rattle.commands.proofs.Edits.{one_for_each, unbegun}
 use Rattle.commands.proofs.rechecking.recheck_certified.Goals as goal
 
 pub new-requires : goal.new-requires
-new-requires g c = one_for_each c.args.certified.of_module c.args.certified.certs c.requires
+new-requires g c = one_for_each c.args.certified.of_module c.args.certified.certs.sections c.requires
 
 pub returns-in-Ok : goal.returns-in-Ok
 returns-in-Ok g c =
@@ -19,8 +19,8 @@ returns-in-Ok g c =
     IfOk-weaker c.edit_session-status.result _ _
     (λ status told. (
       told.0,
-      subst (λ (m : Module). OfRechecked m c.args.certified.certs edits told.0) kept.of_module
-          (subst (λ (certs : List Section). OfRechecked session.program.of_module certs edits told.0) kept.certs told.1),
+      subst (λ (m : Module). OfRechecked m c.args.certified.certs.sections edits told.0) kept.of_module
+          (subst (λ (certs : Certs). OfRechecked session.program.of_module certs.sections edits told.0) kept.certs told.1),
       told.2,
     ))
     c.edit_session-status.ensures
@@ -28,7 +28,7 @@ returns-in-Ok g c =
 pub returns-in-Err : goal.returns-in-Err
 returns-in-Err g c =
     let answer = c.in-Err.answer in
-    let certs = c.args.certified.certs in
+    let certs = c.args.certified.certs.sections in
     let edits = c.args.edits.now in
     let back = c.in-Err.ensures.given_back.0 in
     let fault = subst (λ (m : Module). IsBeginFault m answer.verdict) (sym back) c.in-Err.ensures.fault in

@@ -1,5 +1,6 @@
 use Rattle.std.proofs.Common.{◌≡◌, ◌∙◌, length, ap, ap₂, subst, rules}
 use Rattle.std.proofs.lemmas.Result.{IfOk-weaker}
+use Rattle.certs.specs.declared.certs.Certs.{Certs}
 use Rattle.layout.specs.Layouts.{LaidOut}
 use Rattle.commands.specs.Report.{IsTold, line_of, no, yes}
 use Rattle.commands.specs.Rechecks.{session_accepted, session_refused}
@@ -21,12 +22,12 @@ returns-in_ok-line-in-Some g c =
     let old = g.W.Write.contents c.args.lines.now in
     let new = g.W.Write.contents c.refused.new.out in
     let of_module = c.module-of_module.ensures.of_module ∙ ap (λ (p : LaidOut). p.of_module) c.program.ensures in
-    let line = c.as_slice.ensures.value ∙ c.in_ok-line-in-Some.ensures ∙ ap₂ (λ certs m. line_of certs m refusal.func refusal.detail) c.certs.ensures of_module in
+    let line = c.as_slice.ensures.value ∙ c.in_ok-line-in-Some.ensures ∙ ap₂ (λ (certs : Certs) m. line_of certs.sections m refusal.func refusal.detail) c.certs.ensures of_module in
     IfOk-weaker c.refused.result _ _
     (λ status told. (
       _,
       session_refused refusal c.in-Some.ensures,
-      subst (λ m. IsTold old new status (no m (line_of session.certs session.program.of_module refusal.func refusal.detail) refusal)) of_module
+      subst (λ m. IsTold old new status (no m (line_of session.certs.sections session.program.of_module refusal.func refusal.detail) refusal)) of_module
           (subst (λ text. IsTold old new status (no c.module-of_module.result.now text refusal)) line told),
     ))
     c.refused.ensures

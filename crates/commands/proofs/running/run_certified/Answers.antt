@@ -1,7 +1,7 @@
-use Rattle.std.proofs.Common.{List, subst}
+use Rattle.std.proofs.Common.{subst}
 use Rattle.std.proofs.lemmas.Result.{IfOk-weaker}
+use Rattle.certs.specs.declared.certs.Certs.{Certs}
 use Rattle.ir_ast.specs.declared.module.Module.{Module}
-use Rattle.certs.specs.declared.section.Section.{Section}
 use Rattle.module_check.specs.Accepted.{IsProgramCertified}
 use Rattle.commands.specs.Commands.{OfTraceFile, OfVerdict, no_program, of_program}
 use Rattle.commands.specs.Files.{file_at}
@@ -16,8 +16,8 @@ returns-in-Ok g c =
     (λ status told. (
       told.0,
       of_program accepted.program told.0 kept.0
-          (subst (λ (certs : List Section). IsProgramCertified accepted.program certs) kept.1 c.in-Ok.ensures.certified)
-          (subst (λ (certs : List Section). OfTraceFile c.args.limits accepted.program certs c.args.path.now file told.0) kept.1 told.1),
+          (subst (λ (certs : Certs). IsProgramCertified accepted.program certs.sections) kept.1 c.in-Ok.ensures.certified)
+          (subst (λ (certs : Certs). OfTraceFile c.args.limits accepted.program certs.sections c.args.path.now file told.0) kept.1 told.1),
       told.2,
     ))
     c.run_accepted-status.ensures
@@ -27,5 +27,5 @@ returns-in-Err g c =
     let answer = c.in-Err.answer in
     let back = c.in-Err.ensures.given_back in
     IfOk-weaker c.report_verdict-status.result _ _
-    (λ status told. (told.0, no_program told.0 (subst (λ (m : Module). OfVerdict m c.args.certified.certs told.0) back.0 (subst (λ (certs : List Section). OfVerdict answer.of_module certs told.0) back.1 told.1)), told.2))
+    (λ status told. (told.0, no_program told.0 (subst (λ (m : Module). OfVerdict m c.args.certified.certs.sections told.0) back.0 (subst (λ (certs : Certs). OfVerdict answer.of_module certs.sections told.0) back.1 told.1)), told.2))
     c.report_verdict-status.ensures

@@ -24,11 +24,11 @@ returns-clause-ok c =
     let certs = c.args.accepted.now.certs in
     let setup = c.args.setup.now in
     let begun = c.args.begun.now in
-    let careful = subst (λ (q : LaidOut). IsCarefulProgram q certs) c.program.ensures.program c.program.ensures.careful in
+    let careful = subst (λ (q : LaidOut). IsCarefulProgram q certs.sections) c.program.ensures.program c.program.ensures.careful in
     let begins = subst (λ (q : LaidOut). MayBegin q begun) c.program.ensures.program c.in_ok-machine.ensures.no_fault in
     let meets = met_by certs begun c.certs.result.now (option_copied c.section-section.result) c.promises_in.result.now c.as_slice.result.now c.certs.ensures c.section-section.ensures c.promises_in.ensures c.as_slice.ensures
     (sym c.are_under.ensures ∙ c.if-not-are_under.false) in
-    job_of p setup certs c.args.heap.now c.args.number begun c.args.me c.in_ok-machine.machine c.is_late.result _ careful c.begun_law.ensures c.requires.heap c.requires.at c.requires.begun
+    job_of p setup certs.sections c.args.heap.now c.args.number begun c.args.me c.in_ok-machine.machine c.is_late.result _ careful c.begun_law.ensures c.requires.heap c.requires.at c.requires.begun
     (record { begins = begins; meets = meets }) c.requires.token (c.in_ok-machine.ensures.ok ∙ ap (λ (q : LaidOut). begun_at q setup (Some begun)) c.program.ensures.program) c.is_late.ensures
 
 pub returns-clause-no_fault : goal.returns-clause-no_fault

@@ -13,5 +13,5 @@ invariant-loop-number l = record {
   rest : length l.tokens.items + l.number ≡ length l.setup.starts;
   count : length l.jobs.items ≡ l.number;
   jobs : AreJobs l.accepted.program l.setup l.heap l.jobs.items;
-  begun : EachBefore (MayStart l.accepted.program l.accepted.certs) l.setup.starts l.number;
+  begun : EachBefore (MayStart l.accepted.program l.accepted.certs.sections) l.setup.starts l.number;
 }

@@ -6,7 +6,7 @@ use Rattle.parallel_check.proofs.checking.fault_by_workers.Goals as goal
 pub returns-in-Ok : goal.returns-in-Ok
 returns-in-Ok g c =
     let program = c.args.program.now in
-    let certs = c.args.certs.now in
+    let certs = c.args.certs.now.sections in
     let faults = c.in-Ok.faults.items in
     let as_many : length faults ≡ c.args.workers = search rules in
     subst (λ fault. MatchOption fault (IsModuleCertified program certs c.args.count) (IsModuleFault program certs c.args.count)) (sym c.first_of.ensures)

@@ -6,18 +6,18 @@ use Rattle.parallel_check.proofs.share.fault_in_share.Goals.{else-loop-number-te
 use Rattle.parallel_check.proofs.share.fault_in_share.Goals as goal
 
 pub loop-number-init : goal.loop-number-init
-loop-number-init g c = (is_first c.args.workers c.args.worker c.requires.worker, none_yet c.args.program.now c.args.certs.now c.args.workers c.args.worker c.requires.worker)
+loop-number-init g c = (is_first c.args.workers c.args.worker c.requires.worker, none_yet c.args.program.now c.args.certs.now.sections c.args.workers c.args.worker c.requires.worker)
 
 pub loop-number-preserved : goal.loop-number-preserved
 loop-number-preserved g c =
     let mine = c.loop-number.invariant.0 in
-    let here = subst (λ func. IsFunctionCertified c.args.program.now c.args.certs.now func) c.new.ensures c.in_default.ensures.answer in
-    (is_next c.args.workers c.args.worker c.loop-number.number mine, one_more c.args.program.now c.args.certs.now c.args.workers c.args.worker c.loop-number.number c.requires.worker mine c.loop-number.invariant.1 here)
+    let here = subst (λ func. IsFunctionCertified c.args.program.now c.args.certs.now.sections func) c.new.ensures c.in_default.ensures.answer in
+    (is_next c.args.workers c.args.worker c.loop-number.number mine, one_more c.args.program.now c.args.certs.now.sections c.args.workers c.args.worker c.loop-number.number c.requires.worker mine c.loop-number.invariant.1 here)
 
 pub returns : goal.returns
 returns g c =
     let program = c.args.program.now in
-    let certs = c.args.certs.now in
+    let certs = c.args.certs.now.sections in
     let mine = IsOf c.args.workers c.args.worker in
     let number = c.loop-number.number in
     elim c.loop-number-test.branch [

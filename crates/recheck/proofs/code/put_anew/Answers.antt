@@ -54,7 +54,7 @@ returns-in-Err-new-clause-only_fault c =
 pub returns-in-Ok-answer_all-clause-put : goal.returns-in-Ok-answer_all-clause-put
 returns-in-Ok-answer_all-clause-put c =
     let read = the_code c.args.program.now.of_module c.module.result.now c.module.ensures.of_module c.args.func c.args.code.now c.in-Ok.of_module c.in-Ok.ensures.found c.in-Ok.ensures.only c.in-Ok.ensures.only_fault in
-    both_anew c.args.program.now c.in-Ok-new.anew c.args.certs.now c.replace-past.new.self c.args.func c.function_at-old.result.now c.replace-past.result c.in-Ok-read_text.section c.in-Ok.of_module c.args.code.now c.args.text.now c.in-Ok-answer_all.count
+    both_anew c.args.program.now c.in-Ok-new.anew c.args.certs.now.sections c.replace-past.new.self.sections c.args.func c.function_at-old.result.now c.replace-past.result c.in-Ok-read_text.section c.in-Ok.of_module c.args.code.now c.args.text.now c.in-Ok-answer_all.count
     read.is_read c.in-Ok-read_text.ensures.found c.in-Ok-new.ensures.found c.replace-past.ensures.new
     (subst (λ (m : Module). slice_get m.functions c.args.func ≡ Some c.function_at-old.result.now) c.module-2.ensures.of_module c.function_at-old.ensures)
     c.replace-past.ensures.given_back c.in-Ok-answer_all.ensures.count
@@ -66,7 +66,7 @@ returns-in-Ok-answer_all-clause-only_fault c =
 
 pub replace-requires-in-Err-answer_all : goal.replace-requires-in-Err-answer_all
 replace-requires-in-Err-answer_all c =
-    subst (λ (n : ℕ). c.args.func < n) (sym (as_many_sections c.args.certs.now c.replace-past.new.self c.args.func c.in-Ok-read_text.section c.replace-past.ensures.new)) c.requires.section
+    subst (λ (n : ℕ). c.args.func < n) (sym (as_many_sections c.args.certs.now.sections c.replace-past.new.self.sections c.args.func c.in-Ok-read_text.section c.replace-past.ensures.new)) c.requires.section
 
 pub returns-in-Err-answer_all-clause-kept : goal.returns-in-Err-answer_all-clause-kept
 returns-in-Err-answer_all-clause-kept c = (

@@ -10,7 +10,7 @@ use Rattle.recheck.proofs.code.put_code.Goals as goal
 pub returns-in-Ok-Some-clause-put : goal.returns-in-Ok-Some-clause-put
 returns-in-Ok-Some-clause-put c =
     let read = the_place c.args.program.now.of_module c.module.result.now c.module.ensures.of_module c.args.func c.args.code.now c.read_within.result c.in-Ok-Some.function (search rules) c.read_within.ensures.found c.read_within.ensures.one c.read_within.ensures.only_fault in
-    place_put c.layouts_stay_law.ensures c.args.program.now c.put_in_place.new.program c.args.certs.now c.put_in_place.new.certs c.args.func c.in-Ok-Some.function c.args.code.now c.args.text.now c.put_in_place.result
+    place_put c.layouts_stay_law.ensures c.args.program.now c.put_in_place.new.program c.args.certs.now.sections c.put_in_place.new.certs.sections c.args.func c.in-Ok-Some.function c.args.code.now c.args.text.now c.put_in_place.result
     c.put_in_place.ensures.program read.is_read c.requires.kept.answered.laid_out c.requires.kept.answered.sized c.put_in_place.ensures.put
 
 pub returns-in-Ok-Some-clause-fault : goal.returns-in-Ok-Some-clause-fault

@@ -1,7 +1,6 @@
-use Rattle.std.proofs.Common.{List, slice_get, ap, subst, sym, ◌∙◌}
+use Rattle.std.proofs.Common.{List, slice_get, ap, ◌∙◌}
 use Rattle.ir_ast.specs.declared.function.Function.{Function}
 use Rattle.recheck.specs.Edits.{code_fault}
-use Rattle.recheck.specs.Put.{AreReady}
 use Rattle.recheck.proofs.Faults.{refused_for_memory}
 use Rattle.recheck.proofs.Within.{AreTables, tables_same, some_found, some_one, within_unread, within_taken, within_refused, within_same}
 use Rattle.recheck.proofs.code.read_within.Goals as goal

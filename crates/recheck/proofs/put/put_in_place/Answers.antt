@@ -1,5 +1,4 @@
 use Rattle.std.proofs.Common.{◌<◌, ℕ, sym, subst, ◌∙◌}
-use Rattle.ir_ast.specs.declared.module.Module.{Module}
 use Rattle.certificate.specs.Anew.{IsSection}
 use Rattle.layout.specs.Layouts.{LaidOut}
 use Rattle.recheck.specs.Edits.{HasSectionFault}
@@ -53,12 +52,12 @@ returns-in-Err-clause-only_fault c = λ e h. c.in-Err.ensures.only_fault e (subs
 
 pub put_section-requires-clause-rows : goal.put_section-requires-clause-rows
 put_section-requires-clause-rows c =
-    others_with_code c.rows_law.ensures.others c.args.program.now c.replace_function-old.new.self c.args.certs.now c.args.func c.args.function c.forget.new.self c.replace_function-old.ensures.new (c.forget.ensures c.args.program.now c.args.certs.now c.requires.rows)
+    others_with_code c.rows_law.ensures.others c.args.program.now c.replace_function-old.new.self c.args.certs.now.sections c.args.func c.args.function c.forget.new.self c.replace_function-old.ensures.new (c.forget.ensures c.args.program.now c.args.certs.now.sections c.requires.rows)
 
 pub returns-in-Ok-clause-rows : goal.returns-in-Ok-clause-rows
 returns-in-Ok-clause-rows c = c.put_section.ensures.rows.1
 
 pub returns-in-Err-clause-rows : goal.returns-in-Err-clause-rows
 returns-in-Err-clause-rows c =
-    let back = others_with_code c.rows_law.ensures.others c.replace_function-old.new.self c.replace_function.new.self c.put_section.new.certs c.args.func c.replace_function-old.result c.put_section.new.kept.rows c.replace_function.ensures.new c.put_section.ensures.rows in
+    let back = others_with_code c.rows_law.ensures.others c.replace_function-old.new.self c.replace_function.new.self c.put_section.new.certs.sections c.args.func c.replace_function-old.result c.put_section.new.kept.rows c.replace_function.ensures.new c.put_section.ensures.rows in
     back.1

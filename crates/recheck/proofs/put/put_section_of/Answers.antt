@@ -16,7 +16,7 @@ returns-clause-answers c =
     (subst (λ (m : Module). slice_get m.functions c.args.func ≡ Some c.function_at-old.result.now) c.module.ensures.of_module c.function_at-old.ensures))
 
 pub put_section-requires-clause-rows : goal.put_section-requires-clause-rows
-put_section-requires-clause-rows c = c.forget.ensures c.args.program.now c.args.certs.now c.requires.rows
+put_section-requires-clause-rows c = c.forget.ensures c.args.program.now c.args.certs.now.sections c.requires.rows
 
 pub returns-clause-rows : goal.returns-clause-rows
 returns-clause-rows c = c.put_section.ensures.rows.1

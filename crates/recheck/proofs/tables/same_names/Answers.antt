@@ -1,4 +1,4 @@
-use Rattle.std.proofs.Common.{◌≡◌, ◌<◌, rules, length, slice_get, sym, ap, ◌∙◌, arith}
+use Rattle.std.proofs.Common.{◌≡◌, ◌<◌, rules, length, slice_get, sym, ◌∙◌, arith}
 use Rattle.ir_ast.specs.Names.{name_at}
 use Rattle.recheck.proofs.Lists.{same_each, one_further, same_name}
 use Rattle.recheck.proofs.tables.same_names.Goals as goal

@@ -1,4 +1,4 @@
-use Rattle.std.proofs.Common.{◌≡◌, ◌<◌, ℕ, length, slice_get}
+use Rattle.std.proofs.Common.{◌≡◌, ◌<◌, ℕ, slice_get}
 use Rattle.recheck.proofs.tables.same_names.Given as goal
 
 abbrev pub invariant-loop-number : goal.invariant-loop-number

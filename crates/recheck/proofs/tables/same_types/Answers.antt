@@ -1,4 +1,4 @@
-use Rattle.std.proofs.Common.{◌≡◌, length, sym, ◌∙◌, arith}
+use Rattle.std.proofs.Common.{◌≡◌, length, arith}
 use Rattle.recheck.proofs.Lists.{same_each}
 use Rattle.recheck.proofs.tables.same_types.Goals as goal
 

@@ -5,7 +5,7 @@ use Rattle.recheck.specs.Session.{State}
 use Rattle.recheck.proofs.session.Session.apply.Goals as goal
 
 pub returns-clause-taken : goal.returns-clause-taken
-returns-clause-taken c = subst (λ (s : State). IsEdited s c.args.edit.now (state c.put_edit.new.program c.put_edit.new.certs c.in-Ok.rechecked)) c.self.view_is (c.in-Ok.ensures.put c.self.inside.rechecked)
+returns-clause-taken c = subst (λ (s : State). IsEdited s c.args.edit.now (state c.put_edit.new.program c.put_edit.new.certs.sections c.in-Ok.rechecked)) c.self.view_is (c.in-Ok.ensures.put c.self.inside.rechecked)
 
 pub returns-in-Err-clause-only : goal.returns-in-Err-clause-only
 returns-in-Err-clause-only c = λ m section h. c.in-Err.ensures.only c.self.inside.rechecked m section (subst (λ (s : State). IsRead s c.args.edit.now m section) (sym c.self.view_is) h)

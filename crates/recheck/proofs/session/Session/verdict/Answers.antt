@@ -5,5 +5,5 @@ use Rattle.recheck.proofs.session.Session.verdict.Goals as goal
 
 pub returns : goal.returns
 returns c =
-    subst (λ session. MatchOption c.first_refusal.result (IsAccepted session.program.of_module session.certs) (IsFirstRefusal session.program.of_module session.certs)) c.self.view_is
-    (answered_verdict c.self.inside.program c.self.inside.certs c.self.inside.kept.functions.answers c.first_refusal.result c.self.invariant.answered cc)
+    subst (λ session. MatchOption c.first_refusal.result (IsAccepted session.program.of_module session.certs.sections) (IsFirstRefusal session.program.of_module session.certs.sections)) c.self.view_is
+    (answered_verdict c.self.inside.program c.self.inside.certs.sections c.self.inside.kept.functions.answers c.first_refusal.result c.self.invariant.answered cc)
