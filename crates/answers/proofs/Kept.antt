@@ -19,8 +19,9 @@ use Rattle.answers.specs.Edited.{is_number, instruction_calls, block_calls, call
 use Rattle.answers.specs.declared.callers.Callers.{Callers}
 use Rattle.answers.specs.declared.callers.Callers.TheVariants.{SeeChange, SeeNone}
 use Rattle.std.proofs.lemmas.List.{length-append}
+use Rattle.lemmas.specs.All.{all_so}
 use Rattle.lemmas.specs.Lists.{get_end, get_front}
-use Rattle.answers.proofs.Lists.{one_more, none_pass, none_passes_at, all_so}
+use Rattle.answers.proofs.Lists.{one_more, none_pass, none_passes_at}
 use Rattle.answers.proofs.Put.{length_put, IsPutAt, put_at}
 
 -- what an operation calls does not depend on functions

@@ -21,8 +21,3 @@ pub none_passes_at : {A : Type 0} (test : A → Bool) (xs : List A) (n : ℕ) (x
 none_passes_at test [] n x e at = absurd cc
 none_passes_at test (y ∷ xs) zero x e at = let same : y ≡ x = cc in subst (λ z. test z ≡ false) same (or_neither (test y) (list_any test xs) e).0
 none_passes_at test (y ∷ xs) (suc n) x e at = none_passes_at test xs n x (or_neither (test y) (list_any test xs) e).1 at
-
--- what follows from what holds of each element
-pub all_so : {A : Type 0} (P Q : A → Type 0) (xs : List A) → ((x : A) → P x → Q x) → AllByRecursion P xs → AllByRecursion Q xs
-all_so P Q [] so h = tt
-all_so P Q (x ∷ xs) so h = (so x h.0, all_so P Q xs so h.1)

@@ -5,6 +5,7 @@ use Rattle.std.specs.List.{list_all, zip, position_or_len}
 use Rattle.std.specs.Str.{bytes_eq}
 use Rattle.std.proofs.lemmas.Bool.{eqb-true, le-ltb}
 use Rattle.std.proofs.lemmas.List.{append-nil}
+use Rattle.lemmas.specs.Lists.{all_end}
 use Rattle.lemmas.specs.Bools.{and_second, and_first}
 use Rattle.grammar.specs.Many.{Listed}
 use Rattle.ir_ast.specs.declared.block.Block.{Block}
@@ -54,11 +55,6 @@ set_mid {A = A} (x ∷ xs) y z ys (suc n) e = ap (λ (l : List A). x ∷ l) (set
 
 longer : {A : Type 0} (xs : List A) (y : A) (n : ℕ) → length xs ≡ n → length (xs ++ y ∷ []) ≡ suc n
 longer xs y n e = omega (arith, e, length-append xs (y ∷ []))
-
-all_end : (xs : List Bool) → list_all (λ b. b) xs ≡ true → list_all (λ b. b) (xs ++ true ∷ []) ≡ true
-all_end [] e = refl
-all_end (true ∷ xs) e = all_end xs e
-all_end (false ∷ xs) e = absurd cc
 
 -- ---- the blocks of a section
 
@@ -122,7 +118,7 @@ module _ (m : Module) (f : Function) (named : IsNamed m) (own : IsNamedFunction 
       let blocks_then : one.out.read.draft.blocks ≡ (done ++ l ∷ []) ++ map (λ _. []) bs = one.blocks ∙ ap (λ x. slice_set x n l) blocks ∙ set_mid done [] l (map (λ _. []) bs) n dn in
       let given_then : one.out.read.draft.given ≡ (given ++ true ∷ []) ++ replicate (length bs) false = one.given ∙ ap (λ x. slice_set x n true) are ∙ set_mid given false true (replicate (length bs) false) n gn in
       let more = blocks_on_from bs lists (suc n) one.out t (done ++ l ∷ []) (given ++ true ∷ []) places (omega arith) (and_second (lines_fit m f l) (list_all (lines_fit m f) lists) fits)
-      (longer done l n dn) blocks_then (longer given true n gn) (all_end given all) given_then after.0 ends in
+      (longer done l n dn) blocks_then (longer given true n gn) (all_end (λ b. b) given true all refl) given_then after.0 ends in
       let whole : blocks_text m f (b ∷ bs) (l ∷ lists) ++ t ≡ block_text m f b l ++ rest = append_assoc (block_text m f b l) (blocks_text m f bs lists) t in
       let first : text.past_blocks (at i (block_text m f b l ++ rest)) ≡ false = ap (λ x. not (bytes_eq x (codes "block"))) (word_on (codes "block") (32 ∷ (local_text f b.label ++ (10 ∷ lines_text m f l) ++ rest)) refl refl) in
       record {

@@ -1,5 +1,6 @@
 -- The invariant of heap runs, over one state: where the threads and the collector are, and what the words hold.
-use Rattle.std.specs.Prelude.{ℕ, zero, suc, ◌+◌, ◌*◌, ◌<◌, ◌≤◌, ◌≡◌, ◌≢◌, ◌⊎◌, Bool, true, false, List, [], ◌∷◌}
+use Rattle.std.specs.Prelude.{ℕ, zero, suc, ◌+◌, ◌*◌, ◌<◌, ◌≤◌, ◌≡◌, ◌≢◌, ◌⊎◌, Bool, true, false, List}
+use Rattle.lemmas.specs.Lists.{IsIn}
 use Rattle.collector_law.specs.Picture.{Picture, IsSafe}
 
 -- where a thread is. A reference is a cell's number, 0 for null
@@ -232,18 +233,13 @@ IsInCycle cycle_of s t = cycle_of (s.stage t) ≡ s.cycle
 abbrev pub IsNullOrMarked : State → ℕ → Type 0
 IsNullOrMarked s c = (c ≡ 0) ⊎ IsMarked s c
 
--- the number is in the list
-abbrev pub IsAmong : ℕ → List ℕ → Type 0
-IsAmong x [] = ⊥
-IsAmong x (y ∷ ys) = (x ≡ y) ⊎ IsAmong x ys
-
 -- what a thread in this phase uses is held, and what it has marked is marked
 abbrev pub Stands : (cycle_of : ℕ → ℕ) (IsSync : ℕ → Type 0) → State → (thread : ℕ) → Phase → Type 0
 Stands cycle_of IsSync s t Ready = Unit {0}
 Stands cycle_of IsSync s t (MarkingOld cell word old) = IsBase s t cell × (old ≢ 0) × IsBase s t old
 Stands cycle_of IsSync s t (MarkingNew cell word old) = IsBase s t cell × IsBase s t old × (IsInCycle cycle_of s t → IsNullOrMarked s old)
 Stands cycle_of IsSync s t (Writing cell word old new) = IsBase s t cell × IsBase s t old × (IsInCycle cycle_of s t → IsNullOrMarked s old) × IsSync (s.stage t) × (new ≢ 0) × IsBase s t new × IsMarked s new
-Stands cycle_of IsSync s t (Answering stage marked) = (c : ℕ) → IsAmong c marked → (c ≢ 0) × IsBase s t c × IsMarked s c × (stage ≡ 3 * s.cycle)
+Stands cycle_of IsSync s t (Answering stage marked) = (c : ℕ) → IsIn c marked → (c ≢ 0) × IsBase s t c × IsMarked s c × (stage ≡ 3 * s.cycle)
 
 -- ---- the law of each time
 

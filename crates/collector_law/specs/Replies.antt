@@ -1,12 +1,13 @@
 -- The poll of the posted stage, and the answer to it.
-use Rattle.std.proofs.Common.{◌≡◌, ◌≢◌, ◌⊎◌, inl, inr, ℕ, suc, ◌+◌, ◌*◌, ◌^◌, ◌<◌, ◌==◌, ◌++◌, reverse, cond, not, Bool, true, false, List, [], ◌∷◌, refl, sym, ap, ◌∙◌, subst, if◌then◌else◌, arith}
+use Rattle.std.proofs.Common.{◌≡◌, ◌≢◌, ◌⊎◌, inl, inr, ℕ, suc, ◌+◌, ◌*◌, ◌^◌, ◌<◌, ◌==◌, reverse, cond, not, Bool, true, false, List, [], ◌∷◌, refl, sym, ap, ◌∙◌, subst, if◌then◌else◌, arith}
 use Rattle.std.proofs.lemmas.Bool.{cases_eq}
 use Rattle.std.proofs.lemmas.Grind.{reverse_onto}
+use Rattle.lemmas.specs.Lists.{IsIn, in_longer}
 use Rattle.lemmas.specs.Numbers.{test_true}
 use Rattle.pools.specs.Heap.{Setup}
 use Rattle.colours.specs.Colours.{done, cycle_of, claim_at, is_async}
 use Rattle.colours.specs.Steps.{Step, ReadPosted, StoreStage, ReadPostedFirst, EnterStage, ReadPostedAgain}
-use Rattle.colours.specs.Mutator.{Phase, Ready, Answering, Ended, Absent, Arriving, Entering, Leaving, stage_of, phase_of, phase_after, MayFollow, IsAmong, non_null}
+use Rattle.colours.specs.Mutator.{Phase, Ready, Answering, Ended, Absent, Arriving, Entering, Leaving, stage_of, phase_of, phase_after, MayFollow, non_null}
 use Rattle.colours.specs.Collector.{Collection, posted_of}
 use Rattle.colours.specs.Runs.{Event, ByThread, log_of, turns_of, word_after, births_after, MayHappen, IsRun}
 use Rattle.colours.specs.Stages.{posted_is, handshake}
@@ -123,33 +124,26 @@ poll_safe s run c t p r m f = go (p == stage_of (log_of t run)) refl
 -- ---- the answer
 
 -- a root that is not null is among those that are marked
-pub among_kept : (c : ℕ) (roots : List ℕ) → c ≢ 0 → IsAmong c roots → IsAmong c (non_null roots)
+pub among_kept : (c : ℕ) (roots : List ℕ) → c ≢ 0 → IsIn c roots → IsIn c (non_null roots)
 among_kept c [] n a = absurd a
 among_kept c (x ∷ roots) n a = go (x == 0) refl a (among_kept c roots n)
   where
-    go : (b : Bool) → (x == 0) ≡ b → (c ≡ x) ⊎ IsAmong c roots → (IsAmong c roots → IsAmong c (non_null roots)) → IsAmong c (cond (not b) (x ∷ non_null roots) (non_null roots))
+    go : (b : Bool) → (x == 0) ≡ b → (c ≡ x) ⊎ IsIn c roots → (IsIn c roots → IsIn c (non_null roots)) → IsIn c (cond (not b) (x ∷ non_null roots) (non_null roots))
     go true e (inl is) rest = absurd (n (is ∙ test_true x 0 e))
     go true e (inr m) rest = rest m
     go false e (inl is) rest = inl is
     go false e (inr m) rest = inr (rest m)
 
--- what is among a list and one more is the one or among the list
-among_end : (c y : ℕ) (xs : List ℕ) → IsAmong c (xs ++ (y ∷ [])) → (c ≡ y) ⊎ IsAmong c xs
-among_end c y [] (inl e) = inl e
-among_end c y [] (inr a) = absurd a
-among_end c y (x ∷ xs) (inl e) = inr (inl e)
-among_end c y (x ∷ xs) (inr a) = elim (among_end c y xs a) [ inl e ↦ inl e | inr b ↦ inr (inr b) ]
-
 -- the order of a list does not matter
-pub among_reversed : (c : ℕ) (marked : List ℕ) → IsAmong c (reverse marked) → law.IsAmong c marked
+pub among_reversed : (c : ℕ) (marked : List ℕ) → IsIn c (reverse marked) → IsIn c marked
 among_reversed c [] a = a
-among_reversed c (y ∷ marked) a = elim (among_end c y (reverse marked) (subst (λ (l : List ℕ). IsAmong c l) (reverse_onto marked y []) a)) [
-  | inl e ↦ inl e
-  | inr b ↦ inr (among_reversed c marked b)
+among_reversed c (y ∷ marked) a = elim (in_longer c (reverse marked) y (subst (λ (l : List ℕ). IsIn c l) (reverse_onto marked y []) a)) [
+  | inl b ↦ inr (among_reversed c marked b)
+  | inr e ↦ inl e
 ]
 
 abbrev IsRoot : List ℕ → ℕ → Type 0
-IsRoot roots c = (c ≢ 0) × IsAmong c roots
+IsRoot roots c = (c ≢ 0) × IsIn c roots
 
 -- after an answer the thread is between two calls
 answer_ready : (s : Setup) (stage : ℕ) (phase : Phase) (p : ℕ) (roots : List ℕ) → flat (phase_after s stage phase (StoreStage p roots)) ≡ law.Ready
@@ -219,13 +213,13 @@ answer_safe s run c t p roots r m f = go (phase_of s t (log_of t run)) refl m.1
     over false = refl
 
     go : (q : Phase) → phase_of s t (log_of t run) ≡ q → MayFollow s (stage_of (log_of t run)) q (StoreStage p roots) → Safe s (ByThread t (StoreStage p roots) ∷ run) c
-    go Ready e n = build (rw e (over (p == done))) (inr (n.0, λ z. omega (arith, low, n.0, z), λ d x. subst (λ (l : List ℕ). IsAmong d l) n.1 x.1))
-    go Leaving e n = build (rw e n.0) (inr (n.0, λ z. omega (arith, low, n.0, z), λ d x. subst (λ (l : List ℕ). IsAmong d l) n.1 x.1))
+    go Ready e n = build (rw e (over (p == done))) (inr (n.0, λ z. omega (arith, low, n.0, z), λ d x. subst (λ (l : List ℕ). IsIn d l) n.1 x.1))
+    go Leaving e n = build (rw e n.0) (inr (n.0, λ z. omega (arith, low, n.0, z), λ d x. subst (λ (l : List ℕ). IsIn d l) n.1 x.1))
     go (Answering next marked) e n = build (rw e (over (p == done))) (inl (
       now,
       λ z. omega (arith, low_posted, now, z),
       λ three d x.
-          (stood d (among_reversed d marked (subst (λ (l : List ℕ). IsAmong d l) (sym (n.1 (ap is_async (sym n.0) ∙ async_three S.cycle p three))) (among_kept d roots x.0 x.1)))).2,
+          (stood d (among_reversed d marked (subst (λ (l : List ℕ). IsIn d l) (sym (n.1 (ap is_async (sym n.0) ∙ async_three S.cycle p three))) (among_kept d roots x.0 x.1)))).2,
     ))
       where
         is : S.phase t ≡ law.Answering next marked

@@ -1,9 +1,10 @@
 -- The tries of an allocation, over all cells of a pool in some order, are those of the order of a thread's steps.
-use Rattle.std.proofs.Common.{◌≡◌, ◌≢◌, ℕ, zero, suc, ◌+◌, ◌-◌, ◌<◌, ◌==◌, inl, inr, Bool, true, false, List, [], ◌∷◌, length, slice_index, if◌then◌else◌, refl, sym, subst, arith}
+use Rattle.std.proofs.Common.{◌≡◌, ◌≢◌, ℕ, suc, ◌+◌, ◌-◌, ◌==◌, inl, inr, Bool, true, false, List, [], ◌∷◌, length, slice_index, if◌then◌else◌, refl, sym, subst, arith}
 use Rattle.lemmas.specs.Numbers.{test_yes, test_no}
+use Rattle.lemmas.specs.Lists.{IsIn}
 use Rattle.pools.specs.Heap.{Setup, layout_of, IsOfLayout}
 use Rattle.colours.specs.Steps.{Step, Claim}
-use Rattle.colours.specs.Mutator.{Phase, Ready, Trying, IsAmong, MayFollow, after_loss, phase_after}
+use Rattle.colours.specs.Mutator.{Phase, Ready, Trying, MayFollow, after_loss, phase_after}
 use Rattle.colours.specs.Calls.{Trying as Tries, Steps, tries_of, Makes, AreEntries, MakesExactly, Ends, TriesFrom, AreApart, IsPoolInOrder, IsAllocation}
 use Rattle.colours.specs.Lists.{listed, list_entries}
 
@@ -16,9 +17,9 @@ module _ (s : Setup) (stage layout : ℕ) where
   record Under (tried : List ℕ) (cell : ℕ) (cells : List ℕ) : Type 0 where
     many : suc (length tried + length cells) ≡ slice_index s.pools layout
     here : IsOfLayout s layout cell
-    new : IsAmong cell tried → ⊥
-    rest : (c : ℕ) → IsAmong c cells → IsOfLayout s layout c
-    later : (c : ℕ) → IsAmong c cells → (IsAmong c tried → ⊥) × (c ≢ cell)
+    new : IsIn cell tried → ⊥
+    rest : (c : ℕ) → IsIn c cells → IsOfLayout s layout c
+    later : (c : ℕ) → IsIn c cells → (IsIn c tried → ⊥) × (c ≢ cell)
     apart : AreApart cells
     same : LastIs tried
 
@@ -33,16 +34,16 @@ module _ (s : Setup) (stage layout : ℕ) where
     here = u.rest d (inl refl);
     new = new;
     rest = λ c a. u.rest c (inr a);
-    later = λ c a. (was c a, λ e. u.apart.0 (subst (λ k. IsAmong k cells) e a));
+    later = λ c a. (was c a, λ e. u.apart.0 (subst (λ k. IsIn k cells) e a));
     apart = u.apart.1;
     same = u.here.2;
   }
     where
-      new : IsAmong d (cell ∷ tried) → ⊥
+      new : IsIn d (cell ∷ tried) → ⊥
       new (inl e) = (u.later d (inl refl)).1 e
       new (inr a) = (u.later d (inl refl)).0 a
 
-      was : (c : ℕ) → IsAmong c cells → IsAmong c (cell ∷ tried) → ⊥
+      was : (c : ℕ) → IsIn c cells → IsIn c (cell ∷ tried) → ⊥
       was c a (inl e) = (u.later c (inr a)).1 e
       was c a (inr b) = (u.later c (inr a)).0 b
 
@@ -166,7 +167,7 @@ module _ (s : Setup) (stage layout : ℕ) where
     here = p.of_layout cell (inl refl);
     new = λ a. absurd a;
     rest = λ c a. p.of_layout c (inr a);
-    later = λ c a. (λ b. absurd b, λ e. p.apart.0 (subst (λ k. IsAmong k cells) e a));
+    later = λ c a. (λ b. absurd b, λ e. p.apart.0 (subst (λ k. IsIn k cells) e a));
     apart = p.apart.1;
     same = tt;
   }

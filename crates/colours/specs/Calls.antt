@@ -1,13 +1,14 @@
 -- The steps of one call of a thread: what it has still to do, what the result of its next operation makes of that,
 -- and which lists of steps are such a call by the order of a thread's steps.
 use Rattle.std.specs.Prelude.{ℕ, zero, suc, ◌+◌, ◌-◌, ◌<◌, ◌^◌, ◌≡◌, ◌≢◌, ◌==◌, IsTrue, IsFalse, Bool, true, false, Option, Some, None, List, [], ◌∷◌, ◌++◌, length, slice_index, if◌then◌else◌}
+use Rattle.lemmas.specs.Lists.{IsIn}
 use Rattle.colours.specs.declared.place.Place.TheVariants.{Posted, Stage, Colour, Word}
 use Rattle.colours.specs.declared.ask.Ask.{Ask}
 use Rattle.colours.specs.declared.ask.Ask.TheVariants.{Load, Store, CompareExchange}
 use Rattle.colours.specs.Colours.{is_async, claim_at, done}
 use Rattle.pools.specs.Heap.{Setup, IsOfLayout}
 use Rattle.colours.specs.Steps.{Step, ReadWord, ReadOldValue, Mark, StoreAfterBarrier, StorePlain, Claim, ReadPosted, StoreStage, ReadPostedFirst, EnterStage, ReadPostedAgain, ask_of, Found}
-use Rattle.colours.specs.Mutator.{Phase, Ready, Absent, IsAmong, is_between, MayFollow, phase_after}
+use Rattle.colours.specs.Mutator.{Phase, Ready, Absent, is_between, MayFollow, phase_after}
 
 -- ---- what is to be done
 
@@ -184,12 +185,12 @@ TriesFrom cells (_ ∷ steps) = ⊥
 -- no cell is in the list twice
 abbrev pub AreApart : List ℕ → Type 0
 AreApart [] = Unit {0}
-AreApart (cell ∷ cells) = (IsAmong cell cells → ⊥) × AreApart cells
+AreApart (cell ∷ cells) = (IsIn cell cells → ⊥) × AreApart cells
 
 -- the list has each cell of a layout's pool once
 pub record IsPoolInOrder (s : Setup) (layout : ℕ) (cells : List ℕ) : Type 0 where
   pub all : length cells ≡ slice_index s.pools layout
-  pub of_layout : (cell : ℕ) → IsAmong cell cells → IsOfLayout s layout cell
+  pub of_layout : (cell : ℕ) → IsIn cell cells → IsOfLayout s layout cell
   pub apart : AreApart cells
 
 -- `count` cells from this one up

@@ -1,10 +1,10 @@
 -- The cells of a pool from a hint up, and then from its first cell up to the hint, are each cell of the pool once.
-use Rattle.std.proofs.Common.{◌≡◌, ◌≤◌, ◌<◌, ◌⊎◌, inl, inr, ℕ, zero, suc, ◌+◌, ◌-◌, List, [], ◌∷◌, ◌++◌, length, slice_index, refl, ap, ◌∙◌, arith}
+use Rattle.std.proofs.Common.{◌≡◌, ◌≤◌, ◌<◌, inl, inr, ℕ, zero, suc, ◌+◌, ◌-◌, List, [], ◌∷◌, ◌++◌, length, slice_index, refl, ap, ◌∙◌, arith}
 use Rattle.std.proofs.lemmas.List.{get_or_append_left}
+use Rattle.lemmas.specs.Lists.{IsIn, in_either}
 use Rattle.pools.specs.Heap.{Setup, IsOfLayout, layout_of}
 use Rattle.pools.specs.Pools.{first_cell}
 use Rattle.pools.specs.Ends.{in_pool, pool_ends}
-use Rattle.colours.specs.Mutator.{IsAmong}
 use Rattle.colours.specs.Calls.{cells_up, cells_from, AreApart, IsPoolInOrder}
 
 -- ---- stretches of cells
@@ -15,7 +15,7 @@ up-length first zero = refl
 up-length first (suc count) = ap suc (up-length (suc first) count)
 
 -- a cell of it lies in its bounds
-up-within : (first count cell : ℕ) → IsAmong cell (cells_up first count) → (first ≤ cell) × (cell < first + count)
+up-within : (first count cell : ℕ) → IsIn cell (cells_up first count) → (first ≤ cell) × (cell < first + count)
 up-within first zero cell a = absurd a
 up-within first (suc count) cell (inl e) = (omega (arith, e), omega (arith, e))
 up-within first (suc count) cell (inr a) = let w = up-within (suc first) count cell a in let low = w.0 in let high = w.1 in (omega (arith, low), omega (arith, high))
@@ -27,21 +27,15 @@ up-apart first (suc count) = (λ a. let low = (up-within (suc first) count first
 
 -- ---- two lists
 
--- a cell of two lists is of one
-of-either : (cell : ℕ) (xs ys : List ℕ) → IsAmong cell (xs ++ ys) → IsAmong cell xs ⊎ IsAmong cell ys
-of-either cell [] ys a = inr a
-of-either cell (x ∷ xs) ys (inl e) = inl (inl e)
-of-either cell (x ∷ xs) ys (inr a) = elim (of-either cell xs ys a) [ inl b ↦ inl (inr b) | inr b ↦ inr b ]
-
 both-length : (xs ys : List ℕ) → length (xs ++ ys) ≡ length xs + length ys
 both-length [] ys = omega arith
 both-length (x ∷ xs) ys = let rest = both-length xs ys in omega (arith, rest)
 
 -- lists without a cell in common are apart
-both-apart : (xs ys : List ℕ) → AreApart xs → AreApart ys → ((cell : ℕ) → IsAmong cell xs → IsAmong cell ys → ⊥) → AreApart (xs ++ ys)
+both-apart : (xs ys : List ℕ) → AreApart xs → AreApart ys → ((cell : ℕ) → IsIn cell xs → IsIn cell ys → ⊥) → AreApart (xs ++ ys)
 both-apart [] ys p q none = q
 both-apart (x ∷ xs) ys p q none = (
-  λ a. elim (of-either x xs ys a) [ inl b ↦ p.0 b | inr b ↦ none x (inl refl) b ],
+  λ a. elim (in_either x xs ys a) [ inl b ↦ p.0 b | inr b ↦ none x (inl refl) b ],
   both-apart xs ys p.1 q (λ cell a b. none cell (inr a) b),
 )
 
@@ -63,7 +57,7 @@ pool_by_hint s layout hint is_layout le = record {
       let upper = up-length (first + hint) (count - hint) in
       let lower = up-length first hint in
       omega (arith, le, whole, upper, lower);
-  of_layout = λ cell a. elim (of-either cell (cells_up (first + hint) (count - hint)) (cells_up first hint) a) [
+  of_layout = λ cell a. elim (in_either cell (cells_up (first + hint) (count - hint)) (cells_up first hint) a) [
     | inl b ↦ let w = up-within (first + hint) (count - hint) cell b in let low = w.0 in let high = w.1 in of_place s layout cell is_layout (omega (arith, low)) (omega (arith, high, le))
     | inr b ↦ let w = up-within first hint cell b in let low = w.0 in let high = w.1 in of_place s layout cell is_layout low (omega (arith, high, le))
   ];

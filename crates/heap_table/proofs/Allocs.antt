@@ -6,11 +6,12 @@ use Rattle.pools.specs.Heap.{Setup, cells, layout_of, IsOfLayout}
 use Rattle.pools.specs.Pools.{first_cell}
 use Rattle.pools.specs.Ends.{in_pool, pool_ends}
 use Rattle.lemmas.specs.Numbers.{test_yes, test_no}
+use Rattle.lemmas.specs.Lists.{IsIn}
 use Rattle.colours.specs.Colours.{done, claim_at}
 use Rattle.colours.specs.declared.place.Place.TheVariants.{Colour}
 use Rattle.colours.specs.declared.ask.Ask.TheVariants.{CompareExchange}
 use Rattle.colours.specs.Steps.{Step, Claim}
-use Rattle.colours.specs.Mutator.{Phase, Ready, Trying, IsAmong, MayFollow, after_loss, phase_after, phase_of, stage_of}
+use Rattle.colours.specs.Mutator.{Phase, Ready, Trying, MayFollow, after_loss, phase_after, phase_of, stage_of}
 use Rattle.collector_law.specs.Theorems.{claim_cell}
 use Rattle.heap_words.specs.Tokens.{Shared}
 use Rattle.heap_table.specs.declared.mutator.Mutator.TheInside.{Inside}
@@ -49,7 +50,7 @@ up_length first zero tried = omega arith
 up_length first (suc count) tried = let rest = up_length first count tried in omega (arith, rest)
 
 -- each of them is one of the stretch or one of those
-pub up_among : (first count : ℕ) (tried : List ℕ) (c : ℕ) → IsAmong c (tried_up first count tried) → ((first ≤ c) × (c < first + count)) ⊎ IsAmong c tried
+pub up_among : (first count : ℕ) (tried : List ℕ) (c : ℕ) → IsIn c (tried_up first count tried) → ((first ≤ c) × (c < first + count)) ⊎ IsIn c tried
 up_among first zero tried c a = inr a
 up_among first (suc count) tried c (inl e) = inl (omega (arith, e), omega (arith, e))
 up_among first (suc count) tried c (inr a) = elim (up_among first count tried c a) [
@@ -58,7 +59,7 @@ up_among first (suc count) tried c (inr a) = elim (up_among first count tried c 
 ]
 
 -- and another cell of the pool, where the stretch is of other cells of the pool
-pub up_of_pool : (s : Setup) (layout first count : ℕ) (tried : List ℕ) → AreOfPool s layout tried → ((c : ℕ) → first ≤ c → c < first + count → IsOfLayout s layout c × ¬ IsAmong c tried) → AreOfPool s layout (tried_up first count tried)
+pub up_of_pool : (s : Setup) (layout first count : ℕ) (tried : List ℕ) → AreOfPool s layout tried → ((c : ℕ) → first ≤ c → c < first + count → IsOfLayout s layout c × ¬ IsIn c tried) → AreOfPool s layout (tried_up first count tried)
 up_of_pool s layout first zero tried are each = are
 up_of_pool s layout first (suc count) tried are each = (
   (each (first + count) (omega arith) (omega arith)).0,

@@ -2,18 +2,19 @@
 use Rattle.std.proofs.Common.{◌≡◌, ◌≢◌, ℕ, ◌<◌, ◌^◌, List, [], ◌∷◌, refl, sym, ap, subst, ◌∙◌, arith}
 use Rattle.pools.specs.Heap.{Setup}
 use Rattle.lemmas.specs.Numbers.{test_yes, test_no}
+use Rattle.lemmas.specs.Lists.{IsIn}
 use Rattle.colours.specs.declared.place.Place.TheVariants.{Posted}
 use Rattle.colours.specs.declared.ask.Ask.TheVariants.{Load}
 use Rattle.colours.specs.Colours.{done}
 use Rattle.colours.specs.Steps.{Step, ReadPostedFirst, EnterStage, ReadPostedAgain, StoreStage}
-use Rattle.colours.specs.Mutator.{Phase, Ready, Absent, Arriving, Entering, Leaving, IsAmong, stage_of, phase_of, MayFollow, MayUse}
+use Rattle.colours.specs.Mutator.{Phase, Ready, Absent, Arriving, Entering, Leaving, stage_of, phase_of, MayFollow, MayUse}
 use Rattle.heap_words.specs.Tokens.{Shared}
 use Rattle.heap_table.specs.Holders.{Holder, IsOf, MayCall, MayBegin, with_log}
 use Rattle.heap_table.specs.Nexts.{IsNext, StoresStage}
 
 -- ---- steps that store a stage
 
-pub stores_answer : (s : Setup) (t : ℕ) (log : List Step) (posted : ℕ) (roots : List ℕ) → MayFollow s (stage_of log) (phase_of s t log) (StoreStage posted roots) → ((root : ℕ) → IsAmong root roots → MayUse s log root)
+pub stores_answer : (s : Setup) (t : ℕ) (log : List Step) (posted : ℕ) (roots : List ℕ) → MayFollow s (stage_of log) (phase_of s t log) (StoreStage posted roots) → ((root : ℕ) → IsIn root roots → MayUse s log root)
     → StoresStage s t log (StoreStage posted roots) posted
 stores_answer s t log posted roots may use_them = record { operation = refl; follows = may; keeps = use_them; says = λ n. tt; stores = refl }
 

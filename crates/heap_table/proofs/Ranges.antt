@@ -8,12 +8,12 @@ use Rattle.colours.specs.declared.place.Place.TheVariants.{Word}
 use Rattle.colours.specs.declared.turn.Turn.{Turn}
 use Rattle.colours.specs.declared.turn.Turn.TheVariants.{PostStage, ReadStage, MarkFound, ReadColour, ScanWord, Blacken, ClearWord, Free}
 use Rattle.colours.specs.Colours.{cycle_of, grey}
-use Rattle.colours.specs.Mutator.{IsAmong}
 use Rattle.colours.specs.Collector.{Pass, Collection, Posting, Waiting, ShadingGlobals, Passing, Scanning, Shading, Sweeping, Clearing, posted_of, first_pass, sweep_from, pass_from, after_wait, wait_from, has_answered, without, in_turn, out_of_turn, with_grey, looked, shaded_too, is_white, reference_from, Turns, Collects}
 use Rattle.colours.specs.Runs.{Event, ByThread, ByCollector, turns_of, word_after, IsHeapRun}
 use Rattle.collector_law.specs.Laws.{FitsKind}
 use Rattle.collector_law.specs.Theorems.{words_fit, skip_found}
 use Rattle.lemmas.specs.Numbers.{lt_true}
+use Rattle.lemmas.specs.Lists.{IsIn}
 use Rattle.heap_table.specs.Sweepers.{AreCells, IsInRange}
 
 sweeps : (s : Setup) (c : ℕ) → IsInRange s (sweep_from s c)
@@ -56,12 +56,12 @@ looks s stage p c colour lt h = go (colour == grey (cycle_of stage))
     go true = (lt, h)
     go false = passes s p h
 
-less_here : (b : Bool) (x d : ℕ) (xs ys : List ℕ) → (IsAmong d ys → IsAmong d xs) → IsAmong d (if b then xs else x ∷ ys) → (d ≡ x) ⊎ IsAmong d xs
+less_here : (b : Bool) (x d : ℕ) (xs ys : List ℕ) → (IsIn d ys → IsIn d xs) → IsIn d (if b then xs else x ∷ ys) → (d ≡ x) ⊎ IsIn d xs
 less_here true x d xs ys f k = inr k
 less_here false x d xs ys f (inl e) = inl e
 less_here false x d xs ys f (inr k) = inr (f k)
 
-less : (c : ℕ) (ds : List ℕ) (d : ℕ) → IsAmong d (without c ds) → IsAmong d ds
+less : (c : ℕ) (ds : List ℕ) (d : ℕ) → IsIn d (without c ds) → IsIn d ds
 less c [] d h = h
 less c (x ∷ xs) d h = less_here (c == x) x d xs (without c xs) (λ k. less c xs d k) h
 

@@ -1,5 +1,5 @@
 -- The marks of roots, and the answer.
-use Rattle.std.proofs.Common.{◌≡◌, ◌≢◌, ℕ, zero, suc, ◌+◌, ◌<◌, ◌==◌, ◌^◌, inl, inr, ⊎_elim, Bool, true, false, List, [], ◌∷◌, ◌++◌, take, get_or, length, reverse, if◌then◌else◌, refl, sym, ap, subst, ◌∙◌, append-nil, arith, true≢false}
+use Rattle.std.proofs.Common.{◌≡◌, ◌≢◌, ℕ, zero, suc, ◌+◌, ◌<◌, ◌==◌, ◌^◌, inl, inr, ⊎_elim, Bool, true, false, List, [], ◌∷◌, ◌++◌, take, get_or, length, reverse, if◌then◌else◌, refl, sym, ap, subst, ◌∙◌, arith, true≢false}
 use Rattle.std.specs.Prelude.{IsTrue}
 use Rattle.pools.specs.Heap.{Setup}
 use Rattle.colours.specs.declared.place.Place.TheVariants.{Posted}
@@ -8,10 +8,9 @@ use Rattle.colours.specs.Colours.{done, is_async}
 use Rattle.colours.specs.Steps.{Step, Mark, ReadPosted, StoreStage}
 use Rattle.colours.specs.Calls.{marks}
 use Rattle.colours.specs.Runs.{Event, word_after, IsRun}
-use Rattle.colours.specs.Mutator.{Phase, Ready, Answering, IsAmong, non_null, stage_of, phase_of, phase_after, MayFollow, MayUse, Held}
+use Rattle.colours.specs.Mutator.{Phase, Ready, Answering, non_null, stage_of, phase_of, phase_after, MayFollow, MayUse, Held}
 use Rattle.lemmas.specs.Numbers.{test_no}
-use Rattle.std.proofs.lemmas.Grind.{reverse_onto}
-use Rattle.std.proofs.lemmas.List.{append_assoc}
+use Rattle.lemmas.specs.Lists.{IsIn}
 use Rattle.heap_table.specs.Holders.{Holder, MayCall, IsNow, with_log}
 use Rattle.heap_words.specs.Tokens.{Shared}
 use Rattle.colours.specs.Stages.{posted_is, handshake}
@@ -61,7 +60,7 @@ marks_more [] i log h = absurd (omega arith)
 marks_more (r ∷ roots) zero log h = refl
 marks_more (r ∷ roots) (suc i) log h = marks_more roots i (marks r ++ log) (omega arith)
 
-among : (roots : List ℕ) (i : ℕ) → i < length roots → IsAmong (get_or roots i 0) roots
+among : (roots : List ℕ) (i : ℕ) → i < length roots → IsIn (get_or roots i 0) roots
 among [] i h = absurd (omega arith)
 among (r ∷ roots) zero h = inl refl
 among (r ∷ roots) (suc i) h = inr (among roots i (omega arith))
@@ -74,7 +73,7 @@ module _ (m me : Holder) (posted : ℕ) (roots : List ℕ) (i : ℕ) (is : IsNow
   may_mark async phase n = subst (λ (x : Holder). MayFollow x.setup (stage_of x.log) (phase_of x.setup x.thread x.log) (Mark (get_or roots i 0))) (sym is)
       (subst (λ (p : Phase). MayFollow m.setup (stage_of (with_marks (take i roots) m.log)) p (Mark (get_or roots i 0))) (sym (phase_marked m.setup m.thread posted (take i roots) m.log [] phase)) (async, n))
 
-  pub held_root : i < length roots → ((root : ℕ) → IsAmong root roots → MayUse m.setup m.log root) → get_or roots i 0 ≢ 0 → Held me.setup me.log (get_or roots i 0)
+  pub held_root : i < length roots → ((root : ℕ) → IsIn root roots → MayUse m.setup m.log root) → get_or roots i 0 ≢ 0 → Held me.setup me.log (get_or roots i 0)
   held_root h may n = subst (λ (x : Holder). Held x.setup x.log (get_or roots i 0)) (sym is)
       (⊎_elim (λ (z : get_or roots i 0 ≡ 0). absurd (n z)) (λ (k : Held m.setup (with_marks (take i roots) m.log) (get_or roots i 0)). k) (use_marked m.setup (take i roots) m.log (get_or roots i 0) (may (get_or roots i 0) (among roots i h))))
 
@@ -114,7 +113,7 @@ module _ (heap : Shared) (m prepared after : Holder) (posted : ℕ) (roots : Lis
   pub may_answer : MayFollow prepared.setup (stage_of prepared.log) (phase_of prepared.setup prepared.thread prepared.log) (StoreStage posted roots)
   may_answer = subst (λ (x : Holder). MayFollow x.setup (stage_of x.log) (phase_of x.setup x.thread x.log) (StoreStage posted roots)) (sym prepare) (answers m.setup m.thread posted roots m.log owes.phase)
 
-  pub roots_may : ((root : ℕ) → IsAmong root roots → MayUse m.setup m.log root) → (root : ℕ) → IsAmong root roots → MayUse prepared.setup prepared.log root
+  pub roots_may : ((root : ℕ) → IsIn root roots → MayUse m.setup m.log root) → (root : ℕ) → IsIn root roots → MayUse prepared.setup prepared.log root
   roots_may h root a = subst (λ (x : Holder). MayUse x.setup x.log root) (sym prepare) (use_before m.setup posted roots m.log root (h root a))
 
   pub has_answered : IsNow prepared (StoreStage posted roots ∷ prepared.log) after → MayCall heap after

@@ -1,9 +1,9 @@
 -- What an allocation logs and returns. Any order of the pool's cells is one.
 use Rattle.std.specs.Prelude.{ℕ, zero, suc, ◌+◌, ◌<◌, ◌≤◌, ◌≡◌, true, false, List, [], ◌∷◌, ◌++◌, length, slice_index}
+use Rattle.lemmas.specs.Lists.{IsIn}
 use Rattle.pools.specs.Heap.{Setup, IsOfLayout}
 use Rattle.pools.specs.Pools.{first_cell}
 use Rattle.colours.specs.Steps.{Step, Claim}
-use Rattle.colours.specs.Mutator.{IsAmong}
 
 -- the tries of these cells, each of them lost
 abbrev pub lost : (cells : List ℕ) → List Step
@@ -13,7 +13,7 @@ lost (cell ∷ cells) = Claim cell false ∷ lost cells
 -- each of these is another cell of the layout's pool
 abbrev pub AreOfPool : Setup → (layout : ℕ) → (cells : List ℕ) → Type 0
 AreOfPool s layout [] = Unit {0}
-AreOfPool s layout (cell ∷ cells) = IsOfLayout s layout cell × ¬ IsAmong cell cells × AreOfPool s layout cells
+AreOfPool s layout (cell ∷ cells) = IsOfLayout s layout cell × ¬ IsIn cell cells × AreOfPool s layout cells
 
 -- the result is null once each cell of the pool was tried in vain; otherwise it is the cell that the last try won
 abbrev pub Allocates : Setup → (layout : ℕ) → (before : List Step) → (result : ℕ) → (after : List Step) → Type 0

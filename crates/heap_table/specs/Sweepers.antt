@@ -1,9 +1,9 @@
 -- The collector's token, as contracts see it; and where the collector may be.
 use Rattle.std.specs.Prelude.{ℕ, ◌<◌, ◌≡◌, List}
+use Rattle.lemmas.specs.Lists.{IsIn}
 use Rattle.atomic_table.specs.Seated.{TableId}
 use Rattle.pools.specs.Heap.{Setup, cells}
 use Rattle.colours.specs.declared.turn.Turn.{Turn}
-use Rattle.colours.specs.Mutator.{IsAmong}
 use Rattle.colours.specs.Collector.{Collection, Posting, Waiting, ShadingGlobals, Passing, Scanning, Shading, Sweeping, Clearing}
 use Rattle.heap_words.specs.Tokens.{Shared}
 
@@ -20,7 +20,7 @@ pub record IsSweeperOf (heap : Shared) (token : SweeperLog) : Type 0 where
 
 -- these are cells of the heap
 abbrev pub AreCells : Setup → List ℕ → Type 0
-AreCells s numbers = (cell : ℕ) → IsAmong cell numbers → cell < cells s
+AreCells s numbers = (cell : ℕ) → IsIn cell numbers → cell < cells s
 
 -- the place names threads and cells of the heap
 abbrev pub IsInRange : Setup → Collection → Type 0

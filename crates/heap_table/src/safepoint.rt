@@ -1,7 +1,8 @@
 ghost use Rattle.std.specs.Prelude.{◌≡◌, ◌≢◌, ◌<◌, ◌^◌, ◌∷◌, ◌++◌, [], ℕ, IsTrue, IfSome, IfNone};
+ghost use Rattle.lemmas.specs.Lists.{IsIn};
 ghost use Rattle.colours.specs.Colours.{done, is_async};
 ghost use Rattle.colours.specs.Steps.{Mark, ReadPosted, StoreStage};
-ghost use Rattle.colours.specs.Mutator.{stage_of, phase_of, MayFollow, MayUse, IsAmong, Answering, Held};
+ghost use Rattle.colours.specs.Mutator.{stage_of, phase_of, MayFollow, MayUse, Answering, Held};
 ghost use Rattle.colours.specs.Calls.{marks};
 ghost use Rattle.heap_table.specs.Safepoints.{with_marks, before_answer, Responds, OwesAnswer};
 
@@ -18,7 +19,7 @@ impl<'a> Heap<'a> {
     /// holds the roots that it named, and nothing else.
     pub fn safepoint(&self, me: &mut Mutator, roots: &[u32]) -> bool
         requires token { MayCall self.now me.old }
-        requires roots { (root : ℕ) → IsAmong root roots.now → MayUse me.old.setup me.old.log root }
+        requires roots { (root : ℕ) → IsIn root roots.now → MayUse me.old.setup me.old.log root }
         ensures token { IsNow me.old me.new.log me.new × MayCall self.now me.new }
         ensures log { Responds (stage_of me.old.log) roots.now me.old.log result me.new.log }
         ensures run { IsOfRun me.new }
@@ -51,7 +52,7 @@ impl<'a> Heap<'a> {
     /// The other half: marks the roots where the posted stage is that of the trace, and stores it as the thread's own.
     pub fn respond(&self, me: &mut Mutator, posted: u64, roots: &[u32])
         requires owes { OwesAnswer self.now me.old posted }
-        requires roots { (root : ℕ) → IsAmong root roots.now → MayUse me.old.setup me.old.log root }
+        requires roots { (root : ℕ) → IsIn root roots.now → MayUse me.old.setup me.old.log root }
         ensures log { IsNow me.old (StoreStage posted roots.now ∷ before_answer posted roots.now me.old.log) me.new }
         ensures token { MayCall self.now me.new }
         ensures run { IsOfRun me.new }
@@ -73,7 +74,7 @@ impl<'a> Heap<'a> {
         requires token { IsOf self.now me.old }
         requires running { stage_of me.old.log ≢ done }
         requires phase { phase_of me.old.setup me.old.thread me.old.log ≡ Answering posted [] }
-        requires roots { (root : ℕ) → IsAmong root roots.now → MayUse me.old.setup me.old.log root }
+        requires roots { (root : ℕ) → IsIn root roots.now → MayUse me.old.setup me.old.log root }
         ensures log { IsNow me.old (before_answer posted roots.now me.old.log) me.new }
     {
         if is_async(posted) {
@@ -86,7 +87,7 @@ impl<'a> Heap<'a> {
         requires running { stage_of me.old.log ≢ done }
         requires stage { IsTrue (is_async posted) }
         requires phase { phase_of me.old.setup me.old.thread me.old.log ≡ Answering posted [] }
-        requires roots { (root : ℕ) → IsAmong root roots.now → MayUse me.old.setup me.old.log root }
+        requires roots { (root : ℕ) → IsIn root roots.now → MayUse me.old.setup me.old.log root }
         ensures log { IsNow me.old (with_marks roots.now me.old.log) me.new }
     {
         for root in roots {
@@ -109,7 +110,7 @@ impl<'a> Heap<'a> {
     fn answer(&self, me: &mut Mutator, posted: u64, roots: &[u32])
         requires token { IsOf self.now me.old }
         requires may { MayFollow me.old.setup (stage_of me.old.log) (phase_of me.old.setup me.old.thread me.old.log) (StoreStage posted roots.now) }
-        requires roots { (root : ℕ) → IsAmong root roots.now → MayUse me.old.setup me.old.log root }
+        requires roots { (root : ℕ) → IsIn root roots.now → MayUse me.old.setup me.old.log root }
         requires low { posted < 2 ^ 62 }
         ensures log { IsNow me.old (StoreStage posted roots.now ∷ me.old.log) me.new }
         ensures run { IsOfRun me.new }

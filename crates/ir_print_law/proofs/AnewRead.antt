@@ -2,6 +2,7 @@
 use Rattle.std.proofs.Common.{◌≡◌, ℕ, ◌<◌, ◌≤◌, Bool, true, List, [], ◌∷◌, ◌++◌, length, slice_get, unwrap_or, Option, None, Some, refl, ap, sym, subst, ◌∙◌, arith, inl, inr}
 use Rattle.std.proofs.lemmas.Option.{slice_get-get_or}
 use Rattle.std.proofs.lemmas.Slice.Eq.{bytes_eq-Decides}
+use Rattle.lemmas.specs.Lists.{IsIn}
 use Rattle.ir_ast.specs.Names.{place_of, numbered}
 use Rattle.ir_ast.specs.declared.block.Block.{Block}
 use Rattle.ir_ast.specs.declared.function.Function.{Function}
@@ -30,7 +31,6 @@ use Rattle.ir_print.specs.Names.{name_at}
 use Rattle.ir_print_law.specs.FunctionNames.{HasNames}
 use Rattle.ir_print_law.specs.ModuleNames.{HasModuleNames}
 use Rattle.ir_print_law.specs.Printable.{IsFunction}
-use Rattle.ir_print_law.specs.Shapes.{IsIn}
 use Rattle.ir_print_law.proofs.AnewState.{AreItsSymbols, Anew, Arrives, names_same, anew_reading, anew_outside}
 use Rattle.ir_print_law.proofs.Forms.{Keeps}
 use Rattle.ir_print_law.proofs.FunctionsRead.{function_keeps}
@@ -98,10 +98,10 @@ module _ (m : Module) (names : HasModuleNames m) where
     late : (o.missing ≡ None) × (wrong_symbol (with_sorts m.sorts o) ≡ None) × (wrong_struct (with_sorts m.sorts o) ≡ None)
     late = nothing_late (with_sorts m.sorts o) none
 
-    symbol_uses : (u : SymbolUse) → IsIn o.symbol_uses u → is_right u.is_call (slice_get m.sorts u.symbol) ≡ true
+    symbol_uses : (u : SymbolUse) → IsIn u o.symbol_uses → is_right u.is_call (slice_get m.sorts u.symbol) ≡ true
     symbol_uses u there = symbol_right (with_sorts m.sorts o) late.1 u there
 
-    struct_uses : (u : StructUse) → IsIn o.struct_uses u → is_struct (slice_get o.struct_names.sorts u.name) ≡ true
+    struct_uses : (u : StructUse) → IsIn u o.struct_uses → is_struct (slice_get o.struct_names.sorts u.name) ≡ true
     struct_uses u there = struct_right (with_sorts m.sorts o) late.2 u there
 
     symbols_are : o.symbols.names ≡ m.symbols

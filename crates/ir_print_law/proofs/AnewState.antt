@@ -1,6 +1,6 @@
 -- What is known of a state while one function is read in the tables of its module, and of where that reading ends.
 use Rattle.std.proofs.Common.{◌≡◌, ℕ, ◌≤◌, Bool, true, false, List, [], ◌∷◌, ◌++◌, length, map, slice_get, if◌then◌else◌, is_some, unwrap_or, Option, None, Some, zero, suc, refl, ap, sym, subst, ◌∙◌, arith, inl, inr, ◌⊎◌}
-use Rattle.lemmas.specs.Lists.{get_either}
+use Rattle.lemmas.specs.Lists.{in_first, in_second, last_in, IsIn, get_either}
 use Rattle.ir_ast.specs.Names.{place_of, number_of, numbered}
 use Rattle.ir_ast.specs.Types.{numbered_type}
 use Rattle.ir_ast.specs.declared.function.Function.{Function}
@@ -25,8 +25,6 @@ use Rattle.name_text.specs.Readings.{AreBytes}
 use Rattle.ir_print.specs.Names.{name_at}
 use Rattle.ir_print_law.specs.Definitions.{defined_structs, declared_functions, defined_functions, used_symbols}
 use Rattle.ir_print_law.specs.ModuleNames.{HasModuleNames}
-use Rattle.ir_print_law.specs.Shapes.{IsIn}
-use Rattle.ir_print_law.proofs.InLists.{in_after, in_front, is_last}
 use Rattle.ir_print_law.proofs.LongerTypes.{with_types}
 use Rattle.ir_print_law.proofs.ModuleState.{Kept, kept_of, Made, made_of, next_bytes, next_spells, number_spells, struct_name_begins, symbol_begins}
 use Rattle.ir_print_law.proofs.NameBytes.{spelled_bytes}
@@ -37,13 +35,13 @@ use Rattle.ir_print_law.proofs.Tables.{Begins, IsRestBefore, AreOrdered, begins_
 
 -- the names of globals and functions are those of the module, or one is used that the module does not have
 abbrev pub AreItsSymbols : Module → Input → Type 0
-AreItsSymbols m i = (i.symbols.names ≡ m.symbols) ⊎ ((u : SymbolUse) × IsIn i.symbol_uses u × (length m.symbols ≤ u.symbol))
+AreItsSymbols m i = (i.symbols.names ≡ m.symbols) ⊎ ((u : SymbolUse) × IsIn u i.symbol_uses × (length m.symbols ≤ u.symbol))
 
 -- the same of the names of structs
 abbrev pub AreItsStructs : Module → Input → Type 0
 AreItsStructs m i =
     ((i.struct_names.names ≡ m.struct_names) × (i.struct_names.sorts ≡ m.struct_of))
-    ⊎ ((u : StructUse) × IsIn i.struct_uses u × (length m.struct_names ≤ u.name))
+    ⊎ ((u : StructUse) × IsIn u i.struct_uses × (length m.struct_names ≤ u.name))
 
 -- each name that means a struct means it in the module
 abbrev pub AreItsLayouts : Module → List (Option ℕ) → Type 0
@@ -63,8 +61,8 @@ pub record Arrives (m : Module) (types : List IrType) (i : Input) : Type 0 where
   pub begins : Begins i.types types
   pub struct_names : Begins i.struct_names.names m.struct_names
   pub symbols : Begins i.symbols.names m.symbols
-  pub struct_uses : (u : StructUse) → IsIn i.struct_uses u → is_struct (slice_get m.struct_of u.name) ≡ true
-  pub symbol_uses : (u : SymbolUse) → IsIn i.symbol_uses u → is_right u.is_call (slice_get m.sorts u.symbol) ≡ true
+  pub struct_uses : (u : StructUse) → IsIn u i.struct_uses → is_struct (slice_get m.struct_of u.name) ≡ true
+  pub symbol_uses : (u : SymbolUse) → IsIn u i.symbol_uses → is_right u.is_call (slice_get m.sorts u.symbol) ≡ true
   pub missing : i.missing ≡ None
 
 -- ---- mentions of names
@@ -87,7 +85,7 @@ symbol_use is_call i = record { symbol = symbol_number i; is_call = is_call; sta
 
 module _ (m : Module) where
   structs_used : (i : Input) (place : Option ℕ) → place_of (spelled i.cursor) i.struct_names.names ≡ place → AreItsStructs m i → AreItsStructs m (with_struct_use i)
-  structs_used i place e (inr h) = inr (h.0, in_front i.struct_uses (struct_use i ∷ []) h.0 h.1, h.2)
+  structs_used i place e (inr h) = inr (h.0, in_first h.0 i.struct_uses (struct_use i ∷ []) h.1, h.2)
   structs_used i (Some n) e (inl h) = inl (
     names_same (spelled i.cursor) i.struct_names.names n e ∙ h.0,
     ap (λ (o : Option ℕ). sorts_with o None i.struct_names.sorts) e ∙ h.1,
@@ -95,7 +93,7 @@ module _ (m : Module) where
   structs_used i None e (inl h) =
       let next = number_next (spelled i.cursor) i.struct_names.names e in
       let same = ap (λ (l : List Text). length l) h.0 in
-      inr (struct_use i, is_last i.struct_uses (struct_use i), subst (λ (k : ℕ). length m.struct_names ≤ k) (sym (next ∙ same)) (omega arith))
+      inr (struct_use i, last_in (struct_use i) i.struct_uses, subst (λ (k : ℕ). length m.struct_names ≤ k) (sym (next ∙ same)) (omega arith))
 
   layouts_used : (sorts : List (Option ℕ)) (place : Option ℕ) → AreItsLayouts m sorts → AreItsLayouts m (sorts_with place None sorts)
   layouts_used sorts (Some n) h = h
@@ -105,12 +103,12 @@ module _ (m : Module) where
   ]
 
   symbols_used : (i : Input) (is_call : Bool) (place : Option ℕ) → place_of (spelled i.cursor) i.symbols.names ≡ place → AreItsSymbols m i → AreItsSymbols m (with_symbol_use is_call i)
-  symbols_used i is_call place e (inr h) = inr (h.0, in_front i.symbol_uses (symbol_use is_call i ∷ []) h.0 h.1, h.2)
+  symbols_used i is_call place e (inr h) = inr (h.0, in_first h.0 i.symbol_uses (symbol_use is_call i ∷ []) h.1, h.2)
   symbols_used i is_call (Some n) e (inl h) = inl (names_same (spelled i.cursor) i.symbols.names n e ∙ h)
   symbols_used i is_call None e (inl h) =
       let next = number_next (spelled i.cursor) i.symbols.names e in
       let same = ap (λ (l : List Text). length l) h in
-      inr (symbol_use is_call i, is_last i.symbol_uses (symbol_use is_call i), subst (λ (k : ℕ). length m.symbols ≤ k) (sym (next ∙ same)) (omega arith))
+      inr (symbol_use is_call i, last_in (symbol_use is_call i) i.symbol_uses, subst (λ (k : ℕ). length m.symbols ≤ k) (sym (next ∙ same)) (omega arith))
 
   -- ---- before and after a token, a type and a name
 
@@ -180,7 +178,7 @@ module _ (m : Module) where
       begins = b.begins;
       struct_names = struct_name_begins i m.struct_names b.struct_names;
       symbols = b.symbols;
-      struct_uses = λ u there. b.struct_uses u (in_front i.struct_uses (struct_use i ∷ []) u there);
+      struct_uses = λ u there. b.struct_uses u (in_first u i.struct_uses (struct_use i ∷ []) there);
       symbol_uses = b.symbol_uses;
       missing = b.missing;
     }
@@ -191,26 +189,26 @@ module _ (m : Module) where
       struct_names = b.struct_names;
       symbols = symbol_begins i m.symbols b.symbols;
       struct_uses = b.struct_uses;
-      symbol_uses = λ u there. b.symbol_uses u (in_front i.symbol_uses (symbol_use is_call i ∷ []) u there);
+      symbol_uses = λ u there. b.symbol_uses u (in_first u i.symbol_uses (symbol_use is_call i ∷ []) there);
       missing = b.missing;
     }
 
     -- ---- what a name is that is used
 
-    named : {A : Type 0} (name_of : A → Text) (xs : List A) (place : ℕ) (x : A) (name : Text) → slice_get xs place ≡ Some x → name_of x ≡ name → IsIn (map name_of xs) name
+    named : {A : Type 0} (name_of : A → Text) (xs : List A) (place : ℕ) (x : A) (name : Text) → slice_get xs place ≡ Some x → name_of x ≡ name → IsIn name (map name_of xs)
     named name_of [] place x name at e = absurd cc
-    named name_of (y ∷ xs) zero x name at e = let same : y ≡ x = cc in inl (ap name_of same ∙ e)
+    named name_of (y ∷ xs) zero x name at e = let same : y ≡ x = cc in inl (sym (ap name_of same ∙ e))
     named name_of (y ∷ xs) (suc place) x name at e = inr (named name_of xs place x name at e)
 
     module _ (names : HasModuleNames m) where
-      pub struct_is : (i : Input) → Arrives m types (with_struct_use i) → IsIn (defined_structs m) (spelled i.cursor)
-      struct_is i b = by (slice_get m.struct_of (struct_number i)) refl (b.struct_uses (struct_use i) (is_last i.struct_uses (struct_use i))) where
+      pub struct_is : (i : Input) → Arrives m types (with_struct_use i) → IsIn (spelled i.cursor) (defined_structs m)
+      struct_is i b = by (slice_get m.struct_of (struct_number i)) refl (b.struct_uses (struct_use i) (last_in (struct_use i) i.struct_uses)) where
         at : slice_get m.struct_names (struct_number i) ≡ Some (spelled i.cursor)
         at =
             let name = spelled i.cursor in
             stays (numbered name i.struct_names.names) m.struct_names (struct_number i) name b.struct_names (name_there name i.struct_names.names)
 
-        by : (x : Option (Option ℕ)) → slice_get m.struct_of (struct_number i) ≡ x → is_struct x ≡ true → IsIn (defined_structs m) (spelled i.cursor)
+        by : (x : Option (Option ℕ)) → slice_get m.struct_of (struct_number i) ≡ x → is_struct x ≡ true → IsIn (spelled i.cursor) (defined_structs m)
         by None same is = absurd cc
         by (Some None) same is = absurd cc
         by (Some (Some layout)) same is =
@@ -218,8 +216,8 @@ module _ (m : Module) where
             named (λ (s : StructType). name_at m.struct_names s.name) m.structs layout x.0 (spelled i.cursor) x.1
             (ap (name_at m.struct_names) x.2 ∙ ap (λ (o : Option Text). unwrap_or o []) at)
 
-      pub symbol_is : (i : Input) (is_call : Bool) → Arrives m types (with_symbol_use is_call i) → IsIn (used_symbols m is_call) (spelled i.cursor)
-      symbol_is i is_call b = by is_call (slice_get m.sorts (symbol_number i)) refl (b.symbol_uses (symbol_use is_call i) (is_last i.symbol_uses (symbol_use is_call i))) where
+      pub symbol_is : (i : Input) (is_call : Bool) → Arrives m types (with_symbol_use is_call i) → IsIn (spelled i.cursor) (used_symbols m is_call)
+      symbol_is i is_call b = by is_call (slice_get m.sorts (symbol_number i)) refl (b.symbol_uses (symbol_use is_call i) (last_in (symbol_use is_call i) i.symbol_uses)) where
         name : Text
         name = spelled i.cursor
 
@@ -229,7 +227,7 @@ module _ (m : Module) where
         its : (n : ℕ) → n ≡ symbol_number i → name_at m.symbols n ≡ name
         its n e = ap (name_at m.symbols) e ∙ ap (λ (o : Option Text). unwrap_or o []) at
 
-        by : (is_call : Bool) (x : Option SymbolSort) → slice_get m.sorts (symbol_number i) ≡ x → is_right is_call x ≡ true → IsIn (used_symbols m is_call) name
+        by : (is_call : Bool) (x : Option SymbolSort) → slice_get m.sorts (symbol_number i) ≡ x → is_right is_call x ≡ true → IsIn name (used_symbols m is_call)
         by is_call None same is = absurd cc
         by is_call (Some symbol.Unknown) same is = absurd cc
         by true (Some (symbol.Global g)) same is = absurd cc
@@ -239,11 +237,11 @@ module _ (m : Module) where
         by false (Some (symbol.Declared d)) same is = absurd cc
         by true (Some (symbol.Declared d)) same is =
             let x = names.named_declares (symbol_number i) d same in
-            in_front (declared_functions m) (defined_functions m) name (named (λ (d : Declare). name_at m.symbols d.symbol) m.declares d x.0 name x.1 (its x.0.symbol x.2))
+            in_first name (declared_functions m) (defined_functions m) (named (λ (d : Declare). name_at m.symbols d.symbol) m.declares d x.0 name x.1 (its x.0.symbol x.2))
         by false (Some (symbol.Defined f)) same is = absurd cc
         by true (Some (symbol.Defined f)) same is =
             let x = names.named_functions (symbol_number i) f same in
-            in_after (declared_functions m) (defined_functions m) name (named (λ (f : Function). name_at m.symbols f.symbol) m.functions f x.0 name x.1 (its x.0.symbol x.2))
+            in_second name (declared_functions m) (defined_functions m) (named (λ (f : Function). name_at m.symbols f.symbol) m.functions f x.0 name x.1 (its x.0.symbol x.2))
 
       -- The reading of the function, where `P` holds of what no form changes that reads a type or an operand.
       abbrev pub anew_reading : (P : Kept → Type 0) → Reading (with_types m types m.functions)

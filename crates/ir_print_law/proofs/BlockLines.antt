@@ -3,6 +3,7 @@ use Rattle.std.proofs.Common.{◌≡◌, ℕ, suc, ◌+◌, ◌<◌, ◌≤◌, 
 use Rattle.std.specs.Prelude.{codes}
 use Rattle.std.specs.List.{AllByRecursion, flat_map}
 use Rattle.std.proofs.lemmas.List.{append-nil}
+use Rattle.lemmas.specs.All.{all_first, all_second}
 use Rattle.ir_ast.specs.declared.block.Block.{Block}
 use Rattle.ir_ast.specs.declared.choices.Phi.{Phi}
 use Rattle.ir_ast.specs.declared.function.Function.{Function}
@@ -25,7 +26,7 @@ use Rattle.ir_print_law.specs.Printable.{IsBlock}
 use Rattle.ir_print_law.specs.Again.{IsBlockAgain}
 use Rattle.ir_print_law.proofs.Tables.{stays}
 use Rattle.ir_print_law.proofs.State.{Ready}
-use Rattle.ir_print_law.proofs.Bodies.{front_keys, back_keys, body_text, lines_go, next_ends, next_no_phi, end_line_is}
+use Rattle.ir_print_law.proofs.Bodies.{body_text, lines_go, next_ends, next_no_phi, end_line_is}
 use Rattle.ir_print_law.proofs.WholeForms.{widens_further, grows_widens, Leads, later_widened}
 use Rattle.ir_print_law.proofs.Known.{Far, AreNamed, known}
 use Rattle.ir_print_law.proofs.LabelLines.{far_label, label_goes}
@@ -84,8 +85,8 @@ module _ (m : Module) (f : Function) (named : AreNamed m f) (ops : OpsRead m f n
       let label_count = length-append far.labels (key ∷ []) in
       let size = length-append (map (phi_key f.locals) b.phis) (flat_map (result_keys f.locals) b.body) in
       let phi_count = keys_long f.locals b.phis in
-      let front = front_keys (map (phi_key f.locals) b.phis) (flat_map (result_keys f.locals) b.body) keys in
-      let back = back_keys (map (phi_key f.locals) b.phis) (flat_map (result_keys f.locals) b.body) keys in
+      let front = all_first IsKey (map (phi_key f.locals) b.phis) (flat_map (result_keys f.locals) b.body) keys in
+      let back = all_second IsKey (map (phi_key f.locals) b.phis) (flat_map (result_keys f.locals) b.body) keys in
       let a = phis_go m f named ops b.phis (flat_map (result_keys f.locals) b.body ++ more) (far_label m f named far key (unnamed_then far.unnamed key next.1.0)) p (body_text m f named ops b.body b.end rest) own.0 front
       (subst (λ (l : List Text). Steady (far_label m f named far key (unnamed_then far.unnamed key next.1.0)) l) (append_assoc (map (phi_key f.locals) b.phis) (flat_map (result_keys f.locals) b.body) more) steady_mid)
       (omega (arith, room, size, phi_count)) (omega (arith, label_count, few_labels)) (next_ends m f named ops b.body b.end rest own.1 back) (next_no_phi m f named ops b.body b.end rest own.1 back) w.3 in

@@ -3,6 +3,7 @@ use Rattle.std.proofs.Common.{◌≡◌, ℕ, ◌+◌, ◌<◌, ◌≤◌, true,
 use Rattle.std.specs.Prelude.{codes}
 use Rattle.std.specs.List.{AllByRecursion, flat_map}
 use Rattle.std.proofs.lemmas.List.{append-nil}
+use Rattle.lemmas.specs.All.{all_first, all_second}
 use Rattle.ir_ast.specs.declared.ends.End.{End}
 use Rattle.ir_ast.specs.declared.function.Function.{Function}
 use Rattle.ir_ast.specs.declared.instr.Instr.{Instr}
@@ -47,14 +48,6 @@ plain_line m locals x rest = append_assoc (codes "  " ++ [] ++ op_text m locals 
 -- the line of the end of a block
 pub end_line_is : (m : Module) (locals : List Text) (x : End) (rest : Text) → end_line m locals x ++ rest ≡ 32 ∷ 32 ∷ (end_text m locals x ++ 10 ∷ rest)
 end_line_is m locals x rest = append_assoc (codes "  " ++ end_text m locals x) (10 ∷ []) rest
-
-pub front_keys : (xs ys : List Text) → AllByRecursion IsKey (xs ++ ys) → AllByRecursion IsKey xs
-front_keys [] ys h = tt
-front_keys (x ∷ xs) ys h = (h.0, front_keys xs ys h.1)
-
-pub back_keys : (xs ys : List Text) → AllByRecursion IsKey (xs ++ ys) → AllByRecursion IsKey ys
-back_keys [] ys h = h
-back_keys (x ∷ xs) ys h = back_keys xs ys h.1
 
 abbrev IsInnerKind : Kind → Type 0
 IsInnerKind x = (begins_body_line x ≡ true) × (ends.ends_block x ≡ false)
@@ -158,7 +151,7 @@ module _ (m : Module) (f : Function) (named : AreNamed m f) (ops : OpsRead m f n
       let e = end_comes last i rest at in
       (ends_begins (kind i.cursor) e, no_local i (end_not_local (kind i.cursor) e))
   next_line (x ∷ xs) last i rest own keys at =
-      let h = line_kind x i (body_text xs last rest) own.0 (front_keys (result_keys f.locals x) (keys_of xs) keys)
+      let h = line_kind x i (body_text xs last rest) own.0 (all_first IsKey (result_keys f.locals x) (keys_of xs) keys)
       (subst (λ (t : Text). Stands i.cursor (10 ∷ t)) (append_assoc (instruction_line m f.locals x) (lines_of xs) (end_line m f.locals last ++ rest)) at) in
       (h.0.0, h.1)
 
@@ -181,8 +174,8 @@ module _ (m : Module) (f : Function) (named : AreNamed m f) (ops : OpsRead m f n
   lines_go (x ∷ xs) more far site i last rest own keys steady room blocks less ready =
       let more_lines = body_text xs last rest in
       let here = subst (λ (t : Text). Ready (known m f named far) 0 i (10 ∷ t)) (append_assoc (instruction_line m f.locals x) (lines_of xs) (end_line m f.locals last ++ rest)) ready in
-      let first = front_keys (result_keys f.locals x) (keys_of xs) keys in
-      let others = back_keys (result_keys f.locals x) (keys_of xs) keys in
+      let first = all_first IsKey (result_keys f.locals x) (keys_of xs) keys in
+      let others = all_second IsKey (result_keys f.locals x) (keys_of xs) keys in
       let size = length-append (result_keys f.locals x) (keys_of xs) in
       let goes = (line_kind x i more_lines own.0 first here.stands).0.1 in
       let one = one_goes x (keys_of xs ++ more) far site i more_lines own.0 (subst (λ (l : List Text). Steady far l) (append_assoc (result_keys f.locals x) (keys_of xs) more) steady)

@@ -1,5 +1,6 @@
 -- Calls, as they are read.
 use Rattle.std.proofs.Common.{inl, inr, ◌≡◌, ℕ, Bool, true, false, not, List, slice_get, refl, sym, ap, subst, ◌∙◌}
+use Rattle.lemmas.specs.Lists.{IsIn}
 use Rattle.ir_ast.specs.declared.calls.Call.{Call}
 use Rattle.ir_ast.specs.declared.function.Function.{Function}
 use Rattle.ir_ast.specs.declared.function.LocalSort.TheVariants as local
@@ -19,7 +20,7 @@ use Rattle.ir_print_law.specs.Definitions.{functions_of}
 use Rattle.ir_print_law.specs.Parts.{IsReturned}
 use Rattle.ir_print_law.specs.Calls.{IsCall}
 use Rattle.ir_print_law.specs.Printable.{gives_value, is_void}
-use Rattle.ir_print_law.specs.Shapes.{IsIn, Shape, Integer, Pointer, Array, Empty, Struct, Named, HasShape}
+use Rattle.ir_print_law.specs.Shapes.{Shape, Integer, Pointer, Array, Empty, Struct, Named, HasShape}
 use Rattle.ir_print_law.proofs.Arguments.{arguments_keep}
 use Rattle.ir_print_law.proofs.Decorations.{decorations_pass}
 use Rattle.ir_print_law.proofs.Forms.{Keeps, Same}
@@ -43,11 +44,11 @@ no_void types names (Struct first rest) n h = ap is_void h.2
 no_void types names (Named name) n h = ap is_void h.1
 
 module _ {m : Module} {f : Function} (v : Within m f) where
-  called_by_keeps : (x : Kind) (i : Input) → Keeps v.reading.Fore (Same v.reading.Fore) v.reading.Back (called_by x) (λ s. IsIn (functions_of m) (name_at m.symbols s)) i
+  called_by_keeps : (x : Kind) (i : Input) → Keeps v.reading.Fore (Same v.reading.Fore) v.reading.Back (called_by x) (λ s. IsIn (name_at m.symbols s) (functions_of m)) i
   called_by_keeps k.GlobalName i = callee_keeps v.reading i
   called_by_keeps _ i = λ a o h f. absurd h
 
-  called_keeps : (i : Input) → Keeps v.reading.Fore (Same v.reading.Fore) v.reading.Back called (λ s. IsIn (functions_of m) (name_at m.symbols s)) i
+  called_keeps : (i : Input) → Keeps v.reading.Fore (Same v.reading.Fore) v.reading.Back called (λ s. IsIn (name_at m.symbols s) (functions_of m)) i
   unfolding called
   called_keeps i = called_by_keeps (kind i.cursor) i
 

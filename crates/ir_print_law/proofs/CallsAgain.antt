@@ -26,7 +26,7 @@ use Rattle.ir_print.specs.Types.{type_text}
 use Rattle.ir_print_law.specs.PartsAgain.{IsResultAgain, IsArgumentAgain}
 use Rattle.ir_print_law.specs.Calls.{IsCallAgain, IsCall}
 use Rattle.ir_print_law.specs.Parts.{IsScalar, IsArgument, IsVoid, IsReturned}
-use Rattle.ir_print_law.specs.Shapes.{IsIn, Shape}
+use Rattle.ir_print_law.specs.Shapes.{Shape}
 use Rattle.ir_print_law.proofs.Tables.{stays}
 use Rattle.ir_print_law.proofs.State.{Invariant, Ready, IsLater, Reads}
 use Rattle.ir_print_law.proofs.Shown.{shown, IsTypeRead}
@@ -53,7 +53,9 @@ use Rattle.ir_print.specs.Instructions.{op_text}
 use Rattle.ir_tokens.specs.declared.token.Kind.{Kind}
 use Rattle.ir_forms.specs.Place.{Place}
 use Rattle.ir_print_law.specs.Printable.{gives_value, is_void}
+use Rattle.lemmas.specs.All.{all_so}
 use Rattle.lemmas.specs.Bools.{not_true, not_false}
+use Rattle.lemmas.specs.Lists.{IsIn}
 use Rattle.ir_ast.specs.declared.ir_type.IrType.{IrType}
 use Rattle.ir_forms.specs.declared.site.Site.{Site}
 use Rattle.ir_forms.specs.Instructions as whole
@@ -62,7 +64,6 @@ use Rattle.ir_print_law.proofs.SameParts.{same3, listed_same, result_same, globa
 use Rattle.ir_print_law.proofs.LongerTypes.{with_types, returned_again, argument_again}
 use Rattle.ir_print_law.specs.Definitions.{defined_functions}
 use Rattle.ir_print_law.proofs.Tables.{Begins}
-use Rattle.ir_print_law.proofs.Known.{all_so}
 use Rattle.ir_print_law.specs.Definitions.{declared_functions}
 
 -- a call of these texts
@@ -83,7 +84,7 @@ CallAgain m locals = IsLaterAgain (λ n others. IsCallAgain m n locals others)
 
 module _ {m : Module} {f : Function} (v : Invariant m f) where
   -- `@f(T V, ..)`
-  pub call_after_reads : (x : Call) (number : ℕ) (i : Input) (rest : Text) (s : ℕ) → IsIn (functions_of m) (name_at m.symbols x.callee) → AllByRecursion (IsArgument m f) x.arguments
+  pub call_after_reads : (x : Call) (number : ℕ) (i : Input) (rest : Text) (s : ℕ) → IsIn (name_at m.symbols x.callee) (functions_of m) → AllByRecursion (IsArgument m f) x.arguments
       → ((n : Module) (others : List Text) → IsLater i n others → IsResultAgain m n x.returned number) → EndsLine rest
       → Ready v s i (32 ∷ (global_text m x.callee ++ (40 ∷ (listed (argument_text m f.locals) x.arguments ++ 41 ∷ rest)))) → Reads v s (calls.call_after number) i rest (CallAgain m f.locals x)
   unfolding calls.call_after calls.called class_of
@@ -134,7 +135,7 @@ module _ {m : Module} {f : Function} (v : Invariant m f) where
       round_form fn = expect k.OpenRound >> arguments_form fn
 
   -- `call void @f(T V, ..)`
-  pub void_call_reads : (x : Call) (i : Input) (gap rest : Text) (s : ℕ) → IsVoid m x.returned → IsIn (functions_of m) (name_at m.symbols x.callee) → AllByRecursion (IsArgument m f) x.arguments
+  pub void_call_reads : (x : Call) (i : Input) (gap rest : Text) (s : ℕ) → IsVoid m x.returned → IsIn (name_at m.symbols x.callee) (functions_of m) → AllByRecursion (IsArgument m f) x.arguments
       → EndsLine rest → AreBlanks gap → Ready v s i (gap ++ (call_text m f.locals x ++ rest))
       → Reads v s calls.call_statement i rest (PlainAgain m f.locals (op.Call x))
   unfolding calls.call_statement calls.void_call class_of word_kind keywords
@@ -171,7 +172,7 @@ module _ {m : Module} {f : Function} (v : Invariant m f) where
 
 module _ {m : Module} {f : Function} (v u : Invariant m f) where
   -- `call T @f(T V, ..)`, whose value has a name
-  pub call_reads : (shape : Shape) (value : ℕ) (x : Call) (i : Input) (gap rest : Text) (s : ℕ) → IsScalar m shape x.returned → IsIn (functions_of m) (name_at m.symbols x.callee)
+  pub call_reads : (shape : Shape) (value : ℕ) (x : Call) (i : Input) (gap rest : Text) (s : ℕ) → IsScalar m shape x.returned → IsIn (name_at m.symbols x.callee) (functions_of m)
       → AllByRecursion (IsArgument m f) x.arguments → Sets v u value → EndsLine rest → AreBlanks gap → Ready v s i (gap ++ (call_text m f.locals x ++ rest))
       → Reads u s (calls.call value) i rest (CallAgain m f.locals x)
   unfolding calls.call class_of word_kind keywords
@@ -242,6 +243,6 @@ pub call_longer : (m : Module) (types : List IrType) (fs : List Function) (more 
     → (x : Call) → IsCall m f x → IsCall (with_types m types fs) f x
 call_longer m types fs more same f x h = (
   returned_again m types fs more same f x.returned h.0,
-  subst (λ (names : List Text). IsIn (declared_functions m ++ names) (name_at m.symbols x.callee)) (sym same) h.1,
+  subst (λ (names : List Text). IsIn (name_at m.symbols x.callee) (declared_functions m ++ names)) (sym same) h.1,
   all_so (IsArgument m f) (IsArgument (with_types m types fs) f) x.arguments (argument_again m types fs more same f) h.2,
 )

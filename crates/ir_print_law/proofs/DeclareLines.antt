@@ -2,6 +2,7 @@
 use Rattle.std.proofs.Common.{◌≡◌, ℕ, ◌+◌, ◌<◌, true, false, List, [], ◌∷◌, ◌++◌, length, slice_get, Some, refl, sym, ap, subst, ◌∙◌, arith, append_assoc}
 use Rattle.std.specs.Prelude.{codes, nat_lt}
 use Rattle.std.proofs.lemmas.Bool.Decides.{nat_tests}
+use Rattle.lemmas.specs.Lists.{IsIn}
 use Rattle.ir_ast.specs.declared.function.Function.{Function}
 use Rattle.ir_ast.specs.declared.items_of_module.Declare.{Declare}
 use Rattle.ir_ast.specs.declared.items_of_module.SymbolSort.TheVariants as symbol
@@ -29,7 +30,6 @@ use Rattle.ir_print.specs.Types.{type_text}
 use Rattle.ir_print_law.proofs.Words.{global_comes}
 use Rattle.ir_print_law.specs.Definitions.{defined_globals}
 use Rattle.ir_print_law.specs.Printable.{IsDeclare}
-use Rattle.ir_print_law.specs.Shapes.{IsIn}
 use Rattle.ir_print_law.proofs.Tables.{stays, begins_itself}
 use Rattle.ir_print_law.specs.Again.{IsDeclareAgain}
 use Rattle.ir_print_law.proofs.State.{Ready, IsLater}
@@ -74,14 +74,14 @@ module _ (m : Module) (f : Function) (named : AreNamed m f) (types : TypesRead m
       (o : Input) × (x : Declare) × item.says i tt o × Ready (known m f named (far_declared (name_at m.symbols d.symbol) x)) 0 o (10 ∷ rest) × Widens i o
       × ((n : Module) (others : List Text) → IsLater o n others → IsDeclareAgain m n d x)
 
-  name_step : (name : Text) (number : ℕ) (i : Input) → (IsIn far.globals name → ⊥) → (IsIn (defined_globals m) name → ⊥)
+  name_step : (name : Text) (number : ℕ) (i : Input) → (IsIn name far.globals → ⊥) → (IsIn name (defined_globals m) → ⊥)
       → SymbolsThen m f named far far.globals (far.functions ++ name ∷ []) name (symbol.Declared number) i
   name_step name number i apart never = λ h e.
       subst (λ (x : Text). SymbolsKnown m (far.symbols ++ x ∷ []) far.globals (far.functions ++ x ∷ []) (with_symbol (symbol.Declared number) i).symbols i.symbol_uses) e
       (function_defined m far.symbols far.globals far.functions i.symbols i.symbol_uses (spelled i.cursor) (symbol.Declared number) tt
-      (λ is. apart (subst (λ (x : Text). IsIn far.globals x) e is)) (λ is. never (subst (λ (x : Text). IsIn (defined_globals m) x) e is)) h)
+      (λ is. apart (subst (λ (x : Text). IsIn x far.globals) e is)) (λ is. never (subst (λ (x : Text). IsIn x (defined_globals m)) e is)) h)
 
-  name_reads : (number : ℕ) (i : Input) (name rest : Text) → AreBytes name → is_left_out name ≡ false → (IsIn far.symbols name → ⊥) → (IsIn far.globals name → ⊥) → (IsIn (defined_globals m) name → ⊥)
+  name_reads : (number : ℕ) (i : Input) (name rest : Text) → AreBytes name → is_left_out name ≡ false → (IsIn name far.symbols → ⊥) → (IsIn name far.globals → ⊥) → (IsIn name (defined_globals m) → ⊥)
       → Ready (known m f named far) 0 i (32 ∷ 64 ∷ (name_text blank.Kept name ++ 40 ∷ rest))
       → Goes (known m f named (far_named name)) 0 (function_name (symbol.Declared number)) i (40 ∷ rest) (λ n o. slice_get o.symbols.names n ≡ Some name)
   unfolding function_name class_of
@@ -94,7 +94,7 @@ module _ (m : Module) (f : Function) (named : AreNamed m f) (types : TypesRead m
       (a.0, a.1, subst (λ (x : Kind). (function_name_by (symbol.Declared number) x).says i n o) (sym e) a.2, a.3, a.4, a.5)
 
   pub declare_goes : (d : Declare) (i : Input) (gap rest : Text) → IsDeclare m d → AreBytes (name_at m.symbols d.symbol) → is_left_out (name_at m.symbols d.symbol) ≡ false
-      → (IsIn far.symbols (name_at m.symbols d.symbol) → ⊥) → (IsIn far.globals (name_at m.symbols d.symbol) → ⊥) → (IsIn (defined_globals m) (name_at m.symbols d.symbol) → ⊥)
+      → (IsIn (name_at m.symbols d.symbol) far.symbols → ⊥) → (IsIn (name_at m.symbols d.symbol) far.globals → ⊥) → (IsIn (name_at m.symbols d.symbol) (defined_globals m) → ⊥)
       → length far.declares < 65535 → far.unnamed + length d.parameters < 4294967295 → Comes begins_item (10 ∷ rest) → AreBlanks gap
       → Ready (known m f named far) 0 i (gap ++ (declare_line m d ++ rest)) → DeclareGoes d i rest
   unfolding item declaration declared_parameters class_of word_kind keywords

@@ -3,6 +3,7 @@ use Rattle.std.proofs.Common.{◌≡◌, ℕ, ◌+◌, ◌≤◌, Bool, true, fa
 use Rattle.std.specs.Prelude.{codes}
 use Rattle.std.specs.List.{AllByRecursion, flat_map}
 use Rattle.std.proofs.lemmas.List.{append-nil}
+use Rattle.lemmas.specs.Lists.{in_first, IsIn}
 use Rattle.grammar.specs.Many.{Listed}
 use Rattle.ir_ast.specs.declared.function.Function.{Function}
 use Rattle.ir_ast.specs.declared.module.Module.{Module}
@@ -18,7 +19,6 @@ use Rattle.ir_print.specs.Items.{function_text, declare_line}
 use Rattle.ir_print.specs.Operands.{listed}
 use Rattle.ir_print.specs.Types.{type_text}
 use Rattle.ir_ast.specs.declared.items_of_module.Declare.{Declare}
-use Rattle.ir_print_law.proofs.InLists.{in_front}
 use Rattle.ir_print_law.proofs.Tables.{begins_further, begins_itself}
 use Rattle.ir_print_law.proofs.Types.{Comes}
 use Rattle.ir_print_law.proofs.DeclareLines.{declare_goes}
@@ -29,7 +29,6 @@ use Rattle.ir_print.specs.Standing.{Stands, AreBlanks}
 use Rattle.ir_print_law.proofs.Words.{word_comes}
 use Rattle.ir_print_law.specs.Definitions.{AreNew, defined_globals}
 use Rattle.ir_print_law.specs.Printable.{IsFunction, IsDeclare, IsPrintable, IsSymbol}
-use Rattle.ir_print_law.specs.Shapes.{IsIn}
 use Rattle.ir_print_law.specs.PartsAgain.{AreAlike}
 use Rattle.ir_print_law.specs.Again.{IsDeclareAgain, IsFunctionAgain}
 use Rattle.ir_print_law.proofs.State.{Ready, IsLater}
@@ -102,7 +101,7 @@ module _ (m : Module) (is : IsPrintable m) (named : AreNamed m nobody) where
 
   pub declares_go : (ds : List Declare) (fs : List Function) (far : Far) (i : Input) (gap : Text) → AreBlanks gap → past_gap false gap ≡ [] → past_gap false (10 ∷ []) ≡ [] → AllByRecursion (IsDeclare m) ds
       → AllByRecursion (IsFunction m) fs → AllByRecursion IsSymbol (declared_names m ds ++ function_names m fs) → AreNew far.symbols (declared_names m ds ++ function_names m fs)
-      → ((name : Text) → IsIn far.globals name → IsIn far.symbols name) → ((name : Text) → IsIn (declared_names m ds ++ function_names m fs) name → IsIn (defined_globals m) name → ⊥)
+      → ((name : Text) → IsIn name far.globals → IsIn name far.symbols) → ((name : Text) → IsIn name (declared_names m ds ++ function_names m fs) → IsIn name (defined_globals m) → ⊥)
       → length far.declares + length ds ≤ 65535 → length far.defines + length fs ≤ 65535 → outside far ≡ far
       → Ready (known m nobody named far) 0 i (gap ++ (flat_map (declare_line m) ds ++ flat_map (function_text m) fs)) → DeclaresGo ds fs far i
   declares_go [] fs far i gap blanks past past_line are functions symbols new globals never few few_functions out ready =
@@ -146,7 +145,7 @@ module _ (m : Module) (is : IsPrintable m) (named : AreNamed m nobody) where
       let mid : Far = record far { symbols = far.symbols ++ name ∷ []; functions = far.functions ++ name ∷ []; declares = far.declares ++ x ∷ []; unnamed = 0 } in
       let size = length-append far.declares (x ∷ []) in
       let out_mid : outside mid ≡ mid = ap (λ (y : Far). record y { symbols = far.symbols ++ name ∷ []; functions = far.functions ++ name ∷ []; declares = far.declares ++ x ∷ []; unnamed = 0 }) out in
-      let next = declares_go ds fs mid p (10 ∷ []) refl past_line past_line are.1 functions symbols.1 new.1 (λ k h. in_front far.symbols (name ∷ []) k (globals k h)) (λ k h. never k (inr h))
+      let next = declares_go ds fs mid p (10 ∷ []) refl past_line past_line are.1 functions symbols.1 new.1 (λ k h. in_first k far.symbols (name ∷ []) (globals k h)) (λ k h. never k (inr h))
       (omega (arith, few, size)) few_functions out_mid one.3 in
       let o = next.1 in
       let now = next.2 in

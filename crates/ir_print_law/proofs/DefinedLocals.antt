@@ -5,7 +5,7 @@ use Rattle.std.specs.Fmt.{decimal}
 use Rattle.std.proofs.lemmas.Bool.Decides.{nat_tests}
 use Rattle.std.proofs.lemmas.Option.{slice_get_within}
 use Rattle.std.proofs.lemmas.List.{length-set}
-use Rattle.lemmas.specs.Lists.{get_end, set_here, set_either}
+use Rattle.lemmas.specs.Lists.{in_longer, last_in, IsIn, get_end, set_here, set_either}
 use Rattle.ir_ast.specs.declared.function.LocalSort.{LocalSort}
 use Rattle.ir_ast.specs.declared.function.LocalSort.TheVariants as local
 use Rattle.ir_forms.specs.Table.{defined}
@@ -14,8 +14,6 @@ use Rattle.ir_forms.specs.declared.uses.Wanted.{Wanted}
 use Rattle.ir_forms.specs.declared.uses.Wanted.TheVariants as wants
 use Rattle.ir_forms.specs.Names.{is_local, is_wanted}
 use Rattle.ir_tokens.specs.Bytes.{Text}
-use Rattle.ir_print_law.specs.Shapes.{IsIn}
-use Rattle.ir_print_law.proofs.InLists.{in_last, is_last}
 use Rattle.ir_print_law.proofs.DefinedNames.{Defines, IsNameKey, defines_name, defines_number, number_is_new}
 use Rattle.ir_print_law.proofs.LocalNames.{Locals, IsSortOf, keys_at, keys_more, key_is_new, set_known}
 use Rattle.ir_print_law.proofs.Reading.{Progress, with_named_value, with_named_label, IsValueSort}
@@ -27,7 +25,7 @@ sorted_as n sort t less P h =
     let there : nat_lt n (length t.sorts) ≡ true = grind (arith, nat_tests) in
     subst (λ (b : Bool). P (record { names = t.names; sorts = if b then slice_set t.sorts n sort else t.sorts })) (sym there) h
 
-value_sort : (g : Progress) (n : ℕ) (sort : LocalSort) → IsIn g.values n → IsValueSort sort → IsSortOf g n sort
+value_sort : (g : Progress) (n : ℕ) (sort : LocalSort) → IsIn n g.values → IsValueSort sort → IsSortOf g n sort
 value_sort g n local.Unknown there is = tt
 value_sort g n (local.Value t) there is = there
 value_sort g n (local.Slot held) there is = there
@@ -45,7 +43,7 @@ value_known (local.Block b) is = absurd is
 pub value_sorted : (g : Progress) (n : ℕ) (t : Table LocalSort) (unnamed : ℕ) (sort : LocalSort) → IsValueSort sort → Locals (with_named_value g n) (Some n) t unnamed
     → Locals (with_named_value g n) None (defined n sort t) unnamed
 value_sorted g n t unnamed sort is h =
-    let less : n < length t.sorts = (let w = h.within n (is_last g.names n) in let s = h.same in omega (arith, w, s)) in
+    let less : n < length t.sorts = (let w = h.within n (last_in n g.names) in let s = h.same in omega (arith, w, s)) in
     sorted_as n sort t less (λ x. Locals (with_named_value g n) None x unnamed) (record {
       same = length-set t.sorts n sort ∙ h.same;
       places = h.places;
@@ -53,7 +51,7 @@ value_sorted g n t unnamed sort is h =
       defines = h.defines;
       sorted = λ k x there. elim (set_either t.sorts n sort k x there) [
         | inl p ↦ h.sorted k x p
-        | inr p ↦ subst (λ (j : ℕ). IsSortOf (with_named_value g n) j x) (sym p.0) (subst (IsSortOf (with_named_value g n) n) p.1 (value_sort (with_named_value g n) n sort (is_last g.values n) is))
+        | inr p ↦ subst (λ (j : ℕ). IsSortOf (with_named_value g n) j x) (sym p.0) (subst (IsSortOf (with_named_value g n) n) p.1 (value_sort (with_named_value g n) n sort (last_in n g.values) is))
       ];
       known = λ k there. elim (h.known k there) [
         | inl p ↦ inl (set_known t.sorts n sort k (value_known sort is) p)
@@ -76,21 +74,21 @@ labelled g t unnamed next n within h defines =
     sorted_as n sort t less (λ x. Locals (with_named_label g n) None x next) (record {
       same = length-set t.sorts n sort ∙ h.same;
       places = h.places;
-      within = λ k there. elim (in_last g.names n k there) [
+      within = λ k there. elim (in_longer k g.names n there) [
         | inl p ↦ h.within k p
-        | inr p ↦ subst (λ (x : ℕ). x < length t.names) p within
+        | inr p ↦ subst (λ (x : ℕ). x < length t.names) (sym p) within
       ];
       defines = defines;
       sorted = λ k x there. elim (set_either t.sorts n sort k x there) [
         | inl p ↦ label_further g n k x (h.sorted k x p)
         | inr p ↦ subst (λ (j : ℕ). IsSortOf (with_named_label g n) j x) (sym p.0) (subst (IsSortOf (with_named_label g n) n) p.1 (get_end g.labels n))
       ];
-      known = λ k there. elim (in_last g.names n k there) [
+      known = λ k there. elim (in_longer k g.names n there) [
         | inl p ↦ elim (h.known k p) [
           | inl is ↦ inl (set_known t.sorts n sort k refl is)
           | inr is ↦ absurd cc
         ]
-        | inr p ↦ inl (subst (λ (j : ℕ). is_local (slice_get (slice_set t.sorts n sort) j) ≡ true) p (ap is_local (set_here t.sorts n sort less)))
+        | inr p ↦ inl (subst (λ (j : ℕ). is_local (slice_get (slice_set t.sorts n sort) j) ≡ true) (sym p) (ap is_local (set_here t.sorts n sort less)))
       ];
     })
 
@@ -121,20 +119,20 @@ used g wants.Value = g.values
 used g wants.Block = g.labels
 used g wants.Target = drop 1 g.labels
 
-pub in_list : (xs : List ℕ) (b n : ℕ) → slice_get xs b ≡ Some n → IsIn xs n
+pub in_list : (xs : List ℕ) (b n : ℕ) → slice_get xs b ≡ Some n → IsIn n xs
 in_list [] b n e = absurd cc
 in_list (x ∷ xs) zero n e = inl cc
 in_list (x ∷ xs) (suc b) n e = inr (in_list xs b n e)
 
-in_rest : (xs : List ℕ) (b n : ℕ) → not (b == 0) ≡ true → slice_get xs b ≡ Some n → IsIn (drop 1 xs) n
+in_rest : (xs : List ℕ) (b n : ℕ) → not (b == 0) ≡ true → slice_get xs b ≡ Some n → IsIn n (drop 1 xs)
 in_rest [] b n some e = absurd cc
 in_rest (x ∷ xs) zero n some e = absurd cc
 in_rest (x ∷ xs) (suc b) n some e = in_list xs b n e
 
 -- a name that means what is wanted in the end is one of those
-pub wanted_is : (g : Progress) (t : Table LocalSort) (unnamed : ℕ) (wanted : Wanted) (n : ℕ) → Locals g None t unnamed → is_wanted wanted (slice_get t.sorts n) ≡ true → IsIn (used g wanted) n
+pub wanted_is : (g : Progress) (t : Table LocalSort) (unnamed : ℕ) (wanted : Wanted) (n : ℕ) → Locals g None t unnamed → is_wanted wanted (slice_get t.sorts n) ≡ true → IsIn n (used g wanted)
 wanted_is g t unnamed wanted n h is = by wanted (slice_get t.sorts n) is (h.sorted n) where
-  by : (wanted : Wanted) (x : Option LocalSort) → is_wanted wanted x ≡ true → ((sort : LocalSort) → x ≡ Some sort → IsSortOf g n sort) → IsIn (used g wanted) n
+  by : (wanted : Wanted) (x : Option LocalSort) → is_wanted wanted x ≡ true → ((sort : LocalSort) → x ≡ Some sort → IsSortOf g n sort) → IsIn n (used g wanted)
   by wanted None e s = absurd cc
   by wanted (Some local.Unknown) e s = absurd cc
   by wants.Value (Some (local.Value t)) e s = s (local.Value t) refl

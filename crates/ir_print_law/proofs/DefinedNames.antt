@@ -4,6 +4,7 @@ use Rattle.std.specs.Prelude.{◌==◌, ◌&&◌, ◌||◌, if◌then◌else◌}
 use Rattle.std.specs.Fmt.{decimal}
 use Rattle.std.specs.List.{list_all}
 use Rattle.std.proofs.lemmas.List.{append-nil}
+use Rattle.lemmas.specs.Lists.{IsIn}
 use Rattle.ir_ast.specs.LocalKeys.{key_of_name}
 use Rattle.ir_forms.specs.Number as numbers
 use Rattle.ir_tokens.specs.Bytes.{Text, is_digit}
@@ -12,7 +13,6 @@ use Rattle.ir_print.specs.Standing.{AreDigits}
 use Rattle.name_text.specs.Spelled.{number_is}
 use Rattle.ir_print_law.proofs.Constants.{are_digits}
 use Rattle.ir_print_law.specs.Definitions.{AreDefined}
-use Rattle.ir_print_law.specs.Shapes.{IsIn}
 
 -- the key of a name
 abbrev pub IsNameKey : Text → Type 0
@@ -22,7 +22,7 @@ IsNameKey key = (name : Text) × AreBytes name × (key ≡ key_of_name name)
 abbrev pub Defines : (seen : List Text) → (unnamed : ℕ) → List Text → (next : ℕ) → Type 0
 Defines seen unnamed [] next = unnamed ≡ next
 Defines seen unnamed (key ∷ keys) next =
-    (IsIn seen key → ⊥) × (((key ≡ decimal unnamed) × Defines (seen ++ key ∷ []) (unnamed + 1) keys next) ⊎ (IsNameKey key × Defines (seen ++ key ∷ []) unnamed keys next))
+    (IsIn key seen → ⊥) × (((key ≡ decimal unnamed) × Defines (seen ++ key ∷ []) (unnamed + 1) keys next) ⊎ (IsNameKey key × Defines (seen ++ key ∷ []) unnamed keys next))
 
 pub are_defined : (seen : List Text) (unnamed : ℕ) (keys : List Text) (next : ℕ) → Defines seen unnamed keys next → AreDefined seen unnamed keys
 are_defined seen unnamed [] next h = tt
@@ -35,11 +35,11 @@ are_defined seen unnamed (key ∷ keys) next h = (
 )
 
 -- a further name
-pub defines_name : (seen : List Text) (unnamed : ℕ) (keys : List Text) (next : ℕ) (key : Text) → Defines seen unnamed keys next → (IsIn (seen ++ keys) key → ⊥) → IsNameKey key
+pub defines_name : (seen : List Text) (unnamed : ℕ) (keys : List Text) (next : ℕ) (key : Text) → Defines seen unnamed keys next → (IsIn key (seen ++ keys) → ⊥) → IsNameKey key
     → Defines seen unnamed (keys ++ key ∷ []) next
-defines_name seen unnamed [] next key h new is = (λ there. new (subst (λ (l : List Text). IsIn l key) (sym (append-nil seen)) there), inr (is, h))
+defines_name seen unnamed [] next key h new is = (λ there. new (subst (λ (l : List Text). IsIn key l) (sym (append-nil seen)) there), inr (is, h))
 defines_name seen unnamed (x ∷ keys) next key h new is =
-    let further : IsIn ((seen ++ x ∷ []) ++ keys) key → ⊥ = λ there. new (subst (λ (l : List Text). IsIn l key) (append_assoc seen (x ∷ []) keys) there) in (
+    let further : IsIn key ((seen ++ x ∷ []) ++ keys) → ⊥ = λ there. new (subst (λ (l : List Text). IsIn key l) (append_assoc seen (x ∷ []) keys) there) in (
       h.0,
       elim h.1 [
         | inl p ↦ inl (p.0, defines_name (seen ++ x ∷ []) (unnamed + 1) keys next key p.1 further is)
@@ -48,11 +48,11 @@ defines_name seen unnamed (x ∷ keys) next key h new is =
     )
 
 -- the next number
-pub defines_number : (seen : List Text) (unnamed : ℕ) (keys : List Text) (next : ℕ) (key : Text) → Defines seen unnamed keys next → (IsIn (seen ++ keys) key → ⊥) → key ≡ decimal next
+pub defines_number : (seen : List Text) (unnamed : ℕ) (keys : List Text) (next : ℕ) (key : Text) → Defines seen unnamed keys next → (IsIn key (seen ++ keys) → ⊥) → key ≡ decimal next
     → Defines seen unnamed (keys ++ key ∷ []) (next + 1)
-defines_number seen unnamed [] next key h new is = (λ there. new (subst (λ (l : List Text). IsIn l key) (sym (append-nil seen)) there), inl (is ∙ ap decimal (sym h), ap (λ n. n + 1) h))
+defines_number seen unnamed [] next key h new is = (λ there. new (subst (λ (l : List Text). IsIn key l) (sym (append-nil seen)) there), inl (is ∙ ap decimal (sym h), ap (λ n. n + 1) h))
 defines_number seen unnamed (x ∷ keys) next key h new is =
-    let further : IsIn ((seen ++ x ∷ []) ++ keys) key → ⊥ = λ there. new (subst (λ (l : List Text). IsIn l key) (append_assoc seen (x ∷ []) keys) there) in (
+    let further : IsIn key ((seen ++ x ∷ []) ++ keys) → ⊥ = λ there. new (subst (λ (l : List Text). IsIn key l) (append_assoc seen (x ∷ []) keys) there) in (
       h.0,
       elim h.1 [
         | inl p ↦ inl (p.0, defines_number (seen ++ x ∷ []) (unnamed + 1) keys next key p.1 further is)
@@ -100,19 +100,19 @@ counts_on seen unnamed (x ∷ keys) next h = elim h.1 [
   | inr p ↦ counts_on (seen ++ x ∷ []) unnamed keys next p.1
 ]
 
-pub number_is_new : (seen : List Text) (unnamed : ℕ) (keys : List Text) (next : ℕ) → next < 2 ^ 64 → Defines seen unnamed keys next → IsIn keys (decimal next) → ⊥
+pub number_is_new : (seen : List Text) (unnamed : ℕ) (keys : List Text) (next : ℕ) → next < 2 ^ 64 → Defines seen unnamed keys next → IsIn (decimal next) keys → ⊥
 number_is_new seen unnamed [] next less h there = absurd there
 number_is_new seen unnamed (x ∷ keys) next less h there =
     elim h.1 [
       | inl p ↦
           let on = counts_on (seen ++ x ∷ []) (unnamed + 1) keys next p.1 in
           elim there [
-            | inl e ↦ let low : unnamed < 2 ^ 64 = omega (arith, on, less) in let same = number_same unnamed next low less (sym p.0 ∙ e) in absurd (omega (arith, same, on))
+            | inl e ↦ let low : unnamed < 2 ^ 64 = omega (arith, on, less) in let same = number_same unnamed next low less (sym p.0 ∙ sym e) in absurd (omega (arith, same, on))
             | inr e ↦ number_is_new (seen ++ x ∷ []) (unnamed + 1) keys next less p.1 e
           ]
       | inr p ↦
           elim there [
-            | inl e ↦ no_name x p.0.0 next less p.0.2 (sym e)
+            | inl e ↦ no_name x p.0.0 next less p.0.2 e
             | inr e ↦ number_is_new (seen ++ x ∷ []) unnamed keys next less p.1 e
           ]
     ]

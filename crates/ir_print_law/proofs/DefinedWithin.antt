@@ -3,6 +3,7 @@ use Rattle.std.proofs.Common.{◌≡◌, ℕ, suc, ◌<◌, true, arith, List, [
 use Rattle.std.specs.List.{AllByRecursion}
 use Rattle.std.proofs.lemmas.List.{length-map}
 use Rattle.std.proofs.lemmas.Option.{slice_get_within}
+use Rattle.lemmas.specs.Lists.{in_first, last_in, IsIn}
 use Rattle.ir_ast.specs.Names.{place_of}
 use Rattle.ir_ast.specs.declared.block.Block.{Block}
 use Rattle.ir_ast.specs.declared.choices.Phi.{Phi}
@@ -16,8 +17,6 @@ use Rattle.ir_forms.specs.Names.{is_local}
 use Rattle.ir_tokens.specs.Bytes.{Text}
 use Rattle.ir_print_law.specs.FunctionNames.{HasNames}
 use Rattle.ir_print_law.specs.PartsWithin.{HasLocal, IsOfValue, HasValue, HasBlock, HasResult}
-use Rattle.ir_print_law.specs.Shapes.{IsIn}
-use Rattle.ir_print_law.proofs.InLists.{in_front, is_last}
 use Rattle.ir_print_law.proofs.Blocks.{with_block, with_blocks, with_parameters}
 use Rattle.ir_print_law.proofs.Choices.{with_phis}
 use Rattle.ir_print_law.proofs.DefinedLocals.{in_list}
@@ -48,23 +47,23 @@ both P Q (x ∷ xs) p q = ((p.0, q.0), both P Q xs p.1 q.1)
 
 -- ---- what was defined stays
 
-values_more : {A : Type 0} (value_of : A → ℕ) (g : Progress) (xs : List A) (n : ℕ) → IsIn g.values n → IsIn (with_values value_of g xs).values n
+values_more : {A : Type 0} (value_of : A → ℕ) (g : Progress) (xs : List A) (n : ℕ) → IsIn n g.values → IsIn n (with_values value_of g xs).values
 values_more value_of g [] n h = h
-values_more value_of g (x ∷ xs) n h = values_more value_of (with_named_value g (value_of x)) xs n (in_front g.values (value_of x ∷ []) n h)
+values_more value_of g (x ∷ xs) n h = values_more value_of (with_named_value g (value_of x)) xs n (in_first n g.values (value_of x ∷ []) h)
 
-result_more : (g : Progress) (r : Option ℕ) (n : ℕ) → IsIn g.values n → IsIn (with_result g r).values n
+result_more : (g : Progress) (r : Option ℕ) (n : ℕ) → IsIn n g.values → IsIn n (with_result g r).values
 result_more g None n h = h
-result_more g (Some value) n h = in_front g.values (value ∷ []) n h
+result_more g (Some value) n h = in_first n g.values (value ∷ []) h
 
-results_more : (g : Progress) (xs : List Instr) (n : ℕ) → IsIn g.values n → IsIn (with_results g xs).values n
+results_more : (g : Progress) (xs : List Instr) (n : ℕ) → IsIn n g.values → IsIn n (with_results g xs).values
 results_more g [] n h = h
 results_more g (x ∷ xs) n h = results_more (with_result g x.result) xs n (result_more g x.result n h)
 
-block_more : (g : Progress) (x : Block) (n : ℕ) → IsIn g.values n → IsIn (with_block g x).values n
+block_more : (g : Progress) (x : Block) (n : ℕ) → IsIn n g.values → IsIn n (with_block g x).values
 block_more g x n h =
     results_more (with_phis (with_named_label g x.label) x.phis) x.body n (values_more (λ (y : Phi). y.value) (with_named_label g x.label) x.phis n h)
 
-blocks_more : (g : Progress) (xs : List Block) (n : ℕ) → IsIn g.values n → IsIn (with_blocks g xs).values n
+blocks_more : (g : Progress) (xs : List Block) (n : ℕ) → IsIn n g.values → IsIn n (with_blocks g xs).values
 blocks_more g [] n h = h
 blocks_more g (x ∷ xs) n h = blocks_more (with_block g x) xs n (block_more g x n h)
 
@@ -73,17 +72,17 @@ blocks_more g (x ∷ xs) n h = blocks_more (with_block g x) xs n (block_more g x
 module _ (f : Function) where
   -- each of these is the name of a value
   abbrev AreLocal : Progress → Type 0
-  AreLocal g = (n : ℕ) → IsIn g.values n → HasValue f n
+  AreLocal g = (n : ℕ) → IsIn n g.values → HasValue f n
 
   values_local : {A : Type 0} (value_of : A → ℕ) (g : Progress) (xs : List A) → AreLocal (with_values value_of g xs) → AllByRecursion (λ x. HasValue f (value_of x)) xs
   values_local value_of g [] h = tt
   values_local value_of g (x ∷ xs) h =
       let next = with_named_value g (value_of x) in
-      (h (value_of x) (values_more value_of next xs (value_of x) (is_last g.values (value_of x))), values_local value_of next xs h)
+      (h (value_of x) (values_more value_of next xs (value_of x) (last_in (value_of x) g.values)), values_local value_of next xs h)
 
   result_local : (g : Progress) (r : Option ℕ) → AreLocal (with_result g r) → HasResult f r
   result_local g None h = tt
-  result_local g (Some value) h = h value (is_last g.values value)
+  result_local g (Some value) h = h value (last_in value g.values)
 
   results_local : (g : Progress) (xs : List Instr) → AreLocal (with_results g xs) → AllByRecursion (λ x. HasResult f x.result) xs
   results_local g [] h = tt
@@ -109,8 +108,8 @@ module _ (f : Function) where
   pub record AreDefinedWithin : Type 0 where
     pub sorts : length f.sorts ≡ length f.locals
     pub places : (n : ℕ) (key : Text) → slice_get f.locals n ≡ Some key → place_of key f.locals ≡ Some n
-    pub values : (n : ℕ) → IsIn (whole_of f).values n → HasValue f n
-    pub within : (n : ℕ) → IsIn (whole_of f).labels n → HasLocal f n
+    pub values : (n : ℕ) → IsIn n (whole_of f).values → HasValue f n
+    pub within : (n : ℕ) → IsIn n (whole_of f).labels → HasLocal f n
     pub labels : (block n : ℕ) → slice_get (whole_of f).labels block ≡ Some n → (slice_get f.sorts n ≡ Some (local.Block block)) × (block < length f.blocks)
     pub parameters : AllByRecursion (λ (x : Parameter). HasValue f x.value) f.parameters
     pub block_values : AllByRecursion AreLocalValues f.blocks
@@ -124,7 +123,7 @@ module _ (f : Function) where
 
   -- what a name of a value stands for
   value_is : (unnamed n : ℕ) (uses : List LocalUse) → Locals (whole_of f) None (record { names = f.locals; sorts = f.sorts }) unnamed
-      → Places (whole_of f) None (record { names = f.locals; sorts = f.sorts }) uses → IsIn (whole_of f).values n → IsOfValue (slice_get f.sorts n)
+      → Places (whole_of f) None (record { names = f.locals; sorts = f.sorts }) uses → IsIn n (whole_of f).values → IsOfValue (slice_get f.sorts n)
   value_is unnamed n uses names places there = elim (names.known n (places.value_names n there)) [
     | inl known ↦ by (slice_get f.sorts n) refl known
     | inr none ↦ absurd cc
@@ -143,7 +142,7 @@ module _ (f : Function) where
       let start = with_parameters nothing f.parameters in
       let labels = blocks_labels start f.blocks ∙ ap (λ (l : List ℕ). l ++ map (λ block. block.label) f.blocks) (parameters_labels nothing f.parameters) in
       let count : length (whole_of f).labels ≡ length f.blocks = ap length labels ∙ length-map f.blocks (λ block. block.label) in
-      let values : (n : ℕ) → IsIn (whole_of f).values n → HasValue f n =
+      let values : (n : ℕ) → IsIn n (whole_of f).values → HasValue f n =
       λ n there. (names.within n (places.value_names n there), value_is unnamed n uses names places there) in record {
         sorts = names.same;
         places = names.places;

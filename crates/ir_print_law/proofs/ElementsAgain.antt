@@ -53,8 +53,8 @@ use Rattle.ir_print_law.proofs.LongerTypes.{with_types, type_again, place_again,
 use Rattle.ir_ast.specs.declared.ir_type.IrType.{IrType}
 use Rattle.ir_print_law.specs.Definitions.{defined_functions}
 use Rattle.ir_print_law.proofs.Tables.{Begins}
-use Rattle.ir_print_law.proofs.Known.{all_so}
 use Rattle.std.proofs.Common.{None}
+use Rattle.lemmas.specs.All.{all_so}
 
 -- a getelementptr is this one again, in each module later on
 abbrev pub ElementAgain : Module → (locals : List Text) → Element → Element → Input → Type 0

@@ -4,10 +4,10 @@ use Rattle.std.specs.Prelude.{nat_lt}
 use Rattle.std.specs.List.{AllByRecursion}
 use Rattle.std.proofs.lemmas.Bool.Decides.{nat_tests}
 use Rattle.std.proofs.lemmas.Option.{slice_get-get_or}
+use Rattle.lemmas.specs.Lists.{IsIn}
 use Rattle.ir_ast.specs.Names.{place_of}
 use Rattle.ir_tokens.specs.Bytes.{Text}
 use Rattle.ir_print.specs.Names.{name_at}
-use Rattle.ir_print_law.specs.Shapes.{IsIn}
 use Rattle.ir_print_law.proofs.LocalNames.{keys_at, in_map, name_stays}
 use Rattle.ir_print_law.proofs.Tables.{Begins, begins_with}
 
@@ -18,7 +18,7 @@ abbrev total : List Text → ℕ
 total [] = 0
 total (x ∷ xs) = length x + total xs
 
-no_longer : (xs : List Text) (y : Text) → IsIn xs y → length y ≤ total xs
+no_longer : (xs : List Text) (y : Text) → IsIn y xs → length y ≤ total xs
 no_longer [] y there = absurd there
 no_longer (x ∷ xs) y (inl e) = let same = ap length e in omega (arith, same)
 no_longer (x ∷ xs) y (inr there) = let le = no_longer xs y there in omega (arith, le)
@@ -50,7 +50,7 @@ copy_at (x ∷ names) y count (suc n) le less = copy_at names y count n (omega (
 -- ---- numbers that are within
 
 -- past the table there may be a text that is none of the keys
-pub found_within : (names keys : List Text) (n : ℕ) → ((more : List Text) → IsIn keys (name_at (names ++ more) n)) → n < length names
+pub found_within : (names keys : List Text) (n : ℕ) → ((more : List Text) → IsIn (name_at (names ++ more) n) keys) → n < length names
 found_within names keys n found = by (nat_lt n (length names)) refl where
   by : (t : Bool) → nat_lt n (length names) ≡ t → n < length names
   by true e = grind (arith, nat_tests)
@@ -58,7 +58,7 @@ found_within names keys n found = by (nat_lt n (length names)) refl where
       let le : length names ≤ n = grind (arith, nat_tests) in
       let y = zeros (suc (total keys)) in
       let at = copy_at names y (suc n) n le (omega arith) in
-      let here = subst (IsIn keys) (ap (λ (x : Option Text). unwrap_or x []) at) (found (copies y (suc n))) in
+      let here = subst (λ x. IsIn x keys) (ap (λ (x : Option Text). unwrap_or x []) at) (found (copies y (suc n))) in
       let most = no_longer keys y here in
       let size = zeros_length (suc (total keys)) in
       absurd (omega (arith, most, size))
@@ -76,44 +76,44 @@ one_place names n k places less within same =
     cc
 
 -- so it is one of the numbers of which it has a key
-pub found_number : (names : List Text) (ns : List ℕ) (n : ℕ) → ((k : ℕ) → IsIn ns k → k < length names)
-    → ((n : ℕ) (key : Text) → slice_get names n ≡ Some key → place_of key names ≡ Some n) → ((more : List Text) → IsIn (keys_at names ns) (name_at (names ++ more) n)) → IsIn ns n
+pub found_number : (names : List Text) (ns : List ℕ) (n : ℕ) → ((k : ℕ) → IsIn k ns → k < length names)
+    → ((n : ℕ) (key : Text) → slice_get names n ≡ Some key → place_of key names ≡ Some n) → ((more : List Text) → IsIn (name_at (names ++ more) n) (keys_at names ns)) → IsIn n ns
 found_number names ns n within places found =
     let less = found_within names (keys_at names ns) n found in
-    let here = subst (IsIn (keys_at names ns)) (name_stays names (names ++ []) n less (begins_with names [])) (found []) in
+    let here = subst (λ x. IsIn x (keys_at names ns)) (name_stays names (names ++ []) n less (begins_with names [])) (found []) in
     let p = in_map (name_at names) ns (name_at names n) here in
-    subst (IsIn ns) (one_place names p.0 n places (within p.0 p.1) less p.2) p.1
+    subst (λ x. IsIn x ns) (one_place names p.0 n places (within p.0 p.1) less p.2) p.1
 
 -- ---- places
 
 -- an element has a place
-pub place_in : {A : Type 0} (xs : List A) (y : A) → IsIn xs y → (place : ℕ) × (slice_get xs place ≡ Some y)
+pub place_in : {A : Type 0} (xs : List A) (y : A) → IsIn y xs → (place : ℕ) × (slice_get xs place ≡ Some y)
 place_in [] y there = absurd there
-place_in (x ∷ xs) y (inl e) = (0, ap Some e)
+place_in (x ∷ xs) y (inl e) = (0, ap Some (sym e))
 place_in (x ∷ xs) y (inr there) = let p = place_in xs y there in (suc p.0, p.1)
 
 -- one after the first is there
-pub in_all : {A : Type 0} (xs : List A) (y : A) → IsIn (drop 1 xs) y → IsIn xs y
+pub in_all : {A : Type 0} (xs : List A) (y : A) → IsIn y (drop 1 xs) → IsIn y xs
 in_all [] y there = there
 in_all (x ∷ xs) y there = inr there
 
 -- and has a place after the first
-pub place_after : {A : Type 0} (xs : List A) (y : A) → IsIn (drop 1 xs) y → (place : ℕ) × (slice_get xs (suc place) ≡ Some y)
+pub place_after : {A : Type 0} (xs : List A) (y : A) → IsIn y (drop 1 xs) → (place : ℕ) × (slice_get xs (suc place) ≡ Some y)
 place_after [] y there = absurd there
 place_after (x ∷ xs) y there = place_in xs y there
 
 -- ---- names of items
 
 -- an item with this number has a place
-pub item_in : {A : Type 0} (number : A → ℕ) (xs : List A) (n : ℕ) → IsIn (map number xs) n → (place : ℕ) × (x : A) × (slice_get xs place ≡ Some x) × (number x ≡ n)
+pub item_in : {A : Type 0} (number : A → ℕ) (xs : List A) (n : ℕ) → IsIn n (map number xs) → (place : ℕ) × (x : A) × (slice_get xs place ≡ Some x) × (number x ≡ n)
 item_in number [] n there = absurd there
-item_in number (x ∷ xs) n (inl e) = (0, x, refl, e)
+item_in number (x ∷ xs) n (inl e) = (0, x, refl, sym e)
 item_in number (x ∷ xs) n (inr there) = let p = item_in number xs n there in (suc p.0, p.1, p.2, p.3)
 
 -- what holds of the numbers of all items holds of each number among them
-pub each_number : {A : Type 0} (number : A → ℕ) (P : ℕ → Type 0) (xs : List A) (n : ℕ) → AllByRecursion (λ x. P (number x)) xs → IsIn (map number xs) n → P n
+pub each_number : {A : Type 0} (number : A → ℕ) (P : ℕ → Type 0) (xs : List A) (n : ℕ) → AllByRecursion (λ x. P (number x)) xs → IsIn n (map number xs) → P n
 each_number number P [] n all there = absurd there
-each_number number P (x ∷ xs) n all (inl e) = subst P e all.0
+each_number number P (x ∷ xs) n all (inl e) = subst P (sym e) all.0
 each_number number P (x ∷ xs) n all (inr there) = each_number number P xs n all.1 there
 
 -- the names of items are those of their numbers

@@ -1,6 +1,7 @@
 -- What is known of a function's names where it ends.
 use Rattle.std.proofs.Common.{◌≡◌, ℕ, suc, List, [], ◌∷◌, ◌++◌, length, map, drop, None, refl, sym, ap, subst, ◌∙◌, inl, inr}
 use Rattle.std.specs.List.{flat_map}
+use Rattle.lemmas.specs.Lists.{IsIn}
 use Rattle.ir_ast.specs.declared.function.Function.{Function}
 use Rattle.ir_ast.specs.declared.function.LocalSort.{LocalSort}
 use Rattle.ir_forms.specs.declared.table.Table.{Table}
@@ -9,7 +10,6 @@ use Rattle.ir_forms.specs.declared.uses.Wanted.TheVariants as wants
 use Rattle.ir_tokens.specs.Bytes.{Text}
 use Rattle.ir_print.specs.Names.{name_at}
 use Rattle.ir_print_law.specs.Definitions.{AreDefined, block_keys, value_keys_of, defined_keys, value_keys, label_keys, used_keys}
-use Rattle.ir_print_law.specs.Shapes.{IsIn}
 use Rattle.ir_print_law.proofs.Blocks.{with_blocks, with_parameters}
 use Rattle.ir_print_law.proofs.DefinedLocals.{used}
 use Rattle.ir_print_law.proofs.DefinedNames.{are_defined}
@@ -38,7 +38,7 @@ labels_are f =
     blocks_labels f.locals (with_parameters nothing f.parameters) f.blocks
     ∙ ap (λ (l : List ℕ). keys_at f.locals l ++ map (λ block. name_at f.locals block.label) f.blocks) (parameters_labels nothing f.parameters)
 
-in_keys : (names : List Text) (ns : List ℕ) (n : ℕ) → IsIn ns n → IsIn (keys_at names ns) (name_at names n)
+in_keys : (names : List Text) (ns : List ℕ) (n : ℕ) → IsIn n ns → IsIn (name_at names n) (keys_at names ns)
 in_keys names (x ∷ ns) n (inl e) = inl (ap (name_at names) e)
 in_keys names (x ∷ ns) n (inr e) = inr (in_keys names ns n e)
 in_keys names [] n e = absurd e
@@ -61,8 +61,8 @@ pub function_values : (f : Function) → length (value_keys f) ≡ length (whole
 function_values f = sym (ap length (values_are f)) ∙ keys_length f.locals (whole_of f).values
 
 -- a name that may be used as something has its key among those of the function
-pub function_uses : (f : Function) (wanted : Wanted) (n : ℕ) → IsIn (used (whole_of f) wanted) n → IsIn (used_keys f wanted) (name_at f.locals n)
-function_uses f wants.Value n h = subst (λ (l : List Text). IsIn l (name_at f.locals n)) (values_are f) (in_keys f.locals (whole_of f).values n h)
-function_uses f wants.Block n h = subst (λ (l : List Text). IsIn l (name_at f.locals n)) (labels_are f) (in_keys f.locals (whole_of f).labels n h)
+pub function_uses : (f : Function) (wanted : Wanted) (n : ℕ) → IsIn n (used (whole_of f) wanted) → IsIn (name_at f.locals n) (used_keys f wanted)
+function_uses f wants.Value n h = subst (λ (l : List Text). IsIn (name_at f.locals n) l) (values_are f) (in_keys f.locals (whole_of f).values n h)
+function_uses f wants.Block n h = subst (λ (l : List Text). IsIn (name_at f.locals n) l) (labels_are f) (in_keys f.locals (whole_of f).labels n h)
 function_uses f wants.Target n h =
-    subst (λ (l : List Text). IsIn l (name_at f.locals n)) (rest_keys f.locals (whole_of f).labels ∙ ap (drop 1) (labels_are f)) (in_keys f.locals (drop 1 (whole_of f).labels) n h)
+    subst (λ (l : List Text). IsIn (name_at f.locals n) l) (rest_keys f.locals (whole_of f).labels ∙ ap (drop 1) (labels_are f)) (in_keys f.locals (drop 1 (whole_of f).labels) n h)

@@ -3,6 +3,7 @@ use Rattle.std.proofs.Common.{◌≡◌, ℕ, suc, ◌<◌, false, List, [], ◌
 use Rattle.std.specs.Prelude.{codes}
 use Rattle.std.specs.List.{AllByRecursion, flat_map}
 use Rattle.std.proofs.lemmas.List.{append-nil}
+use Rattle.lemmas.specs.Lists.{IsIn}
 use Rattle.ir_print_law.proofs.DeclareLines.{below_most}
 use Rattle.ir_ast.specs.declared.function.Function.{Function}
 use Rattle.ir_ast.specs.declared.function.Parameter.{Parameter}
@@ -31,7 +32,6 @@ use Rattle.ir_print.specs.Types.{type_text}
 use Rattle.ir_print_law.proofs.Words.{global_comes}
 use Rattle.ir_print_law.specs.Definitions.{AreDefined, defined_keys, parameter_key, parameter_keys, value_keys_of, block_keys, defined_globals}
 use Rattle.ir_print_law.specs.Printable.{IsFunction}
-use Rattle.ir_print_law.specs.Shapes.{IsIn}
 use Rattle.ir_print_law.proofs.Tables.{Begins, stays, begins_further}
 use Rattle.ir_print_law.specs.PartsAgain.{AreAlike, IsResultAgain}
 use Rattle.ir_print_law.specs.Again.{IsParameterAgain, IsFunctionAgain}
@@ -99,15 +99,15 @@ module _ (m : Module) (f : Function) (named : AreNamed m f) (nobody_named : AreN
     defines_next = h;
   }
 
-  name_step : (name : Text) (number : ℕ) (i : Input) → (IsIn far.globals name → ⊥) → (IsIn (defined_globals m) name → ⊥)
+  name_step : (name : Text) (number : ℕ) (i : Input) → (IsIn name far.globals → ⊥) → (IsIn name (defined_globals m) → ⊥)
       → SymbolsThen m f named (outside far) far.globals (far.functions ++ name ∷ []) name (symbol.Defined number) i
   name_step name number i apart never = λ h e.
       subst (λ (x : Text). SymbolsKnown m (far.symbols ++ x ∷ []) far.globals (far.functions ++ x ∷ []) (with_symbol (symbol.Defined number) i).symbols i.symbol_uses) e
       (function_defined m far.symbols far.globals far.functions i.symbols i.symbol_uses (spelled i.cursor) (symbol.Defined number) tt
-      (λ is. apart (subst (λ (x : Text). IsIn far.globals x) e is)) (λ is. never (subst (λ (x : Text). IsIn (defined_globals m) x) e is)) h)
+      (λ is. apart (subst (λ (x : Text). IsIn x far.globals) e is)) (λ is. never (subst (λ (x : Text). IsIn x (defined_globals m)) e is)) h)
 
   -- the name of the function
-  name_reads : (number : ℕ) (i : Input) (name rest : Text) → AreBytes name → is_left_out name ≡ false → (IsIn far.symbols name → ⊥) → (IsIn far.globals name → ⊥) → (IsIn (defined_globals m) name → ⊥)
+  name_reads : (number : ℕ) (i : Input) (name rest : Text) → AreBytes name → is_left_out name ≡ false → (IsIn name far.symbols → ⊥) → (IsIn name far.globals → ⊥) → (IsIn name (defined_globals m) → ⊥)
       → Ready (known m f named (outside far)) 0 i (32 ∷ 64 ∷ (name_text blank.Kept name ++ 40 ∷ rest))
       → Goes (known m f named (far_named name)) 0 (function_name (symbol.Defined number)) i (40 ∷ rest) (λ n o. slice_get o.symbols.names n ≡ Some name)
   unfolding function_name class_of
@@ -133,8 +133,8 @@ module _ (m : Module) (f : Function) (named : AreNamed m f) (nobody_named : AreN
   }
 
   pub definition_goes : (i : Input) (gap rest : Text) → IsFunction m f → AllByRecursion IsKey (parameter_keys f) → AllByRecursion (HasKeys m f named ops) f.blocks
-      → AreBytes (name_at m.symbols f.symbol) → is_left_out (name_at m.symbols f.symbol) ≡ false → (IsIn far.symbols (name_at m.symbols f.symbol) → ⊥) → (IsIn far.globals (name_at m.symbols f.symbol) → ⊥)
-      → (IsIn (defined_globals m) (name_at m.symbols f.symbol) → ⊥) → length far.defines < 65535 → AreBlanks gap
+      → AreBytes (name_at m.symbols f.symbol) → is_left_out (name_at m.symbols f.symbol) ≡ false → (IsIn (name_at m.symbols f.symbol) far.symbols → ⊥) → (IsIn (name_at m.symbols f.symbol) far.globals → ⊥)
+      → (IsIn (name_at m.symbols f.symbol) (defined_globals m) → ⊥) → length far.defines < 65535 → AreBlanks gap
       → Ready (known m nobody nobody_named (outside far)) 0 i (gap ++ (function_text m f ++ rest)) → DefinitionGoes i rest
   unfolding item definition head parameters class_of word_kind keywords
   definition_goes i gap rest is keys block_keys_are own allowed none apart never few blanks ready =

@@ -3,6 +3,7 @@ use Rattle.std.proofs.Common.{◌≡◌, ◌+◌, ◌≤◌, Bool, true, false, 
 use Rattle.std.specs.Prelude.{codes}
 use Rattle.std.specs.List.{AllByRecursion, flat_map}
 use Rattle.std.proofs.lemmas.List.{append-nil}
+use Rattle.lemmas.specs.Lists.{in_first, IsIn}
 use Rattle.grammar.specs.Many.{Listed}
 use Rattle.ir_ast.specs.declared.function.Function.{Function}
 use Rattle.ir_ast.specs.declared.module.Module.{Module}
@@ -17,11 +18,9 @@ use Rattle.ir_text.specs.ItemsOfText.{item, at_end_of_text}
 use Rattle.ir_print.specs.Items.{function_text}
 use Rattle.ir_print.specs.Names.{name_at}
 use Rattle.ir_print.specs.Standing.{Stands, AreBlanks}
-use Rattle.ir_print_law.proofs.InLists.{in_front}
 use Rattle.ir_print_law.proofs.Words.{word_comes, seen}
 use Rattle.ir_print_law.specs.Definitions.{AreNew, defined_globals}
 use Rattle.ir_print_law.specs.Printable.{IsFunction, IsPrintable, IsSymbol}
-use Rattle.ir_print_law.specs.Shapes.{IsIn}
 use Rattle.ir_print_law.proofs.Tables.{begins_further, begins_itself}
 use Rattle.ir_print_law.specs.PartsAgain.{AreAlike}
 use Rattle.ir_print_law.specs.Again.{IsFunctionAgain}
@@ -70,8 +69,8 @@ module _ (m : Module) (is : IsPrintable m) (named : AreNamed m nobody) where
       × Reaches i o × WithFunctions far now (function_names m fs) gs × ((n : Module) → IsModuleLater o n → AreAlike (IsFunctionAgain m n) fs gs)
 
   pub functions_go : (fs : List Function) (far : Far) (i : Input) (gap : Text) → AreBlanks gap → past_gap false gap ≡ [] → past_gap false (10 ∷ []) ≡ [] → AllByRecursion (IsFunction m) fs
-      → AllByRecursion IsSymbol (function_names m fs) → AreNew far.symbols (function_names m fs) → ((name : Text) → IsIn far.globals name → IsIn far.symbols name)
-      → ((name : Text) → IsIn (function_names m fs) name → IsIn (defined_globals m) name → ⊥) → length far.defines + length fs ≤ 65535 → outside far ≡ far
+      → AllByRecursion IsSymbol (function_names m fs) → AreNew far.symbols (function_names m fs) → ((name : Text) → IsIn name far.globals → IsIn name far.symbols)
+      → ((name : Text) → IsIn name (function_names m fs) → IsIn name (defined_globals m) → ⊥) → length far.defines + length fs ≤ 65535 → outside far ≡ far
       → Ready (known m nobody named far) 0 i (gap ++ flat_map (function_text m) fs) → FunctionsGo fs far i
   functions_go [] far i gap blanks past past_line are symbols new globals never few out ready =
       let here = subst (λ (t : Text). Ready (known m nobody named far) 0 i t) (append-nil gap) ready in (
@@ -106,7 +105,7 @@ module _ (m : Module) (is : IsPrintable m) (named : AreNamed m nobody) where
       let g = one.1 in
       let mid : Far = record (outside far) { symbols = far.symbols ++ name ∷ []; functions = far.functions ++ name ∷ []; defines = far.defines ++ g ∷ [] } in
       let size = length-append far.defines (g ∷ []) in
-      let next = functions_go fs mid p (10 ∷ []) refl past_line past_line are.1 symbols.1 new.1 (λ k h. in_front far.symbols (name ∷ []) k (globals k h)) (λ k h. never k (inr h)) (omega (arith, few, size)) refl one.3 in
+      let next = functions_go fs mid p (10 ∷ []) refl past_line past_line are.1 symbols.1 new.1 (λ k h. in_first k far.symbols (name ∷ []) (globals k h)) (λ k h. never k (inr h)) (omega (arith, few, size)) refl one.3 in
       let o = next.1 in
       let now = next.2 in
       let w = next.9 in

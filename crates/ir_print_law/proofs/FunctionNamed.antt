@@ -4,6 +4,7 @@ use Rattle.std.specs.Prelude.{nat_lt}
 use Rattle.std.specs.Fmt as text
 use Rattle.std.proofs.lemmas.Bool.Decides.{nat_tests}
 use Rattle.lemmas.specs.Bools.{not_true}
+use Rattle.lemmas.specs.Lists.{IsIn}
 use Rattle.ir_ast.specs.LocalKeys.{key_of_name, key_of_digits}
 use Rattle.ir_ast.specs.Names.{numbered, number_of}
 use Rattle.ir_ast.specs.declared.function.Function.{Function}
@@ -18,7 +19,6 @@ use Rattle.ir_forms.specs.declared.input.Input.{Input}
 use Rattle.ir_forms.specs.Input.{Form, advanced}
 use Rattle.ir_forms.specs.Names.{is_local, is_known_local, is_written_next, with_number_taken, take_number, next_number, local_number, with_value, new_value, numbered_value, key_number, with_unwritten_value, unnamed_value, with_label, new_label, numbered_label, with_unwritten_label, unnamed_label}
 use Rattle.ir_print.specs.Names.{name_at}
-use Rattle.ir_print_law.specs.Shapes.{IsIn}
 use Rattle.ir_print_law.proofs.DefinedLocals.{label_named, label_numbered}
 use Rattle.ir_print_law.proofs.DefinedNames.{IsNameKey, number_is_new}
 use Rattle.ir_print_law.proofs.Forms.{Keeps, Any}
@@ -85,26 +85,26 @@ unfolding local_key
 digits_key i is = rw is refl
 
 -- a key that is defined nowhere has a number that names nothing
-fresh_number : (g : Progress) (key : Text) (names : List Text) → (IsIn (keys_at (numbered key names) g.names) key → ⊥) → IsIn g.names (number_of key names) → ⊥
+fresh_number : (g : Progress) (key : Text) (names : List Text) → (IsIn key (keys_at (numbered key names) g.names) → ⊥) → IsIn (number_of key names) g.names → ⊥
 fresh_number g key names new there =
     let more = numbered key names in
     let at : name_at more (number_of key names) ≡ key = ap (λ (x : Option Text). unwrap_or x []) (name_there key names) in
-    new (subst (IsIn (keys_at more g.names)) at (key_there more g.names (number_of key names) there))
+    new (subst (λ x. IsIn x (keys_at more g.names)) at (key_there more g.names (number_of key names) there))
 
 -- a key that means nothing so far, and one that is the next number
 fresh_name : (g : Progress) (t : Table LocalSort) (unnamed : ℕ) (key : Text) → Locals g None t unnamed
     → is_local (slice_get (mentioned key local.Unknown t).sorts (number_of key t.names)) ≡ false
-    → IsIn g.names (number_of key t.names) → ⊥
+    → IsIn (number_of key t.names) g.names → ⊥
 fresh_name g t unnamed key h none =
     let more = mentioned key local.Unknown t in
     fresh_number g key t.names (key_is_new g more unnamed key (number_of key t.names) (mention_keeps g None t unnamed key h) (name_there key t.names) none)
 
 fresh_next : (g : Progress) (t : Table LocalSort) (unnamed : ℕ) (key : Text) → Locals g None t unnamed → unnamed < 4294967295 → key ≡ text.decimal unnamed
-    → IsIn g.names (number_of key t.names) → ⊥
+    → IsIn (number_of key t.names) g.names → ⊥
 fresh_next g t unnamed key h few is =
     let more = mention_keeps g None t unnamed key h in
     let new = number_is_new [] 0 (keys_at (numbered key t.names) g.names) unnamed (omega (arith, few)) more.defines in
-    fresh_number g key t.names (λ there. new (subst (IsIn (keys_at (numbered key t.names) g.names)) is there))
+    fresh_number g key t.names (λ there. new (subst (λ x. IsIn x (keys_at (numbered key t.names) g.names)) is there))
 
 module _ {m : Module} (w : Outside m) where
   -- a name that is written is the key of a name

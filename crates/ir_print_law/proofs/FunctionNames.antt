@@ -2,6 +2,7 @@
 use Rattle.std.proofs.Common.{◌≡◌, ℕ, zero, suc, ◌+◌, ◌<◌, true, List, [], ◌∷◌, ◌++◌, length, drop, map, slice_get, unwrap_or, Option, None, Some, sym, ap, subst, ◌∙◌, arith, append_assoc, inl, inr, ◌⊎◌}
 use Rattle.std.proofs.lemmas.List.{append-nil}
 use Rattle.std.proofs.lemmas.Option.{slice_get_within}
+use Rattle.lemmas.specs.Lists.{IsIn}
 use Rattle.ir_ast.specs.declared.block.Block.{Block}
 use Rattle.ir_ast.specs.declared.function.Function.{Function}
 use Rattle.ir_ast.specs.declared.function.LocalSort.{LocalSort}
@@ -13,7 +14,6 @@ use Rattle.ir_forms.specs.declared.uses.Wanted.TheVariants as wants
 use Rattle.ir_forms.specs.Names.{is_wanted}
 use Rattle.ir_tokens.specs.Bytes.{Text}
 use Rattle.ir_print_law.specs.FunctionNames.{IsKeyOfName, IsKeyOfNumber, HasNames}
-use Rattle.ir_print_law.specs.Shapes.{IsIn}
 use Rattle.ir_print_law.proofs.Blocks.{with_block, with_blocks, block_labels, with_parameters}
 use Rattle.ir_print_law.proofs.DefinedLocals.{used, wanted_is, in_list}
 use Rattle.ir_print_law.proofs.DefinedNames.{Defines, counts_on}
@@ -26,10 +26,10 @@ use Rattle.ir_print_law.proofs.Reading.{Progress, with_named_value}
 -- ---- keys
 
 -- a key that is defined is that of a name or of a number
-defined_key : (seen : List Text) (unnamed : ℕ) (keys : List Text) (next : ℕ) (key : Text) → next < 4294967296 → Defines seen unnamed keys next → IsIn keys key
+defined_key : (seen : List Text) (unnamed : ℕ) (keys : List Text) (next : ℕ) (key : Text) → next < 4294967296 → Defines seen unnamed keys next → IsIn key keys
     → IsKeyOfName key ⊎ IsKeyOfNumber key
 defined_key seen unnamed [] next key less h there = absurd there
-defined_key seen unnamed (x ∷ keys) next key less h (inl same) = subst (λ (k : Text). IsKeyOfName k ⊎ IsKeyOfNumber k) same (elim h.1 [
+defined_key seen unnamed (x ∷ keys) next key less h (inl same) = subst (λ (k : Text). IsKeyOfName k ⊎ IsKeyOfNumber k) (sym same) (elim h.1 [
   | inl p ↦ inr (unnamed, (let on = counts_on (seen ++ x ∷ []) (unnamed + 1) keys next p.1 in omega (arith, on, less)), p.0)
   | inr p ↦ inl p.0
 ])
@@ -38,25 +38,25 @@ defined_key seen unnamed (x ∷ keys) next key less h (inr there) = elim h.1 [
   | inr p ↦ defined_key (seen ++ x ∷ []) unnamed keys next key less p.1 there
 ]
 
-later : (xs : List ℕ) (n : ℕ) → IsIn (drop 1 xs) n → IsIn xs n
+later : (xs : List ℕ) (n : ℕ) → IsIn n (drop 1 xs) → IsIn n xs
 later [] n there = there
 later (x ∷ xs) n there = inr there
 
 -- what a name may be used as is a name
-used_names : (g : Progress) (pending : Option ℕ) (t : Table LocalSort) (uses : List LocalUse) (wanted : Wanted) (n : ℕ) → Places g pending t uses → IsIn (used g wanted) n
-    → IsIn g.names n
+used_names : (g : Progress) (pending : Option ℕ) (t : Table LocalSort) (uses : List LocalUse) (wanted : Wanted) (n : ℕ) → Places g pending t uses → IsIn n (used g wanted)
+    → IsIn n g.names
 used_names g pending t uses wants.Value n h there = h.value_names n there
 used_names g pending t uses wants.Block n h there = h.label_names n there
 used_names g pending t uses wants.Target n h there = h.label_names n (later g.labels n there)
 
 -- each key is defined where each use is right
 all_defined : (g : Progress) (t : Table LocalSort) (uses : List LocalUse) (unnamed : ℕ) → Locals g None t unnamed → Places g None t uses
-    → ((u : LocalUse) → IsIn uses u → is_wanted u.wanted (slice_get t.sorts u.value) ≡ true) → (n : ℕ) → n < length t.names → IsIn g.names n
+    → ((u : LocalUse) → IsIn u uses → is_wanted u.wanted (slice_get t.sorts u.value) ≡ true) → (n : ℕ) → n < length t.names → IsIn n g.names
 all_defined g t uses unnamed names places right n less = elim (places.covered n less) [
   | inl named ↦ named
   | inr p ↦
       let wanted = wanted_is g t unnamed p.0.wanted p.0.value names (right p.0 p.1) in
-      subst (IsIn g.names) p.2 (used_names g None t uses p.0.wanted p.0.value places wanted)
+      subst (λ x. IsIn x g.names) p.2 (used_names g None t uses p.0.wanted p.0.value places wanted)
 ]
 
 -- ---- labels
@@ -87,14 +87,14 @@ parameters_first ps count h place parameter e =
 -- what a function's names mean, where nothing is missing
 pub function_names : (f : Function) (uses : List LocalUse) (unnamed count : ℕ) → unnamed < 4294967296
     → Locals (whole_of f) None (record { names = f.locals; sorts = f.sorts }) unnamed
-    → Places (whole_of f) None (record { names = f.locals; sorts = f.sorts }) uses → ((u : LocalUse) → IsIn uses u → is_wanted u.wanted (slice_get f.sorts u.value) ≡ true)
+    → Places (whole_of f) None (record { names = f.locals; sorts = f.sorts }) uses → ((u : LocalUse) → IsIn u uses → is_wanted u.wanted (slice_get f.sorts u.value) ≡ true)
     → AreFirst (with_parameters nothing f.parameters).names count → HasNames f
 function_names f uses unnamed count less names places right first =
     let t : Table LocalSort = record { names = f.locals; sorts = f.sorts } in
     let g = whole_of f in record {
       keys = λ number key e.
           let named = all_defined g t uses unnamed names places right number (slice_get_within f.locals number key e) in
-          let there = subst (IsIn (keys_at f.locals g.names)) (ap (λ (x : Option Text). unwrap_or x []) e) (key_there f.locals g.names number named) in
+          let there = subst (λ x. IsIn x (keys_at f.locals g.names)) (ap (λ (x : Option Text). unwrap_or x []) e) (key_there f.locals g.names number named) in
           (defined_key [] 0 (keys_at f.locals g.names) unnamed key less names.defines there, names.places number key e);
       values = λ value sort e. let within = slice_get_within f.sorts value sort e in let same = names.same in omega (arith, within, same);
       parameters = parameters_first f.parameters count first;

@@ -1,5 +1,6 @@
 -- What holds of a function's own names while it is read, and what is known of them from where it ends.
 use Rattle.std.proofs.Common.{◌≡◌, ℕ, ◌+◌, ◌<◌, ◌≤◌, true, List, [], ◌∷◌, ◌++◌, length, slice_get, Option, None, Some, unwrap_or, refl, ap, subst, ◌∙◌, arith, length-append}
+use Rattle.lemmas.specs.Lists.{in_first, last_in, IsIn}
 use Rattle.ir_ast.specs.Names.{numbered}
 use Rattle.ir_ast.specs.declared.function.Function.{Function}
 use Rattle.ir_ast.specs.declared.function.LocalSort.{LocalSort}
@@ -14,9 +15,7 @@ use Rattle.ir_forms.specs.declared.input.Input.{Input}
 use Rattle.ir_forms.specs.Input.{advanced}
 use Rattle.ir_forms.specs.Names.{is_wanted, local_number, with_local_use, with_sort}
 use Rattle.ir_tokens.specs.Bytes.{Text}
-use Rattle.ir_print_law.specs.Shapes.{IsIn}
 use Rattle.ir_print_law.specs.Definitions.{used_keys}
-use Rattle.ir_print_law.proofs.InLists.{in_front, is_last}
 use Rattle.ir_print_law.proofs.DefinedLocals.{value_sorted, wanted_is}
 use Rattle.ir_print_law.proofs.FunctionEnds.{whole_of, function_uses}
 use Rattle.ir_print_law.proofs.FunctionPlaces.{Places, use_places, sort_places}
@@ -38,7 +37,7 @@ pub record Holds (m : Module) (w : Outside m) (g : Progress) (pending : Option �
 pub record Ends (m : Module) (w : Outside m) (f : Function) (t : Table LocalSort) (unnamed : ℕ) (i : Input) : Type 0 where
   pub outside : w.reading.Back i
   pub begins : Begins i.locals.names f.locals
-  pub right : (u : LocalUse) → IsIn i.local_uses u → is_wanted u.wanted (slice_get t.sorts u.value) ≡ true
+  pub right : (u : LocalUse) → IsIn u i.local_uses → is_wanted u.wanted (slice_get t.sorts u.value) ≡ true
   pub names : Locals (whole_of f) None t unnamed
 
 -- the use of the local name that is here
@@ -88,7 +87,7 @@ module _ {m : Module} (w : Outside m) where
 
   pub own_ends : (f : Function) (t : Table LocalSort) (unnamed : ℕ) (i : Input) (own : Table LocalSort) (uses : List LocalUse) (values next : ℕ)
       → Ends m w f t unnamed (with_own own uses values next i)
-      → Begins i.locals.names own.names → ((u : LocalUse) → IsIn i.local_uses u → IsIn uses u) → Ends m w f t unnamed i
+      → Begins i.locals.names own.names → ((u : LocalUse) → IsIn u i.local_uses → IsIn u uses) → Ends m w f t unnamed i
   own_ends f t unnamed i own uses values next h begins more = record {
     outside = w.from_own i own uses values next h.outside;
     begins = begins_further i.locals.names own.names f.locals begins h.begins;
@@ -110,17 +109,17 @@ module _ {m : Module} (w : Outside m) where
       let key = local_key i.cursor in
       token_ends f t unnamed i
       (own_ends f t unnamed (advanced i) (mentioned key local.Unknown i.locals) (i.local_uses ++ use_here wanted i ∷ []) i.values i.unnamed h (name_begins key i.locals.names)
-      (λ u there. in_front i.local_uses (use_here wanted i ∷ []) u there))
+      (λ u there. in_first u i.local_uses (use_here wanted i ∷ []) there))
 
   -- what is used is what the function defines
   pub use_is : (f : Function) (t : Table LocalSort) (unnamed : ℕ) (i : Input) (wanted : Wanted) → Ends m w f t unnamed (with_local_use wanted i)
-      → IsIn (used_keys f wanted) (local_key i.cursor)
+      → IsIn (local_key i.cursor) (used_keys f wanted)
   use_is f t unnamed i wanted h =
       let key = local_key i.cursor in
-      let right = h.right (use_here wanted i) (is_last i.local_uses (use_here wanted i)) in
+      let right = h.right (use_here wanted i) (last_in (use_here wanted i) i.local_uses) in
       let defined = wanted_is (whole_of f) t unnamed wanted (local_number i) h.names right in
       let there = ap (λ (x : Option Text). unwrap_or x []) (stays (numbered key i.locals.names) f.locals (local_number i) key h.begins (name_there key i.locals.names)) in
-      subst (IsIn (used_keys f wanted)) there (function_uses f wanted (local_number i) defined)
+      subst (λ x. IsIn x (used_keys f wanted)) there (function_uses f wanted (local_number i) defined)
 
   pub sort_ends : (f : Function) (t : Table LocalSort) (unnamed n : ℕ) (i : Input) (sort : LocalSort) → Ends m w f t unnamed (with_sort n sort i) → Ends m w f t unnamed i
   sort_ends f t unnamed n i sort h = own_ends f t unnamed i (defined n sort i.locals) i.local_uses i.values i.unnamed h (begins_itself i.locals.names) (λ u there. there)

@@ -3,6 +3,7 @@ use Rattle.std.proofs.Common.{◌≡◌, ℕ, ◌<◌, Bool, true, false, List, 
 use Rattle.std.specs.Prelude.{codes, nat_lt, ◌==◌}
 use Rattle.std.specs.Fmt.{decimal}
 use Rattle.std.proofs.lemmas.Bool.Decides.{nat_tests}
+use Rattle.lemmas.specs.Lists.{IsIn}
 use Rattle.ir_print_law.proofs.ListsAgain.{trailing_said}
 use Rattle.ir_print_law.proofs.ArgumentsAgain.{decorations_said}
 use Rattle.ir_ast.specs.declared.function.Function.{Function}
@@ -39,7 +40,7 @@ use Rattle.ir_print_law.proofs.Constants.{are_digits, constants_are_read, wide}
 use Rattle.ir_print_law.proofs.Words.{global_comes, word_comes, number_comes}
 use Rattle.ir_print_law.specs.Again.{IsGlobalAgain}
 use Rattle.ir_print_law.specs.Printable.{IsGlobal, IsInitial}
-use Rattle.ir_print_law.specs.Shapes.{IsIn, Shape, Integer, Pointer, Array, Empty, Struct, Named, HasShape, bits_of_shape}
+use Rattle.ir_print_law.specs.Shapes.{Shape, Integer, Pointer, Array, Empty, Struct, Named, HasShape, bits_of_shape}
 use Rattle.ir_print_law.proofs.Tables.{stays, begins_itself}
 use Rattle.ir_print_law.proofs.State.{Invariant, Ready, IsLater}
 use Rattle.ir_print_law.proofs.Shown.{shape_stays, bits_read}
@@ -135,10 +136,10 @@ module _ (m : Module) (f : Function) (named : AreNamed m f) (types : TypesRead m
       (o : Input) × (x : Global) × item.says i tt o × Ready (known m f named (far_global (name_at m.symbols g.symbol) x)) 0 o (10 ∷ rest) × Widens i o
       × ((n : Module) (others : List Text) → IsLater o n others → IsGlobalAgain m n g x)
 
-  name_step : (name : Text) (number : ℕ) (i : Input) → (IsIn far.functions name → ⊥) → SymbolsThen m f named far (far.globals ++ name ∷ []) far.functions name (symbol.Global number) i
+  name_step : (name : Text) (number : ℕ) (i : Input) → (IsIn name far.functions → ⊥) → SymbolsThen m f named far (far.globals ++ name ∷ []) far.functions name (symbol.Global number) i
   name_step name number i apart = λ h e.
       subst (λ (x : Text). SymbolsKnown m (far.symbols ++ x ∷ []) (far.globals ++ x ∷ []) far.functions (with_symbol (symbol.Global number) i).symbols i.symbol_uses) e
-      (global_defined m far.symbols far.globals far.functions i.symbols i.symbol_uses (spelled i.cursor) number (λ is. apart (subst (λ (x : Text). IsIn far.functions x) e is)) h)
+      (global_defined m far.symbols far.globals far.functions i.symbols i.symbol_uses (spelled i.cursor) number (λ is. apart (subst (λ (x : Text). IsIn x far.functions) e is)) h)
 
   -- `=`, and whether the global is constant
   word_reads : (v : Invariant m f) (c : Bool) (i : Input) (rest : Text) → Ready v 0 i (global_word c ++ rest)
@@ -162,7 +163,7 @@ module _ (m : Module) (f : Function) (named : AreNamed m f) (types : TypesRead m
       (a.1, b.1, a.2, (tt, p, plain, subst (λ (x : Kind). (is_constant_by x).says p false o) (sym e) (tt, o, b.2, (refl, refl))), b.3, widens_further i p o (grows_widens i p a.4) (grows_widens p o b.4))
 
   pub global_goes : (g : Global) (i : Input) (gap rest : Text) → IsGlobal m g → AreBytes (name_at m.symbols g.symbol) → is_left_out (name_at m.symbols g.symbol) ≡ false
-      → (IsIn far.symbols (name_at m.symbols g.symbol) → ⊥) → (IsIn far.functions (name_at m.symbols g.symbol) → ⊥) → length far.global_items < 4096 → Comes begins_item (10 ∷ rest) → AreBlanks gap
+      → (IsIn (name_at m.symbols g.symbol) far.symbols → ⊥) → (IsIn (name_at m.symbols g.symbol) far.functions → ⊥) → length far.global_items < 4096 → Comes begins_item (10 ∷ rest) → AreBlanks gap
       → Ready (known m f named far) 0 i (gap ++ (global_line m g ++ rest)) → GlobalGoes g i rest
   unfolding item global initial class_of
   global_goes g i gap rest is own allowed none apart few comes blanks ready =

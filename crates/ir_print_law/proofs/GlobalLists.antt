@@ -2,6 +2,7 @@
 use Rattle.std.proofs.Common.{◌≡◌, ◌+◌, ◌≤◌, Bool, true, false, List, [], ◌∷◌, ◌++◌, length, map, refl, sym, ap, subst, ◌∙◌, arith, append_assoc, length-append}
 use Rattle.std.specs.List.{AllByRecursion, flat_map}
 use Rattle.std.proofs.lemmas.List.{append-nil}
+use Rattle.lemmas.specs.Lists.{IsIn}
 use Rattle.grammar.specs.Many.{Listed}
 use Rattle.ir_ast.specs.declared.function.Function.{Function}
 use Rattle.ir_ast.specs.declared.module.Module.{Module}
@@ -26,7 +27,6 @@ use Rattle.ir_print.specs.Names.{name_at}
 use Rattle.ir_print.specs.Standing.{Stands, AreBlanks}
 use Rattle.ir_print_law.specs.Definitions.{AreNew, defined_globals}
 use Rattle.ir_print_law.specs.Printable.{IsFunction, IsGlobal, IsDeclare, IsPrintable, IsSymbol}
-use Rattle.ir_print_law.specs.Shapes.{IsIn}
 use Rattle.ir_print_law.specs.PartsAgain.{AreAlike}
 use Rattle.ir_print_law.specs.Again.{IsGlobalAgain, IsDeclareAgain, IsFunctionAgain}
 use Rattle.ir_print_law.proofs.State.{Ready}
@@ -82,8 +82,8 @@ module _ (m : Module) (is : IsPrintable m) (named : AreNamed m nobody) (ds : Lis
 
   pub globals_go : (ys : List Global) (far : Far) (i : Input) (gap : Text) → AreBlanks gap → past_gap false gap ≡ [] → past_gap false (10 ∷ []) ≡ [] → AllByRecursion (IsGlobal m) ys
       → AllByRecursion (IsDeclare m) ds → AllByRecursion (IsFunction m) fs → AllByRecursion IsSymbol (global_names m ys) → AllByRecursion IsSymbol (declared_names m ds ++ function_names m fs)
-      → AreNew far.symbols (global_names m ys ++ (declared_names m ds ++ function_names m fs)) → ((name : Text) → IsIn far.globals name → IsIn far.symbols name) → far.functions ≡ []
-      → ((name : Text) → IsIn (declared_names m ds ++ function_names m fs) name → IsIn (defined_globals m) name → ⊥)
+      → AreNew far.symbols (global_names m ys ++ (declared_names m ds ++ function_names m fs)) → ((name : Text) → IsIn name far.globals → IsIn name far.symbols) → far.functions ≡ []
+      → ((name : Text) → IsIn name (declared_names m ds ++ function_names m fs) → IsIn name (defined_globals m) → ⊥)
       → length far.global_items + length ys ≤ 4096 → length far.declares + length ds ≤ 65535 → length far.defines + length fs ≤ 65535 → outside far ≡ far
       → Ready (known m nobody named far) 0 i (gap ++ (flat_map (global_line m) ys ++ functions_text m ds fs)) → GlobalsGo ys far i
   globals_go [] far i gap blanks past past_line are declares functions own symbols new globals none never few few_declares few_functions out ready =
@@ -117,7 +117,7 @@ module _ (m : Module) (is : IsPrintable m) (named : AreNamed m nobody) (ds : Lis
       let name = name_at m.symbols y.symbol in
       let afterwards = flat_map (global_line m) ys ++ functions_text m ds fs in
       let here = subst (λ (t : Text). Ready (known m nobody named far) 0 i (gap ++ t)) (append_assoc (global_line m y) (flat_map (global_line m) ys) (functions_text m ds fs)) ready in
-      let one = global_goes m nobody named (types_given m) far y i gap afterwards are.0 own.0.0 own.0.1 new.0 (λ g. subst (λ (l : List Text). IsIn l name) none g) (omega (arith, few))
+      let one = global_goes m nobody named (types_given m) far y i gap afterwards are.0 own.0.0 own.0.1 new.0 (λ g. subst (λ (l : List Text). IsIn name l) none g) (omega (arith, few))
       (globals_begin m ys ds fs own.1 past_line) blanks here in
       let p = one.0 in
       let x = one.1 in

@@ -2,6 +2,7 @@
 use Rattle.std.proofs.Common.{◌≡◌, ℕ, ◌+◌, ◌<◌, true, false, List, [], ◌∷◌, ◌++◌, Some, refl, sym, ap, subst, ◌∙◌, arith, append_assoc, inl, inr}
 use Rattle.std.specs.Prelude.{codes, nat_lt}
 use Rattle.std.proofs.lemmas.Bool.Decides.{nat_tests}
+use Rattle.lemmas.specs.Lists.{last_in, IsIn}
 use Rattle.ir_ast.specs.declared.function.Function.{Function}
 use Rattle.ir_ast.specs.declared.instr.Instr.{Instr}
 use Rattle.ir_ast.specs.declared.module.Module.{Module}
@@ -18,8 +19,6 @@ use Rattle.ir_print.specs.Names.{name_at, key_text, local_text}
 use Rattle.ir_print.specs.Standing.{Stands}
 use Rattle.ir_print_law.specs.Again.{IsInstrAgain}
 use Rattle.ir_print_law.specs.Printable.{IsOp, gives_value}
-use Rattle.ir_print_law.specs.Shapes.{IsIn}
-use Rattle.ir_print_law.proofs.InLists.{is_last}
 use Rattle.ir_print_law.proofs.Tables.{stays}
 use Rattle.ir_print_law.proofs.State.{Ready, Reads}
 use Rattle.ir_print_law.proofs.Steps.{sign_reads, unlike}
@@ -78,7 +77,7 @@ module _ (m : Module) (f : Function) (named : AreNamed m f) (ops : OpsRead m f n
   value_says site key (inl e) i p o n y is said afterwards = by_kind site k.LocalNumber i o (record { result = Some n; op = y }) is (n, p, said, afterwards)
   value_says site key (inr e) i p o n y is said afterwards = by_kind site k.LocalName i o (record { result = Some n; op = y }) is (n, p, said, afterwards)
 
-  pub value_goes_on : (x : Op) (value : ℕ) (site : Site) (i : Input) (rest : Text) (is : IsNext far.unnamed (name_at f.locals value)) → IsOp m f x → gives_value m x ≡ true → site.place < 4294967295 → (IsIn far.seen (name_at f.locals value) → ⊥) → (IsIn far.labels (name_at f.locals value) → ⊥)
+  pub value_goes_on : (x : Op) (value : ℕ) (site : Site) (i : Input) (rest : Text) (is : IsNext far.unnamed (name_at f.locals value)) → IsOp m f x → gives_value m x ≡ true → site.place < 4294967295 → (IsIn (name_at f.locals value) far.seen → ⊥) → (IsIn (name_at f.locals value) far.labels → ⊥)
       → far.count < 1000000 → far.unnamed < 4294967295 → far.pending ≡ [] → EndsOp (10 ∷ rest)
       → Ready (known m f named far) 0 i (10 ∷ (instruction_line m f.locals (record { result = Some value; op = x }) ++ rest))
       → Leads m f named 0 (placed site) i (10 ∷ rest)
@@ -96,7 +95,7 @@ module _ (m : Module) (f : Function) (named : AreNamed m f) (ops : OpsRead m f n
       let after = far_result key unnamed in
       let equals = sign_reads (known m f named (far_value m f named far key n unnamed)) 61 k.Equals p (32 ∷ []) (32 ∷ text) 0 0 refl refl refl (omega arith) w.1.3 in
       let q = equals.1 in
-      let r = ops.named_read x key n (far_value m f named far key n unnamed) site q (32 ∷ []) (10 ∷ rest) own gives refl (is_last far.seen key) apart refl ends equals.3 in
+      let r = ops.named_read x key n (far_value m f named far key n unnamed) site q (32 ∷ []) (10 ∷ rest) own gives refl (last_in key far.seen) apart refl ends equals.3 in
       let y = r.0 in
       let o = r.1 in
       let trail = not_trailed r.0 r.1 (comma_free (10 ∷ rest) r.1 ends r.3.stands) in

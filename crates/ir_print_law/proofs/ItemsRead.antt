@@ -3,6 +3,7 @@ use Rattle.std.proofs.Common.{◌≡◌, ℕ, Bool, true, List, [], ◌∷◌, �
 use Rattle.std.specs.Prelude.{nat_lt}
 use Rattle.std.specs.List.{AllByRecursion}
 use Rattle.std.proofs.lemmas.List.{append-nil}
+use Rattle.lemmas.specs.All.{all_join}
 use Rattle.ir_ast.specs.declared.function.Function.{Function}
 use Rattle.ir_ast.specs.declared.items_of_module.Declare.{Declare}
 use Rattle.ir_ast.specs.declared.items_of_module.Global.{Global}
@@ -54,13 +55,9 @@ grows_not P xs = ([], sym (append-nil xs), tt)
 pub grows_by : {A : Type 0} (P : A → Type 0) (xs : List A) (x : A) → P x → Grows P xs (xs ++ x ∷ [])
 grows_by P xs x h = (x ∷ [], refl, (h, tt))
 
-all_further : {A : Type 0} (P : A → Type 0) (xs ys : List A) → AllByRecursion P xs → AllByRecursion P ys → AllByRecursion P (xs ++ ys)
-all_further P [] ys h g = g
-all_further P (x ∷ xs) ys h g = (h.0, all_further P xs ys h.1 g)
-
 -- more were added, and then more again
 pub grows_further : {A : Type 0} (P : A → Type 0) (xs ys zs : List A) → Grows P xs ys → Grows P ys zs → Grows P xs zs
-grows_further {A = A} P xs ys zs a b = (a.0 ++ b.0, b.1 ∙ ap (λ (l : List A). l ++ b.0) a.1 ∙ append_assoc xs a.0 b.0, all_further P a.0 b.0 a.2 b.2)
+grows_further {A = A} P xs ys zs a b = (a.0 ++ b.0, b.1 ∙ ap (λ (l : List A). l ++ b.0) a.1 ∙ append_assoc xs a.0 b.0, all_join P a.0 b.0 a.2 b.2)
 
 -- a module has these items, and then those, of which the further ones are good
 pub record Grown (m : Module) (Good : Function → Type 0) (a b : Made) : Type 0 where

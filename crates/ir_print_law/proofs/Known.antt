@@ -4,7 +4,9 @@ use Rattle.std.specs.Prelude.{drop}
 use Rattle.std.specs.List.{AllByRecursion}
 use Rattle.std.specs.Str.{bytes_eq}
 use Rattle.std.proofs.lemmas.Slice.Eq.{bytes_eq-Decides}
+use Rattle.lemmas.specs.All.{all_join, all_so}
 use Rattle.lemmas.specs.Bools.{not_true}
+use Rattle.lemmas.specs.Lists.{IsIn}
 use Rattle.ir_ast.specs.Names.{place_of, number_of, numbered}
 use Rattle.ir_ast.specs.declared.function.Function.{Function}
 use Rattle.ir_ast.specs.declared.function.LocalSort.{LocalSort}
@@ -32,19 +34,10 @@ use Rattle.ir_forms.specs.Intrinsics.{is_left_out}
 use Rattle.name_text.specs.Readings.{AreBytes}
 use Rattle.ir_print_law.specs.Readings.{IsKey}
 use Rattle.ir_print_law.specs.Definitions.{defined_structs, defined_globals, used_keys, used_symbols}
-use Rattle.ir_print_law.specs.Shapes.{IsIn}
 use Rattle.ir_print_law.proofs.State.{Invariant}
 use Rattle.ir_print_law.proofs.Named.{IsEven, sort_at, sort_kept, sort_defined, sort_defined_other, even_mentioned, numbered_stays, place_numbered}
 
 -- ---- lists
-
-pub all_afterwards : {A : Type 0} (P : A → Type 0) (xs : List A) (x : A) → AllByRecursion P xs → P x → AllByRecursion P (xs ++ x ∷ [])
-all_afterwards P [] x h p = (p, tt)
-all_afterwards P (y ∷ xs) x h p = (h.0, all_afterwards P xs x h.1 p)
-
-pub all_so : {A : Type 0} (P Q : A → Type 0) (xs : List A) → ((x : A) → P x → Q x) → AllByRecursion P xs → AllByRecursion Q xs
-all_so P Q [] f h = tt
-all_so P Q (x ∷ xs) f h = (f x h.0, all_so P Q xs f h.1)
 
 pub same_or_not : (x y : Text) → (x ≡ y) ⊎ (x ≡ y → ⊥)
 same_or_not x y = by (bytes_eq x y) refl where
@@ -100,13 +93,13 @@ known_keys values labels wants.Target = drop 1 labels
 
 -- a use of a name that has this number
 abbrev pub IsStructUse : Module → List Text → StructUse → Type 0
-IsStructUse m names u = (name : Text) × IsIn (defined_structs m) name × (place_of name names ≡ Some u.name)
+IsStructUse m names u = (name : Text) × IsIn name (defined_structs m) × (place_of name names ≡ Some u.name)
 
 abbrev pub IsSymbolUse : Module → List Text → SymbolUse → Type 0
-IsSymbolUse m names u = (name : Text) × IsIn (used_symbols m u.is_call) name × (place_of name names ≡ Some u.symbol)
+IsSymbolUse m names u = (name : Text) × IsIn name (used_symbols m u.is_call) × (place_of name names ≡ Some u.symbol)
 
 abbrev pub IsLocalUse : Function → List Text → LocalUse → Type 0
-IsLocalUse f names u = (key : Text) × IsIn (used_keys f u.wanted) key × (place_of key names ≡ Some u.value)
+IsLocalUse f names u = (key : Text) × IsIn key (used_keys f u.wanted) × (place_of key names ≡ Some u.value)
 
 -- a name that has this number
 abbrev pub HasNumber : List Text → Text × ℕ → Type 0
@@ -114,22 +107,22 @@ HasNumber names p = place_of p.0 names ≡ Some p.1
 
 pub record StructsKnown (m : Module) (structs : List Text) (t : Table (Option ℕ)) (uses : List StructUse) : Type 0 where
   pub even : IsEven t
-  pub known : Tells (IsIn structs) late.is_struct t
-  pub new : Tells (λ name. IsIn structs name → ⊥) (λ s. not (names.is_struct s)) t
+  pub known : Tells (λ x. IsIn x structs) late.is_struct t
+  pub new : Tells (λ name. IsIn name structs → ⊥) (λ s. not (names.is_struct s)) t
   pub uses_so : AllByRecursion (IsStructUse m t.names) uses
 
 pub record SymbolsKnown (m : Module) (symbols globals functions : List Text) (t : Table SymbolSort) (uses : List SymbolUse) : Type 0 where
   pub even : IsEven t
-  pub are_globals : Tells (IsIn globals) (is_right false) t
-  pub are_functions : Tells (IsIn functions) (is_right true) t
-  pub new : Tells (λ name. IsIn symbols name → ⊥) (λ s. not (is_symbol s)) t
-  pub no_function : Tells (IsIn (defined_globals m)) (λ s. not (is_function s)) t
+  pub are_globals : Tells (λ x. IsIn x globals) (is_right false) t
+  pub are_functions : Tells (λ x. IsIn x functions) (is_right true) t
+  pub new : Tells (λ name. IsIn name symbols → ⊥) (λ s. not (is_symbol s)) t
+  pub no_function : Tells (λ x. IsIn x (defined_globals m)) (λ s. not (is_function s)) t
   pub uses_so : AllByRecursion (IsSymbolUse m t.names) uses
 
 pub record LocalsKnown (f : Function) (seen values labels : List Text) (pending : List (Text × ℕ)) (t : Table LocalSort) (uses : List LocalUse) : Type 0 where
   pub even : IsEven t
-  pub known : (wanted : Wanted) → Tells (IsIn (known_keys values labels wanted)) (is_wanted wanted) t
-  pub new : Tells (λ key. IsIn seen key → ⊥) (λ s. not (is_local s)) t
+  pub known : (wanted : Wanted) → Tells (λ x. IsIn x (known_keys values labels wanted)) (is_wanted wanted) t
+  pub new : Tells (λ key. IsIn key seen → ⊥) (λ s. not (is_local s)) t
   pub waits : AllByRecursion (HasNumber t.names) pending
   pub uses_so : AllByRecursion (IsLocalUse f t.names) uses
 
@@ -159,12 +152,12 @@ struct_test = refl
 pub structs_mentioned : (m : Module) (structs : List Text) (t : Table (Option ℕ)) (uses : List StructUse) (k : Text) → StructsKnown m structs t uses → StructsKnown m structs (mentioned k None t) uses
 structs_mentioned m structs t uses k h = record {
   even = even_mentioned t k None h.even;
-  known = tells_mentioned (IsIn structs) late.is_struct t k None h.even refl h.known;
-  new = tells_mentioned (λ name. IsIn structs name → ⊥) (λ s. not (names.is_struct s)) t k None h.even refl h.new;
+  known = tells_mentioned (λ x. IsIn x structs) late.is_struct t k None h.even refl h.known;
+  new = tells_mentioned (λ name. IsIn name structs → ⊥) (λ s. not (names.is_struct s)) t k None h.even refl h.new;
   uses_so = all_so (IsStructUse m t.names) (IsStructUse m (numbered k t.names)) uses (λ u x. (x.0, x.1, numbered_stays k x.0 t.names u.name x.2)) h.uses_so;
 }
 
-pub struct_used : (m : Module) (structs : List Text) (t : Table (Option ℕ)) (uses : List StructUse) (k : Text) (start : ℕ) → IsIn (defined_structs m) k → StructsKnown m structs t uses
+pub struct_used : (m : Module) (structs : List Text) (t : Table (Option ℕ)) (uses : List StructUse) (k : Text) (start : ℕ) → IsIn k (defined_structs m) → StructsKnown m structs t uses
     → StructsKnown m structs (mentioned k None t) (uses ++ record { name = number_of k t.names; start = start } ∷ [])
 struct_used m structs t uses k start is_in h =
     let g = structs_mentioned m structs t uses k h in
@@ -172,21 +165,21 @@ struct_used m structs t uses k start is_in h =
       even = g.even;
       known = g.known;
       new = g.new;
-      uses_so = all_afterwards (IsStructUse m (numbered k t.names)) uses (record { name = number_of k t.names; start = start }) g.uses_so (k, is_in, place_numbered k t.names);
+      uses_so = all_join (IsStructUse m (numbered k t.names)) uses ((record { name = number_of k t.names; start = start }) ∷ []) g.uses_so ((k, is_in, place_numbered k t.names), tt);
     }
 
 pub symbols_mentioned : (m : Module) (symbols globals functions : List Text) (t : Table SymbolSort) (uses : List SymbolUse) (k : Text) → SymbolsKnown m symbols globals functions t uses
     → SymbolsKnown m symbols globals functions (mentioned k symbol.Unknown t) uses
 symbols_mentioned m symbols globals functions t uses k h = record {
   even = even_mentioned t k symbol.Unknown h.even;
-  are_globals = tells_mentioned (IsIn globals) (is_right false) t k symbol.Unknown h.even refl h.are_globals;
-  are_functions = tells_mentioned (IsIn functions) (is_right true) t k symbol.Unknown h.even refl h.are_functions;
-  new = tells_mentioned (λ name. IsIn symbols name → ⊥) (λ s. not (is_symbol s)) t k symbol.Unknown h.even refl h.new;
-  no_function = tells_mentioned (IsIn (defined_globals m)) (λ s. not (is_function s)) t k symbol.Unknown h.even refl h.no_function;
+  are_globals = tells_mentioned (λ x. IsIn x globals) (is_right false) t k symbol.Unknown h.even refl h.are_globals;
+  are_functions = tells_mentioned (λ x. IsIn x functions) (is_right true) t k symbol.Unknown h.even refl h.are_functions;
+  new = tells_mentioned (λ name. IsIn name symbols → ⊥) (λ s. not (is_symbol s)) t k symbol.Unknown h.even refl h.new;
+  no_function = tells_mentioned (λ x. IsIn x (defined_globals m)) (λ s. not (is_function s)) t k symbol.Unknown h.even refl h.no_function;
   uses_so = all_so (IsSymbolUse m t.names) (IsSymbolUse m (numbered k t.names)) uses (λ u x. (x.0, x.1, numbered_stays k x.0 t.names u.symbol x.2)) h.uses_so;
 }
 
-pub symbol_used : (m : Module) (symbols globals functions : List Text) (t : Table SymbolSort) (uses : List SymbolUse) (k : Text) (is_call : Bool) (start size : ℕ) → IsIn (used_symbols m is_call) k
+pub symbol_used : (m : Module) (symbols globals functions : List Text) (t : Table SymbolSort) (uses : List SymbolUse) (k : Text) (is_call : Bool) (start size : ℕ) → IsIn k (used_symbols m is_call)
     → SymbolsKnown m symbols globals functions t uses
     → SymbolsKnown m symbols globals functions (mentioned k symbol.Unknown t) (uses ++ record { symbol = number_of k t.names; is_call = is_call; start = start; length = size } ∷ [])
 symbol_used m symbols globals functions t uses k is_call start size is_in h =
@@ -197,7 +190,7 @@ symbol_used m symbols globals functions t uses k is_call start size is_in h =
       are_functions = g.are_functions;
       new = g.new;
       no_function = g.no_function;
-      uses_so = all_afterwards (IsSymbolUse m (numbered k t.names)) uses (record { symbol = number_of k t.names; is_call = is_call; start = start; length = size }) g.uses_so (k, is_in, place_numbered k t.names);
+      uses_so = all_join (IsSymbolUse m (numbered k t.names)) uses ((record { symbol = number_of k t.names; is_call = is_call; start = start; length = size }) ∷ []) g.uses_so ((k, is_in, place_numbered k t.names), tt);
     }
 
 unknown_same : (wanted : Wanted) → is_wanted wanted None ≡ is_wanted wanted (Some local.Unknown)
@@ -207,13 +200,13 @@ pub locals_mentioned : (f : Function) (seen values labels : List Text) (pending 
     → LocalsKnown f seen values labels pending (mentioned k local.Unknown t) uses
 locals_mentioned f seen values labels pending t uses k h = record {
   even = even_mentioned t k local.Unknown h.even;
-  known = λ wanted. tells_mentioned (IsIn (known_keys values labels wanted)) (is_wanted wanted) t k local.Unknown h.even (unknown_same wanted) (h.known wanted);
-  new = tells_mentioned (λ key. IsIn seen key → ⊥) (λ s. not (is_local s)) t k local.Unknown h.even refl h.new;
+  known = λ wanted. tells_mentioned (λ x. IsIn x (known_keys values labels wanted)) (is_wanted wanted) t k local.Unknown h.even (unknown_same wanted) (h.known wanted);
+  new = tells_mentioned (λ key. IsIn key seen → ⊥) (λ s. not (is_local s)) t k local.Unknown h.even refl h.new;
   waits = all_so (HasNumber t.names) (HasNumber (numbered k t.names)) pending (λ p e. numbered_stays k p.0 t.names p.1 e) h.waits;
   uses_so = all_so (IsLocalUse f t.names) (IsLocalUse f (numbered k t.names)) uses (λ u x. (x.0, x.1, numbered_stays k x.0 t.names u.value x.2)) h.uses_so;
 }
 
-pub local_used : (f : Function) (seen values labels : List Text) (pending : List (Text × ℕ)) (t : Table LocalSort) (uses : List LocalUse) (k : Text) (wanted : Wanted) (start : ℕ) → IsIn (used_keys f wanted) k
+pub local_used : (f : Function) (seen values labels : List Text) (pending : List (Text × ℕ)) (t : Table LocalSort) (uses : List LocalUse) (k : Text) (wanted : Wanted) (start : ℕ) → IsIn k (used_keys f wanted)
     → LocalsKnown f seen values labels pending t uses
     → LocalsKnown f seen values labels pending (mentioned k local.Unknown t) (uses ++ record { value = number_of k t.names; wanted = wanted; start = start } ∷ [])
 local_used f seen values labels pending t uses k wanted start is_in h =
@@ -223,15 +216,15 @@ local_used f seen values labels pending t uses k wanted start is_in h =
       known = g.known;
       new = g.new;
       waits = g.waits;
-      uses_so = all_afterwards (IsLocalUse f (numbered k t.names)) uses (record { value = number_of k t.names; wanted = wanted; start = start }) g.uses_so (k, is_in, place_numbered k t.names);
+      uses_so = all_join (IsLocalUse f (numbered k t.names)) uses ((record { value = number_of k t.names; wanted = wanted; start = start }) ∷ []) g.uses_so ((k, is_in, place_numbered k t.names), tt);
     }
 
 -- ---- no type, operand or operation breaks it
 
 -- what is used is named as it is read
 pub record AreNamed (m : Module) (f : Function) : Type 0 where
-  pub is_key : (wanted : Wanted) (key : Text) → IsIn (used_keys f wanted) key → IsKey key
-  pub is_symbol : (is_call : Bool) (name : Text) → IsIn (used_symbols m is_call) name → AreBytes name × (is_left_out name ≡ false)
+  pub is_key : (wanted : Wanted) (key : Text) → IsIn key (used_keys f wanted) → IsKey key
+  pub is_symbol : (is_call : Bool) (name : Text) → IsIn name (used_symbols m is_call) → AreBytes name × (is_left_out name ≡ false)
 
 abbrev pub known : (m : Module) (f : Function) → AreNamed m f → (far : Far) → Invariant m f
 known m f named far = record {

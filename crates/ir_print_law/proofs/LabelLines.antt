@@ -1,5 +1,6 @@
 -- The label of a block is read as the label of the block that comes next.
 use Rattle.std.proofs.Common.{◌≡◌, ℕ, suc, ◌+◌, ◌<◌, ◌≤◌, ◌^◌, List, [], ◌∷◌, ◌++◌, length, slice_get, Some, refl, sym, ap, subst, ◌∙◌, arith, length-append, inl, inr, ◌⊎◌}
+use Rattle.lemmas.specs.Lists.{IsIn}
 use Rattle.std.specs.Fmt as text
 use Rattle.ir_print_law.proofs.DeclareLines.{below_most}
 use Rattle.ir_ast.specs.LocalKeys.{key_of_name}
@@ -24,7 +25,6 @@ use Rattle.ir_print.specs.Standing.{Stands}
 use Rattle.ir_print_law.proofs.Constants.{are_digits}
 use Rattle.ir_print_law.proofs.NamesRead.{digits_text, name_key_text, labels_are_read}
 use Rattle.ir_print_law.proofs.Words.{label_comes}
-use Rattle.ir_print_law.specs.Shapes.{IsIn}
 use Rattle.ir_print_law.proofs.Tables.{begins_itself, name_begins, name_length, name_there, number_within}
 use Rattle.ir_print_law.proofs.State.{Ready}
 use Rattle.ir_print_law.proofs.Known.{Far, AreNamed, LocalsKnown, known}
@@ -56,7 +56,7 @@ module _ (m : Module) (f : Function) (named : AreNamed m f) (far : Far) where
       (n : ℕ) × (o : Input) × (block_label block).says i n o × Ready (known m f named (far_label key unnamed)) 0 o rest × Widens i o × (slice_get o.locals.names n ≡ Some key)
 
   -- the state after a label, which the form leaves
-  afterwards_label : (key : Text) (i o : Input) (unnamed : ℕ) (rest : Text) → Ready (known m f named far) 0 i (10 ∷ (key_text key ++ 58 ∷ rest)) → (IsIn far.values key → ⊥) → far.pending ≡ []
+  afterwards_label : (key : Text) (i o : Input) (unnamed : ℕ) (rest : Text) → Ready (known m f named far) 0 i (10 ∷ (key_text key ++ 58 ∷ rest)) → (IsIn key far.values → ⊥) → far.pending ≡ []
       → local_key i.cursor ≡ key → Stands o.cursor rest → o ≡ names.with_label (length far.labels) (record i { unnamed = o.unnamed }) → o.unnamed ≡ unnamed
       → Ready (known m f named (far_label key unnamed)) 0 o rest × Widens i o × (slice_get o.locals.names (number_of key i.locals.names) ≡ Some key)
   afterwards_label key i o unnamed rest ready apart none e at is counted =
@@ -109,7 +109,7 @@ module _ (m : Module) (f : Function) (named : AreNamed m f) (far : Far) where
               subst (λ (x : Text). slice_get (numbered x i.locals.names) (number_of key i.locals.names) ≡ Some key) (sym e) (name_there key i.locals.names),
             )
 
-  pub label_goes : (key : Text) (is : IsNext far.unnamed key) (i : Input) (rest : Text) → (IsIn far.seen key → ⊥) → (IsIn far.values key → ⊥) → far.pending ≡ [] → far.unnamed < 4294967295 → length far.labels < 65535
+  pub label_goes : (key : Text) (is : IsNext far.unnamed key) (i : Input) (rest : Text) → (IsIn key far.seen → ⊥) → (IsIn key far.values → ⊥) → far.pending ≡ [] → far.unnamed < 4294967295 → length far.labels < 65535
       → Ready (known m f named far) 0 i (10 ∷ (key_text key ++ 58 ∷ rest)) → LabelGoes key (length far.labels) (unnamed_then far.unnamed key is) i rest
   label_goes key (inl e) i rest none apart waits few_numbers few_labels ready =
       let h = ready.holds in
@@ -118,7 +118,7 @@ module _ (m : Module) (f : Function) (named : AreNamed m f) (far : Far) where
       let within = number_within (text.decimal far.unnamed) i.locals.names in
       let number : number_of (text.decimal far.unnamed) i.locals.names < 2 ^ 32 = omega (arith, room_locals, within) in
       let shown : key_text key ≡ text.decimal far.unnamed = ap key_text e ∙ digits_text (text.decimal far.unnamed) (are_digits far.unnamed wide) in
-      let new = local_is_new f far.seen far.values far.labels far.pending i.locals i.local_uses (text.decimal far.unnamed) h.2 (λ is. none (subst (λ (x : Text). IsIn far.seen x) (sym e) is)) in
+      let new = local_is_new f far.seen far.values far.labels far.pending i.locals i.local_uses (text.decimal far.unnamed) h.2 (λ is. none (subst (λ (x : Text). IsIn x far.seen) (sym e) is)) in
       let w = numbered_label_read far.unnamed (length far.labels) i rest h.3.unnamed_is few_numbers number new (subst (λ (x : Text). Stands i.cursor (10 ∷ (x ++ 58 ∷ rest))) shown ready.stands) in
       let o = names.with_label (length far.labels) (names.with_number_taken i) in
       let afterwards = afterwards_label key i (names.with_label (length far.labels) (names.with_number_taken i)) (far.unnamed + 1) rest ready apart waits (w.1 ∙ sym e) w.2 refl (ap (λ (n : ℕ). n + 1) h.3.unnamed_is) in (
@@ -137,7 +137,7 @@ module _ (m : Module) (f : Function) (named : AreNamed m f) (far : Far) where
       let within = number_within (key_of_name other.0) i.locals.names in
       let number : number_of (key_of_name other.0) i.locals.names < 2 ^ 32 = omega (arith, room_locals, within) in
       let shown : key_text key ≡ name_text blank.Kept other.0 = ap key_text e ∙ name_key_text other.0 in
-      let new = local_is_new f far.seen far.values far.labels far.pending i.locals i.local_uses (key_of_name other.0) h.2 (λ is. none (subst (λ (x : Text). IsIn far.seen x) (sym e) is)) in
+      let new = local_is_new f far.seen far.values far.labels far.pending i.locals i.local_uses (key_of_name other.0) h.2 (λ is. none (subst (λ (x : Text). IsIn x far.seen) (sym e) is)) in
       let at = subst (λ (x : Text). Stands i.cursor (10 ∷ (x ++ 58 ∷ rest))) shown ready.stands in
       let w = labels_are_read (length far.labels) other.0 i (10 ∷ []) rest other.1 number new refl at in
       let o = names.with_label (length far.labels) i in

@@ -1,4 +1,3 @@
-pub mod InLists
 pub mod Tables
 pub mod OneTypes
 pub mod Forms

@@ -1,6 +1,6 @@
 -- The local names of a function while it is read: which of them are defined, as what, and that each is defined once.
 use Rattle.std.proofs.Common.{◌≡◌, ℕ, zero, suc, ◌+◌, ◌<◌, ◌^◌, true, false, List, [], ◌∷◌, ◌++◌, length, map, slice_get, if◌then◌else◌, is_some, unwrap_or, get_or, Option, None, Some, refl, sym, ap, subst, ◌∙◌, arith, length-append, inl, inr, ◌⊎◌}
-use Rattle.lemmas.specs.Lists.{get_either}
+use Rattle.lemmas.specs.Lists.{in_first, in_longer, IsIn, get_either}
 use Rattle.std.specs.Prelude.{slice_set}
 use Rattle.std.specs.Fmt.{decimal}
 use Rattle.std.proofs.lemmas.List.{map-append}
@@ -13,17 +13,15 @@ use Rattle.ir_forms.specs.declared.table.Table.{Table}
 use Rattle.ir_forms.specs.Names.{is_local}
 use Rattle.ir_tokens.specs.Bytes.{Text}
 use Rattle.ir_print.specs.Names.{name_at}
-use Rattle.ir_print_law.specs.Shapes.{IsIn}
-use Rattle.ir_print_law.proofs.InLists.{in_front, in_last}
 use Rattle.ir_print_law.proofs.DefinedNames.{Defines, IsNameKey, defines_name, defines_number, number_is_new}
 use Rattle.ir_print_law.proofs.Reading.{Progress, with_named_value}
 use Rattle.ir_print_law.proofs.Tables.{Begins, begins_with, stays, place_there, place_stays}
 
 -- ---- lists
 
-pub in_map : {A B : Type 0} (h : A → B) (xs : List A) (y : B) → IsIn (map h xs) y → (x : A) × IsIn xs x × (h x ≡ y)
+pub in_map : {A B : Type 0} (h : A → B) (xs : List A) (y : B) → IsIn y (map h xs) → (x : A) × IsIn x xs × (h x ≡ y)
 in_map h [] y e = absurd e
-in_map h (x ∷ xs) y (inl e) = (x, inl refl, e)
+in_map h (x ∷ xs) y (inl e) = (x, inl refl, sym e)
 in_map h (x ∷ xs) y (inr e) = let p = in_map h xs y e in (p.0, inr p.1, p.2)
 
 pub set_known : (xs : List LocalSort) (n : ℕ) (y : LocalSort) (k : ℕ) → is_local (Some y) ≡ true → is_local (slice_get xs k) ≡ true → is_local (slice_get (slice_set xs n y) k) ≡ true
@@ -44,7 +42,7 @@ name_stays names more n less b =
     let here = slice_get-get_or names n [] less in
     ap (λ (x : Option Text). unwrap_or x []) (stays names more n (get_or names n []) b here) ∙ sym (ap (λ (x : Option Text). unwrap_or x []) here)
 
-pub names_stay : (ns : List ℕ) (names more : List Text) → ((n : ℕ) → IsIn ns n → n < length names) → Begins names more → map (name_at more) ns ≡ map (name_at names) ns
+pub names_stay : (ns : List ℕ) (names more : List Text) → ((n : ℕ) → IsIn n ns → n < length names) → Begins names more → map (name_at more) ns ≡ map (name_at names) ns
 names_stay [] names more within b = refl
 names_stay (n ∷ ns) names more within b =
     let e = name_stays names more n (within n (inl refl)) b in
@@ -56,9 +54,9 @@ names_stay (n ∷ ns) names more within b =
 -- what a name means is defined
 abbrev pub IsSortOf : Progress → ℕ → LocalSort → Type 0
 IsSortOf g n local.Unknown = Unit {0}
-IsSortOf g n (local.Value t) = IsIn g.values n
-IsSortOf g n (local.Slot held) = IsIn g.values n
-IsSortOf g n (local.Element block place) = IsIn g.values n
+IsSortOf g n (local.Value t) = IsIn n g.values
+IsSortOf g n (local.Slot held) = IsIn n g.values
+IsSortOf g n (local.Element block place) = IsIn n g.values
 IsSortOf g n (local.Block b) = slice_get g.labels b ≡ Some n
 
 -- the keys of the names with these numbers
@@ -69,10 +67,10 @@ keys_at names ns = map (name_at names) ns
 pub record Locals (g : Progress) (pending : Option ℕ) (t : Table LocalSort) (unnamed : ℕ) : Type 0 where
   pub same : length t.sorts ≡ length t.names
   pub places : (n : ℕ) (key : Text) → slice_get t.names n ≡ Some key → place_of key t.names ≡ Some n
-  pub within : (n : ℕ) → IsIn g.names n → n < length t.names
+  pub within : (n : ℕ) → IsIn n g.names → n < length t.names
   pub defines : Defines [] 0 (keys_at t.names g.names) unnamed
   pub sorted : (n : ℕ) (sort : LocalSort) → slice_get t.sorts n ≡ Some sort → IsSortOf g n sort
-  pub known : (n : ℕ) → IsIn g.names n → (is_local (slice_get t.sorts n) ≡ true) ⊎ (pending ≡ Some n)
+  pub known : (n : ℕ) → IsIn n g.names → (is_local (slice_get t.sorts n) ≡ true) ⊎ (pending ≡ Some n)
 
 -- a mention of a name defines nothing
 pub mention_keeps : (g : Progress) (pending : Option ℕ) (t : Table LocalSort) (unnamed : ℕ) (key : Text) → Locals g pending t unnamed → Locals g pending (mentioned key local.Unknown t) unnamed
@@ -110,7 +108,7 @@ mention_keeps g pending t unnamed key h = by (place_of key t.names) refl where
 -- ---- definitions
 
 -- the key is defined nowhere, where its number means nothing
-pub key_is_new : (g : Progress) (t : Table LocalSort) (unnamed : ℕ) (key : Text) (n : ℕ) → Locals g None t unnamed → slice_get t.names n ≡ Some key → is_local (slice_get t.sorts n) ≡ false → IsIn (keys_at t.names g.names) key → ⊥
+pub key_is_new : (g : Progress) (t : Table LocalSort) (unnamed : ℕ) (key : Text) (n : ℕ) → Locals g None t unnamed → slice_get t.names n ≡ Some key → is_local (slice_get t.sorts n) ≡ false → IsIn key (keys_at t.names g.names) → ⊥
 key_is_new g t unnamed key n h at none there =
     let p = in_map (name_at t.names) g.names key there in
     let less = h.within p.0 p.1 in
@@ -126,9 +124,9 @@ key_is_new g t unnamed key n h at none there =
 
 sort_further : (g : Progress) (n k : ℕ) (sort : LocalSort) → IsSortOf g k sort → IsSortOf (with_named_value g n) k sort
 sort_further g n k local.Unknown h = tt
-sort_further g n k (local.Value t) h = in_front g.values (n ∷ []) k h
-sort_further g n k (local.Slot held) h = in_front g.values (n ∷ []) k h
-sort_further g n k (local.Element block place) h = in_front g.values (n ∷ []) k h
+sort_further g n k (local.Value t) h = in_first k g.values (n ∷ []) h
+sort_further g n k (local.Slot held) h = in_first k g.values (n ∷ []) h
+sort_further g n k (local.Element block place) h = in_first k g.values (n ∷ []) h
 sort_further g n k (local.Block b) h = h
 
 -- the keys with one more
@@ -141,18 +139,18 @@ opened : (g : Progress) (t : Table LocalSort) (unnamed next n : ℕ) → n < len
 opened g t unnamed next n less h defines = record {
   same = h.same;
   places = h.places;
-  within = λ k there. elim (in_last g.names n k there) [
+  within = λ k there. elim (in_longer k g.names n there) [
     | inl p ↦ h.within k p
-    | inr p ↦ subst (λ (x : ℕ). x < length t.names) p less
+    | inr p ↦ subst (λ (x : ℕ). x < length t.names) (sym p) less
   ];
   defines = defines;
   sorted = λ k sort there. sort_further g n k sort (h.sorted k sort there);
-  known = λ k there. elim (in_last g.names n k there) [
+  known = λ k there. elim (in_longer k g.names n there) [
     | inl p ↦ elim (h.known k p) [
       | inl is ↦ inl is
       | inr is ↦ absurd cc
     ]
-    | inr p ↦ inr (ap Some p)
+    | inr p ↦ inr (ap Some (sym p))
   ];
 }
 

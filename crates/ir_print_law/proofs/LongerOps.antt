@@ -1,5 +1,6 @@
 -- What is printable in a module is so where the module has more types, and other functions of the same names.
 use Rattle.std.proofs.Common.{◌≡◌, ℕ, not, List, Option, Some, slice_get, refl, ap, sym, ◌∙◌, inl, inr, ◌⊎◌}
+use Rattle.lemmas.specs.All.{all_so}
 use Rattle.ir_ast.specs.declared.block.Block.{Block}
 use Rattle.ir_ast.specs.declared.choices.Phi.{Phi}
 use Rattle.ir_ast.specs.declared.ends.End.{End}
@@ -19,7 +20,6 @@ use Rattle.ir_print_law.specs.Definitions.{defined_functions}
 use Rattle.ir_print_law.specs.Parts.{IsScalar, IsVoid, IsReturned}
 use Rattle.ir_print_law.specs.Printable.{IsIncoming, IsOp, is_void, gives_value, IsInstr, IsPhi, IsEnd, IsBlock, IsPassed, IsParameter, IsFunction, IsStructType, IsGlobal, IsAnyType, IsDeclare}
 use Rattle.ir_print_law.specs.Shapes.{Shape, Integer, Pointer, Array, Empty, Struct, Named, bits_of_shape}
-use Rattle.ir_print_law.proofs.Known.{all_so}
 use Rattle.ir_print_law.proofs.Tables.{Begins, stays}
 use Rattle.ir_print_law.proofs.LongerTypes.{with_types, type_again, scalar_again, void_again, operand_again, argument_again, incoming_again, condition_again, converted_again}
 use Rattle.ir_print_law.proofs.NumbersAgain.{number_longer}

@@ -1,8 +1,10 @@
 -- What is known of a module's names where reading ends.
-use Rattle.std.proofs.Common.{◌≡◌, ℕ, suc, ◌<◌, List, [], ◌∷◌, ◌++◌, length, map, slice_get, unwrap_or, Option, None, Some, refl, sym, ap, subst, ◌∙◌, arith, append_assoc, inl, inr, ◌⊎◌}
+use Rattle.std.proofs.Common.{◌≡◌, ℕ, suc, ◌<◌, List, [], ◌∷◌, ◌++◌, length, map, slice_get, unwrap_or, Option, None, Some, refl, sym, ap, subst, ◌∙◌, arith, append_assoc, inl, inr}
 use Rattle.std.specs.List.{AllByRecursion}
 use Rattle.std.proofs.lemmas.List.{append-nil}
 use Rattle.std.proofs.lemmas.Option.{slice_get-get_or, slice_get_within}
+use Rattle.lemmas.specs.All.{all_join}
+use Rattle.lemmas.specs.Lists.{in_either, in_longer, IsIn}
 use Rattle.ir_ast.specs.declared.function.Function.{Function}
 use Rattle.ir_ast.specs.declared.items_of_module.Declare.{Declare}
 use Rattle.ir_ast.specs.declared.items_of_module.Global.{Global}
@@ -17,8 +19,6 @@ use Rattle.name_text.specs.Readings.{AreBytes}
 use Rattle.ir_print.specs.Names.{name_at}
 use Rattle.ir_print_law.specs.Definitions.{AreNew, defined_structs, defined_globals, declared_functions, defined_functions, functions_of}
 use Rattle.ir_print_law.specs.Printable.{IsSymbol}
-use Rattle.ir_print_law.specs.Shapes.{IsIn}
-use Rattle.ir_print_law.proofs.InLists.{in_last}
 use Rattle.ir_print_law.proofs.LocalNames.{keys_at}
 use Rattle.ir_print_law.proofs.ModuleState.{no_one, struct_names_of, symbols_of, Stands}
 use Rattle.ir_print_law.proofs.ModuleTables.{IsTable, OwnsStruct, OwnsSymbol}
@@ -29,9 +29,9 @@ use Rattle.ir_print_law.proofs.ModuleTables.{IsTable, OwnsStruct, OwnsSymbol}
 abbrev IsKeyAt : List Text → List ℕ → Text → Type 0
 IsKeyAt names ns x = (place : ℕ) × (n : ℕ) × (slice_get ns place ≡ Some n) × (name_at names n ≡ x)
 
-key_at : (names : List Text) (ns : List ℕ) (x : Text) → IsIn (keys_at names ns) x → IsKeyAt names ns x
+key_at : (names : List Text) (ns : List ℕ) (x : Text) → IsIn x (keys_at names ns) → IsKeyAt names ns x
 key_at names [] x there = absurd there
-key_at names (n ∷ ns) x (inl e) = (0, n, refl, e)
+key_at names (n ∷ ns) x (inl e) = (0, n, refl, sym e)
 key_at names (n ∷ ns) x (inr there) = let p = key_at names ns x there in (suc p.0, p.1, p.2, p.3)
 
 -- names of numbers at two places are two names
@@ -40,7 +40,7 @@ AreApart names ns = (place other n k : ℕ) → slice_get ns place ≡ Some n �
 
 -- no name of the second is one of the first
 abbrev AreOthers : List Text → List Text → Type 0
-AreOthers seen names = (x : Text) → IsIn seen x → IsIn names x → ⊥
+AreOthers seen names = (x : Text) → IsIn x seen → IsIn x names → ⊥
 
 new_keys : (names : List Text) (seen : List Text) (ns : List ℕ) → AreApart names ns → AreOthers seen (keys_at names ns) → AreNew seen (keys_at names ns)
 new_keys names seen [] apart others = tt
@@ -50,27 +50,18 @@ new_keys names seen (n ∷ ns) apart others =
       further p o a b x y e = let same = apart (suc p) (suc o) a b x y e in omega (arith, same)
 
       next : AreOthers (seen ++ name_at names n ∷ []) (keys_at names ns)
-      next x there later = elim (in_last seen (name_at names n) x there) [
+      next x there later = elim (in_longer x seen (name_at names n) there) [
         | inl p ↦ others x p (inr later)
-        | inr p ↦ let q = key_at names ns x later in let same = apart 0 (suc q.0) n q.1 refl q.2 (p ∙ sym q.3) in omega (arith, same)
+        | inr p ↦ let q = key_at names ns x later in let same = apart 0 (suc q.0) n q.1 refl q.2 (sym p ∙ sym q.3) in omega (arith, same)
       ]
 
 new_append : (seen xs ys : List Text) → AreNew seen xs → AreNew (seen ++ xs) ys → AreNew seen (xs ++ ys)
 new_append seen [] ys a b = subst (λ (l : List Text). AreNew l ys) (append-nil seen) b
 new_append seen (x ∷ xs) ys a b = (a.0, new_append (seen ++ x ∷ []) xs ys a.1 (subst (λ (l : List Text). AreNew l ys) (sym (append_assoc seen (x ∷ []) xs)) b))
 
-in_either : (xs ys : List Text) (x : Text) → IsIn (xs ++ ys) x → IsIn xs x ⊎ IsIn ys x
-in_either [] ys x there = inr there
-in_either (y ∷ xs) ys x (inl e) = inl (inl e)
-in_either (y ∷ xs) ys x (inr there) = elim (in_either xs ys x there) [ inl p ↦ inl (inr p) | inr p ↦ inr p ]
-
 all_keys : (P : Text → Type 0) (names : List Text) (ns : List ℕ) → ((place n : ℕ) → slice_get ns place ≡ Some n → P (name_at names n)) → AllByRecursion P (keys_at names ns)
 all_keys P names [] each = tt
 all_keys P names (n ∷ ns) each = (each 0 n refl, all_keys P names ns (λ place k e. each (suc place) k e))
-
-all_both : (P : Text → Type 0) (xs ys : List Text) → AllByRecursion P xs → AllByRecursion P ys → AllByRecursion P (xs ++ ys)
-all_both P [] ys a b = b
-all_both P (x ∷ xs) ys a b = (a.0, all_both P xs ys a.1 b)
 
 keys_are : {A : Type 0} (number : A → ℕ) (names : List Text) (xs : List A) → keys_at names (map number xs ++ []) ≡ map (λ x. name_at names (number x)) xs
 keys_are number names [] = refl
@@ -164,7 +155,7 @@ module _ (e : Input) (h : Stands no_one e) where
       (λ place other n k x y same. let sorts = one_sort n k (symbol.Defined place) (symbol.Defined other) x y same in cc)
       (λ x there later.
       let q = key_at e.symbols.names (symbols_of no_one e).functions x later in
-      elim (in_either (keys_at e.symbols.names (symbols_of no_one e).globals) (keys_at e.symbols.names (symbols_of no_one e).declares) x there) [
+      elim (in_either x (keys_at e.symbols.names (symbols_of no_one e).globals) (keys_at e.symbols.names (symbols_of no_one e).declares) there) [
         | inl g ↦
             let p = key_at e.symbols.names (symbols_of no_one e).globals x g in
             let sorts = one_sort p.1 q.1 (symbol.Global p.0) (symbol.Defined q.0) p.2 q.2 (p.3 ∙ sym q.3) in
@@ -186,8 +177,8 @@ module _ (e : Input) (h : Stands no_one e) where
       ap (λ (l : List Text). l ++ (ds ++ fs)) globals_are ∙ ap (λ (l : List Text). defined_globals (module_of e) ++ (l ++ fs)) declares_are
       ∙ ap (λ (l : List Text). defined_globals (module_of e) ++ (declared_functions (module_of e) ++ l)) functions_are in (
         subst (AllByRecursion IsSymbol) are
-            (all_both IsSymbol gs (ds ++ fs) (all_keys IsSymbol names (symbols_of no_one e).globals (λ place n x. symbol_good n (symbol.Global place) x))
-            (all_both IsSymbol ds fs (all_keys IsSymbol names (symbols_of no_one e).declares (λ place n x. symbol_good n (symbol.Declared place) x))
+            (all_join IsSymbol gs (ds ++ fs) (all_keys IsSymbol names (symbols_of no_one e).globals (λ place n x. symbol_good n (symbol.Global place) x))
+            (all_join IsSymbol ds fs (all_keys IsSymbol names (symbols_of no_one e).declares (λ place n x. symbol_good n (symbol.Declared place) x))
             (all_keys IsSymbol names (symbols_of no_one e).functions (λ place n x. symbol_good n (symbol.Defined place) x)))),
         subst (AreNew []) are (new_append [] gs (ds ++ fs) globals_new (new_append gs ds fs declares_new functions_new)),
       )

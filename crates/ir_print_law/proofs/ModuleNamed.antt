@@ -1,7 +1,8 @@
 -- What the names of a module mean where reading ends.
-use Rattle.std.proofs.Common.{◌≡◌, ℕ, zero, suc, ◌<◌, List, [], ◌∷◌, ◌++◌, length, map, slice_get, Some, refl, ap, subst, arith, inl, inr}
+use Rattle.std.proofs.Common.{◌≡◌, ℕ, zero, suc, ◌<◌, List, [], ◌∷◌, ◌++◌, length, map, slice_get, Some, refl, ap, arith, inl, inr}
 use Rattle.std.specs.List.{AllByRecursion}
 use Rattle.std.proofs.lemmas.Option.{slice_get_within}
+use Rattle.lemmas.specs.All.{all_get}
 use Rattle.ir_ast.specs.declared.function.Function.{Function}
 use Rattle.ir_ast.specs.declared.items_of_module.Declare.{Declare}
 use Rattle.ir_ast.specs.declared.items_of_module.Global.{Global}
@@ -25,11 +26,6 @@ item_at : {A : Type 0} (number : A → ℕ) (xs : List A) (place n : ℕ) → sl
 item_at number [] place n e = absurd cc
 item_at number (y ∷ xs) zero n e = (y, refl, cc)
 item_at number (y ∷ xs) (suc place) n e = item_at number xs place n e
-
-one_of : {A : Type 0} (P : A → Type 0) (xs : List A) (place : ℕ) (x : A) → AllByRecursion P xs → slice_get xs place ≡ Some x → P x
-one_of P [] place x all e = absurd cc
-one_of P (y ∷ xs) zero x all e = let same : y ≡ x = cc in subst P same all.0
-one_of P (y ∷ xs) (suc place) x all e = one_of P xs place x all.1 e
 
 module _ (e : Input) (h : Stands no_one e) where
   -- what a name means owns it
@@ -63,5 +59,5 @@ module _ (e : Input) (h : Stands no_one e) where
     named_globals = λ name number there. item_at (λ (x : Global). x.symbol) e.globals number name (symbol_owned name (symbol.Global number) there (λ none. absurd cc));
     named_declares = λ name number there. item_at (λ (x : Declare). x.symbol) e.declares number name (symbol_owned name (symbol.Declared number) there (λ none. absurd cc));
     named_functions = λ name number there. item_at (λ (x : Function). x.symbol) e.functions number name (symbol_owned name (symbol.Defined number) there (λ none. absurd cc));
-    own = λ number f there. one_of HasNames e.functions number f all there;
+    own = λ number f there. all_get HasNames e.functions number f all there;
   }

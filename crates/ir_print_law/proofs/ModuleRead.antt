@@ -2,6 +2,7 @@
 use Rattle.std.proofs.Common.{◌≡◌, ℕ, ◌+◌, ◌≤◌, true, List, [], ◌∷◌, ◌++◌, length, Option, None, Some, refl, sym, ap, subst, ◌∙◌, arith, ◌⊎◌}
 use Rattle.std.specs.Prelude.{nat_lt}
 use Rattle.std.specs.List.{AllByRecursion}
+use Rattle.lemmas.specs.All.{all_so}
 use Rattle.grammar.specs.Many.{Listed}
 use Rattle.ir_ast.specs.declared.block.Block.{Block}
 use Rattle.ir_ast.specs.declared.function.Function.{Function}
@@ -241,10 +242,6 @@ ends o end none =
 
 all_grown : {A : Type 0} (P : A → Type 0) (xs ys : List A) → ys ≡ xs → Grows P [] xs → AllByRecursion P ys
 all_grown P xs ys same h = subst (AllByRecursion P) (sym (same ∙ h.1)) h.2
-
-all_so : {A : Type 0} (P Q : A → Type 0) (xs : List A) → ((x : A) → P x → Q x) → AllByRecursion P xs → AllByRecursion Q xs
-all_so P Q [] so h = tt
-all_so P Q (x ∷ xs) so h = (so x h.0, all_so P Q xs so h.1)
 
 no_more : (n most : ℕ) → n + 0 ≤ most → n ≤ most
 no_more n most le = omega (arith, le)

@@ -1,5 +1,6 @@
 -- What is known of a state between and within the items of a module, and of where reading ends.
-use Rattle.std.proofs.Common.{◌≡◌, ℕ, ◌+◌, ◌≤◌, Bool, true, false, List, [], ◌∷◌, ◌++◌, length, map, slice_get, unwrap_or, Option, None, Some, refl, ap, ◌∙◌, inl, inr, ◌⊎◌}
+use Rattle.std.proofs.Common.{◌≡◌, ℕ, ◌+◌, ◌≤◌, Bool, true, false, List, [], ◌∷◌, ◌++◌, length, map, slice_get, unwrap_or, Option, None, Some, refl, sym, ap, ◌∙◌, inl, inr, ◌⊎◌}
+use Rattle.lemmas.specs.Lists.{in_first, in_second, last_in, IsIn}
 use Rattle.ir_ast.specs.Names.{numbered}
 use Rattle.ir_ast.specs.Types.{numbered_type}
 use Rattle.ir_ast.specs.declared.function.Function.{Function}
@@ -29,11 +30,9 @@ use Rattle.name_text.specs.Readings.{AreBytes}
 use Rattle.ir_print.specs.Names.{name_at}
 use Rattle.ir_print.specs.Standing.{AreDigits}
 use Rattle.ir_print_law.specs.OneTypes.{AreOnce}
-use Rattle.ir_print_law.proofs.InLists.{in_after, in_front, is_last}
 use Rattle.ir_print_law.proofs.OneTypes.{once_more}
 use Rattle.ir_print_law.specs.Definitions.{defined_structs, declared_functions, defined_functions, used_symbols}
 use Rattle.ir_print_law.specs.Printable.{IsSymbol}
-use Rattle.ir_print_law.specs.Shapes.{IsIn}
 use Rattle.ir_print_law.proofs.ModuleTables.{AreStructs, AreSymbols, Owned, OwnsStruct, OwnsSymbol, table_mentions}
 use Rattle.ir_print_law.proofs.NameBytes.{spelled_bytes}
 use Rattle.ir_print_law.proofs.NumberTokens.{AllSpell}
@@ -111,8 +110,8 @@ pub record Leads (e i : Input) : Type 0 where
   pub types : Begins i.types e.types
   pub struct_names : Begins i.struct_names.names e.struct_names.names
   pub symbols : Begins i.symbols.names e.symbols.names
-  pub struct_uses : (u : StructUse) → IsIn i.struct_uses u → is_right_struct e u ≡ true
-  pub symbol_uses : (u : SymbolUse) → IsIn i.symbol_uses u → is_right_symbol e u ≡ true
+  pub struct_uses : (u : StructUse) → IsIn u i.struct_uses → is_right_struct e u ≡ true
+  pub symbol_uses : (u : SymbolUse) → IsIn u i.symbol_uses → is_right_symbol e u ≡ true
   pub missing : i.missing ≡ None
 
 -- ---- the text that is left
@@ -142,14 +141,14 @@ number_spells c h is = by c.rest h is where
 -- ---- names that are used
 
 -- the name of one of these items is among their names
-named_in : {A : Type 0} (number : A → ℕ) (names : List Text) (xs : List A) (n : ℕ) (name : Text) → IsIn (map number xs ++ []) n → slice_get names n ≡ Some name
-    → IsIn (map (λ x. name_at names (number x)) xs) name
+named_in : {A : Type 0} (number : A → ℕ) (names : List Text) (xs : List A) (n : ℕ) (name : Text) → IsIn n (map number xs ++ []) → slice_get names n ≡ Some name
+    → IsIn name (map (λ x. name_at names (number x)) xs)
 named_in number names [] n name there at = absurd there
-named_in number names (x ∷ xs) n name (inl e) at = inl (ap (name_at names) e ∙ ap (λ (o : Option Text). unwrap_or o []) at)
+named_in number names (x ∷ xs) n name (inl e) at = inl (sym (ap (name_at names) (sym e) ∙ ap (λ (o : Option Text). unwrap_or o []) at))
 named_in number names (x ∷ xs) n name (inr there) at = inr (named_in number names xs n name there at)
 
 -- a name that is used as a struct's is one of theirs
-pub struct_named : (e i : Input) → Leads e (with_struct_use i) → IsIn (defined_structs (module_of e)) (spelled i.cursor)
+pub struct_named : (e i : Input) → Leads e (with_struct_use i) → IsIn (spelled i.cursor) (defined_structs (module_of e))
 struct_named e i b = by (slice_get e.struct_names.sorts (struct_number i)) refl right where
   at : slice_get e.struct_names.names (struct_number i) ≡ Some (spelled i.cursor)
   at =
@@ -160,9 +159,9 @@ struct_named e i b = by (slice_get e.struct_names.sorts (struct_number i)) refl 
   use_here = record { name = struct_number i; start = start i.cursor }
 
   right : is_struct (slice_get e.struct_names.sorts (struct_number i)) ≡ true
-  right = b.struct_uses use_here (is_last i.struct_uses use_here)
+  right = b.struct_uses use_here (last_in use_here i.struct_uses)
 
-  by : (x : Option (Option ℕ)) → slice_get e.struct_names.sorts (struct_number i) ≡ x → is_struct x ≡ true → IsIn (defined_structs (module_of e)) (spelled i.cursor)
+  by : (x : Option (Option ℕ)) → slice_get e.struct_names.sorts (struct_number i) ≡ x → is_struct x ≡ true → IsIn (spelled i.cursor) (defined_structs (module_of e))
   by None same is = absurd cc
   by (Some None) same is = absurd cc
   by (Some (Some layout)) same is = elim (b.end.structs.owned (struct_number i) (Some layout) same) [
@@ -173,7 +172,7 @@ struct_named e i b = by (slice_get e.struct_names.sorts (struct_number i)) refl 
   ]
 
 -- a name that is called is a function's, and one that is an operand is a global's
-pub symbol_named : (e i : Input) (is_call : Bool) → Leads e (with_symbol_use is_call i) → IsIn (used_symbols (module_of e) is_call) (spelled i.cursor)
+pub symbol_named : (e i : Input) (is_call : Bool) → Leads e (with_symbol_use is_call i) → IsIn (spelled i.cursor) (used_symbols (module_of e) is_call)
 symbol_named e i is_call b = by is_call (slice_get e.symbols.sorts (symbol_number i)) refl right where
   at : slice_get e.symbols.names (symbol_number i) ≡ Some (spelled i.cursor)
   at = stays (numbered (spelled i.cursor) i.symbols.names) e.symbols.names (symbol_number i) (spelled i.cursor) b.symbols (name_there (spelled i.cursor) i.symbols.names)
@@ -182,13 +181,13 @@ symbol_named e i is_call b = by is_call (slice_get e.symbols.sorts (symbol_numbe
   use_here = record { symbol = symbol_number i; is_call = is_call; start = start i.cursor; length = size i.cursor }
 
   right : is_right is_call (slice_get e.symbols.sorts (symbol_number i)) ≡ true
-  right = b.symbol_uses use_here (is_last i.symbol_uses use_here)
+  right = b.symbol_uses use_here (last_in use_here i.symbol_uses)
 
   owned : (x : SymbolSort) → slice_get e.symbols.sorts (symbol_number i) ≡ Some x → (x ≡ symbol.Unknown) ⊎ OwnsSymbol (symbols_of no_one e) x (symbol_number i)
   owned x same = b.end.symbols.owned (symbol_number i) x same
 
   by : (is_call : Bool) (x : Option SymbolSort) → slice_get e.symbols.sorts (symbol_number i) ≡ x → is_right is_call x ≡ true
-      → IsIn (used_symbols (module_of e) is_call) (spelled i.cursor)
+      → IsIn (spelled i.cursor) (used_symbols (module_of e) is_call)
   by is_call None same is = absurd cc
   by is_call (Some symbol.Unknown) same is = absurd cc
   by true (Some (symbol.Global g)) same is = absurd cc
@@ -201,14 +200,14 @@ symbol_named e i is_call b = by is_call (slice_get e.symbols.sorts (symbol_numbe
   by false (Some (symbol.Declared d)) same is = absurd cc
   by true (Some (symbol.Declared d)) same is = elim (owned (symbol.Declared d) same) [
     | inl none ↦ absurd cc
-    | inr own ↦ in_front (declared_functions (module_of e)) (defined_functions (module_of e)) (spelled i.cursor)
+    | inr own ↦ in_first (spelled i.cursor) (declared_functions (module_of e)) (defined_functions (module_of e))
         (named_in (λ (x : Declare). x.symbol) e.symbols.names e.declares (symbol_number i) (spelled i.cursor)
         (in_list (symbols_of no_one e).declares d (symbol_number i) own) at)
   ]
   by false (Some (symbol.Defined f)) same is = absurd cc
   by true (Some (symbol.Defined f)) same is = elim (owned (symbol.Defined f) same) [
     | inl none ↦ absurd cc
-    | inr own ↦ in_after (declared_functions (module_of e)) (defined_functions (module_of e)) (spelled i.cursor)
+    | inr own ↦ in_second (spelled i.cursor) (declared_functions (module_of e)) (defined_functions (module_of e))
         (named_in (λ (x : Function). x.symbol) e.symbols.names e.functions (symbol_number i) (spelled i.cursor)
         (in_list (symbols_of no_one e).functions f (symbol_number i) own) at)
   ]
@@ -310,7 +309,7 @@ leads_struct e i b = record {
   types = b.types;
   struct_names = struct_name_begins i e.struct_names.names b.struct_names;
   symbols = b.symbols;
-  struct_uses = λ u there. b.struct_uses u (in_front i.struct_uses (record { name = struct_number i; start = start i.cursor } ∷ []) u there);
+  struct_uses = λ u there. b.struct_uses u (in_first u i.struct_uses (record { name = struct_number i; start = start i.cursor } ∷ []) there);
   symbol_uses = b.symbol_uses;
   missing = b.missing;
 }
@@ -324,7 +323,7 @@ leads_symbol e i is_call b = record {
   symbols = symbol_begins i e.symbols.names b.symbols;
   struct_uses = b.struct_uses;
   symbol_uses = λ u there. b.symbol_uses u
-      (in_front i.symbol_uses (record { symbol = symbol_number i; is_call = is_call; start = start i.cursor; length = size i.cursor } ∷ []) u there);
+      (in_first u i.symbol_uses (record { symbol = symbol_number i; is_call = is_call; start = start i.cursor; length = size i.cursor } ∷ []) there);
   missing = b.missing;
 }
 

@@ -1,5 +1,6 @@
 -- Names that are defined are read, and from there on it is known what they mean.
 use Rattle.std.proofs.Common.{◌≡◌, ℕ, suc, ◌+◌, ◌<◌, ◌≤◌, ◌^◌, true, false, not, List, [], ◌∷◌, ◌++◌, length, slice_get, Some, refl, sym, ap, subst, ◌∙◌, arith, length-append}
+use Rattle.lemmas.specs.Lists.{IsIn}
 use Rattle.ir_print_law.proofs.NamesRead.{few}
 use Rattle.ir_ast.specs.declared.function.Function.{Function}
 use Rattle.ir_ast.specs.declared.items_of_module.SymbolSort.{SymbolSort}
@@ -15,7 +16,6 @@ use Rattle.name_text.specs.declared.blank.Blank.TheVariants as blank
 use Rattle.ir_print.specs.Standing.{IsSeam, AreBlanks}
 use Rattle.name_text.specs.Reading.{name_spelled}
 use Rattle.ir_print_law.proofs.Words.{local_comes, global_comes}
-use Rattle.ir_print_law.specs.Shapes.{IsIn}
 use Rattle.ir_print_law.proofs.Tables.{begins_itself, name_begins, name_length, name_there, number_within}
 use Rattle.ir_print_law.proofs.State.{Ready}
 use Rattle.ir_print_law.proofs.Known.{Far, AreNamed, StructsKnown, SymbolsKnown, known}
@@ -32,7 +32,7 @@ module _ (m : Module) (f : Function) (named : AreNamed m f) (far : Far) where
   abbrev pub far_struct : Text → Far
   far_struct name = record far { structs = far.structs ++ name ∷ [] }
 
-  pub new_struct_goes : (name : Text) (i : Input) (gap rest : Text) (s : ℕ) → AreBytes name → (IsIn far.structs name → ⊥) → length far.struct_types < 2 ^ 32
+  pub new_struct_goes : (name : Text) (i : Input) (gap rest : Text) (s : ℕ) → AreBytes name → (IsIn name far.structs → ⊥) → length far.struct_types < 2 ^ 32
       → AreBlanks gap → IsSeam rest → Ready (known m f named far) s i (gap ++ 37 ∷ (name_text blank.Kept name ++ rest))
       → Goes (known m f named (far_struct name)) s names.new_struct i rest (λ n o. slice_get o.struct_names.names n ≡ Some name)
   unfolding names.new_struct
@@ -46,7 +46,7 @@ module _ (m : Module) (f : Function) (named : AreNamed m f) (far : Far) where
       let within = number_within (spelled i.cursor) i.struct_names.names in
       let number : names.struct_number i < 2 ^ 32 = omega (arith, room_structs, within) in
       let counted : length i.structs < 2 ^ 32 = subst (λ (x : List _). length x < 2 ^ 32) (sym h.3.structs_are) less in
-      let new = struct_is_new m far.structs i.struct_names i.struct_uses (spelled i.cursor) h.0 (λ is. none (subst (λ (x : Text). IsIn far.structs x) e is)) in
+      let new = struct_is_new m far.structs i.struct_names i.struct_uses (spelled i.cursor) h.0 (λ is. none (subst (λ (x : Text). IsIn x far.structs) e is)) in
       let longer = name_length (spelled i.cursor) i.struct_names.names in (
         names.struct_number i,
         names.with_struct i,
@@ -91,7 +91,7 @@ module _ (m : Module) (f : Function) (named : AreNamed m f) (far : Far) where
   abbrev pub far_symbol : (more_globals more_functions : List Text) → Text → Far
   far_symbol more_globals more_functions name = record far { symbols = far.symbols ++ name ∷ []; globals = more_globals; functions = more_functions }
 
-  pub new_symbol_goes : (more_globals more_functions : List Text) (sort : SymbolSort) (name : Text) (i : Input) (gap rest : Text) (s : ℕ) → AreBytes name → is_left_out name ≡ false → (IsIn far.symbols name → ⊥)
+  pub new_symbol_goes : (more_globals more_functions : List Text) (sort : SymbolSort) (name : Text) (i : Input) (gap rest : Text) (s : ℕ) → AreBytes name → is_left_out name ≡ false → (IsIn name far.symbols → ⊥)
       → SymbolsThen more_globals more_functions name sort i
       → AreBlanks gap → IsSeam rest → Ready (known m f named far) s i (gap ++ 64 ∷ (name_text blank.Kept name ++ rest))
       → Goes (known m f named (far_symbol more_globals more_functions name)) s (names.new_symbol sort) i rest (λ n o. slice_get o.symbols.names n ≡ Some name)
@@ -106,7 +106,7 @@ module _ (m : Module) (f : Function) (named : AreNamed m f) (far : Far) where
       let within = number_within (spelled i.cursor) i.symbols.names in
       let number : names.symbol_number i < 2 ^ 32 = omega (arith, room_symbols, within) in
       let kept : not (is_left_out (spelled i.cursor)) ≡ true = ap (λ (x : Text). not (is_left_out x)) e ∙ ap not allowed in
-      let new = symbol_is_new m far.symbols far.globals far.functions i.symbols i.symbol_uses (spelled i.cursor) h.1 (λ is. none (subst (λ (x : Text). IsIn far.symbols x) e is)) in
+      let new = symbol_is_new m far.symbols far.globals far.functions i.symbols i.symbol_uses (spelled i.cursor) h.1 (λ is. none (subst (λ (x : Text). IsIn x far.symbols) e is)) in
       let longer = name_length (spelled i.cursor) i.symbols.names in (
         names.symbol_number i,
         names.with_symbol sort i,

@@ -1,5 +1,6 @@
 -- Local names that are defined are read, and from there on it is known what they mean.
 use Rattle.std.proofs.Common.{◌≡◌, ℕ, ◌+◌, ◌<◌, ◌^◌, false, List, [], ◌∷◌, ◌++◌, slice_get, Some, refl, sym, ap, subst, ◌∙◌, arith, inl, inr, ◌⊎◌}
+use Rattle.lemmas.specs.Lists.{IsIn}
 use Rattle.std.specs.Fmt as text
 use Rattle.ir_ast.specs.LocalKeys.{key_of_name}
 use Rattle.ir_ast.specs.Names.{number_of, numbered}
@@ -23,7 +24,6 @@ use Rattle.ir_print_law.proofs.Constants.{are_digits}
 use Rattle.ir_print_law.proofs.NamesRead.{digits_text, name_key_text, new_values_are_read}
 use Rattle.ir_print_law.proofs.Numbered.{numbered_values_are_read}
 use Rattle.ir_print_law.proofs.Words.{local_comes, local_number_comes}
-use Rattle.ir_print_law.specs.Shapes.{IsIn}
 use Rattle.ir_print_law.proofs.Tables.{begins_itself, name_begins, name_length, name_there, number_within}
 use Rattle.ir_print_law.proofs.State.{Ready}
 use Rattle.ir_print_law.proofs.Known.{Far, AreNamed, Holds, LocalsKnown, known}
@@ -87,7 +87,7 @@ module _ (m : Module) (f : Function) (named : AreNamed m f) (far : Far) where
       (subst (λ (u : List _). LocalsKnown f (far.seen ++ key ∷ []) far.values far.labels ((key, number_of key i.locals.names) ∷ []) (mentioned key local.Unknown i.locals) u) (sym uses)
       (value_begun f far.seen far.values far.labels i.locals i.local_uses key before)))
 
-  named_value : (name : Text) (i : Input) (gap rest : Text) (s : ℕ) → AreBytes name → (IsIn far.seen (key_of_name name) → ⊥) → far.count < 1000000 → far.pending ≡ []
+  named_value : (name : Text) (i : Input) (gap rest : Text) (s : ℕ) → AreBytes name → (IsIn (key_of_name name) far.seen → ⊥) → far.count < 1000000 → far.pending ≡ []
       → AreBlanks gap → IsSeam rest → Ready (known m f named far) s i (gap ++ 37 ∷ (name_text blank.Kept name ++ rest))
       → ValueGoes (key_of_name name) names.new_value k.LocalName far.unnamed i rest s
   named_value name i gap rest s own none many waits blanks seam ready =
@@ -136,7 +136,7 @@ module _ (m : Module) (f : Function) (named : AreNamed m f) (far : Far) where
         ),
       )
 
-  number_value : (i : Input) (gap rest : Text) (s : ℕ) → (IsIn far.seen (text.decimal far.unnamed) → ⊥) → far.count < 1000000 → far.unnamed < 4294967295 → far.pending ≡ []
+  number_value : (i : Input) (gap rest : Text) (s : ℕ) → (IsIn (text.decimal far.unnamed) far.seen → ⊥) → far.count < 1000000 → far.unnamed < 4294967295 → far.pending ≡ []
       → AreBlanks gap → IsSeam rest → Ready (known m f named far) s i (gap ++ 37 ∷ (text.decimal far.unnamed ++ rest))
       → ValueGoes (text.decimal far.unnamed) names.numbered_value k.LocalNumber (far.unnamed + 1) i rest s
   number_value i gap rest s none many few_numbers waits blanks seam ready =
@@ -187,7 +187,7 @@ module _ (m : Module) (f : Function) (named : AreNamed m f) (far : Far) where
       )
 
   -- a value is defined by its next number or its name
-  pub value_goes : (key : Text) (is : IsNext far.unnamed key) (i : Input) (gap rest : Text) (s : ℕ) → (IsIn far.seen key → ⊥) → far.count < 1000000 → far.unnamed < 4294967295 → far.pending ≡ []
+  pub value_goes : (key : Text) (is : IsNext far.unnamed key) (i : Input) (gap rest : Text) (s : ℕ) → (IsIn key far.seen → ⊥) → far.count < 1000000 → far.unnamed < 4294967295 → far.pending ≡ []
       → AreBlanks gap → IsSeam rest → Ready (known m f named far) s i (gap ++ 37 ∷ (key_text key ++ rest))
       → ValueGoes key (value_by key is) (kind_then k.LocalNumber k.LocalName far.unnamed key is) (unnamed_then far.unnamed key is) i rest s
   value_goes key (inl e) i gap rest s none many few_numbers waits blanks seam ready =
@@ -195,11 +195,11 @@ module _ (m : Module) (f : Function) (named : AreNamed m f) (far : Far) where
       let own = digits_text (text.decimal far.unnamed) (are_digits far.unnamed wide) in
       let shown : key_text key ≡ text.decimal far.unnamed = ap key_text e ∙ own in
       subst (λ (x : Text). ValueGoes x names.numbered_value k.LocalNumber (far.unnamed + 1) i rest s) (sym e)
-      (number_value i gap rest s (λ is. none (subst (λ (x : Text). IsIn far.seen x) (sym e) is)) many few_numbers waits blanks seam
+      (number_value i gap rest s (λ is. none (subst (λ (x : Text). IsIn x far.seen) (sym e) is)) many few_numbers waits blanks seam
       (subst (λ (x : Text). Ready (known m f named far) s i (gap ++ 37 ∷ (x ++ rest))) shown ready))
   value_goes key (inr other) i gap rest s none many few_numbers waits blanks seam ready =
       let e = other.2 in
       let shown : key_text key ≡ name_text blank.Kept other.0 = ap key_text e ∙ name_key_text other.0 in
       subst (λ (x : Text). ValueGoes x names.new_value k.LocalName far.unnamed i rest s) (sym e)
-      (named_value other.0 i gap rest s other.1 (λ is. none (subst (λ (x : Text). IsIn far.seen x) (sym e) is)) many waits blanks seam
+      (named_value other.0 i gap rest s other.1 (λ is. none (subst (λ (x : Text). IsIn x far.seen) (sym e) is)) many waits blanks seam
       (subst (λ (x : Text). Ready (known m f named far) s i (gap ++ 37 ∷ (x ++ rest))) shown ready))

@@ -1,6 +1,7 @@
 -- What is taken of instructions: each printed phi, instruction and end of a block is read as it was printed.
 use Rattle.std.proofs.Common.{◌≡◌, ℕ, Bool, true, false, List, [], ◌∷◌, ◌++◌}
 use Rattle.std.specs.Prelude.{codes}
+use Rattle.lemmas.specs.Lists.{IsIn}
 use Rattle.ir_ast.specs.declared.choices.Phi.{Phi}
 use Rattle.ir_ast.specs.declared.ends.End.{End}
 use Rattle.ir_ast.specs.declared.function.Function.{Function}
@@ -21,7 +22,6 @@ use Rattle.ir_print.specs.Operands.{listed}
 use Rattle.ir_print.specs.Standing.{IsSeam, AreBlanks}
 use Rattle.ir_print.specs.Types.{type_text}
 use Rattle.ir_print_law.specs.Printable.{IsOp, IsPhi, IsEnd, gives_value}
-use Rattle.ir_print_law.specs.Shapes.{IsIn}
 use Rattle.ir_print_law.proofs.State.{Ready, Reads}
 use Rattle.ir_print_law.proofs.Types.{Comes}
 use Rattle.ir_print_law.proofs.OpsAgain.{PlainAgain}
@@ -59,12 +59,12 @@ phi_rest m locals x rest = codes "= phi " ++ (type_text m x.written ++ (32 ∷ (
 
 pub record OpsRead (m : Module) (f : Function) (named : AreNamed m f) : Type 0 where
   -- a phi after its name, whose value waits for its type
-  pub phi_read : (x : Phi) (key : Text) (value : ℕ) (far : Far) (i : Input) (gap rest : Text) → IsPhi m f x → far.pending ≡ (key, value) ∷ [] → IsIn far.seen key → (IsIn far.labels key → ⊥)
+  pub phi_read : (x : Phi) (key : Text) (value : ℕ) (far : Far) (i : Input) (gap rest : Text) → IsPhi m f x → far.pending ≡ (key, value) ∷ [] → IsIn key far.seen → (IsIn key far.labels → ⊥)
       → AreBlanks gap → EndsOp rest → Ready (known m f named far) 0 i (gap ++ phi_rest m f.locals x rest)
       → Reads (known m f named (far_set key far)) 0 (phi_after value) i rest (PhiAgain m f.locals value x)
   -- the operation after `%v =`, whose value waits for its type
   pub named_read : (op : Op) (key : Text) (value : ℕ) (far : Far) (site : Site) (i : Input) (gap rest : Text) → IsOp m f op → gives_value m op ≡ true
-      → far.pending ≡ (key, value) ∷ [] → IsIn far.seen key → (IsIn far.labels key → ⊥) → AreBlanks gap → EndsOp rest → Ready (known m f named far) 0 i (gap ++ (op_text m f.locals op ++ rest))
+      → far.pending ≡ (key, value) ∷ [] → IsIn key far.seen → (IsIn key far.labels → ⊥) → AreBlanks gap → EndsOp rest → Ready (known m f named far) 0 i (gap ++ (op_text m f.locals op ++ rest))
       → Reads (known m f named (far_set key far)) 0 (named_op site value) i rest (OpAgain m f.locals op)
   -- an instruction without a value
   pub plain_read : (op : Op) (far : Far) (site : Site) (i : Input) (gap rest : Text) → IsOp m f op → gives_value m op ≡ false → AreBlanks gap → EndsOp rest

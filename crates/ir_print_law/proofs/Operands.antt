@@ -3,6 +3,7 @@ use Rattle.std.proofs.Common.{◌≡◌, ℕ, ◌-◌, ◌*◌, ◌<◌, ◌≤�
 use Rattle.std.specs.Prelude.{nat_lt, nat_le, min, ◌==◌, option_and_then}
 use Rattle.std.proofs.Math.Pow.{pow_pos}
 use Rattle.std.proofs.lemmas.Bool.Decides.{nat_tests}
+use Rattle.lemmas.specs.Lists.{IsIn}
 use Rattle.ir_print_law.proofs.Constants.{half_is}
 use Rattle.grammar.specs.Grammar.{pure, step, ◌>>=◌, ◌>>◌}
 use Rattle.ir_ast.specs.Names.{numbered}
@@ -30,7 +31,6 @@ use Rattle.ir_print.specs.Fits.{FitsType}
 use Rattle.ir_print.specs.Names.{name_at}
 use Rattle.ir_print_law.specs.Definitions.{functions_of, used_keys, used_symbols}
 use Rattle.ir_print_law.specs.Parts.{IsGlobalUse, IsOperand, IsTarget}
-use Rattle.ir_print_law.specs.Shapes.{IsIn}
 use Rattle.ir_print_law.proofs.Forms.{Keeps, Same, stepped, where_true}
 use Rattle.ir_print_law.proofs.Passes.{skip_passes, expect_passes}
 use Rattle.ir_print_law.proofs.Reading.{Reading, Within}
@@ -135,20 +135,20 @@ module _ {m : Module} (r : Reading m) where
       (stays (numbered (spelled i.cursor) i.symbols.names) m.symbols (symbol_number i) (spelled i.cursor) (r.has_symbols (with_symbol_use is_call i) b) (name_there (spelled i.cursor) i.symbols.names))
 
   used_symbol_keeps : (is_call : Bool) (i : Input)
-      → Keeps r.Fore (Same r.Fore) r.Back (used_symbol is_call) (λ n. IsIn (used_symbols m is_call) (name_at m.symbols n) × (name_at m.symbols n ≡ spelled i.cursor)) i
+      → Keeps r.Fore (Same r.Fore) r.Back (used_symbol is_call) (λ n. IsIn (name_at m.symbols n) (used_symbols m is_call) × (name_at m.symbols n ≡ spelled i.cursor)) i
   unfolding used_symbol
   used_symbol_keeps is_call i =
-      let good = λ (n : ℕ). IsIn (used_symbols m is_call) (name_at m.symbols n) × (name_at m.symbols n ≡ spelled i.cursor) in
+      let good = λ (n : ℕ). IsIn (name_at m.symbols n) (used_symbols m is_call) × (name_at m.symbols n ≡ spelled i.cursor) in
       where_true r.Back r.Fore (Same r.Fore) good (λ i. nat_lt (symbol_number i) 4294967296) limit (step symbol_number (with_symbol_use is_call) (with_symbol_use_falls is_call)) i
       (λ e. stepped r.Back r.Fore (Same r.Fore) good symbol_number (with_symbol_use is_call) (with_symbol_use_falls is_call) i
       (λ f. (
         r.on_symbol i is_call f,
         λ b.
             let there = symbol_there is_call i b in
-            (r.from_symbol i is_call b, (subst (IsIn (used_symbols m is_call)) (sym there) (r.symbol_is i is_call b), there)),
+            (r.from_symbol i is_call b, (subst (λ x. IsIn x (used_symbols m is_call)) (sym there) (r.symbol_is i is_call b), there)),
       )))
 
-  pub callee_keeps : (i : Input) → Keeps r.Fore (Same r.Fore) r.Back callee (λ n. IsIn (functions_of m) (name_at m.symbols n)) i
+  pub callee_keeps : (i : Input) → Keeps r.Fore (Same r.Fore) r.Back callee (λ n. IsIn (name_at m.symbols n) (functions_of m)) i
   unfolding callee
   callee_keeps i n o h f =
       let same = h.2.1 in
@@ -176,11 +176,11 @@ module _ {m : Module} {f : Function} (v : Within m f) where
   -- ---- local names
 
   pub used_local_keeps : (wanted : Wanted) (i : Input)
-      → Keeps v.reading.Fore (Same v.reading.Fore) v.reading.Back (used_local wanted) (λ n. IsIn (used_keys f wanted) (name_at f.locals n)) i
+      → Keeps v.reading.Fore (Same v.reading.Fore) v.reading.Back (used_local wanted) (λ n. IsIn (name_at f.locals n) (used_keys f wanted)) i
   unfolding used_local
   used_local_keeps wanted i =
       let r = v.reading in
-      let good = λ (n : ℕ). IsIn (used_keys f wanted) (name_at f.locals n) in
+      let good = λ (n : ℕ). IsIn (name_at f.locals n) (used_keys f wanted) in
       where_true r.Back r.Fore (Same r.Fore) good (λ i. nat_lt (local_number i) 4294967296) limit (step local_number (with_local_use wanted) (with_local_use_falls wanted)) i
       (λ e. stepped r.Back r.Fore (Same r.Fore) good local_number (with_local_use wanted) (with_local_use_falls wanted) i
       (λ h. (
@@ -189,17 +189,17 @@ module _ {m : Module} {f : Function} (v : Within m f) where
             let key = local_key i.cursor in
             let there = named_at f.locals (local_number i) key
             (stays (numbered key i.locals.names) f.locals (local_number i) key (v.has_locals (with_local_use wanted i) b) (name_there key i.locals.names)) in
-            (v.from_local i wanted b, subst (IsIn (used_keys f wanted)) (sym there) (v.local_is i wanted b)),
+            (v.from_local i wanted b, subst (λ x. IsIn x (used_keys f wanted)) (sym there) (v.local_is i wanted b)),
       )))
 
   label_by_keeps : (wanted : Wanted) (x : Kind) (i : Input)
-      → Keeps v.reading.Fore (Same v.reading.Fore) v.reading.Back (used_label_by wanted x) (λ n. IsIn (used_keys f wanted) (name_at f.locals n)) i
+      → Keeps v.reading.Fore (Same v.reading.Fore) v.reading.Back (used_label_by wanted x) (λ n. IsIn (name_at f.locals n) (used_keys f wanted)) i
   label_by_keeps wanted k.LocalName i = used_local_keeps wanted i
   label_by_keeps wanted k.LocalNumber i = used_local_keeps wanted i
   label_by_keeps wanted _ i = λ a o h f. absurd h
 
   pub label_keeps : (wanted : Wanted) (i : Input)
-      → Keeps v.reading.Fore (Same v.reading.Fore) v.reading.Back (used_label wanted) (λ n. IsIn (used_keys f wanted) (name_at f.locals n)) i
+      → Keeps v.reading.Fore (Same v.reading.Fore) v.reading.Back (used_label wanted) (λ n. IsIn (name_at f.locals n) (used_keys f wanted)) i
   unfolding used_label
   label_keeps wanted i = label_by_keeps wanted (kind i.cursor) i
 

@@ -1,6 +1,7 @@
 -- Printed operands are read as these operands again.
 use Rattle.std.proofs.Common.{◌≡◌, ℕ, ◌+◌, ◌<◌, ◌≤◌, ◌^◌, Bool, true, false, not, List, [], ◌∷◌, ◌++◌, length, slice_get, Option, Some, refl, sym, ap, subst, ◌∙◌, arith, append_assoc, length-append}
 use Rattle.std.specs.Prelude.{codes, nat_lt, option_and_then}
+use Rattle.lemmas.specs.Lists.{IsIn}
 use Rattle.grammar.specs.Grammar.{pure, ◌>>=◌, ◌>>◌}
 use Rattle.ir_ast.specs.Names.{place_of, number_of, numbered}
 use Rattle.ir_ast.specs.declared.function.Function.{Function}
@@ -38,7 +39,7 @@ use Rattle.name_text.specs.Reading.{name_spelled}
 use Rattle.ir_print_law.proofs.Words.{global_comes, sign_comes, word_comes}
 use Rattle.ir_print_law.specs.PartsAgain.{IsOperandAgain}
 use Rattle.ir_print_law.specs.Parts.{IsType, IsGlobalUse, IsOperand}
-use Rattle.ir_print_law.specs.Shapes.{IsIn, Shape, Integer, Pointer, Array, Empty, Struct, Named, HasShape, bits_of_shape, is_pointer_shape}
+use Rattle.ir_print_law.specs.Shapes.{Shape, Integer, Pointer, Array, Empty, Struct, Named, HasShape, bits_of_shape, is_pointer_shape}
 use Rattle.ir_print_law.specs.Definitions.{used_keys, used_symbols}
 use Rattle.ir_print_law.proofs.Tables.{begins_itself, stays, name_begins, name_length, name_there, number_within}
 use Rattle.ir_print_law.proofs.State.{Invariant, Ready, Grows, IsLater, Reads}
@@ -190,7 +191,7 @@ module _ {m : Module} {f : Function} (v : Invariant m f) where
   }
 
   -- a local name was used
-  pub local_ready : (wanted : Wanted) (i : Input) (bytes rest : Text) (s : ℕ) (key : Text) → local_key i.cursor ≡ key → IsIn (used_keys f wanted) key → Ready v s i bytes → length rest + 1 ≤ length bytes
+  pub local_ready : (wanted : Wanted) (i : Input) (bytes rest : Text) (s : ℕ) (key : Text) → local_key i.cursor ≡ key → IsIn key (used_keys f wanted) → Ready v s i bytes → length rest + 1 ≤ length bytes
       → Stands (with_local_use wanted i).cursor rest → Ready v s (with_local_use wanted i) rest
   local_ready wanted i bytes rest s key e there ready le at =
       let room = ready.room in
@@ -204,7 +205,7 @@ module _ {m : Module} {f : Function} (v : Invariant m f) where
           symbols = let h = room.symbols in omega (arith, h, le);
           locals = let h = room.locals in omega (arith, h, le, longer);
         };
-        holds = v.on_local i wanted (subst (λ (x : Text). IsIn (used_keys f wanted) x) (sym e) there) ready.holds;
+        holds = v.on_local i wanted (subst (λ (x : Text). IsIn x (used_keys f wanted)) (sym e) there) ready.holds;
       }
 
   -- there is room for a local name
@@ -225,7 +226,7 @@ module _ {m : Module} {f : Function} (v : Invariant m f) where
   }
 
   -- a global name was used
-  pub symbol_ready : (is_call : Bool) (i : Input) (bytes rest : Text) (s : ℕ) (name : Text) → spelled i.cursor ≡ name → IsIn (used_symbols m is_call) name → Ready v s i bytes → length rest + 1 ≤ length bytes
+  pub symbol_ready : (is_call : Bool) (i : Input) (bytes rest : Text) (s : ℕ) (name : Text) → spelled i.cursor ≡ name → IsIn name (used_symbols m is_call) → Ready v s i bytes → length rest + 1 ≤ length bytes
       → Stands (with_symbol_use is_call i).cursor rest → Ready v s (with_symbol_use is_call i) rest
   symbol_ready is_call i bytes rest s name e there ready le at =
       let room = ready.room in
@@ -239,7 +240,7 @@ module _ {m : Module} {f : Function} (v : Invariant m f) where
           symbols = let h = room.symbols in omega (arith, h, le, longer);
           locals = let h = room.locals in omega (arith, h, le);
         };
-        holds = v.on_symbol i is_call (subst (λ (x : Text). IsIn (used_symbols m is_call) x) (sym e) there) ready.holds;
+        holds = v.on_symbol i is_call (subst (λ (x : Text). IsIn x (used_symbols m is_call)) (sym e) there) ready.holds;
       }
 
   -- there is room for a global name
@@ -259,7 +260,7 @@ module _ {m : Module} {f : Function} (v : Invariant m f) where
   sign_less b gap word rest = let a = length-append gap (b ∷ (word ++ rest)) in let c = length-append word rest in omega (arith, a, c)
 
   -- the name of a global as an operand
-  pub global_reads : (name : Text) (i : Input) (gap rest : Text) (s : ℕ) → IsIn (used_symbols m false) name → is_intrinsic name ≡ false → AreBlanks gap → IsSeam rest
+  pub global_reads : (name : Text) (i : Input) (gap rest : Text) (s : ℕ) → IsIn name (used_symbols m false) → is_intrinsic name ≡ false → AreBlanks gap → IsSeam rest
       → Ready v s i (gap ++ 64 ∷ (name_text blank.Kept name ++ rest)) → Reads v s used_global i rest (λ n o. slice_get o.symbols.names n ≡ Some name)
   global_reads name i gap rest s there own blanks seam ready =
       let is = v.is_symbol false name there in
@@ -288,7 +289,7 @@ module _ {m : Module} {f : Function} (v : Invariant m f) where
       (x, advanced i, r.0, passed v i (gap ++ (constant_shown (bits_of_shape shape) x ++ rest)) rest s s ready r.1 (shorter v gap (constant_shown (bits_of_shape shape) x) rest s s (omega arith)), grows_advanced v i, refl)
 
   -- a local name is read as an operand
-  local_reads : (shape : Shape) (value : ℕ) (i : Input) (gap rest : Text) (s : ℕ) → IsIn (used_keys f wants.Value) (name_at f.locals value) → AreBlanks gap → IsSeam rest
+  local_reads : (shape : Shape) (value : ℕ) (i : Input) (gap rest : Text) (s : ℕ) → IsIn (name_at f.locals value) (used_keys f wants.Value) → AreBlanks gap → IsSeam rest
       → Ready v s i (gap ++ (local_text f.locals value ++ rest)) → Reads v s (form.operand (bits_of_shape shape)) i rest (OperandAgain m f.locals (operand.Local value))
   local_reads shape value i gap rest s there blanks seam ready =
       let key = name_at f.locals value in

@@ -1,5 +1,6 @@
 -- The types and the instructions of a printed module are read as they are needed.
 use Rattle.std.proofs.Common.{◌≡◌, ℕ, true, List, [], ◌∷◌, ◌++◌, refl, subst}
+use Rattle.lemmas.specs.Lists.{IsIn}
 use Rattle.ir_ast.specs.declared.function.Function.{Function}
 use Rattle.ir_ast.specs.declared.function.LocalSort.{LocalSort}
 use Rattle.ir_ast.specs.declared.function.LocalSort.TheVariants as local
@@ -10,7 +11,6 @@ use Rattle.ir_tokens.specs.Bytes.{Text}
 use Rattle.ir_forms.specs.Cursor.{kind}
 use Rattle.ir_print.specs.Standing.{Stands}
 use Rattle.ir_print_law.specs.Definitions.{defined_structs}
-use Rattle.ir_print_law.specs.Shapes.{IsIn}
 use Rattle.ir_print_law.proofs.State.{Ready}
 use Rattle.ir_print_law.proofs.ArgumentsAgain.{EndsLine, ends_line}
 use Rattle.ir_print_law.proofs.EndsAgain.{end_reads}
@@ -70,7 +70,7 @@ value_sort (local.Element block place) e = tt
 value_sort (local.Block number) e = absurd cc
 
 module _ (m : Module) (f : Function) (named : AreNamed m f) where
-  sets : (key : Text) (value : ℕ) (far : Far) → far.pending ≡ (key, value) ∷ [] → IsIn far.seen key → (IsIn far.labels key → ⊥) → Sets (known m f named far) (known m f named (far_set key far)) value
+  sets : (key : Text) (value : ℕ) (far : Far) → far.pending ≡ (key, value) ∷ [] → IsIn key far.seen → (IsIn key far.labels → ⊥) → Sets (known m f named far) (known m f named (far_set key far)) value
   sets key value far pending there apart = λ i sort is h.
       let c = h.3 in (
         h.0,

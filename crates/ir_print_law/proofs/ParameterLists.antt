@@ -3,7 +3,7 @@ use Rattle.std.proofs.Common.{◌≡◌, ℕ, ◌+◌, ◌<◌, ◌≤◌, Bool,
 use Rattle.std.specs.Prelude.{codes}
 use Rattle.std.specs.List.{AllByRecursion, flat_map}
 use Rattle.std.proofs.lemmas.List.{append-nil}
-use Rattle.ir_print_law.proofs.InLists.{is_last}
+use Rattle.lemmas.specs.Lists.{last_in}
 use Rattle.ir_print_law.proofs.ArgumentsAgain.{decorations_said}
 use Rattle.grammar.specs.Grammar.{pure}
 use Rattle.grammar.specs.Many.{Listed}
@@ -155,7 +155,7 @@ module _ (m : Module) (f : Function) (named : AreNamed m f) (types : TypesRead m
         holds = (
           h.0,
           h.1,
-          value_set f (far.seen ++ key ∷ []) far.values far.labels q.locals q.local_uses key value (local.Value w.id) tt (is_last far.seen key) (λ label. next.0 (steady.labels_seen key label)) h.2,
+          value_set f (far.seen ++ key ∷ []) far.values far.labels q.locals q.local_uses key value (local.Value w.id) tt (last_in key far.seen) (λ label. next.0 (steady.labels_seen key label)) h.2,
           record {
             values_are = h.3.values_are;
             unnamed_is = h.3.unnamed_is;

@@ -1,6 +1,7 @@
 -- Parts of instructions: operands with their types, targets, and lists.
 use Rattle.std.proofs.Common.{◌≡◌, ℕ, ◌+◌, ◌≤◌, true, false, List, [], ◌∷◌, ◌++◌, length, slice_get, Option, Some, refl, sym, ap, subst, arith, append_assoc, length-append}
 use Rattle.std.specs.Prelude.{codes}
+use Rattle.lemmas.specs.Lists.{IsIn}
 use Rattle.grammar.specs.Grammar.{pure, ◌>>=◌, ◌>>◌}
 use Rattle.ir_ast.specs.Names.{number_of}
 use Rattle.ir_ast.specs.declared.function.Function.{Function}
@@ -35,7 +36,7 @@ use Rattle.ir_print_law.proofs.Words.{sign_comes}
 use Rattle.ir_print_law.specs.PartsAgain.{IsNameAgain, IsArgumentAgain, ArePairAgain}
 use Rattle.ir_print_law.specs.Again.{IsOpAgain}
 use Rattle.ir_print_law.specs.Parts.{IsOperand, IsArgument, ArePair, IsTarget}
-use Rattle.ir_print_law.specs.Shapes.{IsIn, Shape, HasShape, bits_of_shape}
+use Rattle.ir_print_law.specs.Shapes.{Shape, HasShape, bits_of_shape}
 use Rattle.ir_print_law.specs.Definitions.{used_keys}
 use Rattle.ir_print_law.proofs.Tables.{stays}
 use Rattle.ir_print_law.proofs.State.{Invariant, Ready, IsLater, Reads}
@@ -168,7 +169,7 @@ module _ {m : Module} {f : Function} (v : Invariant m f) where
   byte_less gap word rest = let a = length-append gap (37 ∷ (word ++ rest)) in let b = length-append word rest in omega (arith, a, b)
 
   -- `%b`
-  pub label_reads : (wanted : Wanted) (label : ℕ) (i : Input) (gap rest : Text) (s : ℕ) → IsIn (used_keys f wanted) (name_at f.locals label) → AreBlanks gap → IsSeam rest
+  pub label_reads : (wanted : Wanted) (label : ℕ) (i : Input) (gap rest : Text) (s : ℕ) → IsIn (name_at f.locals label) (used_keys f wanted) → AreBlanks gap → IsSeam rest
       → Ready v s i (gap ++ (local_text f.locals label ++ rest)) → Reads v s (used_label wanted) i rest (HasLabel (name_at f.locals label))
   label_reads wanted label i gap rest s there blanks seam ready =
       let key = name_at f.locals label in

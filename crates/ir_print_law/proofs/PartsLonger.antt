@@ -1,13 +1,13 @@
 -- Numbers of operands that are within the tables of a module are within those of one that has no fewer types, and whose names mean what they mean there.
 use Rattle.std.proofs.Common.{ℕ, ◌≤◌, List, length, arith}
 use Rattle.std.specs.List.{AllByRecursion}
+use Rattle.lemmas.specs.All.{all_so}
 use Rattle.ir_ast.specs.declared.argument.Argument.{Argument}
 use Rattle.ir_ast.specs.declared.function.Function.{Function}
 use Rattle.ir_ast.specs.declared.module.Module.{Module}
 use Rattle.ir_ast.specs.declared.operand.Operand.{Operand}
 use Rattle.ir_ast.specs.declared.operand.Operand.TheVariants as operand
 use Rattle.ir_print_law.specs.PartsWithin.{HasType, HasSymbol, HasGlobal, HasFunction, IsOperandWithin, IsArgumentWithin, ArePairWithin, IsConvertedWithin}
-use Rattle.ir_print_law.proofs.Known.{all_so}
 
 -- Whatever is the name of something in the first module is so in the second.
 pub record MeansAsMuch (m n : Module) : Type 0 where

@@ -3,6 +3,7 @@ use Rattle.std.proofs.Common.{◌≡◌, ℕ, suc, ◌<◌, arith, drop, map, sl
 use Rattle.std.specs.List.{AllByRecursion}
 use Rattle.std.proofs.lemmas.List.{map-append}
 use Rattle.std.proofs.lemmas.Option.{slice_get_within}
+use Rattle.lemmas.specs.Lists.{in_either, IsIn}
 use Rattle.ir_ast.specs.Names.{place_of}
 use Rattle.ir_ast.specs.declared.argument.Argument.{Argument}
 use Rattle.ir_ast.specs.declared.function.Function.{Function}
@@ -20,8 +21,7 @@ use Rattle.ir_print_law.specs.Definitions.{value_keys, label_keys, target_keys, 
 use Rattle.ir_print_law.specs.ModuleNames.{HasModuleNames}
 use Rattle.ir_print_law.specs.Parts.{IsType, IsVoid, IsPointer, IsOperand, IsArgument, ArePair, IsConverted, IsReturned}
 use Rattle.ir_print_law.specs.PartsWithin.{HasType, HasSymbol, HasGlobal, HasFunction, HasLocal, HasValue, HasBlock, HasTarget, IsOperandWithin, IsArgumentWithin, ArePairWithin, IsConvertedWithin}
-use Rattle.ir_print_law.specs.Shapes.{IsIn, Shape, Integer, Pointer, Array, Empty, Struct, Named, HasShape, bits_of_shape}
-use Rattle.ir_print_law.proofs.InLists.{in_parts}
+use Rattle.ir_print_law.specs.Shapes.{Shape, Integer, Pointer, Array, Empty, Struct, Named, HasShape, bits_of_shape}
 use Rattle.ir_print_law.proofs.DefinedWithin.{AreDefinedWithin, all_at, any_all}
 use Rattle.ir_print_law.proofs.FoundNames.{found_number, in_all, place_in, place_after, item_in, each_number, item_keys, items_stay}
 use Rattle.ir_print_law.proofs.FunctionEnds.{whole_of, values_are, labels_are, rest_keys}
@@ -76,12 +76,12 @@ module _ (m : Module) (own : HasModuleNames m) where
   at_places : (n : ℕ) (key : Text) → slice_get m.symbols n ≡ Some key → place_of key m.symbols ≡ Some n
   at_places n key e = (own.symbols n key e).1
 
-  pub global_within : (n : ℕ) → ((more : List Text) → IsIn (defined_globals (wide_module m more)) (name_at (m.symbols ++ more) n)) → HasGlobal m n
+  pub global_within : (n : ℕ) → ((more : List Text) → IsIn (name_at (m.symbols ++ more) n) (defined_globals (wide_module m more))) → HasGlobal m n
   global_within n found =
       let number = λ (x : Global). x.symbol in
-      let within : (k : ℕ) → IsIn (map number m.globals) k → HasSymbol m k = λ k there. each_number number (HasSymbol m) m.globals k globals_have there in
+      let within : (k : ℕ) → IsIn k (map number m.globals) → HasSymbol m k = λ k there. each_number number (HasSymbol m) m.globals k globals_have there in
       let same : (more : List Text) → defined_globals (wide_module m more) ≡ keys_at m.symbols (map number m.globals) = λ more. globals_stay more ∙ item_keys number m.globals m.symbols in
-      let there = found_number m.symbols (map number m.globals) n within at_places (λ more. subst (λ (l : List Text). IsIn l (name_at (m.symbols ++ more) n)) (same more) (found more)) in
+      let there = found_number m.symbols (map number m.globals) n within at_places (λ more. subst (λ (l : List Text). IsIn (name_at (m.symbols ++ more) n) l) (same more) (found more)) in
       let p = item_in number m.globals n there in
       (within n there, (p.0, subst (λ (k : ℕ). slice_get m.sorts k ≡ Some (symbol.Global p.0)) p.3 (own.globals p.0 p.1 p.2), slice_get_within m.globals p.0 p.1 p.2))
 
@@ -97,8 +97,8 @@ module _ (m : Module) (own : HasModuleNames m) where
       ∙ ap (λ (l : List Text). keys_at m.symbols (map (λ (x : Declare). x.symbol) m.declares) ++ l) defined
       ∙ sym (map-append (name_at m.symbols) (map (λ (x : Declare). x.symbol) m.declares) (map (λ (x : Function). x.symbol) m.functions))
 
-  function_there : (n : ℕ) → IsIn function_numbers n → HasFunction m n
-  function_there n there = elim (in_parts (map (λ (x : Declare). x.symbol) m.declares) (map (λ (x : Function). x.symbol) m.functions) n there) [
+  function_there : (n : ℕ) → IsIn n function_numbers → HasFunction m n
+  function_there n there = elim (in_either n (map (λ (x : Declare). x.symbol) m.declares) (map (λ (x : Function). x.symbol) m.functions) there) [
     | inl declared ↦
         let p = item_in (λ (x : Declare). x.symbol) m.declares n declared in (
           each_number (λ (x : Declare). x.symbol) (HasSymbol m) m.declares n declares_have declared,
@@ -119,11 +119,11 @@ module _ (m : Module) (own : HasModuleNames m) where
         )
   ]
 
-  pub callee_within : (n : ℕ) → ((more : List Text) → IsIn (functions_of (wide_module m more)) (name_at (m.symbols ++ more) n)) → HasFunction m n
+  pub callee_within : (n : ℕ) → ((more : List Text) → IsIn (name_at (m.symbols ++ more) n) (functions_of (wide_module m more))) → HasFunction m n
   callee_within n found =
       let same : (more : List Text) → functions_of (wide_module m more) ≡ keys_at m.symbols function_numbers = λ more. functions_stay more ∙ function_keys in
       function_there n (found_number m.symbols function_numbers n (λ k there. (function_there k there).0) at_places
-      (λ more. subst (λ (l : List Text). IsIn l (name_at (m.symbols ++ more) n)) (same more) (found more)))
+      (λ more. subst (λ (l : List Text). IsIn (name_at (m.symbols ++ more) n) l) (same more) (found more)))
 
 -- ---- local names
 
@@ -132,31 +132,31 @@ abbrev pub wide : Function → (more : List Text) → Function
 wide f more = record f { locals = f.locals ++ more }
 
 module _ (f : Function) (h : AreDefinedWithin f) where
-  pub value_within : (value : ℕ) → ((more : List Text) → IsIn (value_keys (wide f more)) (name_at (f.locals ++ more) value)) → HasValue f value
+  pub value_within : (value : ℕ) → ((more : List Text) → IsIn (name_at (f.locals ++ more) value) (value_keys (wide f more))) → HasValue f value
   value_within value found =
       let ns = (whole_of f).values in
-      let within : (n : ℕ) → IsIn ns n → HasLocal f n = λ n there. (h.values n there).0 in
+      let within : (n : ℕ) → IsIn n ns → HasLocal f n = λ n there. (h.values n there).0 in
       let same : (more : List Text) → value_keys (wide f more) ≡ keys_at f.locals ns =
       λ more. sym (values_are (wide f more)) ∙ names_stay ns f.locals (f.locals ++ more) within (begins_with f.locals more) in
-      h.values value (found_number f.locals ns value within h.places (λ more. subst (λ (l : List Text). IsIn l (name_at (f.locals ++ more) value)) (same more) (found more)))
+      h.values value (found_number f.locals ns value within h.places (λ more. subst (λ (l : List Text). IsIn (name_at (f.locals ++ more) value) l) (same more) (found more)))
 
   labels_stay : (more : List Text) → label_keys (wide f more) ≡ keys_at f.locals (whole_of f).labels
   labels_stay more = sym (labels_are (wide f more)) ∙ names_stay (whole_of f).labels f.locals (f.locals ++ more) h.within (begins_with f.locals more)
 
-  pub block_within : (label : ℕ) → ((more : List Text) → IsIn (label_keys (wide f more)) (name_at (f.locals ++ more) label)) → HasBlock f label
+  pub block_within : (label : ℕ) → ((more : List Text) → IsIn (name_at (f.locals ++ more) label) (label_keys (wide f more))) → HasBlock f label
   block_within label found =
       let ns = (whole_of f).labels in
-      let there = found_number f.locals ns label h.within h.places (λ more. subst (λ (l : List Text). IsIn l (name_at (f.locals ++ more) label)) (labels_stay more) (found more)) in
+      let there = found_number f.locals ns label h.within h.places (λ more. subst (λ (l : List Text). IsIn (name_at (f.locals ++ more) label) l) (labels_stay more) (found more)) in
       let place = place_in ns label there in
       let block = h.labels place.0 label place.1 in
       (h.within label there, (place.0, block.0, block.1))
 
-  pub target_within : (label : ℕ) → ((more : List Text) → IsIn (target_keys (wide f more)) (name_at (f.locals ++ more) label)) → HasTarget f label
+  pub target_within : (label : ℕ) → ((more : List Text) → IsIn (name_at (f.locals ++ more) label) (target_keys (wide f more))) → HasTarget f label
   target_within label found =
       let ns = (whole_of f).labels in
-      let within : (n : ℕ) → IsIn (drop 1 ns) n → HasLocal f n = λ n there. h.within n (in_all ns n there) in
+      let within : (n : ℕ) → IsIn n (drop 1 ns) → HasLocal f n = λ n there. h.within n (in_all ns n there) in
       let same : (more : List Text) → target_keys (wide f more) ≡ keys_at f.locals (drop 1 ns) = λ more. ap (drop 1) (labels_stay more) ∙ sym (rest_keys f.locals ns) in
-      let there = found_number f.locals (drop 1 ns) label within h.places (λ more. subst (λ (l : List Text). IsIn l (name_at (f.locals ++ more) label)) (same more) (found more)) in
+      let there = found_number f.locals (drop 1 ns) label within h.places (λ more. subst (λ (l : List Text). IsIn (name_at (f.locals ++ more) label) l) (same more) (found more)) in
       let place = place_after ns label there in
       let block = h.labels (suc place.0) label place.1 in
       (within label there, (suc place.0, block.0, omega arith, block.1))

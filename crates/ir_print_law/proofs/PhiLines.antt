@@ -3,6 +3,7 @@ use Rattle.std.proofs.Common.{◌≡◌, ℕ, ◌+◌, ◌<◌, ◌≤◌, Bool,
 use Rattle.std.specs.Prelude.{codes}
 use Rattle.std.specs.List.{AllByRecursion, flat_map}
 use Rattle.std.proofs.lemmas.List.{append-nil}
+use Rattle.lemmas.specs.Lists.{last_in}
 use Rattle.grammar.specs.Many.{Listed}
 use Rattle.ir_ast.specs.declared.choices.Phi.{Phi}
 use Rattle.ir_ast.specs.declared.function.Function.{Function}
@@ -25,7 +26,6 @@ use Rattle.ir_print_law.specs.Again.{IsPhiAgain}
 use Rattle.ir_print_law.specs.Definitions.{phi_key}
 use Rattle.ir_print_law.specs.Printable.{IsPhi}
 use Rattle.ir_print_law.specs.Readings.{IsKey}
-use Rattle.ir_print_law.proofs.InLists.{is_last}
 use Rattle.ir_print_law.proofs.Tables.{stays}
 use Rattle.ir_print_law.proofs.State.{Ready}
 use Rattle.ir_print_law.proofs.Begins.{IsLocalKind}
@@ -127,7 +127,7 @@ module _ (m : Module) (f : Function) (named : AreNamed m f) (ops : OpsRead m f n
       let n = w.1.0 in
       let p = w.1.1 in
       let unnamed = unnamed_then far.unnamed key is in
-      let r = ops.phi_read x key n (far_value m f named far key n unnamed) p (32 ∷ []) (10 ∷ rest) own refl (is_last far.seen key) (λ label. next.0 (steady.labels_seen key label)) refl ends w.1.3 in
+      let r = ops.phi_read x key n (far_value m f named far key n unnamed) p (32 ∷ []) (10 ∷ rest) own refl (last_in key far.seen) (λ label. next.0 (steady.labels_seen key label)) refl ends w.1.3 in
       let o = r.1 in
       let wide = grows_widens p o r.4 in (
         r.0,

@@ -1,5 +1,6 @@
 -- What is known of a state while a module is read: of what was read before it, and of where reading ends.
 use Rattle.std.specs.Prelude.{◌≡◌, ℕ, Bool, List, [], ◌∷◌, ◌++◌, length}
+use Rattle.lemmas.specs.Lists.{IsIn}
 use Rattle.ir_ast.specs.declared.function.Function.{Function}
 use Rattle.ir_ast.specs.declared.function.LocalSort.{LocalSort}
 use Rattle.ir_ast.specs.declared.function.LocalSort.TheVariants as local
@@ -14,7 +15,6 @@ use Rattle.ir_forms.specs.Names.{with_struct_use, with_symbol_use, with_local_us
 use Rattle.ir_forms.specs.Written.{with_type_interned}
 use Rattle.name_text.specs.Readings.{AreBytes}
 use Rattle.ir_print_law.specs.Definitions.{defined_structs, used_keys, used_symbols}
-use Rattle.ir_print_law.specs.Shapes.{IsIn}
 use Rattle.ir_print_law.proofs.Forms.{Keeps, Any}
 use Rattle.ir_print_law.proofs.Tables.{Begins, IsRestBefore, AreOrdered}
 
@@ -33,10 +33,10 @@ pub record Reading (m : Module) : Type 1 where
   pub from_type : (i : Input) (t : IrType) → Back (with_type_interned t i) → Back i
   pub on_struct : (i : Input) → Fore i → Fore (with_struct_use i)
   pub from_struct : (i : Input) → Back (with_struct_use i) → Back i
-  pub struct_is : (i : Input) → Back (with_struct_use i) → IsIn (defined_structs m) (spelled i.cursor)
+  pub struct_is : (i : Input) → Back (with_struct_use i) → IsIn (spelled i.cursor) (defined_structs m)
   pub on_symbol : (i : Input) (is_call : Bool) → Fore i → Fore (with_symbol_use is_call i)
   pub from_symbol : (i : Input) (is_call : Bool) → Back (with_symbol_use is_call i) → Back i
-  pub symbol_is : (i : Input) (is_call : Bool) → Back (with_symbol_use is_call i) → IsIn (used_symbols m is_call) (spelled i.cursor)
+  pub symbol_is : (i : Input) (is_call : Bool) → Back (with_symbol_use is_call i) → IsIn (spelled i.cursor) (used_symbols m is_call)
 
 -- The same within a function.
 pub record Within (m : Module) (f : Function) : Type 1 where
@@ -44,7 +44,7 @@ pub record Within (m : Module) (f : Function) : Type 1 where
   pub has_locals : (i : Input) → reading.Back i → Begins i.locals.names f.locals
   pub on_local : (i : Input) (wanted : Wanted) → reading.Fore i → reading.Fore (with_local_use wanted i)
   pub from_local : (i : Input) (wanted : Wanted) → reading.Back (with_local_use wanted i) → reading.Back i
-  pub local_is : (i : Input) (wanted : Wanted) → reading.Back (with_local_use wanted i) → IsIn (used_keys f wanted) (local_key i.cursor)
+  pub local_is : (i : Input) (wanted : Wanted) → reading.Back (with_local_use wanted i) → IsIn (local_key i.cursor) (used_keys f wanted)
 
 -- what a name means that is a value
 abbrev pub IsValueSort : LocalSort → Type 0
@@ -74,13 +74,13 @@ pub record Kit (m : Module) (f : Function) (Fore Back : Input → Type 0) : Type
   pub from_type : (i : Input) (t : IrType) → Back (with_type_interned t i) → Back i
   pub on_struct : (i : Input) → Fore i → Fore (with_struct_use i)
   pub from_struct : (i : Input) → Back (with_struct_use i) → Back i
-  pub struct_is : (i : Input) → Back (with_struct_use i) → IsIn (defined_structs m) (spelled i.cursor)
+  pub struct_is : (i : Input) → Back (with_struct_use i) → IsIn (spelled i.cursor) (defined_structs m)
   pub on_symbol : (i : Input) (is_call : Bool) → Fore i → Fore (with_symbol_use is_call i)
   pub from_symbol : (i : Input) (is_call : Bool) → Back (with_symbol_use is_call i) → Back i
-  pub symbol_is : (i : Input) (is_call : Bool) → Back (with_symbol_use is_call i) → IsIn (used_symbols m is_call) (spelled i.cursor)
+  pub symbol_is : (i : Input) (is_call : Bool) → Back (with_symbol_use is_call i) → IsIn (spelled i.cursor) (used_symbols m is_call)
   pub on_local : (i : Input) (wanted : Wanted) → Fore i → Fore (with_local_use wanted i)
   pub from_local : (i : Input) (wanted : Wanted) → Back (with_local_use wanted i) → Back i
-  pub local_is : (i : Input) (wanted : Wanted) → Back (with_local_use wanted i) → IsIn (used_keys f wanted) (local_key i.cursor)
+  pub local_is : (i : Input) (wanted : Wanted) → Back (with_local_use wanted i) → IsIn (local_key i.cursor) (used_keys f wanted)
 
 abbrev pub within_of : {m : Module} {f : Function} {Fore Back : Input → Type 0} → Kit m f Fore Back → Within m f
 within_of {Fore = Fore} {Back = Back} kit = record {

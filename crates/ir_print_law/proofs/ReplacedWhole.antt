@@ -3,6 +3,7 @@ use Rattle.std.proofs.Common.{◌≡◌, ℕ, zero, suc, ◌<◌, ◌≤◌, Lis
 use Rattle.std.specs.Prelude.{slice_set}
 use Rattle.std.specs.List.{AllByRecursion}
 use Rattle.std.proofs.lemmas.List.{length-set}
+use Rattle.lemmas.specs.All.{all_so}
 use Rattle.lemmas.specs.Lists.{get_some, set_either}
 use Rattle.ir_ast.specs.declared.function.Function.{Function}
 use Rattle.ir_ast.specs.declared.items_of_module.SymbolSort.TheVariants as symbol
@@ -20,7 +21,6 @@ use Rattle.ir_print_law.specs.ModuleNames.{IsNumbered}
 use Rattle.ir_print_law.specs.Printable.{IsFunction, IsStructType, IsGlobal, IsDeclare, IsSymbol}
 use Rattle.ir_print_law.specs.Wholes.{IsWhole}
 use Rattle.ir_print_law.proofs.AnewRead.{IsRead, function_read}
-use Rattle.ir_print_law.proofs.Known.{all_so}
 use Rattle.ir_print_law.proofs.LongerOps.{function_again, struct_again, global_again, declare_again}
 use Rattle.ir_print_law.proofs.LongerTypes.{with_types}
 use Rattle.ir_print_law.proofs.ModuleRead.{read_is_printable, read_has_names, read_is_ordered}

@@ -1,7 +1,7 @@
 -- The numbers of a module are within its tables where one of its functions is replaced.
-use Rattle.std.proofs.Common.{◌≡◌, ℕ, ◌<◌, ◌≤◌, List, length, slice_get, Some, sym, ap, subst, ◌∙◌, arith, length-append, [], ◌∷◌, zero, suc, inl, inr}
+use Rattle.std.proofs.Common.{◌≡◌, ℕ, ◌<◌, ◌≤◌, List, length, slice_get, Some, sym, ap, subst, ◌∙◌, arith, length-append, inl, inr}
+use Rattle.lemmas.specs.All.{all_get, all_so}
 use Rattle.lemmas.specs.Lists.{get_some}
-use Rattle.std.specs.List.{AllByRecursion}
 use Rattle.std.proofs.lemmas.List.{length-set}
 use Rattle.ir_ast.specs.declared.function.Function.{Function}
 use Rattle.ir_ast.specs.declared.ir_type.IrType.{IrType}
@@ -17,7 +17,6 @@ use Rattle.ir_print_law.specs.PartsWithin.{HasSymbol}
 use Rattle.ir_print_law.specs.Wholes.{IsWhole}
 use Rattle.ir_print_law.specs.Within.{IsFunctionWithin, IsStructWithin, IsGlobalWithin, IsDeclareWithin, IsWithin}
 use Rattle.ir_print_law.proofs.AnewRead.{function_read}
-use Rattle.ir_print_law.proofs.Known.{all_so}
 use Rattle.ir_print_law.proofs.LongerTypes.{with_types}
 use Rattle.ir_print_law.proofs.PartsWithin.{functions_have}
 use Rattle.ir_print_law.proofs.ReplacedWhole.{all_set, edited, read_edits}
@@ -31,11 +30,6 @@ use Rattle.ir_print_law.proofs.WithinLonger.{declare_longer, function_longer}
 -- a list that begins with another one is not shorter
 begins_length : {A : Type 0} (xs ys : List A) → Begins xs ys → length xs ≤ length ys
 begins_length xs ys b = let same = ap length b.1 in let sum = length-append xs b.0 in omega (arith, same, sum)
-
-element_at : {A : Type 0} (P : A → Type 0) (xs : List A) (place : ℕ) (x : A) → slice_get xs place ≡ Some x → AllByRecursion P xs → P x
-element_at P [] place x at h = absurd cc
-element_at P (y ∷ xs) zero x at h = let same : y ≡ x = cc in subst P same h.0
-element_at P (y ∷ xs) (suc place) x at h = element_at P xs place x at h.1
 
 module _ (m : Module) (whole : IsWhole m) (within : IsWithin m) (func : ℕ) (old : Function) (at : slice_get m.functions func ≡ Some old) where
   -- the names mean what they mean in the module, whatever its types are
@@ -95,7 +89,7 @@ module _ (m : Module) (whole : IsWhole m) (within : IsWithin m) (func : ℕ) (ol
       → IsFunctionWithin (with_types m types m.functions) f
   function_within types f more symbol_is inner =
       let inside = inner (names_again types) in
-      let old_within = element_at (λ (x : Function). HasSymbol m x.symbol) m.functions func old at (functions_have m whole.names) in
+      let old_within = all_get (λ (x : Function). HasSymbol m x.symbol) m.functions func old (functions_have m whole.names) at in
       record { symbol = subst (HasSymbol m) (sym symbol_is) old_within; returned = inside.0; parameters = inside.1; sorts = inside.2; blocks = inside.3 }
 
   old_within : (bytes : Text) (n : Module) → AreBytes bytes → IsReplaced m func bytes n → IsWithin n

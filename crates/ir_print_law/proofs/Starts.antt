@@ -1,6 +1,8 @@
 -- What a printable module gives: its names are read as they are printed, and reading begins with nothing known.
 use Rattle.std.proofs.Common.{◌≡◌, ℕ, ◌+◌, ◌<◌, ◌≤◌, ◌^◌, Bool, true, false, List, [], ◌∷◌, ◌++◌, length, map, refl, sym, subst, arith, length-append, inl, inr}
 use Rattle.std.specs.List.{AllByRecursion, flat_map}
+use Rattle.lemmas.specs.All.{all_in, all_join, all_first, all_second}
+use Rattle.lemmas.specs.Lists.{in_first, in_second, IsIn}
 use Rattle.ir_ast.specs.declared.block.Block.{Block}
 use Rattle.ir_ast.specs.declared.function.Function.{Function}
 use Rattle.ir_ast.specs.declared.module.Module.{Module}
@@ -15,10 +17,7 @@ use Rattle.ir_print.specs.Names.{name_at}
 use Rattle.ir_print_law.specs.Readings.{IsKey}
 use Rattle.ir_print_law.specs.Definitions.{AreDefined, defined_keys, parameter_keys, block_keys, value_keys_of, value_keys, label_keys, defined_globals, functions_of, used_keys, used_symbols}
 use Rattle.ir_print_law.specs.Printable.{IsFunction, IsPrintable, IsSymbol}
-use Rattle.ir_print_law.specs.Shapes.{IsIn}
-use Rattle.ir_print_law.proofs.InLists.{in_front, in_after}
 use Rattle.ir_print_law.proofs.State.{Ready}
-use Rattle.ir_print_law.proofs.Bodies.{front_keys, back_keys}
 use Rattle.ir_print_law.proofs.Defining.{dropped}
 use Rattle.ir_print_law.proofs.WholeFunctionEnds.{nobody, no_key, locals_empty}
 use Rattle.ir_print_law.proofs.Known.{Far, AreNamed, known}
@@ -26,15 +25,6 @@ use Rattle.ir_print_law.proofs.NewLabels.{decimal_key}
 use Rattle.ir_print_law.proofs.NewValues.{IsNext, unnamed_then}
 use Rattle.ir_print_law.proofs.Steady.{next_key, taken}
 use Rattle.ir_print_law.proofs.WholeEnds.{start_stands}
-
-pub all_in : {A : Type 0} (P : A → Type 0) (xs : List A) (y : A) → AllByRecursion P xs → IsIn xs y → P y
-all_in P [] y h is = absurd is
-all_in P (x ∷ xs) y h (inl e) = subst P e h.0
-all_in P (x ∷ xs) y h (inr is) = all_in P xs y h.1 is
-
-all_join : (P : Text → Type 0) (xs ys : List Text) → AllByRecursion P xs → AllByRecursion P ys → AllByRecursion P (xs ++ ys)
-all_join P [] ys h g = g
-all_join P (x ∷ xs) ys h g = (h.0, all_join P xs ys h.1 g)
 
 -- ---- keys
 
@@ -56,8 +46,8 @@ BlockKeys locals b = IsKey (name_at locals b.label) × AllByRecursion IsKey (val
 blocks_all : (locals : List Text) (bs : List Block) → AllByRecursion IsKey (flat_map (block_keys locals) bs) → AllByRecursion (BlockKeys locals) bs
 blocks_all locals [] h = tt
 blocks_all locals (b ∷ bs) h =
-    let own = front_keys (block_keys locals b) (flat_map (block_keys locals) bs) h in
-    ((own.0, own.1), blocks_all locals bs (back_keys (block_keys locals b) (flat_map (block_keys locals) bs) h))
+    let own = all_first IsKey (block_keys locals b) (flat_map (block_keys locals) bs) h in
+    ((own.0, own.1), blocks_all locals bs (all_second IsKey (block_keys locals b) (flat_map (block_keys locals) bs) h))
 
 values_all : (locals : List Text) (bs : List Block) → AllByRecursion (BlockKeys locals) bs → AllByRecursion IsKey (flat_map (value_keys_of locals) bs)
 values_all locals [] h = tt
@@ -84,20 +74,20 @@ function_keys m f is =
     let b = length-append (parameter_keys f) (flat_map (value_keys_of f.locals) f.blocks) in
     let c = block_count f.locals f.blocks in
     let all = keys_all [] 0 (defined_keys f) (omega (arith, values, blocks, a, b, c)) is.definitions in
-    (front_keys (parameter_keys f) (flat_map (block_keys f.locals) f.blocks) all, blocks_all f.locals f.blocks (back_keys (parameter_keys f) (flat_map (block_keys f.locals) f.blocks) all))
+    (all_first IsKey (parameter_keys f) (flat_map (block_keys f.locals) f.blocks) all, blocks_all f.locals f.blocks (all_second IsKey (parameter_keys f) (flat_map (block_keys f.locals) f.blocks) all))
 
 -- ---- what is used is named as it is read
 
-symbol_named : (m : Module) → IsPrintable m → (is_call : Bool) (name : Text) → IsIn (used_symbols m is_call) name → AreBytes name × (is_left_out name ≡ false)
-symbol_named m is true name there = all_in IsSymbol (defined_globals m ++ functions_of m) name is.symbols.0 (in_after (defined_globals m) (functions_of m) name there)
-symbol_named m is false name there = all_in IsSymbol (defined_globals m ++ functions_of m) name is.symbols.0 (in_front (defined_globals m) (functions_of m) name there)
+symbol_named : (m : Module) → IsPrintable m → (is_call : Bool) (name : Text) → IsIn name (used_symbols m is_call) → AreBytes name × (is_left_out name ≡ false)
+symbol_named m is true name there = all_in IsSymbol (defined_globals m ++ functions_of m) name is.symbols.0 (in_second name (defined_globals m) (functions_of m) there)
+symbol_named m is false name there = all_in IsSymbol (defined_globals m ++ functions_of m) name is.symbols.0 (in_first name (defined_globals m) (functions_of m) there)
 
 pub nobody_named : (m : Module) → IsPrintable m → AreNamed m nobody
 nobody_named m is = record { is_key = λ wanted key there. absurd (no_key wanted key there); is_symbol = symbol_named m is }
 
 pub function_named : (m : Module) (f : Function) → IsPrintable m → IsFunction m f → AreNamed m f
 function_named m f is function = record { is_key = key; is_symbol = symbol_named m is } where
-  key : (wanted : Wanted) (key : Text) → IsIn (used_keys f wanted) key → IsKey key
+  key : (wanted : Wanted) (key : Text) → IsIn key (used_keys f wanted) → IsKey key
   key wants.Value k there =
       let keys = function_keys m f function in
       all_in IsKey (value_keys f) k (all_join IsKey (parameter_keys f) (flat_map (value_keys_of f.locals) f.blocks) keys.0 (values_all f.locals f.blocks keys.1)) there

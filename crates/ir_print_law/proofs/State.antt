@@ -1,5 +1,6 @@
 -- The state of reading a printed module again, and how one form follows another.
 use Rattle.std.specs.Prelude.{◌≡◌, ℕ, ◌+◌, ◌≤◌, Bool, false, List, length, slice_get, option_and_then}
+use Rattle.lemmas.specs.Lists.{IsIn}
 use Rattle.ir_ast.specs.Names.{place_of}
 use Rattle.ir_ast.specs.declared.function.Function.{Function}
 use Rattle.ir_ast.specs.declared.ir_type.IrType.{IrType}
@@ -16,21 +17,20 @@ use Rattle.name_text.specs.Readings.{AreBytes}
 use Rattle.ir_print_law.specs.Readings.{IsKey}
 use Rattle.ir_print.specs.Standing.{Stands}
 use Rattle.ir_print_law.specs.Definitions.{defined_structs, defined_globals, used_keys, used_symbols}
-use Rattle.ir_print_law.specs.Shapes.{IsIn}
 use Rattle.ir_print_law.proofs.Tables.{Begins, AreOrdered}
 
 -- What holds of the names of the state all along, which no form of a type, an operand or an operation breaks.
 pub record Invariant (m : Module) (f : Function) : Type 1 where
   pub Holds : Input → Type 0
   -- what is used is named as it is read
-  pub is_key : (wanted : Wanted) (key : Text) → IsIn (used_keys f wanted) key → IsKey key
-  pub is_symbol : (is_call : Bool) (name : Text) → IsIn (used_symbols m is_call) name → AreBytes name × (is_left_out name ≡ false)
+  pub is_key : (wanted : Wanted) (key : Text) → IsIn key (used_keys f wanted) → IsKey key
+  pub is_symbol : (is_call : Bool) (name : Text) → IsIn name (used_symbols m is_call) → AreBytes name × (is_left_out name ≡ false)
   pub on_token : (i : Input) → Holds i → Holds (advanced i)
   pub on_type : (i : Input) (t : IrType) → Holds i → Holds (with_type_interned t i)
-  pub on_struct : (i : Input) → IsIn (defined_structs m) (spelled i.cursor) → Holds i → Holds (with_struct_use i)
-  pub on_symbol : (i : Input) (is_call : Bool) → IsIn (used_symbols m is_call) (spelled i.cursor) → Holds i → Holds (with_symbol_use is_call i)
-  pub on_local : (i : Input) (wanted : Wanted) → IsIn (used_keys f wanted) (local_key i.cursor) → Holds i → Holds (with_local_use wanted i)
-  pub no_function : (i : Input) (name : Text) → IsIn (defined_globals m) name → Holds i
+  pub on_struct : (i : Input) → IsIn (spelled i.cursor) (defined_structs m) → Holds i → Holds (with_struct_use i)
+  pub on_symbol : (i : Input) (is_call : Bool) → IsIn (spelled i.cursor) (used_symbols m is_call) → Holds i → Holds (with_symbol_use is_call i)
+  pub on_local : (i : Input) (wanted : Wanted) → IsIn (local_key i.cursor) (used_keys f wanted) → Holds i → Holds (with_local_use wanted i)
+  pub no_function : (i : Input) (name : Text) → IsIn name (defined_globals m) → Holds i
       → is_function (option_and_then (slice_get i.symbols.sorts) (place_of name i.symbols.names)) ≡ false
 
 -- there is room for this number of new types, and of new names of each sort

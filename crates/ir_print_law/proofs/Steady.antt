@@ -1,10 +1,9 @@
 -- Where reading is within a function: the names that it has defined, and those that it still defines.
 use Rattle.std.proofs.Common.{◌≡◌, ℕ, ◌+◌, ◌≤◌, List, [], ◌∷◌, ◌++◌, length, refl, sym, ap, subst, ◌∙◌, arith, append_assoc, length-append, inl, inr}
 use Rattle.std.proofs.lemmas.List.{append-nil}
+use Rattle.lemmas.specs.Lists.{in_first, in_longer, last_in, IsIn}
 use Rattle.ir_tokens.specs.Bytes.{Text}
 use Rattle.ir_print_law.specs.Definitions.{AreDefined}
-use Rattle.ir_print_law.specs.Shapes.{IsIn}
-use Rattle.ir_print_law.proofs.InLists.{in_front, in_last, is_last}
 use Rattle.ir_print_law.proofs.Known.{Far}
 use Rattle.ir_print_law.proofs.NewValues.{IsNext, unnamed_then}
 
@@ -13,8 +12,8 @@ pub record Steady (far : Far) (keys : List Text) : Type 0 where
   pub none_waits : far.pending ≡ []
   pub few_unnamed : far.unnamed ≤ far.count + length far.labels
   pub counted : far.count ≡ length far.values
-  pub labels_seen : (key : Text) → IsIn far.labels key → IsIn far.seen key
-  pub values_seen : (key : Text) → IsIn far.values key → IsIn far.seen key
+  pub labels_seen : (key : Text) → IsIn key far.labels → IsIn key far.seen
+  pub values_seen : (key : Text) → IsIn key far.values → IsIn key far.seen
   pub defines_next : AreDefined far.seen far.unnamed keys
 
 -- what does not change within a function
@@ -47,7 +46,7 @@ onward_further far mid now values labels others more_labels between more a b = r
 
 -- the key that is defined next is new, and is the next number or a name
 pub next_key : (seen : List Text) (unnamed : ℕ) (key : Text) (keys : List Text) → AreDefined seen unnamed (key ∷ keys)
-    → (IsIn seen key → ⊥) × ((is : IsNext unnamed key) × AreDefined (seen ++ key ∷ []) (unnamed_then unnamed key is) keys)
+    → (IsIn key seen → ⊥) × ((is : IsNext unnamed key) × AreDefined (seen ++ key ∷ []) (unnamed_then unnamed key is) keys)
 next_key seen unnamed key keys h = elim h.1 [
   | inl a ↦ (h.0, (inl a.0, a.1))
   | inr b ↦ (h.0, (inr b.0, b.1))
@@ -58,13 +57,13 @@ pub taken : (unnamed : ℕ) (key : Text) (is : IsNext unnamed key) → unnamed_t
 taken unnamed key (inl e) = omega arith
 taken unnamed key (inr named) = omega arith
 
-pub seen_still : (xs seen : List Text) (key : Text) → ((k : Text) → IsIn xs k → IsIn seen k) → (k : Text) → IsIn xs k → IsIn (seen ++ key ∷ []) k
-seen_still xs seen key h = λ k is. in_front seen (key ∷ []) k (h k is)
+pub seen_still : (xs seen : List Text) (key : Text) → ((k : Text) → IsIn k xs → IsIn k seen) → (k : Text) → IsIn k xs → IsIn k (seen ++ key ∷ [])
+seen_still xs seen key h = λ k is. in_first k seen (key ∷ []) (h k is)
 
-pub seen_too : (xs seen : List Text) (key : Text) → ((k : Text) → IsIn xs k → IsIn seen k) → (k : Text) → IsIn (xs ++ key ∷ []) k → IsIn (seen ++ key ∷ []) k
-seen_too xs seen key h = λ k is. elim (in_last xs key k is) [
-  | inl a ↦ in_front seen (key ∷ []) k (h k a)
-  | inr e ↦ subst (λ (x : Text). IsIn (seen ++ key ∷ []) x) e (is_last seen key)
+pub seen_too : (xs seen : List Text) (key : Text) → ((k : Text) → IsIn k xs → IsIn k seen) → (k : Text) → IsIn k (xs ++ key ∷ []) → IsIn k (seen ++ key ∷ [])
+seen_too xs seen key h = λ k is. elim (in_longer k xs key is) [
+  | inl a ↦ in_first k seen (key ∷ []) (h k a)
+  | inr e ↦ subst (λ (x : Text). IsIn x (seen ++ key ∷ [])) (sym e) (last_in key seen)
 ]
 
 -- after a value

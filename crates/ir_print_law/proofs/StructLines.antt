@@ -1,6 +1,7 @@
 -- The line of a struct type is read as that struct type.
 use Rattle.std.proofs.Common.{◌≡◌, ℕ, ◌<◌, ◌^◌, true, false, List, [], ◌∷◌, ◌++◌, length, slice_get, Some, refl, ap, subst, ◌∙◌, arith, append_assoc}
 use Rattle.std.specs.Prelude.{codes}
+use Rattle.lemmas.specs.Lists.{IsIn}
 use Rattle.grammar.specs.Grammar.{◌>>=◌, ◌>>◌}
 use Rattle.ir_ast.specs.declared.function.Function.{Function}
 use Rattle.ir_ast.specs.declared.items_of_module.StructType.{StructType}
@@ -23,7 +24,7 @@ use Rattle.ir_print.specs.Types.{type_text}
 use Rattle.ir_print_law.proofs.Words.{sign_comes}
 use Rattle.ir_print_law.specs.Again.{IsStructAgain}
 use Rattle.ir_print_law.specs.Parts.{IsType}
-use Rattle.ir_print_law.specs.Shapes.{IsIn, Shape, Integer, Pointer, Array, Empty, Struct, Named, HasShape, is_struct_shape}
+use Rattle.ir_print_law.specs.Shapes.{Shape, Integer, Pointer, Array, Empty, Struct, Named, HasShape, is_struct_shape}
 use Rattle.ir_print_law.proofs.Tables.{stays, begins_itself}
 use Rattle.ir_print_law.proofs.State.{Invariant, Ready, Reads, IsLater}
 use Rattle.ir_print_law.proofs.Shown.{shown, shape_stays}
@@ -119,7 +120,7 @@ module _ (m : Module) (f : Function) (named : AreNamed m f) (types : TypesRead m
         ),
       )
 
-  pub struct_goes : (struct : StructType) (shape : Shape) (i : Input) (gap rest : Text) → AreBytes (name_at m.struct_names struct.name) → (IsIn far.structs (name_at m.struct_names struct.name) → ⊥)
+  pub struct_goes : (struct : StructType) (shape : Shape) (i : Input) (gap rest : Text) → AreBytes (name_at m.struct_names struct.name) → (IsIn (name_at m.struct_names struct.name) far.structs → ⊥)
       → length far.struct_types < 2 ^ 32 → IsType m shape struct.body → is_struct_shape shape ≡ true → AreBlanks gap → Ready (known m f named far) 0 i (gap ++ (struct_line m struct ++ rest))
       → Leads m f named 0 struct_type i (10 ∷ rest) (IsStructRead struct)
   unfolding struct_type class_of word_kind keywords

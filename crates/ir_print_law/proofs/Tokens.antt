@@ -2,6 +2,7 @@
 use Rattle.std.proofs.Common.{◌≡◌, ℕ, ◌<◌, length, slice_get, Some, refl, sym, subst}
 use Rattle.std.specs.Prelude.{nat_lt}
 use Rattle.std.proofs.lemmas.Option.{slice_get_within}
+use Rattle.lemmas.specs.Lists.{IsIn}
 use Rattle.grammar.specs.Grammar.{step}
 use Rattle.ir_ast.specs.Names.{numbered, place_of}
 use Rattle.ir_ast.specs.Types.{number_of_type, numbered_type}
@@ -18,7 +19,6 @@ use Rattle.ir_forms.specs.Names.{struct_name, struct_number, with_struct_use, wi
 use Rattle.ir_forms.specs.Written.{intern, interned, place_in_table, with_type_interned, with_type_interned_falls}
 use Rattle.name_text.specs.Readings.{AreBytes}
 use Rattle.ir_print_law.specs.Definitions.{defined_structs}
-use Rattle.ir_print_law.specs.Shapes.{IsIn}
 use Rattle.ir_print_law.proofs.Forms.{Keeps, Same, Any, stepped, where_true}
 use Rattle.ir_print_law.proofs.Reading.{Reading}
 use Rattle.ir_print_law.proofs.Tables.{IsRestBefore, stays, type_there, place_there, place_stays}
@@ -29,7 +29,7 @@ IsAt m t n = (slice_get m.types n ≡ Some t) × IsRestBefore n t
 
 -- a name of a struct, with its number
 abbrev pub IsStructName : Module → ℕ → Type 0
-IsStructName m n = (name : Text) × (place_of name m.struct_names ≡ Some n) × AreBytes name × IsIn (defined_structs m) name
+IsStructName m n = (name : Text) × (place_of name m.struct_names ≡ Some n) × AreBytes name × IsIn name (defined_structs m)
 
 -- a type without a star that was just put into the table
 abbrev pub IsInterned : Module → Base → (room : ℕ) → IrType → WrittenType → Type 0

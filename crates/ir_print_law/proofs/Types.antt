@@ -6,6 +6,7 @@ use Rattle.std.specs.Fmt as text
 use Rattle.std.proofs.lemmas.Bool.Decides.{nat_tests}
 use Rattle.ir_print_law.proofs.Looks.{starred_base, starred_levels, starred_stars, starred, base_of, stars_of}
 use Rattle.lemmas.specs.Bools.{and_parts}
+use Rattle.lemmas.specs.Lists.{IsIn}
 use Rattle.grammar.specs.Grammar.{pure, refuse, ◌>>=◌, ◌>>◌}
 use Rattle.ir_ast.specs.Names.{number_of, numbered, place_of}
 use Rattle.ir_ast.specs.declared.function.Function.{Function}
@@ -35,7 +36,7 @@ use Rattle.ir_print_law.proofs.Constants.{integer_types_are_read, are_digits, no
 use Rattle.ir_print_law.proofs.NamesRead.{struct_names_are_read}
 use Rattle.ir_print_law.proofs.Words.{local_comes, seen}
 use Rattle.ir_print_law.specs.Definitions.{defined_structs}
-use Rattle.ir_print_law.specs.Shapes.{IsIn, Shape, Integer, Pointer, Named, HasShape, levels}
+use Rattle.ir_print_law.specs.Shapes.{Shape, Integer, Pointer, Named, HasShape, levels}
 use Rattle.ir_print_law.proofs.Tables.{AreOrdered, IsRestBefore, begins_itself, name_begins, name_length, place_there, place_stays, number_within}
 use Rattle.ir_print_law.proofs.State.{Invariant, Ready, Grows, Reads}
 use Rattle.ir_print_law.proofs.Shown.{shown, IsTypeRead, shape_stays}
@@ -175,7 +176,7 @@ module _ {m : Module} {f : Function} (v : Invariant m f) where
       (λ ready. interned_read (base.Integer bits) room (suc room) (type.Integer bits) (Integer bits) (advanced i) afterwards s tt refl refl (omega arith) (λ n o g ordered there. there) ready))
 
   -- the name of a struct
-  pub struct_read : (name : Text) (i : Input) (gap afterwards : Text) (s : ℕ) → AreBytes name → IsIn (defined_structs m) name → AreBlanks gap → IsSeam afterwards
+  pub struct_read : (name : Text) (i : Input) (gap afterwards : Text) (s : ℕ) → AreBytes name → IsIn name (defined_structs m) → AreBlanks gap → IsSeam afterwards
       → Ready v s i (gap ++ 37 ∷ (name_text blank.Kept name ++ afterwards)) → Reads v (s + 1) struct_name i afterwards (λ n o. place_of name o.struct_names.names ≡ Some n)
   struct_read name i gap afterwards s own there blanks seam ready =
       let room = ready.room in
@@ -203,7 +204,7 @@ module _ {m : Module} {f : Function} (v : Invariant m f) where
             symbols = omega (arith, symbols, a, b, some);
             locals = omega (arith, locals, a, b, some);
           };
-          holds = v.on_struct i (subst (λ (x : Text). IsIn (defined_structs m) x) (sym r.1) there) ready.holds;
+          holds = v.on_struct i (subst (λ (x : Text). IsIn x (defined_structs m)) (sym r.1) there) ready.holds;
         },
         record {
           types = begins_itself i.types;
@@ -215,7 +216,7 @@ module _ {m : Module} {f : Function} (v : Invariant m f) where
       )
 
   -- the name of a struct is read as a type
-  pub named_read : (name : Text) (room : ℕ) (i : Input) (gap afterwards : Text) (s : ℕ) → AreBytes name → IsIn (defined_structs m) name → AreBlanks gap → IsSeam afterwards
+  pub named_read : (name : Text) (room : ℕ) (i : Input) (gap afterwards : Text) (s : ℕ) → AreBytes name → IsIn name (defined_structs m) → AreBlanks gap → IsSeam afterwards
       → Ready v s i (gap ++ (shown false (Named name) ++ afterwards)) → Reads v s (w.base room (firm room)) i afterwards (IsTypeRead (Named name) (suc room))
   named_read name room i gap afterwards s own there blanks seam ready =
       let good = IsTypeRead (Named name) (suc room) in

@@ -1,6 +1,8 @@
 -- The printed text of a printable module is a text, and what is read is that module again.
 use Rattle.std.proofs.Common.{◌≡◌, ℕ, ◌+◌, ◌≤◌, not, List, [], ◌∷◌, ◌++◌, length, is_some, Option, refl, sym, ap, subst, ◌∙◌, arith, append_assoc, length-append, inl, inr}
-use Rattle.std.specs.List.{AllByRecursion, flat_map}
+use Rattle.std.specs.List.{flat_map}
+use Rattle.lemmas.specs.All.{all_first, all_second}
+use Rattle.lemmas.specs.Lists.{in_first, in_second, last_in, IsIn}
 use Rattle.ir_ast.specs.declared.items_of_module.StructType.{StructType}
 use Rattle.ir_ast.specs.declared.items_of_module.Global.{Global}
 use Rattle.ir_ast.specs.declared.items_of_module.Declare.{Declare}
@@ -13,8 +15,6 @@ use Rattle.ir_text.specs.Read.{IsText, module_of, start}
 use Rattle.ir_print.specs.Items.{struct_line, global_line, declare_line, function_text, text_of}
 use Rattle.ir_print_law.specs.Definitions.{AreNew, defined_globals, functions_of}
 use Rattle.ir_print_law.specs.Printable.{IsPrintable, IsSymbol}
-use Rattle.ir_print_law.specs.Shapes.{IsIn}
-use Rattle.ir_print_law.proofs.InLists.{in_front, in_after, is_last}
 use Rattle.ir_print_law.proofs.Tables.{begins_itself}
 use Rattle.ir_print_law.specs.PartsAgain.{AreAlike}
 use Rattle.ir_print_law.specs.Again.{IsStructAgain, IsGlobalAgain, IsDeclareAgain, IsFunctionAgain, IsAgain}
@@ -27,23 +27,15 @@ use Rattle.ir_print_law.proofs.StructLists.{structs_go}
 use Rattle.ir_print_law.proofs.SameText.{same_text}
 use Rattle.ir_print_law.proofs.WholeEnds.{no_fault, text_is_lexed, ends_there, past_end}
 
-front_all : {A : Type 0} (P : A → Type 0) (xs ys : List A) → AllByRecursion P (xs ++ ys) → AllByRecursion P xs
-front_all P [] ys h = tt
-front_all P (x ∷ xs) ys h = (h.0, front_all P xs ys h.1)
-
-back_all : {A : Type 0} (P : A → Type 0) (xs ys : List A) → AllByRecursion P (xs ++ ys) → AllByRecursion P ys
-back_all P [] ys h = h
-back_all P (x ∷ xs) ys h = back_all P xs ys h.1
-
 -- a name that was seen is none of the new ones
-new_seen : (seen ys : List Text) (k : Text) → AreNew seen ys → IsIn seen k → IsIn ys k → ⊥
+new_seen : (seen ys : List Text) (k : Text) → AreNew seen ys → IsIn k seen → IsIn k ys → ⊥
 new_seen seen [] k h is there = there
-new_seen seen (y ∷ ys) k h is (inl e) = h.0 (subst (λ (x : Text). IsIn seen x) (sym e) is)
-new_seen seen (y ∷ ys) k h is (inr there) = new_seen (seen ++ y ∷ []) ys k h.1 (in_front seen (y ∷ []) k is) there
+new_seen seen (y ∷ ys) k h is (inl e) = h.0 (subst (λ (x : Text). IsIn x seen) e is)
+new_seen seen (y ∷ ys) k h is (inr there) = new_seen (seen ++ y ∷ []) ys k h.1 (in_first k seen (y ∷ []) is) there
 
-new_apart : (seen xs ys : List Text) (k : Text) → AreNew seen (xs ++ ys) → IsIn xs k → IsIn ys k → ⊥
+new_apart : (seen xs ys : List Text) (k : Text) → AreNew seen (xs ++ ys) → IsIn k xs → IsIn k ys → ⊥
 new_apart seen [] ys k h is there = is
-new_apart seen (x ∷ xs) ys k h (inl e) there = new_seen (seen ++ x ∷ []) (xs ++ ys) k h.1 (subst (λ (y : Text). IsIn (seen ++ x ∷ []) y) e (is_last seen x)) (in_after xs ys k there)
+new_apart seen (x ∷ xs) ys k h (inl e) there = new_seen (seen ++ x ∷ []) (xs ++ ys) k h.1 (subst (λ (y : Text). IsIn y (seen ++ x ∷ [])) (sym e) (last_in x seen)) (in_second k xs ys there)
 new_apart seen (x ∷ xs) ys k h (inr is) there = new_apart (seen ++ x ∷ []) xs ys k h.1 is there
 
 no_more : (n most : ℕ) → n ≤ most → 0 + n ≤ most
@@ -68,8 +60,8 @@ prints_again m is fits =
     let i = start (text_of m) (lexed_of (text_of m)) in
     let size = ap length parts ∙ length-append structs (globals ++ (declares ++ functions)) in
     let long = structs_long m m.structs in
-    let own = front_all IsSymbol (defined_globals m) (functions_of m) is.symbols.0 in
-    let others = back_all IsSymbol (defined_globals m) (functions_of m) is.symbols.0 in
+    let own = all_first IsSymbol (defined_globals m) (functions_of m) is.symbols.0 in
+    let others = all_second IsSymbol (defined_globals m) (functions_of m) is.symbols.0 in
     let h = structs_go m is (nobody_named m is) m.globals m.declares m.functions m.structs far_start (start (text_of m) (lexed_of (text_of m))) [] refl past_end.1 past_end.0 is.structs is.struct_names.0 is.struct_names.1
     (omega (arith, fits, size, long)) refl
     (λ names ts j gap blanks past out ready_j.

@@ -1,6 +1,7 @@
 -- Where a text begins and where it ends: no name is used that is not defined.
 use Rattle.std.proofs.Common.{◌≡◌, ℕ, zero, suc, Bool, true, false, not, ◌&&◌, List, [], ◌∷◌, length, Option, None, Some, Ok, refl, sym, ap, subst, ◌∙◌, arith}
 use Rattle.std.specs.Prelude.{option_map}
+use Rattle.lemmas.specs.Lists.{IsIn}
 use Rattle.ir_ast.specs.declared.items_of_module.SymbolSort.{SymbolSort}
 use Rattle.ir_ast.specs.declared.items_of_module.SymbolSort.TheVariants as symbol
 use Rattle.ir_ast.specs.declared.module.Module.{Module}
@@ -18,7 +19,6 @@ use Rattle.ir_text.specs.Late.{late_fault, first_of_faults, earliest, operand_fa
 use Rattle.ir_text.specs.Read.{start}
 use Rattle.ir_print.specs.Standing.{Stands}
 use Rattle.ir_print_law.specs.Definitions.{defined_structs, defined_globals, functions_of, used_symbols}
-use Rattle.ir_print_law.specs.Shapes.{IsIn}
 use Rattle.ir_print_law.proofs.WholeFunctionEnds.{none_found, nobody}
 use Rattle.ir_print_law.proofs.Known.{Far, Holds, IsStructUse, IsSymbolUse, StructsKnown, SymbolsKnown}
 use Rattle.ir_print_law.proofs.Named.{sort_by_place, sort_at}
@@ -38,14 +38,14 @@ use_right : (m : Module) (far : Far) (i : Input) (u : SymbolUse) → SymbolsKnow
     → IsSymbolUse m i.symbols.names u → late.is_right_symbol i u ≡ true
 use_right m far i u h globals functions used =
     ap (late.is_right u.is_call) (sym (sort_by_place i.symbols used.0 u.symbol used.2)) ∙ by u.is_call used.1 where
-      by : (is_call : Bool) → IsIn (used_symbols m is_call) used.0 → late.is_right is_call (sort_at i.symbols used.0) ≡ true
-      by true is = h.are_functions used.0 (subst (λ (x : List Text). IsIn x used.0) (sym functions) is)
-      by false is = h.are_globals used.0 (subst (λ (x : List Text). IsIn x used.0) (sym globals) is)
+      by : (is_call : Bool) → IsIn used.0 (used_symbols m is_call) → late.is_right is_call (sort_at i.symbols used.0) ≡ true
+      by true is = h.are_functions used.0 (subst (λ (x : List Text). IsIn used.0 x) (sym functions) is)
+      by false is = h.are_globals used.0 (subst (λ (x : List Text). IsIn used.0 x) (sym globals) is)
 
 struct_right : (m : Module) (far : Far) (i : Input) (u : StructUse) → StructsKnown m far.structs i.struct_names i.struct_uses → far.structs ≡ defined_structs m
     → IsStructUse m i.struct_names.names u → late.is_right_struct i u ≡ true
 struct_right m far i u h structs used =
-    ap late.is_struct (sym (sort_by_place i.struct_names used.0 u.name used.2)) ∙ h.known used.0 (subst (λ (x : List Text). IsIn x used.0) (sym structs) used.1)
+    ap late.is_struct (sym (sort_by_place i.struct_names used.0 u.name used.2)) ∙ h.known used.0 (subst (λ (x : List Text). IsIn used.0 x) (sym structs) used.1)
 
 -- where all names are defined, there is no fault
 pub no_fault : (m : Module) (far : Far) (i : Input) → Holds m nobody far i → far.structs ≡ defined_structs m → far.globals ≡ defined_globals m → far.functions ≡ functions_of m → late_fault i ≡ None

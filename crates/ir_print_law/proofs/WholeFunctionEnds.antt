@@ -2,6 +2,7 @@
 use Rattle.std.proofs.Common.{◌≡◌, ℕ, ◌<◌, ◌≤◌, Bool, false, not, List, [], ◌∷◌, ◌++◌, length, slice_get, Option, None, refl, sym, ap, subst, ◌∙◌, arith, length-append}
 use Rattle.std.specs.Prelude.{find, option_map}
 use Rattle.std.specs.List.{AllByRecursion, flat_map}
+use Rattle.lemmas.specs.Lists.{IsIn}
 use Rattle.ir_ast.specs.declared.block.Block.{Block}
 use Rattle.ir_ast.specs.declared.function.Function.{Function}
 use Rattle.ir_ast.specs.declared.function.LocalSort.{LocalSort}
@@ -24,7 +25,6 @@ use Rattle.ir_text.specs.ItemsOfText.{open_body, open_body_by, body_after, with_
 use Rattle.ir_print.specs.Blocks.{block_text}
 use Rattle.ir_print_law.specs.Definitions.{value_keys_of, value_keys, label_keys, parameter_keys, block_keys, used_keys}
 use Rattle.ir_print_law.specs.Printable.{IsBlock}
-use Rattle.ir_print_law.specs.Shapes.{IsIn}
 use Rattle.ir_print_law.proofs.Tables.{Begins, begins_itself, begins_further}
 use Rattle.ir_print_law.specs.PartsAgain.{AreAlike}
 use Rattle.ir_print_law.specs.Again.{IsBlockAgain}
@@ -43,7 +43,7 @@ use Rattle.ir_print_law.proofs.Steady.{Steady, outside}
 abbrev pub nobody : Function
 nobody = record { symbol = 0; returned = 0; parameters = []; collector = None; locals = []; sorts = []; blocks = [] }
 
-pub no_key : (wanted : Wanted) (key : Text) → IsIn (used_keys nobody wanted) key → ⊥
+pub no_key : (wanted : Wanted) (key : Text) → IsIn key (used_keys nobody wanted) → ⊥
 no_key wants.Value key h = h
 no_key wants.Block key h = h
 no_key wants.Target key h = h
@@ -62,7 +62,7 @@ locals_enter f t uses h = record {
   uses_so = subst (λ (u : List LocalUse). AllByRecursion (IsLocalUse f t.names) u) (sym (no_uses t.names uses h.uses_so)) tt;
 }
 
-no_known : (wanted : Wanted) (key : Text) → IsIn (known_keys [] [] wanted) key → ⊥
+no_known : (wanted : Wanted) (key : Text) → IsIn key (known_keys [] [] wanted) → ⊥
 no_known wants.Value key h = h
 no_known wants.Block key h = h
 no_known wants.Target key h = h
@@ -80,7 +80,7 @@ locals_empty = record {
 -- ---- each use is of a name that is defined
 
 is_right : (f : Function) (seen values labels : List Text) (t : Table LocalSort) (uses : List LocalUse) (u : LocalUse) → LocalsKnown f seen values labels [] t uses
-    → ((wanted : Wanted) (key : Text) → IsIn (used_keys f wanted) key → IsIn (known_keys values labels wanted) key) → IsLocalUse f t.names u → not (is_wanted u.wanted (slice_get t.sorts u.value)) ≡ false
+    → ((wanted : Wanted) (key : Text) → IsIn key (used_keys f wanted) → IsIn key (known_keys values labels wanted)) → IsLocalUse f t.names u → not (is_wanted u.wanted (slice_get t.sorts u.value)) ≡ false
 is_right f seen values labels t uses u h all used =
     ap (λ (s : Option LocalSort). not (is_wanted u.wanted s)) (sym (sort_by_place t used.0 u.value used.2)) ∙ ap not (h.known u.wanted used.0 (all u.wanted used.0 used.1))
 
@@ -89,16 +89,16 @@ none_found P test [] f h = refl
 none_found P test (x ∷ xs) f h = rw (f x h.0) (none_found P test xs f h.1)
 
 none_missing : (f : Function) (seen values labels : List Text) (t : Table LocalSort) (uses : List LocalUse) → LocalsKnown f seen values labels [] t uses
-    → ((wanted : Wanted) (key : Text) → IsIn (used_keys f wanted) key → IsIn (known_keys values labels wanted) key) → first_missing t uses ≡ None
+    → ((wanted : Wanted) (key : Text) → IsIn key (used_keys f wanted) → IsIn key (known_keys values labels wanted)) → first_missing t uses ≡ None
 none_missing f seen values labels t uses h all =
     ap (option_map (λ (u : LocalUse). u.start))
     (none_found (IsLocalUse f t.names) (λ (u : LocalUse). not (is_wanted u.wanted (slice_get t.sorts u.value))) uses (λ u used. is_right f seen values labels t uses u h all used) h.uses_so)
 
 all_known : (f : Function) (values labels : List Text) → values ≡ value_keys f → labels ≡ label_keys f
-    → (wanted : Wanted) (key : Text) → IsIn (used_keys f wanted) key → IsIn (known_keys values labels wanted) key
-all_known f values labels v l wants.Value key is = subst (λ (x : List Text). IsIn x key) (sym v) is
-all_known f values labels v l wants.Block key is = subst (λ (x : List Text). IsIn x key) (sym l) is
-all_known f values labels v l wants.Target key is = subst (λ (x : List Text). IsIn (known_keys values x wants.Target) key) (sym l) is
+    → (wanted : Wanted) (key : Text) → IsIn key (used_keys f wanted) → IsIn key (known_keys values labels wanted)
+all_known f values labels v l wants.Value key is = subst (λ (x : List Text). IsIn key x) (sym v) is
+all_known f values labels v l wants.Block key is = subst (λ (x : List Text). IsIn key x) (sym l) is
+all_known f values labels v l wants.Target key is = subst (λ (x : List Text). IsIn key (known_keys values x wants.Target)) (sym l) is
 
 -- types and names outside of functions come after those that were read
 pub record Reaches (i o : Input) : Type 0 where

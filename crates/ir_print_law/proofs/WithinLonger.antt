@@ -1,5 +1,6 @@
 -- Numbers that are within the tables of a module are within those of one that has no fewer types, and whose names mean what they mean there.
 use Rattle.std.proofs.Common.{◌≤◌, length}
+use Rattle.lemmas.specs.All.{all_so}
 use Rattle.ir_ast.specs.declared.block.Block.{Block}
 use Rattle.ir_ast.specs.declared.choices.Phi.{Phi}
 use Rattle.ir_ast.specs.declared.ends.End.{End}
@@ -13,7 +14,6 @@ use Rattle.ir_ast.specs.declared.op.Op.{Op}
 use Rattle.ir_ast.specs.declared.op.Op.TheVariants as op
 use Rattle.ir_print_law.specs.PartsWithin.{HasType}
 use Rattle.ir_print_law.specs.Within.{IsOpWithin, IsInstrWithin, IsIncomingWithin, IsPhiWithin, IsEndWithin, IsBlockWithin, IsParameterWithin, IsFunctionWithin, IsDeclareWithin}
-use Rattle.ir_print_law.proofs.Known.{all_so}
 use Rattle.ir_print_law.proofs.PartsLonger.{MeansAsMuch, type_longer, operand_longer, argument_longer, arguments_longer, pair_longer, converted_longer}
 use Rattle.ir_print_law.proofs.NumbersAgain.{number_within_longer}
 use Rattle.ir_print_law.proofs.MemoryAgain.{memory_within_longer}

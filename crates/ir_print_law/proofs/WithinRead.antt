@@ -1,6 +1,8 @@
 -- The numbers of a module that is read are within its tables.
 use Rattle.std.proofs.Common.{◌≡◌, ℕ, Bool, true, false, List, ◌++◌, length, sym, subst, inl, inr, ◌⊎◌}
 use Rattle.std.specs.List.{AllByRecursion}
+use Rattle.lemmas.specs.All.{all_so}
+use Rattle.lemmas.specs.Lists.{IsIn}
 use Rattle.ir_ast.specs.declared.function.Function.{Function}
 use Rattle.ir_ast.specs.declared.function.Parameter.{Parameter}
 use Rattle.ir_ast.specs.declared.items_of_module.Declare.{Declare}
@@ -14,13 +16,11 @@ use Rattle.ir_print_law.specs.ModuleNames.{HasModuleNames}
 use Rattle.ir_print_law.specs.Parts.{IsVoid}
 use Rattle.ir_print_law.specs.PartsWithin.{HasType, HasSymbol, HasValue}
 use Rattle.ir_print_law.specs.Printable.{IsPassed, IsParameter, IsAnyType, IsStructType, IsGlobal, IsDeclare, IsBlock, IsPrintable}
-use Rattle.ir_print_law.specs.Shapes.{IsIn}
 use Rattle.ir_print_law.specs.Definitions.{used_symbols}
 use Rattle.ir_print_law.specs.Within.{IsParameterWithin, IsBlockWithin, IsFunctionWithin, IsStructWithin, IsGlobalWithin, IsDeclareWithin, IsWithin}
 use Rattle.ir_print_law.proofs.DefinedWithin.{all_at, both, defined_within}
 use Rattle.ir_print_law.proofs.FunctionNames.{function_names}
 use Rattle.ir_print_law.proofs.FunctionsRead.{function_parts}
-use Rattle.ir_print_law.proofs.Known.{all_so}
 use Rattle.ir_print_law.proofs.ModuleRead.{FunctionKeeps, read_so, read_is_printable, read_has_names}
 use Rattle.ir_print_law.proofs.OpsWithin.{blocks_within}
 use Rattle.ir_print_law.proofs.PartsWithin.{wide_module, wide, globals_have, declares_have, functions_have, globals_stay, functions_stay, shape_within, void_within}
@@ -55,7 +55,7 @@ module _ {m : Module} (own : HasModuleNames m) (more : List Text) where
     struct_is = r.struct_is;
     on_symbol = r.on_symbol;
     from_symbol = r.from_symbol;
-    symbol_is = λ i is_call back. subst (λ (l : List Text). IsIn l (spelled i.cursor)) (uses_stay is_call) (r.symbol_is i is_call back);
+    symbol_is = λ i is_call back. subst (λ (l : List Text). IsIn (spelled i.cursor) l) (uses_stay is_call) (r.symbol_is i is_call back);
   }
 
   abbrev wide_outside : Outside m → Outside (wide_module m more)

@@ -1,12 +1,12 @@
 -- Calls: when they are printable, when their numbers are within the tables, and when one is another one again.
 use Rattle.std.specs.Prelude.{List}
 use Rattle.std.specs.List.{AllByRecursion}
+use Rattle.lemmas.specs.Lists.{IsIn}
 use Rattle.ir_ast.specs.declared.calls.Call.{Call}
 use Rattle.ir_ast.specs.declared.function.Function.{Function}
 use Rattle.ir_ast.specs.declared.module.Module.{Module}
 use Rattle.ir_tokens.specs.Bytes.{Text}
 use Rattle.ir_print.specs.Names.{name_at}
-use Rattle.ir_print_law.specs.Shapes.{IsIn}
 use Rattle.ir_print_law.specs.Definitions.{functions_of}
 use Rattle.ir_print_law.specs.Parts.{IsArgument, IsReturned}
 use Rattle.ir_print_law.specs.PartsWithin.{HasType, HasFunction, IsArgumentWithin}
@@ -14,7 +14,7 @@ use Rattle.ir_print_law.specs.PartsAgain.{AreAlike, IsNameAgain, IsResultAgain, 
 
 -- a call
 abbrev pub IsCall : Module → Function → Call → Type 0
-IsCall m f x = IsReturned m x.returned × IsIn (functions_of m) (name_at m.symbols x.callee) × AllByRecursion (IsArgument m f) x.arguments
+IsCall m f x = IsReturned m x.returned × IsIn (name_at m.symbols x.callee) (functions_of m) × AllByRecursion (IsArgument m f) x.arguments
 
 -- a call whose numbers are within the tables
 abbrev pub IsCallWithin : Module → Function → Call → Type 0

@@ -2,6 +2,7 @@
 use Rattle.std.specs.Prelude.{◌≡◌, ℕ, ◌+◌, Bool, true, false, List, [], ◌∷◌, ◌++◌, drop, map, Option, Some, None, ◌⊎◌}
 use Rattle.std.specs.List.{flat_map}
 use Rattle.std.specs.Fmt.{decimal}
+use Rattle.lemmas.specs.Lists.{IsIn}
 use Rattle.ir_ast.specs.LocalKeys.{key_of_name}
 use Rattle.ir_ast.specs.declared.block.Block.{Block}
 use Rattle.ir_ast.specs.declared.choices.Phi.{Phi}
@@ -14,7 +15,6 @@ use Rattle.ir_forms.specs.declared.uses.Wanted.{Wanted}
 use Rattle.ir_forms.specs.declared.uses.Wanted.TheVariants as wants
 use Rattle.name_text.specs.Readings.{AreBytes}
 use Rattle.ir_print.specs.Names.{name_at}
-use Rattle.ir_print_law.specs.Shapes.{IsIn}
 
 -- ---- a function
 
@@ -67,7 +67,7 @@ target_keys f = drop 1 (label_keys f)
 abbrev pub AreDefined : (seen : List Text) → (unnamed : ℕ) → List Text → Type 0
 AreDefined seen unnamed [] = Unit {0}
 AreDefined seen unnamed (key ∷ keys) =
-    (IsIn seen key → ⊥)
+    (IsIn key seen → ⊥)
     × (((key ≡ decimal unnamed) × AreDefined (seen ++ key ∷ []) (unnamed + 1) keys)
     ⊎ (((name : Text) × AreBytes name × (key ≡ key_of_name name)) × AreDefined (seen ++ key ∷ []) unnamed keys))
 
@@ -76,7 +76,7 @@ AreDefined seen unnamed (key ∷ keys) =
 -- each name is new after those that were seen
 abbrev pub AreNew : (seen : List Text) → List Text → Type 0
 AreNew seen [] = Unit {0}
-AreNew seen (name ∷ names) = (IsIn seen name → ⊥) × AreNew (seen ++ name ∷ []) names
+AreNew seen (name ∷ names) = (IsIn name seen → ⊥) × AreNew (seen ++ name ∷ []) names
 
 -- the names of the structs that a module defines
 abbrev pub defined_structs : Module → List Text

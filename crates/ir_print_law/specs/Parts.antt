@@ -1,5 +1,6 @@
 -- Parts of the instructions of printable modules: types, operands, and what instructions of several families have.
 use Rattle.std.specs.Prelude.{◌≡◌, ℕ, ◌<◌, ◌≤◌, true, false, Option, Some, ◌⊎◌, slice_get}
+use Rattle.lemmas.specs.Lists.{IsIn}
 use Rattle.ir_ast.specs.declared.argument.Argument.{Argument}
 use Rattle.ir_ast.specs.declared.function.Function.{Function}
 use Rattle.ir_ast.specs.declared.ir_type.IrType.TheVariants as type
@@ -9,7 +10,7 @@ use Rattle.ir_ast.specs.declared.operand.Operand.TheVariants as operand
 use Rattle.ir_forms.specs.Intrinsics.{is_intrinsic}
 use Rattle.ir_print.specs.Fits.{FitsType}
 use Rattle.ir_print.specs.Names.{name_at}
-use Rattle.ir_print_law.specs.Shapes.{IsIn, Shape, HasShape, IsWritten, levels, bits_of_shape, is_scalar_shape, is_pointer_shape}
+use Rattle.ir_print_law.specs.Shapes.{Shape, HasShape, IsWritten, levels, bits_of_shape, is_scalar_shape, is_pointer_shape}
 use Rattle.ir_print_law.specs.Definitions.{value_keys, target_keys, defined_structs, defined_globals}
 
 -- ---- types
@@ -38,12 +39,12 @@ IsPlaceType m shape held place_type = (slice_get m.types place_type ≡ Some (ty
 
 -- a global that is an operand: it is no function, and no intrinsic has its name
 abbrev pub IsGlobalUse : Module → (symbol : ℕ) → Type 0
-IsGlobalUse m symbol = IsIn (defined_globals m) (name_at m.symbols symbol) × (is_intrinsic (name_at m.symbols symbol) ≡ false)
+IsGlobalUse m symbol = IsIn (name_at m.symbols symbol) (defined_globals m) × (is_intrinsic (name_at m.symbols symbol) ≡ false)
 
 -- what an instruction of this function reads, at an integer type of n bits or else at a pointer type
 abbrev pub IsOperand : Module → Function → Option ℕ → Operand → Type 0
 IsOperand m f bits (operand.Constant x) = FitsType bits x
-IsOperand m f bits (operand.Local value) = IsIn (value_keys f) (name_at f.locals value)
+IsOperand m f bits (operand.Local value) = IsIn (name_at f.locals value) (value_keys f)
 IsOperand m f bits (operand.Global symbol) = IsGlobalUse m symbol
 IsOperand m f bits (operand.CastGlobal from symbol to) = IsPointer m from × IsGlobalUse m symbol × IsPointer m to
 
@@ -53,7 +54,7 @@ IsArgument m f x = (shape : Shape) × IsScalar m shape x.written × IsOperand m 
 
 -- a block that may be branched to
 abbrev pub IsTarget : Function → (label : ℕ) → Type 0
-IsTarget f label = IsIn (target_keys f) (name_at f.locals label)
+IsTarget f label = IsIn (name_at f.locals label) (target_keys f)
 
 -- ---- parts of instructions
 

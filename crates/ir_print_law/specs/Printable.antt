@@ -1,6 +1,7 @@
 -- Modules whose printed texts are read again.
 use Rattle.std.specs.Prelude.{◌≡◌, ℕ, ◌<◌, ◌≤◌, Bool, true, false, not, List, [], ◌∷◌, ◌++◌, length, Option, Some, None, is_some, ◌⊎◌, slice_get}
 use Rattle.std.specs.List.{AllByRecursion}
+use Rattle.lemmas.specs.Lists.{IsIn}
 use Rattle.ir_ast.specs.RuntimeNames.{runtime_of}
 use Rattle.ir_ast.specs.declared.block.Block.{Block}
 use Rattle.ir_ast.specs.declared.choices.Incoming.{Incoming}
@@ -28,7 +29,7 @@ use Rattle.ir_forms.specs.declared.case_values.CaseValue.{CaseValue}
 use Rattle.name_text.specs.Readings.{AreBytes}
 use Rattle.ir_print.specs.Fits.{FitsType}
 use Rattle.ir_print.specs.Names.{name_at}
-use Rattle.ir_print_law.specs.Shapes.{IsIn, Shape, bits_of_shape, is_struct_shape, is_passed_shape, is_held_shape}
+use Rattle.ir_print_law.specs.Shapes.{Shape, bits_of_shape, is_struct_shape, is_passed_shape, is_held_shape}
 use Rattle.ir_print_law.specs.Definitions.{AreDefined, AreNew, defined_keys, value_keys, label_keys, defined_structs, defined_globals, functions_of}
 use Rattle.ir_print_law.specs.Parts.{IsType, IsScalar, IsVoid, IsOperand, IsArgument, IsTarget, IsCondition}
 use Rattle.ir_print_law.specs.Numbers.{IsNumberOp}
@@ -68,7 +69,7 @@ IsInstr m f x = IsOp m f x.op × (is_some x.result ≡ gives_value m x.op)
 
 -- an entry of a phi of this type
 abbrev pub IsIncoming : Module → Function → Option ℕ → Incoming → Type 0
-IsIncoming m f bits x = IsOperand m f bits x.operand × IsIn (label_keys f) (name_at f.locals x.from)
+IsIncoming m f bits x = IsOperand m f bits x.operand × IsIn (name_at f.locals x.from) (label_keys f)
 
 -- the cases of a switch, after cases of these values
 abbrev pub AreCases : Function → Option ℕ → (seen : List CaseValue) → List Case → Type 0

@@ -1,15 +1,11 @@
 -- Types without their numbers.
-use Rattle.std.specs.Prelude.{◌≡◌, ℕ, suc, ◌<◌, ◌≤◌, ◌^◌, max, Bool, true, false, ◌==◌, List, Option, Some, None, ◌⊎◌, slice_get, ◌∷◌, []}
+use Rattle.std.specs.Prelude.{◌≡◌, ℕ, suc, ◌<◌, ◌≤◌, ◌^◌, max, Bool, true, false, ◌==◌, List, Option, Some, None, slice_get}
+use Rattle.lemmas.specs.Lists.{IsIn}
 use Rattle.ir_ast.specs.Names.{place_of}
 use Rattle.ir_ast.specs.declared.ir_type.IrType.{IrType}
 use Rattle.ir_ast.specs.declared.ir_type.IrType.TheVariants as type
 use Rattle.ir_tokens.specs.Bytes.{Text}
 use Rattle.name_text.specs.Readings.{AreBytes}
-
--- the element is one of the list
-abbrev pub IsIn : {A : Type 0} → List A → A → Type 0
-IsIn [] y = ⊥
-IsIn (x ∷ xs) y = (x ≡ y) ⊎ IsIn xs y
 
 -- a type as it is written; a struct is a field before those of another struct
 pub data Shape : Type 0 where
@@ -52,7 +48,7 @@ IsWritten structs (Pointer part) = IsWritten structs part
 IsWritten structs (Array count part) = (count < 2 ^ 64) × IsWritten structs part
 IsWritten structs Empty = Unit {0}
 IsWritten structs (Struct first rest) = IsStruct rest × IsWritten structs first × IsWritten structs rest
-IsWritten structs (Named name) = AreBytes name × IsIn structs name
+IsWritten structs (Named name) = AreBytes name × IsIn name structs
 
 -- how many bits an integer type has
 abbrev pub bits_of_shape : Shape → Option ℕ

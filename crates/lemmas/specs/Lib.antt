@@ -1,3 +1,4 @@
 pub mod Bools
 pub mod Numbers
 pub mod Lists
+pub mod All

@@ -1,4 +1,4 @@
--- Lists: what is at a place, and what holds of all elements.
+-- Lists: what is at a place, what is one of the elements, and what holds of all of them.
 use Rattle.std.proofs.Common.{◌≡◌, ℕ, zero, suc, ◌+◌, ◌<◌, Bool, true, List, [], ◌∷◌, ◌++◌, ◌⊎◌, inl, inr, length, get_or, map, sum, slice_get, slice_set, Some, ◌≢◌, refl, sym, ap, arith}
 use Rattle.std.specs.Prelude.{replicate}
 use Rattle.std.specs.List.{list_all}
@@ -64,6 +64,40 @@ at_map g (x ∷ xs) (suc j) d e = at_map g xs j d e
 pub length_replicate : {A : Type 0} (n : ℕ) (a : A) → length (replicate n a) ≡ n
 length_replicate zero a = refl
 length_replicate (suc n) a = ap suc (length_replicate n a)
+
+-- it is one of the elements
+abbrev pub IsIn : {A : Type 0} → A → List A → Type 0
+IsIn x [] = ⊥
+IsIn x (y ∷ ys) = (x ≡ y) ⊎ IsIn x ys
+
+-- what is in one of two lists is in the joined list
+pub in_first : {A : Type 0} (x : A) (first second : List A) → IsIn x first → IsIn x (first ++ second)
+in_first x [] second is = absurd is
+in_first x (y ∷ first) second (inl same) = inl same
+in_first x (y ∷ first) second (inr later) = inr (in_first x first second later)
+
+pub in_second : {A : Type 0} (x : A) (first second : List A) → IsIn x second → IsIn x (first ++ second)
+in_second x [] second is = is
+in_second x (y ∷ first) second is = inr (in_second x first second is)
+
+-- and what is in the joined list is in one of the two
+pub in_either : {A : Type 0} (x : A) (first second : List A) → IsIn x (first ++ second) → IsIn x first ⊎ IsIn x second
+in_either x [] second is = inr is
+in_either x (y ∷ first) second (inl same) = inl (inl same)
+in_either x (y ∷ first) second (inr later) = elim (in_either x first second later) [ inl is ↦ inl (inr is) | inr is ↦ inr is ]
+
+-- the last element is in the list, and what is in the list is the last element or one before it
+pub last_in : {A : Type 0} (x : A) (xs : List A) → IsIn x (xs ++ x ∷ [])
+last_in x xs = in_second x xs (x ∷ []) (inl refl)
+
+pub in_longer : {A : Type 0} (x : A) (xs : List A) (last : A) → IsIn x (xs ++ last ∷ []) → IsIn x xs ⊎ (x ≡ last)
+in_longer x xs last is = elim (in_either x xs (last ∷ []) is) [
+  | inl before ↦ inl before
+  | inr there ↦ elim there [
+    | inl same ↦ inr same
+    | inr none ↦ absurd none
+  ]
+]
 
 -- what holds of all elements, and of one more
 pub all_end : {A : Type 0} (test : A → Bool) (xs : List A) (x : A) → list_all test xs ≡ true → test x ≡ true → list_all test (xs ++ x ∷ []) ≡ true

@@ -1,11 +1,11 @@
 -- What the words of a heap may hold by their kinds, and machines that obey them, whatever the program and whether or not it is safe.
 use Rattle.std.specs.Prelude.{◌≡◌, ◌≢◌, ◌<◌, ◌≤◌, ◌^◌, ◌⊎◌, Option, Some, None, List, IsTrue}
+use Rattle.lemmas.specs.Lists.{IsIn}
 use Rattle.pools.specs.Heap.{Setup, cells, kind_of, IsOfLayout}
 use Rattle.pools.specs.declared.word_kind.WordKind.{WordKind}
 use Rattle.pools.specs.declared.word_kind.WordKind.TheVariants as kind
 use Rattle.pools.specs.Layouts.{is_reference_kind}
 use Rattle.runs.specs.Machine.{Reference, Action, Read, StorePlain, Write, Alloc, Answer, Got}
-use Rattle.runs.specs.Moves.{IsIn}
 
 -- a word of this kind may hold the value: a number of 64 bits, or null or a cell of its layout
 abbrev pub MayHold : Setup → Option WordKind → Reference → Type 0

@@ -1,7 +1,7 @@
 -- What is told of a thread's roots after its move.
 use Rattle.std.specs.Prelude.{◌≡◌, ◌≢◌, ◌⊎◌, List}
+use Rattle.lemmas.specs.Lists.{IsIn}
 use Rattle.runs.specs.Machine.{Reference}
-use Rattle.runs.specs.Moves.{IsIn}
 use Rattle.moves.specs.declared.roots_after.RootsAfter.{RootsAfter}
 use Rattle.moves.specs.declared.roots_after.RootsAfter.TheVariants.{Same, Others}
 

@@ -1,6 +1,7 @@
 -- What the roots of a thread's newest frames refer to, and which frames stay as they are.
 use Rattle.std.proofs.Common.{◌≡◌, ℕ, List, [], ◌∷◌, ◌++◌, length, map, take, drop, Option, slice_get, inl, inr, refl, sym, ap, ◌∙◌, subst}
 use Rattle.std.proofs.lemmas.List.{append-nil, append_assoc, map-append, take-append-drop}
+use Rattle.lemmas.specs.Lists.{in_either, in_first, IsIn}
 use Rattle.ir_ast.specs.declared.module.Module.{Module}
 use Rattle.machine.specs.declared.frame.Frame.{Frame}
 use Rattle.machine.specs.declared.value.Value.{Value}
@@ -8,8 +9,6 @@ use Rattle.machine.specs.Machine.{action, after_answer, frame_roots, frames_retu
 use Rattle.moves.specs.RootsAfter.{AddsNewest}
 use Rattle.runs.specs.Machine as runs
 use Rattle.runs.specs.Machine.{Reference}
-use Rattle.runs.specs.Moves.{IsIn}
-use Rattle.runs.specs.Joined.{in_either, in_first}
 use Rattle.program_safety.specs.Threads.{ProgramThread, goes_on, given_as, names, reference_in}
 use Rattle.program_runner.specs.Steps.{by_step}
 

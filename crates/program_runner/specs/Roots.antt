@@ -1,5 +1,6 @@
 -- What a thread's roots name are cells of the heap.
 use Rattle.std.proofs.Common.{ℕ, ◌<◌, List, [], ◌∷◌, ◌++◌, map, sym, subst, arith, Option, Some, None, slice_get, inl, inr}
+use Rattle.lemmas.specs.Lists.{IsIn}
 use Rattle.ir_ast.specs.declared.function.Function.{Function}
 use Rattle.ir_ast.specs.declared.module.Module.{Module}
 use Rattle.pools.specs.Heap.{Setup, cells}
@@ -9,7 +10,6 @@ use Rattle.machine.specs.declared.value.Value.{Value}
 use Rattle.machine.specs.declared.value.Value.TheVariants as value
 use Rattle.machine.specs.Machine.{slot_value, frame_roots, roots_of}
 use Rattle.runs.specs.Machine.{Reference}
-use Rattle.runs.specs.Moves.{IsIn}
 use Rattle.program_safety.specs.Threads.{reference_in}
 use Rattle.program_runner.specs.Kinds.{FitsHeap, FrameFits, FramesFit}
 use Rattle.program_runner.specs.Begun.{AllFit}

@@ -1,9 +1,9 @@
 -- Roots of a thread as references of a run.
 use Rattle.std.proofs.Common.{◌≡◌, ◌<◌, ℕ, zero, suc, inl, inr, List, [], ◌∷◌, map, length, slice_index_or, refl, sym, ap, arith}
 use Rattle.std.specs.List.{Contains}
+use Rattle.lemmas.specs.Lists.{IsIn}
 use Rattle.machine.specs.declared.value.Value.{Value}
 use Rattle.runs.specs.Machine.{Reference}
-use Rattle.runs.specs.Moves.{IsIn}
 use Rattle.program_safety.specs.Threads.{reference_in}
 
 -- one value more in front

@@ -2,6 +2,7 @@
 use Rattle.std.proofs.Common.{◌≡◌, ◌≢◌, ◌<◌, ℕ, ◌==◌, ◌⊎◌, inl, inr, Bool, true, false, ◌&&◌, Option, Some, None, List, ◌∷◌, map, if◌then◌else◌, refl, sym, ap, subst, arith, IsTrue, IsFalse}
 use Rattle.std.specs.List.{Contains}
 use Rattle.lemmas.specs.Numbers.{test_yes, test_false, test_no}
+use Rattle.lemmas.specs.Lists.{IsIn}
 use Rattle.pools.specs.declared.word_kind.WordKind.{WordKind}
 use Rattle.pools.specs.declared.word_kind.WordKind.TheVariants as kind
 use Rattle.pools.specs.Heap.{Setup, kind_of, IsOfLayout}
@@ -17,7 +18,7 @@ use Rattle.machine.specs.declared.value.Value.{Value}
 use Rattle.machine.specs.declared.value.Value.TheVariants as value
 use Rattle.machine.specs.Log.{Log, Held, HoldsCell, IsFresh, RefersTo, RefersToCell, IsNullOrHeld, IsNullOrHeldOf, MayBeRead, MayBeStored, MayBeWritten, MayTouch, Keeps, Possible}
 use Rattle.runs.specs.Machine.{Reference}
-use Rattle.runs.specs.Moves.{Move, Works, ReadsWord, StoresAfterBarrier, StoresPlain, Claims, ReadsPosted, StoresStage, IsIn, steps_of, answer_of}
+use Rattle.runs.specs.Moves.{Move, Works, ReadsWord, StoresAfterBarrier, StoresPlain, Claims, ReadsPosted, StoresStage, steps_of, answer_of}
 use Rattle.runs.specs.Discipline as discipline
 use Rattle.runs.specs.Discipline.{Holds, MayName, MayPut, MayCall, IsPossibleMove}
 use Rattle.runs.specs.Soundness.{EndsCall}

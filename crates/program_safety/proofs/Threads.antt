@@ -1,5 +1,6 @@
 -- Threads that begin at functions of a certified program are sound, and so their runs are safe.
 use Rattle.std.proofs.Common.{ℕ, List, [], ◌∷◌, map, refl, sym, subst}
+use Rattle.lemmas.specs.Lists.{IsIn}
 use Rattle.pools.specs.Heap.{Setup}
 use Rattle.layout.specs.Layouts.{LaidOut}
 use Rattle.layout.specs.Globals.{IsHeapFor}
@@ -9,7 +10,7 @@ use Rattle.machine.specs.Machine.{State, action, after_answer, roots}
 use Rattle.machine.specs.Log.{Log, IsSafe, Safe}
 use Rattle.soundness.specs.Discipline.{AreCertified, CertifiedIsNeverWrong}
 use Rattle.runs.specs.Machine.{Reference}
-use Rattle.runs.specs.Moves.{Move, IsIn, answer_of}
+use Rattle.runs.specs.Moves.{Move, answer_of}
 use Rattle.runs.specs.Discipline.{MayName, MayCall, IsPossibleMove}
 use Rattle.runs.specs.Soundness.{EndsCall, Grows, IsSound, AreSound}
 use Rattle.program_safety.specs.Threads.{ProgramThread, asked_as, given_as, reference_in, asks, goes_on, names, program_machine}

@@ -1,6 +1,7 @@
 -- Before the first step of a setup's threads nothing that is gone can be reached.
 use Rattle.std.proofs.Common.{◌≡◌, inl, inr, ℕ, zero, suc, Bool, IsTrue, List, [], ◌∷◌, map, Option, Some, None, slice_get, refl, sym, ap, subst, ◌∙◌, true≢false, arith}
 use Rattle.std.specs.Prelude.{slice_index, unwrap_or, false, true, if◌then◌else◌}
+use Rattle.lemmas.specs.Lists.{IsIn}
 use Rattle.ir_ast.specs.declared.function.Function.{Function}
 use Rattle.ir_ast.specs.declared.items_of_module.Global.{Global}
 use Rattle.ir_ast.specs.declared.module.Module.{Module}
@@ -19,7 +20,7 @@ use Rattle.machine.specs.Machine.{initial, slot_value, frame_roots, roots, entry
 use Rattle.machine.specs.Kinds.{is_integer}
 use Rattle.machine.specs.Start.{argument_values}
 use Rattle.runs.specs.Machine.{Reference}
-use Rattle.runs.specs.Moves.{IsIn, null}
+use Rattle.runs.specs.Moves.{null}
 use Rattle.runs.specs.Broken.{IsRoot, Reached, globals, from, further, IsGone, IsBroken}
 use Rattle.replay.specs.Runs.{program_machine, reference_in, names, value_at_start, value_of_global, heap_of}
 use Rattle.trace_text.specs.declared.trace.Setup.{Setup}

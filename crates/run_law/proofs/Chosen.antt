@@ -1,6 +1,7 @@
 -- What the next move of a thread is, by what its action asks for and where it is in the call.
 use Rattle.std.proofs.Common.{◌≡◌, ◌<◌, ◌⊎◌, inl, inr, ℕ, suc, ◌==◌, ◌||◌, not, Bool, true, false, Option, Some, None, List, [], ◌∷◌, length, filter, slice_index, if◌then◌else◌, refl, sym, ap, ◌∙◌, subst, IsTrue, MatchOption, arith}
 use Rattle.lemmas.specs.Numbers.{test_false}
+use Rattle.lemmas.specs.Lists.{IsIn}
 use Rattle.pools.specs.Heap.{Setup, cells, kind_of, IsOfLayout}
 use Rattle.pools.specs.declared.word_kind.WordKind.{WordKind}
 use Rattle.pools.specs.declared.word_kind.WordKind.TheVariants as kind
@@ -9,7 +10,7 @@ use Rattle.colours.specs.Colours.{is_async}
 use Rattle.colours.specs.Mutator.{HasBegun}
 use Rattle.colours.specs.Steps.{Step}
 use Rattle.runs.specs.Machine.{Reference, Action, Read, StorePlain, Write, Alloc, Safepoint}
-use Rattle.runs.specs.Moves.{Move, Works, ReadsWord, ReadsOldValue, Marks, StoresAfterBarrier, StoresPlain, Claims, StoresStage, IsIn, next_root}
+use Rattle.runs.specs.Moves.{Move, Works, ReadsWord, ReadsOldValue, Marks, StoresAfterBarrier, StoresPlain, Claims, StoresStage, next_root}
 use Rattle.runs.specs.NextMoves.{next_move, try_of, mark_or_answer}
 use Rattle.runs.specs.TryLemmas.{StandsSo, of_order}
 use Rattle.runs.specs.Calls.{get_in}

@@ -1,12 +1,13 @@
 -- What is reachable after a module run, what is gone, and when the run's end is broken, with the cause.
 use Rattle.std.specs.Prelude.{ℕ, ◌<◌, ◌≡◌, ◌≢◌, ◌⊎◌, Option, Some, None, List, ◌∷◌, IsTrue, MatchOption}
+use Rattle.lemmas.specs.Lists.{IsIn}
 use Rattle.pools.specs.Heap.{Setup, kind_of}
 use Rattle.pools.specs.Layouts.{is_reference_kind}
 use Rattle.colours.specs.declared.place.Place.TheVariants.{Colour, Word}
 use Rattle.colours.specs.Mutator.{Phase, Ended, HasBegun, phase_of}
 use Rattle.colours.specs.Runs.{word_after}
 use Rattle.runs.specs.Machine.{Reference, Machine}
-use Rattle.runs.specs.Moves.{Move, GoesWrong, ReadsWord, ReadsOldValue, Marks, StoresAfterBarrier, StoresPlain, null, IsIn, steps_of, state_after}
+use Rattle.runs.specs.Moves.{Move, GoesWrong, ReadsWord, ReadsOldValue, Marks, StoresAfterBarrier, StoresPlain, null, steps_of, state_after}
 use Rattle.runs.specs.ModuleRuns.{Happening, OfThread, share_of, heap_of, birth_of, birth_in}
 
 -- ---- reachable

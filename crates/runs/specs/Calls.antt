@@ -2,6 +2,7 @@
 use Rattle.std.proofs.Common.{◌≡◌, ◌≢◌, ℕ, zero, suc, ◌==◌, ◌⊎◌, inl, inr, Bool, true, false, not, Option, Some, None, List, [], ◌∷◌, length, if◌then◌else◌, refl, sym, ◌∙◌, subst, slice_index, slice_get, filter, IsTrue, MatchOption}
 use Rattle.std.proofs.Math.Path.{ap}
 use Rattle.lemmas.specs.Numbers.{test_yes, test_false}
+use Rattle.lemmas.specs.Lists.{IsIn}
 use Rattle.pools.specs.declared.word_kind.WordKind.{WordKind}
 use Rattle.pools.specs.declared.word_kind.WordKind.TheVariants as kind
 use Rattle.pools.specs.Heap.{Setup, kind_of, layout_of, is_late}
@@ -10,7 +11,7 @@ use Rattle.colours.specs.Colours.{done}
 use Rattle.colours.specs.Steps.{Step}
 use Rattle.colours.specs.Mutator.{Phase, Ready, MarkingOld, MarkingNew, Writing, Trying, Answering, Ended, Absent, Arriving, Entering, Leaving, HasBegun, stage_of, phase_of, MayFollow}
 use Rattle.runs.specs.Machine.{Reference, Action, Local, Read, StorePlain, Write, Alloc, Safepoint, End, Wrong, Machine}
-use Rattle.runs.specs.Moves.{Move, Works, GoesWrong, ReadsWord, ReadsOldValue, Marks, StoresAfterBarrier, StoresPlain, Claims, ReadsPosted, StoresStage, ReadsPostedFirst, EntersStage, ReadsPostedAgain, IsIn, step_of, logged, steps_of, phase_afterwards, ends_call, answer_of, state_after, old_of, IsOfTry, AsksFor, Follows, IsAsked, IsShare, HasEnded}
+use Rattle.runs.specs.Moves.{Move, Works, GoesWrong, ReadsWord, ReadsOldValue, Marks, StoresAfterBarrier, StoresPlain, Claims, ReadsPosted, StoresStage, ReadsPostedFirst, EntersStage, ReadsPostedAgain, step_of, logged, steps_of, phase_afterwards, ends_call, answer_of, state_after, old_of, IsOfTry, AsksFor, Follows, IsAsked, IsShare, HasEnded}
 use Rattle.runs.specs.Discipline.{Holds, MayName, MayPut, KeepsTo, ArePossible, MayCall}
 use Rattle.runs.specs.Broken.{IsUnderWay}
 use Rattle.runs.specs.Soundness.{EndsCall, Grows, IsSound, AreSound}

@@ -1,12 +1,13 @@
 -- What a thread holds by its share, in references; the discipline in references; and which answers are possible.
 use Rattle.std.specs.Prelude.{◌^◌, ◌<◌, ◌≡◌, ◌≢◌, ◌⊎◌, Option, Some, None, List, [], ◌∷◌, IsTrue, MatchOption}
+use Rattle.lemmas.specs.Lists.{IsIn}
 use Rattle.pools.specs.declared.word_kind.WordKind.{WordKind}
 use Rattle.pools.specs.declared.word_kind.WordKind.TheVariants as kind
 use Rattle.pools.specs.Heap.{Setup, kind_of, IsOfLayout}
 use Rattle.pools.specs.Layouts.{is_reference_kind}
 use Rattle.colours.specs.Mutator.{Fresh, IsPossible}
 use Rattle.runs.specs.Machine.{Reference, Action, Read, StorePlain, Write, Wrong}
-use Rattle.runs.specs.Moves.{Move, GoesWrong, ReadsWord, ReadsOldValue, Marks, StoresAfterBarrier, StoresPlain, Claims, StoresStage, null, IsIn, step_of, steps_of}
+use Rattle.runs.specs.Moves.{Move, GoesWrong, ReadsWord, ReadsOldValue, Marks, StoresAfterBarrier, StoresPlain, Claims, StoresStage, null, step_of, steps_of}
 
 -- ---- what is held
 

@@ -1,6 +1,5 @@
 pub mod Machine
 pub mod Moves
-pub mod Joined
 pub mod Discipline
 pub mod ModuleRuns
 pub mod Broken

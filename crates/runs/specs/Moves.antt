@@ -33,11 +33,6 @@ abbrev pub cells_of : List Reference → List ℕ
 cells_of [] = []
 cells_of (r ∷ rs) = r.cell ∷ cells_of rs
 
--- the reference is in the list
-abbrev pub IsIn : Reference → List Reference → Type 0
-IsIn r [] = ⊥
-IsIn r (q ∷ qs) = (r ≡ q) ⊎ IsIn r qs
-
 -- ---- the steps on the heap
 
 -- what a move is on the heap, without births. A local step is none

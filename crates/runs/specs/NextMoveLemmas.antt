@@ -5,13 +5,14 @@ use Rattle.std.proofs.lemmas.Option.{slice_get_within, get_or_from_slice_get, sl
 use Rattle.std.proofs.Math.Seq.{take-suc}
 use Rattle.std.proofs.lemmas.List.{take_all, reverse-append}
 use Rattle.lemmas.specs.Numbers.{test_true, test_false, not_null}
+use Rattle.lemmas.specs.Lists.{IsIn}
 use Rattle.pools.specs.Heap.{Setup, layout_of, is_late}
 use Rattle.colours.specs.Colours.{is_async, done}
 use Rattle.colours.specs.Steps.{Step, Found, ask_of, place_of}
 use Rattle.colours.specs.Mutator.{Phase, Ready, MarkingOld, MarkingNew, Writing, Trying, Answering, Ended, Absent, Arriving, Entering, Leaving, is_between, MayFollow, non_null, stage_of, phase_of}
 use Rattle.colours.specs.Runs.{ByThread, log_of, word_after, MayHappen}
 use Rattle.runs.specs.Machine.{Reference, Action, Local, Read, StorePlain, Write, Alloc, Safepoint, End, Wrong, Machine}
-use Rattle.runs.specs.Moves.{Move, Works, GoesWrong, ReadsWord, ReadsOldValue, Marks, StoresAfterBarrier, StoresPlain, Claims, ReadsPosted, StoresStage, ReadsPostedFirst, EntersStage, ReadsPostedAgain, null, cells_of, IsIn, step_of, steps_of, phase_afterwards, ends_call, answer_of, state_after, next_root, old_of, IsOfTry, AsksFor, Follows, IsShare}
+use Rattle.runs.specs.Moves.{Move, Works, GoesWrong, ReadsWord, ReadsOldValue, Marks, StoresAfterBarrier, StoresPlain, Claims, ReadsPosted, StoresStage, ReadsPostedFirst, EntersStage, ReadsPostedAgain, null, cells_of, step_of, steps_of, phase_afterwards, ends_call, answer_of, state_after, next_root, old_of, IsOfTry, AsksFor, Follows, IsShare}
 use Rattle.runs.specs.ModuleRuns.{Happening, OfThread, share_of, heap_of, FindsBirth, IsNext}
 use Rattle.runs.specs.NextMoves.{Sight, IsSightOf, next_move, next_move_in, mark_or_answer, try_of, TriesInPool, NextMovesAreNext}
 use Rattle.runs.specs.Shares.{same_cell, is_share, log_is}

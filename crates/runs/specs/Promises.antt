@@ -1,5 +1,6 @@
 -- What is promised of one thread, of the heap, and of the two together.
 use Rattle.std.specs.Prelude.{ℕ, ◌<◌, ◌≡◌, ◌≢◌, List, ◌∷◌}
+use Rattle.lemmas.specs.Lists.{IsIn}
 use Rattle.pools.specs.Heap.{Setup, IsSetup}
 use Rattle.colours.specs.Steps.{Step}
 use Rattle.colours.specs.Mutator.{IsPossible, Ready, phase_of}
@@ -7,7 +8,7 @@ use Rattle.colours.specs.Runs.{Event, ByThread, log_of, IsHeapRun}
 use Rattle.colours.specs.Safety.{KeptIsAlive}
 use Rattle.runs.specs.Machine as machine
 use Rattle.runs.specs.Machine.{Reference, Machine}
-use Rattle.runs.specs.Moves.{Move, IsIn, state_after, IsAsked, IsShare, steps_of}
+use Rattle.runs.specs.Moves.{Move, state_after, IsAsked, IsShare, steps_of}
 use Rattle.runs.specs.Discipline.{MayName, KeepsTo, MayCall, ArePossible}
 use Rattle.runs.specs.ModuleRuns.{Happening, IsModuleRun, share_of}
 use Rattle.runs.specs.Broken.{IsUnderWay, IsBroken}

@@ -2,15 +2,16 @@
 use Rattle.std.proofs.Common.{◌≡◌, ◌≢◌, ℕ, ◌==◌, inl, inr, Bool, true, false, not, ◌&&◌, Option, Some, None, List, [], ◌∷◌, if◌then◌else◌, refl, sym, ◌∙◌, subst, IsTrue, MatchOption}
 use Rattle.std.proofs.Math.Path.{ap}
 use Rattle.lemmas.specs.Numbers.{test_true, test_yes, test_no}
+use Rattle.lemmas.specs.Lists.{IsIn}
 use Rattle.pools.specs.declared.word_kind.WordKind.{WordKind}
 use Rattle.pools.specs.declared.word_kind.WordKind.TheVariants as kind
 use Rattle.pools.specs.Heap.{Setup, kind_of}
 use Rattle.pools.specs.Layouts.{is_reference_kind}
 use Rattle.colours.specs.Steps.{Step}
-use Rattle.colours.specs.Mutator.{Held, IsAmong, Keeps, gains, IsDisciplined, IsPossible, IsPossibleLog, MayUse, MayStore}
+use Rattle.colours.specs.Mutator.{Held, Keeps, gains, IsDisciplined, IsPossible, IsPossibleLog, MayUse, MayStore}
 use Rattle.colours.specs.Runs.{Event, ByThread, log_of, IsRun, MayHappen}
 use Rattle.runs.specs.Machine.{Reference, Machine}
-use Rattle.runs.specs.Moves.{Move, Works, GoesWrong, ReadsWord, ReadsOldValue, Marks, StoresAfterBarrier, StoresPlain, Claims, ReadsPosted, StoresStage, ReadsPostedFirst, EntersStage, ReadsPostedAgain, cells_of, IsIn, step_of, logged, steps_of, IsShare, IsAsked}
+use Rattle.runs.specs.Moves.{Move, Works, GoesWrong, ReadsWord, ReadsOldValue, Marks, StoresAfterBarrier, StoresPlain, Claims, ReadsPosted, StoresStage, ReadsPostedFirst, EntersStage, ReadsPostedAgain, cells_of, step_of, logged, steps_of, IsShare, IsAsked}
 use Rattle.runs.specs.Discipline.{Brings, Leaves, Holds, MayTouch, MayName, MayPut, KeepsTo, ArePossible}
 use Rattle.runs.specs.ModuleRuns.{Happening, OfThread, OfCollector, share_of, with_step, heap_of, IsModuleRun}
 
@@ -65,7 +66,7 @@ is_share s m starts (OfCollector turn ∷ run) t r = is_share s m starts run t r
 
 -- ---- without births
 
-in_cells : (r : Reference) (rs : List Reference) → IsIn r rs → IsAmong r.cell (cells_of rs)
+in_cells : (r : Reference) (rs : List Reference) → IsIn r rs → IsIn r.cell (cells_of rs)
 in_cells r [] h = absurd h
 in_cells r (q ∷ qs) (inl e) = inl (same_cell e)
 in_cells r (q ∷ qs) (inr h) = inr (in_cells r qs h)
@@ -132,7 +133,7 @@ may_store s share (Some (kind.Reference layout)) value (inl z) = inl z
 may_store s share (Some (kind.Reference layout)) value (inr h) = inr (holds_held s share value h.0, h.1)
 
 -- and so with all that it may name
-pub name_cells : (s : Setup) (share : List Move) (roots : List Reference) → ((r : Reference) → IsIn r roots → MayName s share r) → (c : ℕ) → IsAmong c (cells_of roots) → MayUse s (steps_of share) c
+pub name_cells : (s : Setup) (share : List Move) (roots : List Reference) → ((r : Reference) → IsIn r roots → MayName s share r) → (c : ℕ) → IsIn c (cells_of roots) → MayUse s (steps_of share) c
 name_cells s share [] h c x = absurd x
 name_cells s share (q ∷ qs) h c (inl e) = go (h q (inl refl))
   where

@@ -1,9 +1,10 @@
 -- What is to be shown of a machine, call by call, so that its threads obey the discipline at each move.
 use Rattle.std.specs.Prelude.{ℕ, ◌<◌, ◌≡◌, List, [], ◌∷◌, slice_index}
+use Rattle.lemmas.specs.Lists.{IsIn}
 use Rattle.pools.specs.Heap.{Setup, IsOfLayout}
 use Rattle.colours.specs.Mutator.{Fresh}
 use Rattle.runs.specs.Machine.{Reference, Action, Local, Read, StorePlain, Write, Alloc, Safepoint, Machine}
-use Rattle.runs.specs.Moves.{Move, Works, ReadsWord, StoresAfterBarrier, StoresPlain, Claims, ReadsPosted, StoresStage, IsIn, steps_of, answer_of}
+use Rattle.runs.specs.Moves.{Move, Works, ReadsWord, StoresAfterBarrier, StoresPlain, Claims, ReadsPosted, StoresStage, steps_of, answer_of}
 use Rattle.runs.specs.Discipline.{Holds, MayName, MayCall, IsPossibleMove}
 
 -- the move may end the call that the action asks for

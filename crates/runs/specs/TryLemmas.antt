@@ -1,14 +1,14 @@
 -- Cells that are tried from a hint on are cells of the pool, each once.
 use Rattle.std.proofs.Common.{◌≡◌, ◌≢◌, ◌≤◌, ◌<◌, ◌⊎◌, ◌-◌, inl, inr, ℕ, zero, suc, ◌==◌, Bool, true, false, Option, Some, None, List, [], ◌∷◌, length, sum, slice_index, if◌then◌else◌, nat_lt, min, refl, subst, ◌∙◌, MatchOption, arith}
 use Rattle.std.proofs.lemmas.Bool.Decides.{nat_tests}
-use Rattle.lemmas.specs.Lists.{sum_cons}
+use Rattle.lemmas.specs.Lists.{IsIn, sum_cons}
 use Rattle.lemmas.specs.Numbers.{test_false}
 use Rattle.pools.specs.Heap.{Setup, IsOfLayout, layout_of, layout_at, is_late}
 use Rattle.colours.specs.Steps.{Step, Claim}
 use Rattle.colours.specs.Calls.{AreApart, IsPoolInOrder}
 use Rattle.colours.specs.Hints.{pool_by_hint}
 use Rattle.colours.specs.Colours.{done}
-use Rattle.colours.specs.Mutator.{Phase, Ready, MarkingOld, MarkingNew, Writing, Trying, Answering, Ended, Absent, Arriving, Entering, Leaving, IsAmong, MayTry, stage_of, phase_of}
+use Rattle.colours.specs.Mutator.{Phase, Ready, MarkingOld, MarkingNew, Writing, Trying, Answering, Ended, Absent, Arriving, Entering, Leaving, MayTry, stage_of, phase_of}
 use Rattle.runs.specs.Machine.{Reference, Action, Local, Read, StorePlain, Write, Alloc, Safepoint, End, Wrong, Machine}
 use Rattle.runs.specs.Moves.{Move, Works, GoesWrong, ReadsWord, ReadsOldValue, Marks, StoresAfterBarrier, StoresPlain, Claims, ReadsPosted, StoresStage, ReadsPostedFirst, EntersStage, ReadsPostedAgain, step_of, steps_of, logged, phase_afterwards, ends_call, answer_of, state_after, old_of, IsOfTry, AsksFor, IsShare}
 use Rattle.runs.specs.ModuleRuns.{Happening, share_of}
@@ -41,7 +41,7 @@ has_cells (count ∷ counts) place lt = go (has_cells counts (place - count)) (n
 -- ---- cells in an order
 
 -- the cell at a place of a list is in it
-at-among : (cells : List ℕ) (k : ℕ) → k < length cells → IsAmong (slice_index cells k) cells
+at-among : (cells : List ℕ) (k : ℕ) → k < length cells → IsIn (slice_index cells k) cells
 at-among [] k lt = absurd (omega (arith, lt))
 at-among (cell ∷ cells) zero lt = inl refl
 at-among (cell ∷ cells) (suc k) lt = inr (at-among cells k (omega (arith, lt)))
@@ -50,7 +50,7 @@ at-among (cell ∷ cells) (suc k) lt = inr (at-among cells k (omega (arith, lt))
 at-apart : (cells : List ℕ) (k j : ℕ) → AreApart cells → k < j → j < length cells → slice_index cells j ≢ slice_index cells k
 at-apart [] k j apart lt within = absurd (omega (arith, within))
 at-apart (cell ∷ cells) zero zero apart lt within = absurd (omega (arith, lt))
-at-apart (cell ∷ cells) zero (suc j) apart lt within = λ e. apart.0 (subst (λ c. IsAmong c cells) e (at-among cells j (omega (arith, within))))
+at-apart (cell ∷ cells) zero (suc j) apart lt within = λ e. apart.0 (subst (λ c. IsIn c cells) e (at-among cells j (omega (arith, within))))
 at-apart (cell ∷ cells) (suc k) zero apart lt within = absurd (omega (arith, lt))
 at-apart (cell ∷ cells) (suc k) (suc j) apart lt within = at-apart cells k j apart.1 (omega (arith, lt)) (omega (arith, within))
 
@@ -79,7 +79,7 @@ IsBefore cells count cell = (k : ℕ) × (k < count) × (cell ≡ slice_index ce
 -- cells are left, those that were tried come first in the order, and they are of the layout
 pub record TriedSo (s : Setup) (layout hint : ℕ) (tried : List ℕ) : Type 0 where
   pub few : length tried < slice_index s.pools layout
-  pub before : (c : ℕ) → IsAmong c tried → IsBefore (cells_of_pool s layout hint) (length tried) c
+  pub before : (c : ℕ) → IsIn c tried → IsBefore (cells_of_pool s layout hint) (length tried) c
   pub last : IsLast s layout tried
 
 -- the same, by the phase of a thread after its log
@@ -99,11 +99,11 @@ StandsSo s log action (Trying tried) = ⊥
 
 -- after one more lost try of a call
 lost : (s : Setup) (log : List Step) (layout : ℕ) (tried : List ℕ) (cell : ℕ) → IsOfLayout s layout cell → cell ≡ by_hint s log layout tried
-    → ((c : ℕ) → IsAmong c tried → IsBefore (cells_of_pool s layout (hint_in s layout log)) (length tried) c) → length tried < slice_index s.pools layout
+    → ((c : ℕ) → IsIn c tried → IsBefore (cells_of_pool s layout (hint_in s layout log)) (length tried) c) → length tried < slice_index s.pools layout
     → StandsSo s (Claim cell false ∷ log) (Alloc layout) (if length (cell ∷ tried) == slice_index s.pools (layout_of s cell) then Ready else Trying (cell ∷ tried))
 lost s log layout tried cell o e before few = go (length (cell ∷ tried) == slice_index s.pools (layout_of s cell)) refl
   where
-    sooner : (c : ℕ) → IsAmong c (cell ∷ tried) → IsBefore (cells_of_pool s layout (hint_in s layout log)) (length (cell ∷ tried)) c
+    sooner : (c : ℕ) → IsIn c (cell ∷ tried) → IsBefore (cells_of_pool s layout (hint_in s layout log)) (length (cell ∷ tried)) c
     sooner c (inl x) = (length tried, omega arith, x ∙ e)
     sooner c (inr x) = let b = before c x in let lt = b.1 in (b.0, omega (arith, lt), b.2)
 

@@ -1,13 +1,14 @@
 -- A careful thread meets the conditions of each call that it asks for.
 use Rattle.std.proofs.Common.{◌≡◌, ◌≢◌, ℕ, None, List, sym, ap, subst, ◌∙◌}
 use Rattle.std.specs.Prelude.{IsTrue}
+use Rattle.lemmas.specs.Lists.{IsIn}
 use Rattle.pools.specs.Heap.{kind_of}
 use Rattle.pools.specs.declared.word_kind.WordKind.TheVariants as kind
 use Rattle.pools.specs.Layouts.{is_reference_kind}
 use Rattle.colours.specs.Steps.{Step}
-use Rattle.colours.specs.Mutator.{Ready, phase_of, MayUse, MayStore, IsPossibleLog, IsAmong, Fresh}
+use Rattle.colours.specs.Mutator.{Ready, phase_of, MayUse, MayStore, IsPossibleLog, Fresh}
 use Rattle.runs.specs.Machine.{Reference, Action, Read, StorePlain, Write, Wrong, Machine}
-use Rattle.runs.specs.Moves.{IsIn, cells_of, steps_of}
+use Rattle.runs.specs.Moves.{cells_of, steps_of}
 use Rattle.runs.specs.Broken.{IsUnderWay}
 use Rattle.runs.specs.Discipline.{MayName, ArePossible}
 use Rattle.runs.specs.Discipline as discipline
@@ -51,7 +52,7 @@ module _ (m : Machine) (start : m.State) (moves : ℕ) (t : Holder) (state : m.S
   never_wrong e = calls Wrong e
 
   -- each root may be named at a safepoint
-  pub may_name : (c : ℕ) → IsAmong c (cells_of (m.roots state)) → MayUse t.setup t.log c
+  pub may_name : (c : ℕ) → IsIn c (cells_of (m.roots state)) → MayUse t.setup t.log c
   may_name c a = subst (λ (l : List Step). MayUse t.setup l c) v.real.steps (name_cells t.setup v.real.share (m.roots state)
       (subst (λ (x : m.State). (r : Reference) → IsIn r (m.roots x) → MayName t.setup v.real.share r) v.real.leads_to
       (v.careful.roots v.real.share v.real.asked are_possible (subst IsUnderWay (sym at_ready) tt))) c a)

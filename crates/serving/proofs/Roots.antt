@@ -1,8 +1,9 @@
 -- The cells of a thread's roots.
 use Rattle.std.proofs.Common.{◌≡◌, ℕ, zero, suc, ◌+◌, ◌<◌, inl, inr, List, [], ◌∷◌, ◌++◌, length, take, get_or, refl, sym, ap, subst, ◌∙◌, arith}
+use Rattle.lemmas.specs.Lists.{IsIn}
 use Rattle.pools.specs.Heap.{Setup, cells}
 use Rattle.runs.specs.Machine.{Reference}
-use Rattle.runs.specs.Moves.{IsIn, cells_of}
+use Rattle.runs.specs.Moves.{cells_of}
 
 in_list : (roots : List Reference) (i : ℕ) (r : Reference) → i < length roots → IsIn (get_or roots i r) roots
 in_list [] i r h = absurd (omega arith)

@@ -3,8 +3,9 @@ use Rattle.std.proofs.Common.{◌≡◌, ◌≢◌, ℕ, zero, suc, inl, inr, Bo
 use Rattle.std.specs.Prelude.{IsTrue, slice_get}
 use Rattle.colours.specs.Colours.{done, is_async}
 use Rattle.colours.specs.Steps.{Step, Mark, ReadPosted, StoreStage}
-use Rattle.colours.specs.Mutator.{Ready, Answering, IsAmong, non_null, phase_of, stage_of, MayUse}
+use Rattle.colours.specs.Mutator.{Ready, Answering, non_null, phase_of, stage_of, MayUse}
 use Rattle.lemmas.specs.Numbers.{test_yes, test_no}
+use Rattle.lemmas.specs.Lists.{IsIn}
 use Rattle.runs.specs.Machine.{Reference, Action, Machine, Answered}
 use Rattle.runs.specs.Machine as machine
 use Rattle.runs.specs.Moves.{ReadsPosted, Marks, StoresStage, null, cells_of}
@@ -96,8 +97,8 @@ module _ (m : Machine) (heap : Shared) (t : Holder) (state : m.State) (call : Ma
 
   module _ (polled : Holder) (posted : ℕ) (other : posted ≢ stage_of t.log) (poll : IsNow t (ReadPosted posted ∷ t.log) polled) where
     -- the look takes nothing from what may be named
-    pub may_name_then : ((c : ℕ) → IsAmong c (cells_of (m.roots state)) → MayUse t.setup t.log c) → (roots : List ℕ) → roots ≡ cells_of (m.roots state) → (c : ℕ) → IsAmong c roots → MayUse polled.setup polled.log c
-    may_name_then may roots are c a = subst (λ (x : Holder). MayUse x.setup x.log c) (sym poll) (looks (may c (subst (λ (l : List ℕ). IsAmong c l) are a)))
+    pub may_name_then : ((c : ℕ) → IsIn c (cells_of (m.roots state)) → MayUse t.setup t.log c) → (roots : List ℕ) → roots ≡ cells_of (m.roots state) → (c : ℕ) → IsIn c roots → MayUse polled.setup polled.log c
+    may_name_then may roots are c a = subst (λ (x : Holder). MayUse x.setup x.log c) (sym poll) (looks (may c (subst (λ (l : List ℕ). IsIn c l) are a)))
       where
         looks : MayUse t.setup t.log c → MayUse t.setup (ReadPosted posted ∷ t.log) c
         looks (inl z) = inl z

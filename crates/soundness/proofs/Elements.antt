@@ -1,10 +1,11 @@
 -- getelementptr.
-use Rattle.std.proofs.Common.{◌≡◌, ℕ, zero, suc, ◌+◌, ◌-◌, ◌*◌, ◌<◌, ◌≤◌, ◌^◌, List, [], ◌∷◌, ◌++◌, length, map, refl, sym, ap, ◌∙◌, subst, arith, true, false, Bool, Option, Some, None, inl, inr, slice_get, slice_set, mod-eq_of_lt, pow-suc}
+use Rattle.std.proofs.Common.{◌≡◌, ℕ, zero, suc, ◌+◌, ◌-◌, ◌*◌, ◌<◌, ◌≤◌, ◌^◌, List, [], ◌∷◌, length, map, refl, sym, ap, ◌∙◌, subst, arith, true, false, Bool, Option, Some, None, inl, inr, slice_get, slice_set, mod-eq_of_lt, pow-suc}
 use Rattle.std.proofs.lemmas.Bool.{cases_lt, lt-leb, ltb-true, leb-true, ne_eqb}
 use Rattle.std.proofs.lemmas.List.{length-set}
 use Rattle.std.proofs.lemmas.Nat.{mul-le, pow_below, pow_pos}
 use Rattle.std.specs.Prelude.{◌⊎◌, ◌==◌, ◌&&◌, ◌||◌, cond, not, if◌then◌else◌, nat_lt, nat_le, is_some, filter}
 use Rattle.std.specs.List.{list_all, range_with_len}
+use Rattle.lemmas.specs.Lists.{in_first, in_second, IsIn}
 use Rattle.lemmas.specs.Numbers.{test_true, lt_yes, lt_no}
 use Rattle.lemmas.specs.Bools.{and_parts}
 use Rattle.ir_ast.specs.declared.function.Function.{Function}
@@ -109,42 +110,28 @@ passes_same index number (suc size) same lt = ap (λ n. n * suc size) (same (let
 
 -- ---- words that are reached
 
--- a number is one of a list
-abbrev pub IsOneOf : ℕ → List ℕ → Type 0
-IsOneOf n [] = ⊥
-IsOneOf n (x ∷ xs) = (x ≡ n) ⊎ IsOneOf n xs
-
--- the numbers of a range, of a list under a function, of those that pass a test, and of two lists
-in_range : (first count n : ℕ) → first ≤ n → n < first + count → IsOneOf n (range_with_len first count)
+-- the numbers of a range, of a list under a function, and of those that pass a test
+in_range : (first count n : ℕ) → first ≤ n → n < first + count → IsIn n (range_with_len first count)
 in_range first zero n le lt = absurd (omega (arith, le, lt))
-in_range first (suc count) n le lt = by_equal first n (λ e. inl e) (λ ne. inr (in_range (first + 1) count n (omega (arith, le, ne)) (omega (arith, lt))))
+in_range first (suc count) n le lt = by_equal first n (λ e. inl (sym e)) (λ ne. inr (in_range (first + 1) count n (omega (arith, le, ne)) (omega (arith, lt))))
 
-in_map : (g : ℕ → ℕ) (n : ℕ) (xs : List ℕ) → IsOneOf n xs → IsOneOf (g n) (map g xs)
+in_map : (g : ℕ → ℕ) (n : ℕ) (xs : List ℕ) → IsIn n xs → IsIn (g n) (map g xs)
 in_map g n [] i = absurd i
 in_map g n (x ∷ xs) (inl e) = inl (ap g e)
 in_map g n (x ∷ xs) (inr i) = inr (in_map g n xs i)
 
-in_filter : (test : ℕ → Bool) (n : ℕ) (xs : List ℕ) → test n ≡ true → IsOneOf n xs → IsOneOf n (filter test xs)
+in_filter : (test : ℕ → Bool) (n : ℕ) (xs : List ℕ) → test n ≡ true → IsIn n xs → IsIn n (filter test xs)
 in_filter test n [] e i = absurd i
-in_filter test n (x ∷ xs) e (inl is) = rw (ap test is ∙ e) (inl is)
+in_filter test n (x ∷ xs) e (inl is) = rw (ap test (sym is) ∙ e) (inl is)
 in_filter test n (x ∷ xs) e (inr i) = pick (test x) (in_filter test n xs e i) where
-  pick : (b : Bool) → IsOneOf n (filter test xs) → IsOneOf n (cond b (x ∷ filter test xs) (filter test xs))
+  pick : (b : Bool) → IsIn n (filter test xs) → IsIn n (cond b (x ∷ filter test xs) (filter test xs))
   pick true i = inr i
   pick false i = i
 
-in_first : (n : ℕ) (xs ys : List ℕ) → IsOneOf n xs → IsOneOf n (xs ++ ys)
-in_first n [] ys i = absurd i
-in_first n (x ∷ xs) ys (inl e) = inl e
-in_first n (x ∷ xs) ys (inr i) = inr (in_first n xs ys i)
-
-in_second : (n : ℕ) (xs ys : List ℕ) → IsOneOf n ys → IsOneOf n (xs ++ ys)
-in_second n [] ys i = i
-in_second n (x ∷ xs) ys i = inr (in_second n xs ys i)
-
 -- what is reached from one word is reached from all of them
-in_reached : (stride : Stride) (words : List ℕ) (word n : ℕ) → IsOneOf word words → IsOneOf n (r.reached stride word) → IsOneOf n (r.all_reached stride words)
+in_reached : (stride : Stride) (words : List ℕ) (word n : ℕ) → IsIn word words → IsIn n (r.reached stride word) → IsIn n (r.all_reached stride words)
 in_reached stride [] word n i at = absurd i
-in_reached stride (x ∷ words) word n (inl e) at = in_first n (r.reached stride x) (r.all_reached stride words) (subst (λ y. IsOneOf n (r.reached stride y)) (sym e) at)
+in_reached stride (x ∷ words) word n (inl e) at = in_first n (r.reached stride x) (r.all_reached stride words) (subst (λ y. IsIn n (r.reached stride y)) e at)
 in_reached stride (x ∷ words) word n (inr i) at = in_second n (r.reached stride x) (r.all_reached stride words) (in_reached stride words word n i at)
 
 -- a set with a word more
@@ -163,16 +150,16 @@ gathered_keeps (x ∷ words) set out len e w has = pick (nat_lt x 64) refl e (λ
   pick false is z rest = absurd cc
 
 -- and each of the words
-gathered_takes : (words : List ℕ) (set out : WordSet) → length set.members ≡ 64 → r.gathered words set ≡ Some out → (w : ℕ) → IsOneOf w words → (w < 64) × (has_word out.members w ≡ true)
+gathered_takes : (words : List ℕ) (set out : WordSet) → length set.members ≡ 64 → r.gathered words set ≡ Some out → (w : ℕ) → IsIn w words → (w < 64) × (has_word out.members w ≡ true)
 gathered_takes [] set out len e w i = absurd i
 gathered_takes (x ∷ words) set out len e w i = pick (nat_lt x 64) refl e (λ s l z y. gathered_takes words s out l z w y) i where
   pick : (b : Bool) → nat_lt x 64 ≡ b → (if b then r.gathered words (record { members = adds_word set.members x }) else None) ≡ Some out
-      → ((s : WordSet) → length s.members ≡ 64 → r.gathered words s ≡ Some out → IsOneOf w words → (w < 64) × (has_word out.members w ≡ true)) → IsOneOf w (x ∷ words) → (w < 64) × (has_word out.members w ≡ true)
+      → ((s : WordSet) → length s.members ≡ 64 → r.gathered words s ≡ Some out → IsIn w words → (w < 64) × (has_word out.members w ≡ true)) → IsIn w (x ∷ words) → (w < 64) × (has_word out.members w ≡ true)
   pick true is z rest (inl same) =
       let lt = ltb-true x 64 is in
       let long : length (adds_word set.members x) ≡ 64 = rw is (length-set set.members x true ∙ len) in
       let here : has_word (adds_word set.members x) x ≡ true = rw is (at_same set.members x true false (omega (arith, len, lt))) in
-      subst (λ y. (y < 64) × (has_word out.members y ≡ true)) same (lt, gathered_keeps words (record { members = adds_word set.members x }) out long z x here)
+      subst (λ y. (y < 64) × (has_word out.members y ≡ true)) (sym same) (lt, gathered_keeps words (record { members = adds_word set.members x }) out long z x here)
   pick true is z rest (inr i) = rest (record { members = adds_word set.members x }) (rw is (length-set set.members x true ∙ len)) z i
   pick false is z rest i = absurd cc
 

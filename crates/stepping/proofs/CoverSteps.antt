@@ -1,11 +1,12 @@
 -- A cover by all that can be reached, and after one step more.
 use Rattle.std.proofs.Common.{◌≡◌, ◌≤◌, ◌^◌, ◌⊎◌, inl, inr, ℕ, Option, Some, None, List, ◌∷◌, slice_get, sym, ap, subst, ◌∙◌, IfSome, MatchOption}
 use Rattle.std.specs.Prelude.{Result, Ok, Err, IfOk}
+use Rattle.lemmas.specs.Lists.{IsIn}
 use Rattle.pools.specs.Heap.{Setup, cells_in, cells}
 use Rattle.colours.specs.Mutator.{Phase, phase_of}
 use Rattle.colours.specs.declared.turn.Turn.{Turn}
 use Rattle.runs.specs.Machine.{Reference, Answer, Machine}
-use Rattle.runs.specs.Moves.{Move, IsIn, step_of, steps_of, state_after}
+use Rattle.runs.specs.Moves.{Move, step_of, steps_of, state_after}
 use Rattle.runs.specs.Ends.{StandsAfter}
 use Rattle.runs.specs.ModuleRuns.{Happening, OfThread, OfCollector, share_of, IsNext}
 use Rattle.runs.specs.Broken.{IsUnderWay, IsRoot}

@@ -2,6 +2,7 @@
 use Rattle.std.proofs.Common.{◌≡◌, ◌≢◌, ◌<◌, ◌⊎◌, ◌==◌, ◌&&◌, inl, inr, ℕ, zero, suc, Bool, true, false, Option, List, [], ◌∷◌, slice_index, slice_index_or, if◌then◌else◌, refl, sym, ap, subst, ◌∙◌, IsTrue, MatchOption, arith}
 use Rattle.std.proofs.lemmas.Bool.Decides.{nat_tests}
 use Rattle.lemmas.specs.Numbers.{test_true, test_same}
+use Rattle.lemmas.specs.Lists.{IsIn}
 use Rattle.pools.specs.declared.word_kind.WordKind.TheVariants as kind
 use Rattle.pools.specs.Heap.{Setup, cells, kind_of}
 use Rattle.pools.specs.Layouts.{is_reference_kind}
@@ -11,7 +12,7 @@ use Rattle.colours.specs.declared.turn.Turn.TheVariants.{Free}
 use Rattle.colours.specs.Mutator.{phase_of}
 use Rattle.colours.specs.Runs.{word_after}
 use Rattle.runs.specs.Machine.{Reference, Answer, Machine}
-use Rattle.runs.specs.Moves.{Move, StoresAfterBarrier, StoresPlain, null, IsIn, step_of, steps_of, state_after, ends_call, answer_of}
+use Rattle.runs.specs.Moves.{Move, StoresAfterBarrier, StoresPlain, null, step_of, steps_of, state_after, ends_call, answer_of}
 use Rattle.runs.specs.ModuleRuns.{Happening, OfThread, OfCollector, share_of, heap_of, birth_of, birth_in, IsNext}
 use Rattle.runs.specs.Broken.{IsUnderWay, IsRoot, globals, from, further, IsReachable, IsGone}
 use Rattle.moves.specs.declared.shared.Shared.{Shared}

@@ -1,15 +1,15 @@
 -- A walk that looked at all that it met finds the first thing that is gone and can be reached after a run.
 use Rattle.std.proofs.Common.{◌≡◌, ◌≢◌, ◌<◌, inl, inr, ℕ, zero, suc, Bool, true, false, Option, Some, None, List, [], ◌∷◌, length, slice_index, slice_index_or, refl, sym, ap, subst, ◌∙◌, IsTrue, IfSome, arith}
+use Rattle.lemmas.specs.Lists.{IsIn}
 use Rattle.pools.specs.declared.word_kind.WordKind.{WordKind}
 use Rattle.pools.specs.declared.word_kind.WordKind.TheVariants as kind
 use Rattle.pools.specs.Heap.{Setup, cells, kind_of}
 use Rattle.pools.specs.Layouts.{is_reference_kind}
 use Rattle.colours.specs.declared.place.Place.TheVariants.{Colour, Word}
 use Rattle.runs.specs.Machine.{Reference, Machine}
-use Rattle.runs.specs.Moves.{IsIn}
 use Rattle.runs.specs.ModuleRuns.{Happening, birth_in}
 use Rattle.runs.specs.Broken as broken
-use Rattle.runs.specs.Broken.{Reached, IsRoot, IsReachable, IsBlue, IsReborn, IsGone, Shows, ReachBlue, ReachBirth}
+use Rattle.runs.specs.Broken.{IsReachable}
 use Rattle.moves.specs.declared.shared.Shared.{Shared}
 use Rattle.moves.specs.Rows.{word_at}
 use Rattle.moves.specs.Shared.{HasShape, StandAfter}

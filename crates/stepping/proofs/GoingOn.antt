@@ -1,8 +1,8 @@
 -- A walk that goes on with the reference that a move stored and with the roots of its thread.
 use Rattle.std.proofs.Common.{ℕ, ◌≡◌, ◌≢◌, ◌⊎◌, inl, inr, List, length, slice_index, sym, ap, subst, ◌∙◌}
+use Rattle.lemmas.specs.Lists.{IsIn}
 use Rattle.pools.specs.Heap.{Setup}
 use Rattle.runs.specs.Machine.{Reference}
-use Rattle.runs.specs.Moves.{IsIn}
 use Rattle.moves.specs.declared.shared.Shared.{Shared}
 use Rattle.moves.specs.Rows.{word_at}
 use Rattle.stepping.specs.declared.walk.Walk.{Walk}

@@ -1,6 +1,7 @@
 -- A step that frees nothing, stores no reference, begins no thread and leaves the roots of its thread unchanged loses nothing.
 use Rattle.std.proofs.Common.{◌≡◌, ◌≢◌, ◌==◌, ◌&&◌, inl, inr, ℕ, Bool, true, false, Option, Some, None, List, ◌∷◌, if◌then◌else◌, refl, sym, ap, subst, ◌∙◌, MatchOption, arith}
 use Rattle.lemmas.specs.Numbers.{test_true, test_no, raised, exchanged}
+use Rattle.lemmas.specs.Lists.{IsIn}
 use Rattle.pools.specs.Heap.{Setup}
 use Rattle.colours.specs.declared.place.Place.TheVariants.{Colour, Word}
 use Rattle.colours.specs.declared.turn.Turn.TheVariants.{MarkFound, Blacken, ClearWord, Free}
@@ -11,7 +12,7 @@ use Rattle.colours.specs.Mutator.{Phase, Ended, Absent, Arriving, Entering, Leav
 use Rattle.colours.specs.Collector.{posted_of}
 use Rattle.colours.specs.Runs.{word_after, births_after, log_of, turns_of}
 use Rattle.runs.specs.Machine.{Reference, Machine}
-use Rattle.runs.specs.Moves.{Move, Marks, StoresAfterBarrier, StoresPlain, Claims, ReadsPostedAgain, IsIn, step_of, logged, steps_of, state_after, Follows}
+use Rattle.runs.specs.Moves.{Move, Marks, StoresAfterBarrier, StoresPlain, Claims, ReadsPostedAgain, step_of, logged, steps_of, state_after, Follows}
 use Rattle.runs.specs.ModuleRuns.{Happening, OfThread, OfCollector, share_of, heap_of, birth_of, birth_in, IsNext, IsModuleRun}
 use Rattle.runs.specs.Broken.{IsUnderWay, IsRoot, globals, from, further, IsReachable, IsGone}
 use Rattle.stepping.specs.Reach.{AddsNothing, LosesNothing}

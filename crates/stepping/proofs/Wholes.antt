@@ -5,11 +5,12 @@ use Rattle.std.proofs.lemmas.List.{get_or_append_left, length-append, get_or-rep
 use Rattle.std.proofs.lemmas.List.Folds.{sum_by-replicate}
 use Rattle.std.proofs.lemmas.Option.{slice_get_past, slice_get_cases}
 use Rattle.std.proofs.Math.Seq.{get_or-append_seam}
+use Rattle.lemmas.specs.Lists.{IsIn}
 use Rattle.pools.specs.declared.word_kind.WordKind.{WordKind}
 use Rattle.pools.specs.Heap.{Setup, kind_of, words_of_cell}
 use Rattle.pools.specs.Layouts.{is_reference_kind}
 use Rattle.runs.specs.Machine.{Reference}
-use Rattle.runs.specs.Moves.{null, IsIn}
+use Rattle.runs.specs.Moves.{null}
 use Rattle.moves.specs.declared.shared.Shared.{Shared}
 use Rattle.moves.specs.Rows.{word_at}
 use Rattle.stepping.specs.declared.walk.Walk.{Walk}

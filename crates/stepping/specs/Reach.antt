@@ -1,10 +1,11 @@
 -- The first thing that is gone and can be reached, after a run.
 use Rattle.std.specs.Prelude.{ℕ, ◌≡◌, ◌≢◌, ◌<◌, Option, Some, None, List, ◌∷◌}
+use Rattle.lemmas.specs.Lists.{IsIn}
 use Rattle.pools.specs.Heap.{Setup, cells}
 use Rattle.colours.specs.declared.turn.Turn.{Turn}
 use Rattle.colours.specs.declared.turn.Turn.TheVariants.{Free}
 use Rattle.runs.specs.Machine.{Reference, Machine}
-use Rattle.runs.specs.Moves.{Move, StoresAfterBarrier, StoresPlain, ReadsPostedAgain, IsIn, state_after}
+use Rattle.runs.specs.Moves.{Move, StoresAfterBarrier, StoresPlain, ReadsPostedAgain, state_after}
 use Rattle.runs.specs.ModuleRuns.{Happening, OfThread, OfCollector, share_of}
 use Rattle.runs.specs.Broken.{IsRoot, IsReachable, IsGone, Shows, ReachBlue, ReachBirth}
 use Rattle.stepping.specs.declared.gone.Gone.{Gone}

@@ -1,10 +1,11 @@
 -- A walk over what can be reached, over the words as they are now.
 use Rattle.std.specs.Prelude.{ℕ, zero, suc, ◌≡◌, ◌≢◌, ◌<◌, ◌≤◌, ◌+◌, ◌==◌, ◌⊎◌, not, Bool, true, false, min, Option, Some, None, List, [], ◌∷◌, ◌++◌, length, slice_get, slice_set, slice_index, slice_index_or, sum_by, replicate, if◌then◌else◌, IsTrue, IfSome}
+use Rattle.lemmas.specs.Lists.{IsIn}
 use Rattle.pools.specs.declared.word_kind.WordKind.{WordKind}
 use Rattle.pools.specs.Heap.{Setup, kind_of}
 use Rattle.pools.specs.Layouts.{is_reference_kind}
 use Rattle.runs.specs.Machine.{Reference}
-use Rattle.runs.specs.Moves.{null, IsIn}
+use Rattle.runs.specs.Moves.{null}
 use Rattle.moves.specs.declared.shared.Shared.{Shared}
 use Rattle.moves.specs.Rows.{word_at}
 use Rattle.stepping.specs.declared.walk.Walk.{Walk}

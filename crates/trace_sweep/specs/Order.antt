@@ -9,9 +9,9 @@ use Rattle.colours.specs.declared.turn.Turn.{Turn}
 use Rattle.colours.specs.declared.turn.Turn.TheVariants.{PostStage, ReadStage, MarkFound, ReadColour, ScanWord, Blacken, ClearWord, Free}
 use Rattle.colours.specs.Colours.{cycle_of, grey}
 use Rattle.colours.specs.Steps.{turn_of, place_of, FoundBy}
-use Rattle.colours.specs.Mutator.{IsAmong}
 use Rattle.lemmas.specs.Numbers.{lt_true, lt_false, lt_yes, lt_no, test_yes}
 use Rattle.lemmas.specs.Bools.{yes_or_no}
+use Rattle.lemmas.specs.Lists.{IsIn}
 use Rattle.colours.specs.Collector.{Collection, Posting, Waiting, ShadingGlobals, Passing, Scanning, Shading, Sweeping, Clearing, Pass, posted_of, Turns, wait_from, sweep_from, pass_from, has_answered, looked, without, shaded_too, is_white, reference_from, Collects}
 use Rattle.collector_law.specs.Theorems.{skip_found}
 use Rattle.trace_sweep.specs.Turns.{is_at_limit, turn_in, afterwards, TurnsInOrder, IsPartOf, shaded_at, kept_list, list_after, list_after_look, list_limit, pass_after_look, next_cell}
@@ -45,7 +45,7 @@ rest c cs (d ∷ ds) (inl x) = weaker cs d ds x.1
 rest c cs (d ∷ ds) (inr x) = weaker cs d ds (rest c cs ds x)
 
 -- its first cell is in the other
-among : (c : ℕ) (cs ds : List ℕ) → IsPartOf (c ∷ cs) ds → IsAmong c ds
+among : (c : ℕ) (cs ds : List ℕ) → IsPartOf (c ∷ cs) ds → IsIn c ds
 among c cs [] part = absurd part
 among c cs (d ∷ ds) (inl x) = inl x.0
 among c cs (d ∷ ds) (inr x) = inr (among c cs ds x)

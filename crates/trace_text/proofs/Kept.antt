@@ -5,6 +5,7 @@ use Rattle.std.specs.List.{AllByRecursion}
 use Rattle.std.proofs.lemmas.Bool.Decides.{nat_tests}
 use Rattle.std.proofs.lemmas.List.FromFn.{length-map-range_with_len}
 use Rattle.std.proofs.lemmas.List.Sums.{sum_by-cons}
+use Rattle.lemmas.specs.All.{all_join}
 use Rattle.ir_ast.specs.Names.{place_of}
 use Rattle.ir_ast.specs.declared.module.Module.{Module}
 use Rattle.ir_ast.specs.declared.items_of_module.SymbolSort.{SymbolSort}
@@ -24,7 +25,7 @@ use Rattle.name_text.specs.Reader.{word, begins, line_ends, after, next_line}
 use Rattle.trace_text.specs.Forms.{function_name, new_layout, layout_named, layout_by, cell_count, argument, thread, thread_numbered, thread_by, put_pool, put_start, put_steps, step_count, steps_counted, steps_by}
 use Rattle.name_text.specs.Forms.{skip, taken, taken_as, expect, line_end}
 use Rattle.trace_text.specs.Arrivals.{arrival, arrival_of_word, past_starts, version, version_of_word}
-use Rattle.trace_text.specs.Text.{pool, past_pools, pools, arguments, start, starts, steps_of, steps_line, past_steps, all_steps, count_or_none, counts_of, pools_of, if_fitting, trace_with, finished_by, finished, heading, setup, steps, file, IsTrace}
+use Rattle.trace_text.specs.Text.{pool, past_pools, pools, arguments, start, starts, steps_of, steps_line, past_steps, all_steps, count_or_none, counts_of, trace_with, finished_by, finished, heading, setup, steps, file, IsTrace}
 use Rattle.trace_text.specs.Text as form
 use Rattle.trace_text.specs.Traces.{IsStartOf, IsActorOf, IsTraceOf, step_sum}
 use Rattle.name_text.specs.declared.naming.Sigil.TheVariants as sigil
@@ -96,10 +97,6 @@ pools_keep m (u ∷ units) i o h = pool_keeps m i h.1 u h.2 ∙ pools_keep m uni
 
 -- ---- threads
 
-all_with : {A : Type 0} (P : A → Type 0) (xs : List A) (x : A) → AllByRecursion P xs → P x → AllByRecursion P (xs ++ x ∷ [])
-all_with P [] x all own = (own, tt)
-all_with P (y ∷ xs) x all own = (all.0, all_with P xs x all.1 own)
-
 small_by : (t : Bool) (d n : ℕ) → nat_lt d 18446744073709551616 ≡ t → (if t then Some d else None) ≡ Some n → n < 2 ^ 64
 small_by true d n e h = let same : d ≡ n = cc in let less : d < 18446744073709551616 = grind (arith, nat_tests) in omega (arith, same, less)
 small_by false d n e h = absurd cc
@@ -150,7 +147,7 @@ module _ (p : LaidOut) where
       let s : Start = record { arrival = e.0; function = f.0; arguments = g.0 } in
       let begun : i.read.starts ++ s ∷ [] ≡ o.read.starts = ap (λ (j : Input). j.read.starts ++ s ∷ []) same ∙ ap (λ (j : Input). j.read.starts) l.3.1 in
       let own : IsStartOf p s = (named_by (name_in sigil.Global (word e.1)) f.0 named.0, given.0) in (
-        subst (AllByRecursion (IsStartOf p)) begun (all_with (IsStartOf p) i.read.starts s so_far.0 own),
+        subst (AllByRecursion (IsStartOf p)) begun (all_join (IsStartOf p) i.read.starts (s ∷ []) so_far.0 (own, tt)),
         (let long = sym (ap length begun) in omega (arith, long, room, length-append i.read.starts (s ∷ []))),
         sym (ap (λ (j : Input). j.read.steps) l.3.1) ∙ sym (ap (λ (j : Input). j.read.steps) same) ∙ so_far.2,
         sym (ap (λ (j : Input). j.read.made) l.3.1) ∙ sym (ap (λ (j : Input). j.read.made) same) ∙ so_far.3,
@@ -238,7 +235,7 @@ line_kept begun i o u h so_far =
     let few : i.read.made + r.2.0 ≤ 10000000 = r.2.1 in
     let sums : o.read.made ≡ step_sum o.read.steps = sym made ∙ ap (λ (n : ℕ). n + r.2.0) so_far.2 ∙ sym (sum_with i.read.steps s) ∙ ap step_sum all_steps in (
       sym (ap (λ (j : Input). j.read.starts) r.2.2) ∙ so_far.0,
-      subst (AllByRecursion (λ (x : Steps). IsActorOf (length begun) x.actor)) all_steps (all_with (λ (x : Steps). IsActorOf (length begun) x.actor) i.read.steps s so_far.1 own),
+      subst (AllByRecursion (λ (x : Steps). IsActorOf (length begun) x.actor)) all_steps (all_join (λ (x : Steps). IsActorOf (length begun) x.actor) i.read.steps (s ∷ []) so_far.1 (own, tt)),
       sums,
       omega (arith, made, few),
     )

@@ -1,8 +1,9 @@
 -- Scripts that only allocate and answer are careful: what the rules of a whole language have to show, on the smallest one.
 use Rattle.std.proofs.Common.{◌≡◌, ◌⊎◌, inl, inr, ℕ, true, false, List, [], ◌∷◌, refl, sym, subst}
+use Rattle.lemmas.specs.Lists.{IsIn}
 use Rattle.pools.specs.Heap.{Setup, IsSetup}
 use Rattle.runs.specs.Machine.{Reference, Action, Alloc, Safepoint, End}
-use Rattle.runs.specs.Moves.{Move, Works, Claims, ReadsPosted, StoresStage, null, IsIn, answer_of}
+use Rattle.runs.specs.Moves.{Move, Works, Claims, ReadsPosted, StoresStage, null, answer_of}
 use Rattle.runs.specs.Discipline.{Holds, MayName, MayCall}
 use Rattle.runs.specs.Soundness.{EndsCall, IsSound}
 use Rattle.runs.specs.Promises.{HeapLaw, IsSafe}
