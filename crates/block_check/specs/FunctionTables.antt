@@ -1,16 +1,14 @@
 -- What is found of a function once.
-use Rattle.std.specs.Prelude.{◌≡◌, length}
+use Rattle.std.specs.Prelude.{◌≡◌}
 use Rattle.ir_ast.specs.declared.function.Function.{Function}
 use Rattle.ir_ast.specs.declared.module.Module.{Module}
 use Rattle.shadow_stack.specs.Slots.{slots_of}
-use Rattle.facts.specs.Facts.{nothing_known}
 use Rattle.block_check.specs.Predecessors.{ArePredecessors}
 use Rattle.block_check.specs.PhiOperands.{AreOperandTables}
 use Rattle.block_check.specs.declared.function_tables.FunctionTables.{FunctionTables}
 
--- its slots, facts where nothing is known, its predecessors, and what comes in to its phis
+-- its slots, its predecessors, and what comes in to its phis
 pub record IsOf (m : Module) (f : Function) (tables : FunctionTables) : Type 0 where
   pub slots : tables.slots ≡ slots_of m f
-  pub blank : tables.blank ≡ nothing_known (length f.locals) (length tables.slots.held)
   pub predecessors : ArePredecessors f tables.predecessors
   pub operands : AreOperandTables f f.blocks tables.operands.items

@@ -7,6 +7,7 @@ ghost use Rattle.block_rules.specs.Functions.{blocks_in, AreBlocksCertified, IsF
 
 use crate::block_walk::BlockWalk;
 use crate::function_tables::FunctionTables;
+use crate::given::blank_facts;
 use crate::kept_rows::Rows;
 use crate::subject::{Subject, function_of};
 use crate::ways::Rooms;
@@ -112,8 +113,8 @@ fn answer_alone(alloc: Global, subject: &Subject, block: BlockId) -> Result<(), 
     requires { IsReady subject.now }
     ensures { MatchResult result (λ _. BlockCertified subject.now.scene.program.now subject.now.scene.certs.now.sections subject.now.func block) (λ fault. IfRefused fault (FirstRefusal subject.now.scene.program.now subject.now.scene.certs.now.sections subject.now.func block)) }
 {
-    let mut facts = Facts::new(alloc, 0, 0)?;
-    let Ok(mut rooms) = Rooms::new(alloc) else {
+    let mut facts = blank_facts(alloc, subject)?;
+    let Ok(mut rooms) = Rooms::new(alloc, subject) else {
         drop(facts);
         return Err(BlockFault::Memory);
     };
@@ -155,8 +156,8 @@ fn answer_blocks(alloc: Global, subject: &Subject, count: u32) -> Result<(), Blo
     requires { IsReady subject.now }
     ensures { MatchResult result (λ _. AreBlocksCertified subject.now.scene.program.now subject.now.scene.certs.now.sections subject.now.func count) (IsFunctionFault subject.now.scene.program.now subject.now.scene.certs.now.sections subject.now.func count) }
 {
-    let mut facts = Facts::new(alloc, 0, 0)?;
-    let Ok(mut rooms) = Rooms::new(alloc) else {
+    let mut facts = blank_facts(alloc, subject)?;
+    let Ok(mut rooms) = Rooms::new(alloc, subject) else {
         drop(facts);
         return Err(BlockFault::Memory);
     };

@@ -8,7 +8,7 @@ use crate::phi_operands::{PhiOperands, operands_of};
 use crate::predecessors::Predecessors;
 use crate::subject::Subject;
 use block_rules::Scene;
-use facts::{Facts, KeptFacts};
+use facts::KeptFacts;
 use ir_ast::{FuncId, Function, Module};
 use shadow_stack::{Slots, slots_of};
 use std::alloc::{AllocError, Global};
@@ -17,7 +17,6 @@ use std::alloc::{AllocError, Global};
 #[derive(Drop)]
 pub struct FunctionTables {
     pub slots: Slots,
-    pub blank: Facts,
     pub predecessors: Predecessors,
     pub operands: Vec<PhiOperands>,
 }
@@ -33,10 +32,8 @@ impl FunctionTables {
         let operands = operands_of(alloc, function)?;
         let predecessors = Predecessors::of(alloc, function)?;
         let slots = slots_of(alloc, module, function)?;
-        let blank = Facts::new(alloc, function.locals.count(), slots.count())?;
         Ok(FunctionTables {
             slots,
-            blank,
             predecessors,
             operands,
         })
@@ -61,7 +58,6 @@ impl FunctionTables {
         Subject {
             func,
             scene,
-            blank: &self.blank,
             predecessors: &self.predecessors,
             operands: self.operands.as_slice(),
             rows,

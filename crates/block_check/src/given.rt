@@ -1,5 +1,6 @@
 //! What a block begins with.
-ghost use Rattle.std.specs.Prelude.{◌≡◌, OnOk};
+ghost use Rattle.std.specs.Prelude.{◌≡◌, length, IfOk, OnOk};
+ghost use Rattle.facts.specs.Facts.{nothing_known};
 ghost use Rattle.facts.specs.Lines.{receive_all};
 ghost use Rattle.block_rules.specs.Ways.{parameters_given, line_facts, given_at};
 ghost use Rattle.block_check.specs.Subject.{seen, IsReady};
@@ -38,7 +39,7 @@ fn find_given(
     ensures { OnOk result (facts.new ≡ given_at (seen subject.now) block) }
 {
     if block.number() == 0 {
-        facts.set_from(alloc, subject.blank)?;
+        facts.reset(alloc, values_of(subject), subject.scene.slots.count())?;
         receive_parameters(
             subject.scene.module(),
             facts,
@@ -76,8 +77,26 @@ fn list_lines(
     requires { IsReady subject.now }
     ensures { OnOk result (facts.new ≡ line_facts (seen subject.now) block) }
 {
-    facts.set_from(alloc, subject.blank)?;
-    facts.begin(alloc, subject.scene.slots, subject.lines(block))
+    facts.begin(
+        alloc,
+        values_of(subject),
+        subject.scene.slots,
+        subject.lines(block),
+    )
+}
+
+/// How many values the function has.
+fn values_of(subject: &Subject) -> usize
+    ensures { result ≡ length subject.now.scene.function.now.locals }
+{
+    subject.scene.function.locals.count()
+}
+
+/// Facts where nothing is known of the values and slots of the function.
+pub fn blank_facts(alloc: Global, subject: &Subject) -> Result<Facts, AllocError>
+    ensures { IfOk result (λ facts. facts ≡ nothing_known (length subject.now.scene.function.now.locals) (length subject.now.scene.slots.now.held)) }
+{
+    Facts::new(alloc, values_of(subject), subject.scene.slots.count())
 }
 
 fn receive_parameters(

@@ -5,7 +5,7 @@ ghost use Rattle.block_check.specs.Rows.{given_first, AreRowsOf};
 ghost use Rattle.block_check.specs.Subject.{seen, IsReady};
 
 use crate::function_tables::FunctionTables;
-use crate::given::begin_block;
+use crate::given::{begin_block, blank_facts};
 use crate::kept_rows::Rows;
 use crate::subject::{Subject, function_of};
 use block_rules::Scene;
@@ -47,7 +47,7 @@ fn given_first(alloc: Global, subject: &Subject, count: u32) -> Result<Vec<KeptF
     requires { IsReady subject.now }
     ensures { IfOk result (λ blocks. blocks.items ≡ given_first (seen subject.now) count) }
 {
-    let mut facts = Facts::new(alloc, 0, 0)?;
+    let mut facts = blank_facts(alloc, subject)?;
     let mut blocks = Vec::new(alloc);
     for number in 0..count {
         let kept = keep_given(alloc, subject, &mut facts, BlockId::new(number))?;

@@ -9,7 +9,7 @@ use crate::phi_operands::PhiOperands;
 use crate::predecessors::Predecessors;
 use block_rules::Scene;
 use certs::{Line, Mark, Promise};
-use facts::{Facts, KeptFacts};
+use facts::KeptFacts;
 use ir_ast::{BlockId, End, FuncId, Function, Instr, Module, Operand, Phi};
 
 /// The function that is checked, with what is found of it once.
@@ -17,8 +17,6 @@ use ir_ast::{BlockId, End, FuncId, Function, Instr, Module, Operand, Phi};
 pub struct Subject<'a> {
     pub func: FuncId,
     pub scene: Scene<'a>,
-    /// Nothing is known of its values and slots.
-    pub blank: &'a Facts,
     pub predecessors: &'a Predecessors,
     /// What comes in to the phis of each block.
     pub operands: &'a [PhiOperands],

@@ -1,5 +1,5 @@
 //! The edges out of a block, and the first line of a target that is not shown.
-ghost use Rattle.std.specs.Prelude.{◌≡◌, [], map, Some, OnOk, IfOk};
+ghost use Rattle.std.specs.Prelude.{◌≡◌, [], length, map, Some, OnOk, IfOk};
 ghost use Rattle.facts.specs.Facts.{nothing_known};
 ghost use Rattle.types.specs.ValueTypes.{target_of};
 ghost use Rattle.block_rules.specs.Ways.{open_way, branch_ways, ways, decided_facts, entered, line_facts, unshown_line, unshown_at, unshown_on};
@@ -9,7 +9,7 @@ ghost use Rattle.block_check.specs.Shown.{AreShown};
 ghost use Rattle.block_check.specs.Refills.{CanRefill, refill_after};
 
 use crate::block_set::BlockSet;
-use crate::given::begin_lines;
+use crate::given::{begin_lines, blank_facts};
 use crate::phis::note_entries;
 use crate::subject::{Subject, phis_of};
 use block_rules::Detail;
@@ -44,14 +44,14 @@ pub struct Rooms {
 }
 
 impl Rooms {
-    /// Rooms in which nothing is known, and nothing is noted.
-    pub fn new(alloc: Global) -> Result<Rooms, AllocError>
-        ensures way { IfOk result (λ rooms. rooms.way ≡ nothing_known 0 0) }
-        ensures there { IfOk result (λ rooms. rooms.there ≡ nothing_known 0 0) }
+    /// Rooms in which nothing is known of the values and slots of the function, and nothing is noted.
+    pub fn new(alloc: Global, subject: &Subject) -> Result<Rooms, AllocError>
+        ensures way { IfOk result (λ rooms. rooms.way ≡ nothing_known (length subject.now.scene.function.now.locals) (length subject.now.scene.slots.now.held)) }
+        ensures there { IfOk result (λ rooms. rooms.there ≡ nothing_known (length subject.now.scene.function.now.locals) (length subject.now.scene.slots.now.held)) }
         ensures entries { IfOk result (λ rooms. rooms.entries ≡ []) }
     {
-        let way = Facts::new(alloc, 0, 0)?;
-        let there = Facts::new(alloc, 0, 0)?;
+        let way = blank_facts(alloc, subject)?;
+        let there = blank_facts(alloc, subject)?;
         Ok(Rooms {
             way,
             refill: Refill::Copy,

@@ -72,7 +72,7 @@ fn is_alike(one: &Facts, other: &Facts) -> bool {
 /// A call that changes what a sample says.
 #[derive(Clone, Copy, Debug)]
 enum FactCall {
-    Clear,
+    Reset,
     Forget,
     Define,
     DefineNew,
@@ -90,7 +90,7 @@ enum FactCall {
 }
 
 const CHANGES: [FactCall; 15] = [
-    FactCall::Clear,
+    FactCall::Reset,
     FactCall::Forget,
     FactCall::Define,
     FactCall::DefineNew,
@@ -113,7 +113,7 @@ fn make(alloc: Global, facts: &mut Facts, change: FactCall) -> Result<(), AllocE
     let known = facts.known(ValueId::new(REFERENCE));
     let test = facts.test(ValueId::new(TEST));
     match change {
-        FactCall::Clear => facts.clear(alloc),
+        FactCall::Reset => facts.reset(alloc, 3, 1),
         FactCall::Forget => facts.forget(ValueId::new(REFERENCE)),
         FactCall::Define => facts.define(value, Known::Null),
         FactCall::DefineNew => facts.define_new(value, layout, Class::lost()),

@@ -8,7 +8,7 @@ use Rattle.std.proofs.lemmas.List.FromFn.{get_or-enumerate_from, length-enumerat
 use Rattle.std.proofs.lemmas.Slice.Zip.{get_or-zip, length-zip}
 use Rattle.std.specs.Prelude.{◌==◌, ◌||◌, replicate, if◌then◌else◌}
 use Rattle.std.specs.List.{enumerate_from, zip}
-use Rattle.facts.specs.EachListed.{IsOne}
+use Rattle.lemmas.specs.Lists.{IsIn}
 use Rattle.facts.specs.declared.known.Class.{Class}
 use Rattle.facts.specs.declared.known.Known.{Known}
 use Rattle.facts.specs.declared.known.Known.TheVariants.{Nothing, Number, Cell, Null, Address, GlobalAddress}
@@ -146,7 +146,7 @@ module _ (v : ℕ) (rows next : List Row) (each : EachRow (changed (Off v)) rows
     none row h = absurd cc
 
     kept : (v ≡ w → ⊥) → IsUser uses rows u w → IsUser uses last u w
-    kept ne h = subst (λ (used : Option ℕ). IsOne u (chain (length uses) uses used)) (sym (ap (λ r. r.used) (get_or-set_other next v w (ended_row (row_at next v)) blank (λ x. ne (sym x)) ∙ each.1 w long))) h
+    kept ne h = subst (λ (used : Option ℕ). IsIn u (chain (length uses) uses used)) (sym (ap (λ r. r.used) (get_or-set_other next v w (ended_row (row_at next v)) blank (λ x. ne (sym x)) ∙ each.1 w long))) h
 
     other : (v ≡ u → ⊥) → (u < length rows) ⊎ (length rows ≤ u) → IsUser uses last u w
     other ne (inl at) = let less = off_less v w (row_at rows u) (ap (names w) (sym (get_or-set_other next v u (ended_row (row_at next v)) blank (λ x. ne (sym x)) ∙ each.1 u at)) ∙ e) in kept less.1 (only u w less.0 long)

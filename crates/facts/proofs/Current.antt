@@ -3,7 +3,8 @@ use Rattle.std.proofs.Common.{◌≡◌, ◌<◌, ◌⊎◌, ℕ, length, List, 
 use Rattle.std.specs.Prelude.{not, ◌&&◌, ◌==◌, replicate, if◌then◌else◌}
 use Rattle.lemmas.specs.Bools.{not_true}
 use Rattle.lemmas.specs.Numbers.{test_true, test_same}
-use Rattle.facts.specs.EachListed.{IsOne, each_listed}
+use Rattle.lemmas.specs.Lists.{IsIn}
+use Rattle.facts.specs.EachListed.{each_listed}
 use Rattle.facts.proofs.EachListed.{length_each, each_at}
 use Rattle.facts.specs.declared.known.Class.{Class}
 use Rattle.facts.specs.declared.known.Known.{Known}
@@ -108,7 +109,7 @@ module _ (change : ℕ → Row → Row) (leaves : (v : ℕ) → change v blank �
   none_after settles v = inr (subst (λ (row : Row). is_settled v row ≡ true) (sym (at v)) (settles v (row_at before v)))
 
 -- a change that leaves the rows that are not listed is one of all rows
-pub all_listed : (change : ℕ → Row → Row) → ((v : ℕ) (row : Row) → change v (change v row) ≡ change v row) → (listed : List ℕ) (rows : List Row) → ((v : ℕ) → v < length rows → IsOne v listed ⊎ (change v (row_at rows v) ≡ row_at rows v)) → EachRow change rows (each_listed blank change listed rows)
+pub all_listed : (change : ℕ → Row → Row) → ((v : ℕ) (row : Row) → change v (change v row) ≡ change v row) → (listed : List ℕ) (rows : List Row) → ((v : ℕ) → v < length rows → IsIn v listed ⊎ (change v (row_at rows v) ≡ row_at rows v)) → EachRow change rows (each_listed blank change listed rows)
 all_listed change twice listed rows seen = (length_each blank change listed rows, each_at blank change twice listed rows seen)
 
 -- blank rows stay blank at a safepoint

@@ -7,8 +7,7 @@ use Rattle.std.proofs.lemmas.List.{ext_get_or, get_or_past, get_or-set_same, get
 use Rattle.std.specs.Prelude.{not, ◌&&◌, ◌||◌, ◌==◌, if◌then◌else◌}
 use Rattle.std.specs.List.{list_any}
 use Rattle.lemmas.specs.Numbers.{test_no, test_same}
-use Rattle.facts.specs.EachListed.{IsOne}
-use Rattle.facts.proofs.EachListed.{one_more}
+use Rattle.lemmas.specs.Lists.{in_first, IsIn}
 use Rattle.facts.specs.declared.owners.Owners.{Owners}
 use Rattle.facts.specs.declared.known.Class.{Class}
 use Rattle.facts.specs.declared.known.Known.{Known}
@@ -51,7 +50,7 @@ module _ (v : ℕ) (rows : List Row) where
   off_users uses only u w e lt =
       let named = off_less v w (row_at rows u) (ap (names w) (sym (at_off u)) ∙ e) in
       let long : w < length rows = rw (← length-map rows (off_row v)) lt in
-      subst (λ (used : Option ℕ). IsOne u (chain (length uses) uses used)) (sym (ap (λ (row : Row). row.used) (at_off w))) (only u w named.0 long)
+      subst (λ (used : Option ℕ). IsIn u (chain (length uses) uses used)) (sym (ap (λ (row : Row). row.used) (at_off w))) (only u w named.0 long)
 
   module _ (row : Row) where
     abbrev after : List Row
@@ -68,36 +67,36 @@ module _ (v : ℕ) (rows : List Row) where
 
     pub defined_marked : (marked : List ℕ) → OnlyMarked marked rows → OnlyMarked (with_mark v (row_at rows v) marked) after
     defined_marked marked only u = pick (cases_eq v u) where
-      more : (b : Bool) → IsOne u marked → IsOne u (if b then marked ++ v ∷ [] else marked)
-      more true one = one_more u v marked one
+      more : (b : Bool) → IsIn u marked → IsIn u (if b then marked ++ v ∷ [] else marked)
+      more true one = in_first u marked (v ∷ []) one
       more false one = one
 
-      pick : (v ≡ u) ⊎ (v ≡ u → ⊥) → IsOne u (with_mark v (row_at rows v) marked) ⊎ (row_at after u ≡ blank)
-      pick (inl same) = subst (λ x. IsOne x (with_mark v (row_at rows v) marked) ⊎ (row_at after x ≡ blank)) same (elim (set_marked v row marked rows only v) [ inl one ↦ inl one | inr e ↦ inr (row_there ∙ e) ])
+      pick : (v ≡ u) ⊎ (v ≡ u → ⊥) → IsIn u (with_mark v (row_at rows v) marked) ⊎ (row_at after u ≡ blank)
+      pick (inl same) = subst (λ x. IsIn x (with_mark v (row_at rows v) marked) ⊎ (row_at after x ≡ blank)) same (elim (set_marked v row marked rows only v) [ inl one ↦ inl one | inr e ↦ inr (row_there ∙ e) ])
       pick (inr ne) = elim (marked_after (changed (Off v)) (λ w. refl) rows offs off_each marked only u) [ inl one ↦ inl (more _ one) | inr e ↦ inr (other_row u ne ∙ e) ]
 
     pub defined_unless : (p : ℕ → Row → Bool) → ((u : ℕ) → p u blank ≡ true) → ((u : ℕ) (r : Row) → p u r ≡ true → p u (off_row v r) ≡ true) → (listed : List ℕ) → Unless p listed rows → Unless p (with_row p v (row_at rows v) row listed) after
     defined_unless p of_blank keeps listed only u = pick (cases_eq v u) where
-      more : (b : Bool) → IsOne u listed → IsOne u (if b then listed ++ v ∷ [] else listed)
-      more true one = one_more u v listed one
+      more : (b : Bool) → IsIn u listed → IsIn u (if b then listed ++ v ∷ [] else listed)
+      more true one = in_first u listed (v ∷ []) one
       more false one = one
 
-      pick : (v ≡ u) ⊎ (v ≡ u → ⊥) → IsOne u (with_row p v (row_at rows v) row listed) ⊎ (p u (row_at after u) ≡ true)
-      pick (inl same) = subst (λ x. IsOne x (with_row p v (row_at rows v) row listed) ⊎ (p x (row_at after x) ≡ true)) same
+      pick : (v ≡ u) ⊎ (v ≡ u → ⊥) → IsIn u (with_row p v (row_at rows v) row listed) ⊎ (p u (row_at after u) ≡ true)
+      pick (inl same) = subst (λ x. IsIn x (with_row p v (row_at rows v) row listed) ⊎ (p x (row_at after x) ≡ true)) same
           (elim (set_unless p of_blank v row listed rows only v) [ inl one ↦ inl one | inr e ↦ inr (ap (p v) row_there ∙ e) ])
       pick (inr ne) = elim (unless_after (changed (Off v)) (λ w. refl) rows offs off_each p listed keeps only u) [ inl one ↦ inl (more _ one) | inr e ↦ inr (ap (p u) (other_row u ne) ∙ e) ]
 
     pub defined_current : (current : List ℕ) → OnlyCurrent current rows → OnlyCurrent (with_current v (row_at rows v) row current) after
     defined_current current only = defined_unless is_settled (λ u. refl) (off_settled v) current only
 
-    pub defined_non_owners : (class_owners : List Owners) (non_owners : List ℕ) → ListsNonOwners non_owners class_owners rows → IsOne v non_owners ⊎ (owns_class (length rows) class_owners v row ≡ true) → ListsNonOwners non_owners class_owners after
+    pub defined_non_owners : (class_owners : List Owners) (non_owners : List ℕ) → ListsNonOwners non_owners class_owners rows → IsIn v non_owners ⊎ (owns_class (length rows) class_owners v row ≡ true) → ListsNonOwners non_owners class_owners after
     defined_non_owners class_owners non_owners only noted = put_non_owners v row offs class_owners non_owners
         (as_many class_owners non_owners rows offs off_each.0 (unless_after (changed (Off v)) (λ w. refl) rows offs off_each (owns_class (length rows) class_owners) non_owners (off_owns (length rows) class_owners v) only))
-        (subst (λ n. IsOne v non_owners ⊎ (owns_class n class_owners v row ≡ true)) (sym off_each.0) noted)
+        (subst (λ n. IsIn v non_owners ⊎ (owns_class n class_owners v row ≡ true)) (sym off_each.0) noted)
 
     pub defined_users : (uses : List Use) → OnlyUsers uses rows → row.used ≡ (row_at rows v).used → ((w : ℕ) → names w row ≡ true → w < length rows → IsUser uses rows v w) → OnlyUsers uses after
     defined_users uses only same says = users_set uses offs v row (off_users uses only) (same ∙ sym (ap (λ (r : Row). r.used) (at_off v)))
-        (λ w e lt. subst (λ (used : Option ℕ). IsOne v (chain (length uses) uses used)) (sym (ap (λ (r : Row). r.used) (at_off w))) (says w e (rw (← length-map rows (off_row v)) lt)))
+        (λ w e lt. subst (λ (used : Option ℕ). IsIn v (chain (length uses) uses used)) (sym (ap (λ (r : Row). r.used) (at_off w))) (says w e (rw (← length-map rows (off_row v)) lt)))
 
   -- a value is used as before
   pub defined_uses : (row : Row) → row.used ≡ (row_at rows v).used → SameUses rows (slice_set offs v row)
@@ -132,7 +131,7 @@ module _ (v c : ℕ) (rows : List Row) where
   other_listed listed only = any_same (other_is_of v c rows) (row_is_of c without) other_is listed
       ∙ any_listed c listed without (λ u. members u (cases_eq v u)) ∙ ap (list_any (is_of c)) (map-set known_of rows v blank)
     where
-      members : (u : ℕ) → (v ≡ u) ⊎ (v ≡ u → ⊥) → IsOne u listed ⊎ (is_of c (row_at without u).known ≡ false)
+      members : (u : ℕ) → (v ≡ u) ⊎ (v ≡ u → ⊥) → IsIn u listed ⊎ (is_of c (row_at without u).known ≡ false)
       members u (inl same) = inr (subst (λ x. is_of c (row_at without x).known ≡ false) same (ap (λ (row : Row). is_of c row.known) (set_empty rows v blank)))
       members u (inr ne) = elim (only u) [ inl one ↦ inl one | inr e ↦ inr (ap (λ (row : Row). is_of c row.known) (get_or-set_other rows v u blank blank (λ x. ne (sym x))) ∙ e) ]
 

@@ -1,9 +1,10 @@
 -- Changes of listed elements, as changes of all elements.
-use Rattle.std.proofs.Common.{◌≡◌, ◌<◌, ◌⊎◌, inl, inr, ℕ, List, [], ◌∷◌, length, ◌++◌, get_or, refl, sym, ap, ◌∙◌, subst, slice_set}
+use Rattle.std.proofs.Common.{◌≡◌, ◌<◌, ◌⊎◌, inl, inr, ℕ, List, [], ◌∷◌, length, get_or, refl, sym, ap, ◌∙◌, subst, slice_set}
 use Rattle.std.specs.Prelude.{replicate}
 use Rattle.std.proofs.lemmas.Bool.{cases_eq}
 use Rattle.std.proofs.lemmas.List.{ext_get_or, get_or-set_same, get_or-set_other, length-set, length-replicate, get_or-replicate}
-use Rattle.facts.specs.EachListed.{IsOne, OnlyListed, each_listed, copied}
+use Rattle.lemmas.specs.Lists.{IsIn}
+use Rattle.facts.specs.EachListed.{OnlyListed, each_listed, copied}
 
 module _ {X : Type 0} (d : X) where
   pub length_each : (change : ℕ → X → X) (listed : List ℕ) (xs : List X) → length (each_listed d change listed xs) ≡ length xs
@@ -12,7 +13,7 @@ module _ {X : Type 0} (d : X) where
 
   module _ (change : ℕ → X → X) (twice : (i : ℕ) (x : X) → change i (change i x) ≡ change i x) where
     -- a change that the elements that are not listed do not see is one of all elements
-    pub each_at : (listed : List ℕ) (xs : List X) → ((i : ℕ) → i < length xs → IsOne i listed ⊎ (change i (get_or xs i d) ≡ get_or xs i d))
+    pub each_at : (listed : List ℕ) (xs : List X) → ((i : ℕ) → i < length xs → IsIn i listed ⊎ (change i (get_or xs i d) ≡ get_or xs i d))
         → (j : ℕ) → j < length xs → get_or (each_listed d change listed xs) j d ≡ change j (get_or xs j d)
     each_at [] xs h j lt = elim (h j lt) [ inl one ↦ absurd one | inr e ↦ sym e ]
     each_at (i ∷ listed) xs h j lt = each_at listed next more j (rw length-set lt) ∙ now where
@@ -25,14 +26,14 @@ module _ {X : Type 0} (d : X) where
       kept : (k : ℕ) → (i ≡ k → ⊥) → get_or next k d ≡ get_or xs k d
       kept k ne = get_or-set_other xs i k (change i (get_or xs i d)) d (λ e. ne (sym e))
 
-      more : (k : ℕ) → k < length next → IsOne k listed ⊎ (change k (get_or next k d) ≡ get_or next k d)
+      more : (k : ℕ) → k < length next → IsIn k listed ⊎ (change k (get_or next k d) ≡ get_or next k d)
       more k at = pick (cases_eq i k) where
-        pick : (i ≡ k) ⊎ (i ≡ k → ⊥) → IsOne k listed ⊎ (change k (get_or next k d) ≡ get_or next k d)
+        pick : (i ≡ k) ⊎ (i ≡ k → ⊥) → IsIn k listed ⊎ (change k (get_or next k d) ≡ get_or next k d)
         pick (inl e) = inr (subst (λ n. change n (get_or next n d) ≡ get_or next n d) e (ap (change i) (changed here) ∙ twice i (get_or xs i d) ∙ sym (changed here))) where
           here : i < length xs
           here = rw (← length-set xs i (change i (get_or xs i d))) (subst (λ n. n < length next) (sym e) at)
         pick (inr ne) = elim (h k (rw (← length-set xs i (change i (get_or xs i d))) at)) [
-          | inl (inl e) ↦ absurd (ne e)
+          | inl (inl e) ↦ absurd (ne (sym e))
           | inl (inr one) ↦ inl one
           | inr e ↦ inr (ap (change k) (kept k ne) ∙ e ∙ sym (kept k ne))
         ]
@@ -48,7 +49,7 @@ module _ {X : Type 0} (d : X) where
   wiped_all listed xs only = ext_get_or d (each_listed d (copied d []) listed xs) (replicate (length xs) d) (length_each (copied d []) listed xs ∙ sym (length-replicate (length xs) d))
       (λ i lt. each_at (copied d []) (λ k x. refl) listed xs seen i (rw (← length_each (copied d []) listed xs) lt) ∙ sym (get_or-replicate (length xs) i d d (rw (← length_each (copied d []) listed xs) lt)))
     where
-      seen : (i : ℕ) → i < length xs → IsOne i listed ⊎ (d ≡ get_or xs i d)
+      seen : (i : ℕ) → i < length xs → IsIn i listed ⊎ (d ≡ get_or xs i d)
       seen i lt = elim (only i) [ inl one ↦ inl one | inr e ↦ inr (sym e) ]
 
   -- a list of d alone becomes another one
@@ -62,15 +63,5 @@ module _ {X : Type 0} (d : X) where
       long : length (each_listed d (copied d others) listed xs) ≡ length others
       long = length_each (copied d others) listed xs ∙ same
 
-      seen : (i : ℕ) → i < length xs → IsOne i listed ⊎ (get_or others i d ≡ get_or xs i d)
+      seen : (i : ℕ) → i < length xs → IsIn i listed ⊎ (get_or others i d ≡ get_or xs i d)
       seen i lt = elim (only i) [ inl one ↦ inl one | inr e ↦ inr (e ∙ sym (ap (λ l. get_or l i d) empty ∙ get_or-replicate (length others) i d d (rw (← same) lt))) ]
-
--- one of these is one of more
-pub one_more : (i k : ℕ) (listed : List ℕ) → IsOne i listed → IsOne i (listed ++ k ∷ [])
-one_more i k [] one = absurd one
-one_more i k (j ∷ listed) (inl e) = inl e
-one_more i k (j ∷ listed) (inr one) = inr (one_more i k listed one)
-
-pub one_last : (i : ℕ) (listed : List ℕ) → IsOne i (listed ++ i ∷ [])
-one_last i [] = inl refl
-one_last i (j ∷ listed) = inr (one_last i listed)

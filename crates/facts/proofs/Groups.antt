@@ -4,8 +4,7 @@ use Rattle.std.proofs.lemmas.List.{get_or_append_left, get_or-set_same, get_or-s
 use Rattle.std.specs.Prelude.{◌==◌, if◌then◌else◌}
 use Rattle.lemmas.specs.Numbers.{test_true, test_false, test_no, test_same, some_same}
 use Rattle.std.proofs.lemmas.Bool.{cases_eq}
-use Rattle.facts.specs.EachListed.{IsOne}
-use Rattle.facts.proofs.EachListed.{one_more, one_last}
+use Rattle.lemmas.specs.Lists.{in_first, last_in, IsIn}
 use Rattle.facts.specs.declared.ties.Group.{Group}
 use Rattle.facts.specs.Lines.{moved}
 use Rattle.facts.specs.Ties.{no_group, class_in, class_of_place, in_group, is_place, AreListed, AreClasses, AreTied}
@@ -142,13 +141,13 @@ module _ (places next : ℕ → Option ℕ) (groups : List Group) (v : ℕ) (alo
 
   pub more_tied : (tied : List ℕ) → AreTied places tied → AreTied next (tied ++ v ∷ [])
   more_tied tied all c = elim (cases_eq v c) [
-    | inl same ↦ inl (subst (λ x. IsOne x (tied ++ v ∷ [])) same (one_last v tied))
-    | inr ne ↦ elim (all c) [ inl one ↦ inl (one_more c v tied one) | inr e ↦ inr (next_other c ne ∙ e) ]
+    | inl same ↦ inl (subst (λ x. IsIn x (tied ++ v ∷ [])) same (last_in v tied))
+    | inr ne ↦ elim (all c) [ inl one ↦ inl (in_first c tied (v ∷ []) one) | inr e ↦ inr (next_other c ne ∙ e) ]
   ]
 
-  pub more_listed : (members after : ℕ → List ℕ) → AreListed places members → ((list u : ℕ) → IsOne u (members list) → IsOne u (after list)) → IsOne v (after (length groups)) → AreListed next after
+  pub more_listed : (members after : ℕ → List ℕ) → AreListed places members → ((list u : ℕ) → IsIn u (members list) → IsIn u (after list)) → IsIn v (after (length groups)) → AreListed next after
   more_listed members after listed kept added c p e = elim (cases_eq v c) [
-    | inl same ↦ let at : length groups ≡ p = some_same (length groups) p (sym next_v ∙ ap next same ∙ e) in subst (λ x. IsOne c (after x)) at (subst (λ x. IsOne x (after (length groups))) same added)
+    | inl same ↦ let at : length groups ≡ p = some_same (length groups) p (sym next_v ∙ ap next same ∙ e) in subst (λ x. IsIn c (after x)) at (subst (λ x. IsIn x (after (length groups))) same added)
     | inr ne ↦ kept p c (listed c p (sym (next_other c ne) ∙ e))
   ]
 
@@ -168,7 +167,7 @@ IsPart from to old now = (c : ℕ) → (now c ≡ old c) ⊎ ((old c ≡ Some fr
 
 -- each value but the rest is where it is to be
 abbrev pub AreMoved : (from to : ℕ) → (rest : List ℕ) → (old now : ℕ → Option ℕ) → Type 0
-AreMoved from to rest old now = (c : ℕ) → IsOne c rest ⊎ (now c ≡ in_group from to (old c))
+AreMoved from to rest old now = (c : ℕ) → IsIn c rest ⊎ (now c ≡ in_group from to (old c))
 
 pub place_yes : (from to : ℕ) (place : Option ℕ) → is_place from place ≡ true → in_group from to place ≡ Some to
 place_yes from to None e = absurd cc
@@ -180,9 +179,9 @@ place_no from to (Some place) e = ap Some (moved_not from to place (test_false p
 
 module _ (from to : ℕ) (old : ℕ → Option ℕ) where
   -- where all values of the group are listed
-  pub moved_first : (list : List ℕ) → ((c : ℕ) → old c ≡ Some from → IsOne c list) → AreMoved from to list old old
+  pub moved_first : (list : List ℕ) → ((c : ℕ) → old c ≡ Some from → IsIn c list) → AreMoved from to list old old
   moved_first list all c = by (is_place from (old c)) refl where
-    by : (b : Bool) → is_place from (old c) ≡ b → IsOne c list ⊎ (old c ≡ in_group from to (old c))
+    by : (b : Bool) → is_place from (old c) ≡ b → IsIn c list ⊎ (old c ≡ in_group from to (old c))
     by true e = inl (all c (at (old c) e)) where
       at : (place : Option ℕ) → is_place from place ≡ true → place ≡ Some from
       at None e = absurd cc
@@ -211,7 +210,7 @@ module _ (from to : ℕ) (old : ℕ → Option ℕ) where
     moved_one : (rest : List ℕ) → AreMoved from to (number ∷ rest) old now → AreMoved from to rest old next
     moved_one rest was c = elim (cases_eq number c) [
       | inl same ↦ inr (subst (λ x. next x ≡ in_group from to (old x)) same at_number)
-      | inr ne ↦ elim (was c) [ inl one ↦ elim one [ inl same ↦ absurd (ne same) | inr more ↦ inl more ] | inr e ↦ inr (others c ne ∙ e) ]
+      | inr ne ↦ elim (was c) [ inl one ↦ elim one [ inl same ↦ absurd (ne (sym same)) | inr more ↦ inl more ] | inr e ↦ inr (others c ne ∙ e) ]
     ]
 
     pub moved_more : (list : List ℕ) (i : ℕ) → i < length list → number ≡ get_or list i 0 → AreMoved from to (drop i list) old now → AreMoved from to (drop (i + 1) list) old next
@@ -222,9 +221,9 @@ module _ (from to : ℕ) (old : ℕ → Option ℕ) where
   moved_all now all c = elim (all c) [ inl one ↦ absurd one | inr e ↦ e ]
 
 -- one value more is of a group
-pub listed_more : (now next : ℕ → Option ℕ) (number to : ℕ) → ((c : ℕ) → next c ≡ cond (number == c) (Some to) (now c)) → (members after : ℕ → List ℕ) → ((list u : ℕ) → IsOne u (members list) → IsOne u (after list)) → IsOne number (after to) → AreListed now members → AreListed next after
+pub listed_more : (now next : ℕ → Option ℕ) (number to : ℕ) → ((c : ℕ) → next c ≡ cond (number == c) (Some to) (now c)) → (members after : ℕ → List ℕ) → ((list u : ℕ) → IsIn u (members list) → IsIn u (after list)) → IsIn number (after to) → AreListed now members → AreListed next after
 listed_more now next number to puts members after kept added listed c p e = elim (cases_eq number c) [
-  | inl same ↦ let at : Some to ≡ Some p = sym (ap (λ (b : Bool). cond b (Some to) (now number)) (test_same number)) ∙ sym (puts number) ∙ ap next same ∙ e in subst (λ x. IsOne x (after p)) same (subst (λ x. IsOne number (after x)) (some_same to p at) added)
+  | inl same ↦ let at : Some to ≡ Some p = sym (ap (λ (b : Bool). cond b (Some to) (now number)) (test_same number)) ∙ sym (puts number) ∙ ap next same ∙ e in subst (λ x. IsIn x (after p)) same (subst (λ x. IsIn number (after x)) (some_same to p at) added)
   | inr ne ↦ kept p c (listed c p (sym (puts c ∙ ap (λ (b : Bool). cond b (Some to) (now c)) (test_no number c ne)) ∙ e))
 ]
 

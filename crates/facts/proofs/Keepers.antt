@@ -6,9 +6,8 @@ use Rattle.std.specs.List.{list_any}
 use Rattle.std.proofs.lemmas.Bool.{cases_eq, cases_lt}
 use Rattle.std.proofs.lemmas.List.{get_or_past, get_or-set_same, length-set}
 use Rattle.lemmas.specs.Bools.{never_true}
-use Rattle.lemmas.specs.Lists.{at_map}
-use Rattle.facts.specs.EachListed.{IsOne, each_listed}
-use Rattle.facts.proofs.EachListed.{one_more}
+use Rattle.lemmas.specs.Lists.{in_first, IsIn, at_map}
+use Rattle.facts.specs.EachListed.{each_listed}
 use Rattle.facts.specs.declared.chains.Chains.{Chains}
 use Rattle.facts.specs.declared.known.Class.{Class}
 use Rattle.facts.specs.declared.known.SlotFact.{SlotFact}
@@ -31,16 +30,16 @@ pub none_keep : (keepers : Chains) (count : ℕ) (slots : List SlotFact) → slo
 none_keep keepers count slots e s c h = absurd (holds_none c (slot_at slots s) (ap (λ (slot : SlotFact). slot.holds) (ap (λ l. slot_at l s) e ∙ open_at count s)) h)
 
 -- more are listed
-pub more_keepers : (keepers next : Chains) (slots : List SlotFact) → ((c s : ℕ) → IsOne s (listed keepers c) → IsOne s (listed next c)) → OnlyKeepers keepers slots → OnlyKeepers next slots
+pub more_keepers : (keepers next : Chains) (slots : List SlotFact) → ((c s : ℕ) → IsIn s (listed keepers c) → IsIn s (listed next c)) → OnlyKeepers keepers slots → OnlyKeepers next slots
 more_keepers keepers next slots kept only s c h = kept c s (only s c h)
 
 -- a slot is written, which is listed for what it holds
-pub set_keepers : (keepers : Chains) (s : ℕ) (slot : SlotFact) (slots : List SlotFact) → ((c : ℕ) → holds c slot ≡ true → IsOne s (listed keepers c)) → OnlyKeepers keepers slots → OnlyKeepers keepers (slice_set slots s slot)
+pub set_keepers : (keepers : Chains) (s : ℕ) (slot : SlotFact) (slots : List SlotFact) → ((c : ℕ) → holds c slot ≡ true → IsIn s (listed keepers c)) → OnlyKeepers keepers slots → OnlyKeepers keepers (slice_set slots s slot)
 set_keepers keepers s slot slots noted only u c h = elim (cases_eq s u) [
-  | inl same ↦ subst (λ x. IsOne x (listed keepers c)) same (here (cases_lt s (length slots)) (subst (λ x. holds c (slot_at (slice_set slots s slot) x) ≡ true) (sym same) h))
+  | inl same ↦ subst (λ x. IsIn x (listed keepers c)) same (here (cases_lt s (length slots)) (subst (λ x. holds c (slot_at (slice_set slots s slot) x) ≡ true) (sym same) h))
   | inr ne ↦ only u c (sym (ap (holds c) (as_before s slot slots u ne)) ∙ h)
 ] where
-  here : (s < length slots) ⊎ (length slots ≤ s) → holds c (slot_at (slice_set slots s slot) s) ≡ true → IsOne s (listed keepers c)
+  here : (s < length slots) ⊎ (length slots ≤ s) → holds c (slot_at (slice_set slots s slot) s) ≡ true → IsIn s (listed keepers c)
   here (inl lt) e = noted c (sym (ap (holds c) (get_or-set_same slots s slot open_slot lt)) ∙ e)
   here (inr past) e = let none = ap (holds c) (get_or_past (slice_set slots s slot) s open_slot (rw length-set past)) in absurd cc
 
@@ -67,7 +66,7 @@ module _ (d : ℕ) (nonnull : Bool) where
   -- no slot but the keepers sees it
   pub keepers_let_go : (keepers : Chains) (slots : List SlotFact) → OnlyKeepers keepers slots → each_listed open_slot (λ s. let_go d nonnull) (listed keepers d) slots ≡ map (let_go d nonnull) slots
   keepers_let_go keepers slots only = let_go_listed d nonnull (listed keepers d) slots (λ s. pick s (holds d (slot_at slots s)) refl) where
-    pick : (s : ℕ) (b : Bool) → holds d (slot_at slots s) ≡ b → IsOne s (listed keepers d) ⊎ (holds d (slot_at slots s) ≡ false)
+    pick : (s : ℕ) (b : Bool) → holds d (slot_at slots s) ≡ b → IsIn s (listed keepers d) ⊎ (holds d (slot_at slots s) ≡ false)
     pick s true e = inl (only s d e)
     pick s false e = inr e
 
@@ -77,7 +76,7 @@ end_keepers classes keepers slots s c h = absurd (holds_none c (slot_at (map (en
 module _ (keepers : Chains) (slots : List SlotFact) (only : OnlyKeepers keepers slots) where
   -- where none was listed, no slot holds the class
   pub none_holds : (c : ℕ) → listed keepers c ≡ [] → list_any (holds c) slots ≡ false
-  none_holds c e = none slots (λ s. never_true (holds c (slot_at slots s)) (λ h. let one = subst (IsOne s) e (only s c h) in absurd one)) where
+  none_holds c e = none slots (λ s. never_true (holds c (slot_at slots s)) (λ h. let one = subst (IsIn s) e (only s c h) in absurd one)) where
     none : (slots : List SlotFact) → ((s : ℕ) → holds c (slot_at slots s) ≡ false) → list_any (holds c) slots ≡ false
     none [] h = refl
     none (slot ∷ slots) h = rw (h 0) (none slots (λ s. h (suc s)))
@@ -96,13 +95,13 @@ module _ (keepers : Chains) (slots : List SlotFact) (only : OnlyKeepers keepers 
 
 -- each slot that holds a class is listed, or is one of the rest
 abbrev pub AreKeepers : (rest holding : List ℕ) → (keepers : Chains) → List SlotFact → Type 0
-AreKeepers rest holding keepers slots = (s c : ℕ) → holds c (slot_at slots s) ≡ true → IsOne s holding → IsOne s rest ⊎ IsOne s (listed keepers c)
+AreKeepers rest holding keepers slots = (s c : ℕ) → holds c (slot_at slots s) ≡ true → IsIn s holding → IsIn s rest ⊎ IsIn s (listed keepers c)
 
-pub keepers_more : (holding : List ℕ) (i : ℕ) → i < length holding → (keepers next : Chains) (slots : List SlotFact) → ((c s : ℕ) → IsOne s (listed keepers c) → IsOne s (listed next c)) → ((c : ℕ) → holds c (slot_at slots (get_or holding i 0)) ≡ true → IsOne (get_or holding i 0) (listed next c))
+pub keepers_more : (holding : List ℕ) (i : ℕ) → i < length holding → (keepers next : Chains) (slots : List SlotFact) → ((c s : ℕ) → IsIn s (listed keepers c) → IsIn s (listed next c)) → ((c : ℕ) → holds c (slot_at slots (get_or holding i 0)) ≡ true → IsIn (get_or holding i 0) (listed next c))
     → AreKeepers (drop i holding) holding keepers slots → AreKeepers (drop (i + 1) holding) holding next slots
-keepers_more holding i lt keepers next slots kept noted was s c h one = subst (λ n. IsOne s (drop n holding) ⊎ IsOne s (listed next c)) (sym (add-one i)) (elim (was s c h one) [
-  | inl left ↦ elim (subst (IsOne s) (drop-cons holding i 0 lt) left) [
-    | inl same ↦ inr (subst (λ x. IsOne x (listed next c)) same (noted c (subst (λ x. holds c (slot_at slots x) ≡ true) (sym same) h)))
+keepers_more holding i lt keepers next slots kept noted was s c h one = subst (λ n. IsIn s (drop n holding) ⊎ IsIn s (listed next c)) (sym (add-one i)) (elim (was s c h one) [
+  | inl left ↦ elim (subst (IsIn s) (drop-cons holding i 0 lt) left) [
+    | inl same ↦ inr (subst (λ x. IsIn x (listed next c)) (sym same) (noted c (subst (λ x. holds c (slot_at slots x) ≡ true) same h)))
     | inr more ↦ inl more
   ]
   | inr there ↦ inr (kept c s there)
@@ -135,9 +134,9 @@ unkept keepers slots only c (Some link) e h = absurd cc
 
 pub more_holding : (s : ℕ) (holds : Option ℕ) (holding : List ℕ) (slots : List SlotFact) → OnlyHolding holding slots → OnlyHolding (with_holding s holds holding) slots
 more_holding s holds holding slots only u = elim (only u) [ inl one ↦ inl (pick holds one) | inr e ↦ inr e ] where
-  pick : (holds : Option ℕ) → IsOne u holding → IsOne u (with_holding s holds holding)
+  pick : (holds : Option ℕ) → IsIn u holding → IsIn u (with_holding s holds holding)
   pick None one = one
-  pick (Some c) one = one_more u s holding one
+  pick (Some c) one = in_first u holding (s ∷ []) one
 
 -- and then written
 pub noted_written : (filled holding : List ℕ) (keepers : Chains) (from slots last : List SlotFact) (s : ℕ) (slot : SlotFact) → from ≡ slots → last ≡ slice_set slots s slot → AreNoted filled holding keepers (slice_set from s slot) → AreNoted filled holding keepers last

@@ -3,7 +3,8 @@ use Rattle.std.proofs.Common.{◌≡◌, ◌⊎◌, ◌∙◌, ℕ, List, [], �
 use Rattle.std.proofs.lemmas.List.{get_or-set_other, length-set, length-replicate}
 use Rattle.std.specs.Prelude.{slice_set, replicate}
 use Rattle.std.proofs.lemmas.Bool.{cases_eq}
-use Rattle.facts.specs.EachListed.{IsOne, each_listed, copied}
+use Rattle.lemmas.specs.Lists.{IsIn}
+use Rattle.facts.specs.EachListed.{each_listed, copied}
 use Rattle.facts.proofs.EachListed.{copied_all}
 use Rattle.facts.specs.declared.numbered.Numbered.{Numbered}
 use Rattle.facts.specs.declared.row.Row.{Row}
@@ -24,14 +25,14 @@ pub length_among : (count : ℕ) (numbered : List Numbered) → length (among_bl
 length_among count numbered = length_written numbered (replicate count blank) ∙ length-replicate count blank
 
 -- a row that is not written is as it was
-written_other : (numbered : List Numbered) (rows : List Row) (v : ℕ) → IsOne v (map number_of numbered) ⊎ (row_at (written numbered rows) v ≡ row_at rows v)
+written_other : (numbered : List Numbered) (rows : List Row) (v : ℕ) → IsIn v (map number_of numbered) ⊎ (row_at (written numbered rows) v ≡ row_at rows v)
 written_other [] rows v = inr refl
 written_other (one ∷ numbered) rows v = pick (cases_eq one.number v) (written_other numbered next v) where
   next : List Row
   next = slice_set rows one.number one.row
 
-  pick : (one.number ≡ v) ⊎ (one.number ≡ v → ⊥) → IsOne v (map number_of numbered) ⊎ (row_at (written numbered next) v ≡ row_at next v) → IsOne v (map number_of (one ∷ numbered)) ⊎ (row_at (written numbered next) v ≡ row_at rows v)
-  pick (inl same) more = inl (inl same)
+  pick : (one.number ≡ v) ⊎ (one.number ≡ v → ⊥) → IsIn v (map number_of numbered) ⊎ (row_at (written numbered next) v ≡ row_at next v) → IsIn v (map number_of (one ∷ numbered)) ⊎ (row_at (written numbered next) v ≡ row_at rows v)
+  pick (inl same) more = inl (inl (sym same))
   pick (inr ne) (inl later) = inl (inr later)
   pick (inr ne) (inr e) = inr (e ∙ get_or-set_other rows one.number v one.row blank (λ x. ne (sym x)))
 

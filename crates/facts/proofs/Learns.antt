@@ -6,7 +6,7 @@ use Rattle.std.proofs.lemmas.List.{get_or_append_left, get_or-set_same, get_or-s
 use Rattle.std.specs.Prelude.{not, ◌||◌, ◌==◌}
 use Rattle.lemmas.specs.Bools.{or_false}
 use Rattle.std.proofs.lemmas.Bool.{cases_eq}
-use Rattle.facts.specs.EachListed.{IsOne}
+use Rattle.lemmas.specs.Lists.{IsIn}
 use Rattle.facts.specs.declared.known.Class.{Class}
 use Rattle.facts.specs.declared.known.Known.{Known}
 use Rattle.facts.specs.declared.known.Known.TheVariants.{Nothing, Number, Cell, Null, Address, GlobalAddress}
@@ -36,15 +36,15 @@ module _ (rows : List Row) (at : ℕ) (newest : ℕ) where
 
   pub filled_users : (uses : List Use) → (row_at rows at).used ≡ None → OnlyUsers uses rows → OnlyUsers uses (slice_set rows at filled_row)
   filled_users uses free only u w e lt = pick (cases_eq at w) where
-    one : IsOne u (chain (length uses) uses (row_at rows w).used)
+    one : IsIn u (chain (length uses) uses (row_at rows w).used)
     one = only u w (sym (set_part (names w) rows at u filled_row blank refl) ∙ e) (rw (← length-set rows at filled_row) lt)
 
-    none : IsOne u (chain (length uses) uses (row_at rows at).used) → ⊥
-    none h = subst (λ (us : List ℕ). IsOne u us) (ap (chain (length uses) uses) free ∙ chain_none (length uses) uses None refl) h
+    none : IsIn u (chain (length uses) uses (row_at rows at).used) → ⊥
+    none h = subst (λ (us : List ℕ). IsIn u us) (ap (chain (length uses) uses) free ∙ chain_none (length uses) uses None refl) h
 
-    pick : (at ≡ w) ⊎ (at ≡ w → ⊥) → IsOne u (chain (length uses) uses (row_at (slice_set rows at filled_row) w).used)
-    pick (inl same) = absurd (none (subst (λ x. IsOne u (chain (length uses) uses (row_at rows x).used)) (sym same) one))
-    pick (inr ne) = subst (λ (row : Row). IsOne u (chain (length uses) uses row.used)) (sym (get_or-set_other rows at w filled_row blank (λ x. ne (sym x)))) one
+    pick : (at ≡ w) ⊎ (at ≡ w → ⊥) → IsIn u (chain (length uses) uses (row_at (slice_set rows at filled_row) w).used)
+    pick (inl same) = absurd (none (subst (λ x. IsIn u (chain (length uses) uses (row_at rows x).used)) (sym same) one))
+    pick (inr ne) = subst (λ (row : Row). IsIn u (chain (length uses) uses row.used)) (sym (get_or-set_other rows at w filled_row blank (λ x. ne (sym x)))) one
 
   pub filled_now : at < length (slice_set rows at filled_row) → is_none (row_at (slice_set rows at filled_row) at).used ≡ false
   filled_now lt = ap (λ (row : Row). is_none row.used) (get_or-set_same rows at filled_row blank (rw (← length-set rows at filled_row) lt))

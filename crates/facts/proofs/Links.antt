@@ -4,7 +4,7 @@ use Rattle.std.proofs.lemmas.List.{append_assoc}
 use Rattle.std.specs.Prelude.{◌==◌}
 use Rattle.lemmas.specs.Numbers.{test_no, test_same}
 use Rattle.std.proofs.lemmas.Bool.{cases_eq}
-use Rattle.facts.specs.EachListed.{IsOne}
+use Rattle.lemmas.specs.Lists.{IsIn}
 use Rattle.facts.specs.declared.uses.Use.{Use}
 use Rattle.facts.specs.Uses.{use_at, users_of, chain}
 use Rattle.facts.proofs.Users.{user_kept, newest}
@@ -23,14 +23,14 @@ module _ (links : List Use) (old new : ℕ → Option ℕ) (list number : ℕ) (
   new_other : (other : ℕ) → (list ≡ other → ⊥) → new other ≡ old other
   new_other other ne = puts other ∙ ap (λ (b : Bool). cond b (Some (length links)) (old other)) (test_no list other ne)
 
-  pub listed_kept : (other u : ℕ) → IsOne u (chain (length links) links (old other)) → IsOne u (chain (length more) more (new other))
+  pub listed_kept : (other u : ℕ) → IsIn u (chain (length links) links (old other)) → IsIn u (chain (length more) more (new other))
   listed_kept other u one = elim (cases_eq list other) [
-    | inl same ↦ subst (λ x. IsOne u (chain (length more) more (new x))) same (subst (λ (at : Option ℕ). IsOne u (chain (length more) more at)) (sym new_list) (newest links link u (inr (subst (λ x. IsOne u (chain (length links) links (old x))) (sym same) one))))
-    | inr ne ↦ subst (λ (at : Option ℕ). IsOne u (chain (length more) more at)) (sym (new_other other ne)) (user_kept links link (old other) u one)
+    | inl same ↦ subst (λ x. IsIn u (chain (length more) more (new x))) same (subst (λ (at : Option ℕ). IsIn u (chain (length more) more at)) (sym new_list) (newest links link u (inr (subst (λ x. IsIn u (chain (length links) links (old x))) (sym same) one))))
+    | inr ne ↦ subst (λ (at : Option ℕ). IsIn u (chain (length more) more at)) (sym (new_other other ne)) (user_kept links link (old other) u one)
   ]
 
-  pub listed_there : IsOne number (chain (length more) more (new list))
-  listed_there = subst (λ (at : Option ℕ). IsOne number (chain (length more) more at)) (sym new_list) (newest links link number (inl refl))
+  pub listed_there : IsIn number (chain (length more) more (new list))
+  listed_there = subst (λ (at : Option ℕ). IsIn number (chain (length more) more at)) (sym new_list) (newest links link number (inl refl))
 
 -- one number more of a list is read
 pub list_step : (count step : ℕ) (uses : List Use) (at : Option ℕ) (found : Use) (all numbers next : List ℕ) → step < count → all ≡ numbers ++ chain (count - step) uses at → use_at uses at ≡ Some found → next ≡ numbers ++ found.user ∷ []

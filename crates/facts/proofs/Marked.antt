@@ -6,7 +6,8 @@ use Rattle.std.proofs.lemmas.List.{get_or_past}
 use Rattle.std.proofs.Math.Seq.{map-set_same}
 use Rattle.std.specs.Prelude.{◌==◌, ◌||◌, ◌&&◌}
 use Rattle.std.specs.List.{list_any, list_all, zip}
-use Rattle.facts.specs.EachListed.{IsOne, each_listed}
+use Rattle.lemmas.specs.Lists.{IsIn}
+use Rattle.facts.specs.EachListed.{each_listed}
 use Rattle.facts.proofs.EachListed.{length_each, each_at}
 use Rattle.facts.specs.declared.known.Class.{Class}
 use Rattle.facts.specs.declared.known.Known.{Known}
@@ -25,7 +26,7 @@ module _ (change : ℕ → Row → Row) (twice : (v : ℕ) (row : Row) → chang
   -- a change that leaves blank rows is one of all rows
   pub each_all : (marked : List ℕ) (rows : List Row) → OnlyMarked marked rows → EachRow change rows (each_listed blank change marked rows)
   each_all marked rows only = (length_each blank change marked rows, each_at blank change twice marked rows seen) where
-    seen : (v : ℕ) → v < length rows → IsOne v marked ⊎ (change v (row_at rows v) ≡ row_at rows v)
+    seen : (v : ℕ) → v < length rows → IsIn v marked ⊎ (change v (row_at rows v) ≡ row_at rows v)
     seen v lt = elim (only v) [ inl one ↦ inl one | inr e ↦ inr (ap (change v) e ∙ leaves v ∙ sym e) ]
 
   -- the same rows are marked then
@@ -103,12 +104,12 @@ module _ (c : ℕ) (rows : List Row) where
     pick more true is e = found (is_of c) (map known_of rows) u Nothing refl (ap (is_of c) (get_or-map known_of rows u blank) ∙ is)
     pick more false is e = more e
 
-  none_there : (marked : List ℕ) → list_any (row_is_of c rows) marked ≡ false → (u : ℕ) → IsOne u marked → row_is_of c rows u ≡ false
+  none_there : (marked : List ℕ) → list_any (row_is_of c rows) marked ≡ false → (u : ℕ) → IsIn u marked → row_is_of c rows u ≡ false
   none_there [] e u one = absurd one
   none_there (w ∷ marked) e u one = pick (λ i. none_there marked i u) (row_is_of c rows w) refl e one where
-    pick : (list_any (row_is_of c rows) marked ≡ false → IsOne u marked → row_is_of c rows u ≡ false) → (b : Bool) → row_is_of c rows w ≡ b → (b || list_any (row_is_of c rows) marked) ≡ false → IsOne u (w ∷ marked) → row_is_of c rows u ≡ false
+    pick : (list_any (row_is_of c rows) marked ≡ false → IsIn u marked → row_is_of c rows u ≡ false) → (b : Bool) → row_is_of c rows w ≡ b → (b || list_any (row_is_of c rows) marked) ≡ false → IsIn u (w ∷ marked) → row_is_of c rows u ≡ false
     pick more true is e one = absurd cc
-    pick more false is e (inl same) = subst (λ x. row_is_of c rows x ≡ false) same is
+    pick more false is e (inl same) = subst (λ x. row_is_of c rows x ≡ false) (sym same) is
     pick more false is e (inr one) = more e one
 
 none_found : (c : ℕ) (rows : List Row) → ((u : ℕ) → is_of c (row_at rows u).known ≡ false) → list_any (is_of c) (map known_of rows) ≡ false
@@ -154,11 +155,11 @@ module _ (c d : ℕ) (here there : List Row) where
   abbrev Covers : ℕ → Type 0
   Covers u = covers_row c d here there u ≡ true
 
-  all_there : (marked : List ℕ) → list_all (covers_row c d here there) marked ≡ true → (u : ℕ) → IsOne u marked → Covers u
+  all_there : (marked : List ℕ) → list_all (covers_row c d here there) marked ≡ true → (u : ℕ) → IsIn u marked → Covers u
   all_there [] e u one = absurd one
   all_there (w ∷ marked) e u one = pick (λ i. all_there marked i u) (covers_row c d here there w) refl e one where
-    pick : (list_all (covers_row c d here there) marked ≡ true → IsOne u marked → Covers u) → (b : Bool) → covers_row c d here there w ≡ b → (b && list_all (covers_row c d here there) marked) ≡ true → IsOne u (w ∷ marked) → Covers u
-    pick more true is e (inl same) = subst Covers same is
+    pick : (list_all (covers_row c d here there) marked ≡ true → IsIn u marked → Covers u) → (b : Bool) → covers_row c d here there w ≡ b → (b && list_all (covers_row c d here there) marked) ≡ true → IsIn u (w ∷ marked) → Covers u
+    pick more true is e (inl same) = subst Covers (sym same) is
     pick more true is e (inr one) = more e one
     pick more false is e one = absurd cc
 
@@ -169,7 +170,7 @@ module _ (c d : ℕ) (here there : List Row) where
   pairs : (u : ℕ) → covers_value c d (get_or (map known_of here) u Nothing, get_or (map known_of there) u Nothing) ≡ covers_row c d here there u
   pairs u = ap (λ k. covers_value c d (k, get_or (map known_of there) u Nothing)) (get_or-map known_of here u blank) ∙ ap (λ k. covers_value c d ((row_at here u).known, k)) (get_or-map known_of there u blank)
 
-  covers_by : (marked : List ℕ) → ((u : ℕ) → IsOne u marked ⊎ Covers u) → list_all (covers_row c d here there) marked ≡ list_all (covers_value c d) (zip (map known_of here) (map known_of there))
+  covers_by : (marked : List ℕ) → ((u : ℕ) → IsIn u marked ⊎ Covers u) → list_all (covers_row c d here there) marked ≡ list_all (covers_value c d) (zip (map known_of here) (map known_of there))
   covers_by marked only = pick (list_all (covers_row c d here there) marked) refl (list_all (covers_value c d) (zip (map known_of here) (map known_of there))) refl where
     every : list_all (covers_row c d here there) marked ≡ true → (u : ℕ) → Covers u
     every e u = elim (only u) [ inl one ↦ all_there marked e u one | inr holds ↦ holds ]

@@ -1,7 +1,7 @@
 -- A row that is of a class from now on.
 use Rattle.std.proofs.Common.{◌≡◌, ◌⊎◌, ◌∙◌, ℕ, List, length, refl, sym, ap, subst, inl, inr, true, false, Bool}
 use Rattle.std.specs.Prelude.{not, ◌&&◌}
-use Rattle.facts.specs.EachListed.{IsOne}
+use Rattle.lemmas.specs.Lists.{IsIn}
 use Rattle.facts.specs.declared.owners.Owners.{Owners}
 use Rattle.facts.specs.declared.known.Known.{Known}
 use Rattle.facts.specs.declared.known.Known.TheVariants.{Nothing, Number, Cell, Null, Address, GlobalAddress}
@@ -24,9 +24,9 @@ pub after_owner : (at : ℕ) (known : Known) (non_owners : List ℕ) (class_owne
 after_owner at known non_owners class_owners next rows e only = subst (λ l. ListsNonOwners non_owners l rows) (sym e) (with_owner_of_non_owners at known non_owners class_owners rows only)
 
 -- a row that is not listed is of a class that its value owns
-pub stays_owner : (at : ℕ) (row : Row) (non_owners : List ℕ) (class_owners : List Owners) (rows : List Row) → ListsNonOwners non_owners class_owners rows → is_new_non_owner (length rows) class_owners at (row_at rows at) row ≡ false → IsOne at non_owners ⊎ (owns_class (length rows) class_owners at row ≡ true)
+pub stays_owner : (at : ℕ) (row : Row) (non_owners : List ℕ) (class_owners : List Owners) (rows : List Row) → ListsNonOwners non_owners class_owners rows → is_new_non_owner (length rows) class_owners at (row_at rows at) row ≡ false → IsIn at non_owners ⊎ (owns_class (length rows) class_owners at row ≡ true)
 stays_owner at row non_owners class_owners rows only e = pick (owns_class (length rows) class_owners at (row_at rows at)) refl (owns_class (length rows) class_owners at row) refl where
-  pick : (a : Bool) → owns_class (length rows) class_owners at (row_at rows at) ≡ a → (b : Bool) → owns_class (length rows) class_owners at row ≡ b → IsOne at non_owners ⊎ (owns_class (length rows) class_owners at row ≡ true)
+  pick : (a : Bool) → owns_class (length rows) class_owners at (row_at rows at) ≡ a → (b : Bool) → owns_class (length rows) class_owners at row ≡ b → IsIn at non_owners ⊎ (owns_class (length rows) class_owners at row ≡ true)
   pick a x true y = inr y
   pick true x false y = absurd (let here : (true && not false) ≡ false = sym (ap (λ b. b && not (owns_class (length rows) class_owners at row)) x ∙ ap (λ b. true && not b) y) ∙ e in cc)
   pick false x false y = inl (was_non_owner at non_owners class_owners rows only x)

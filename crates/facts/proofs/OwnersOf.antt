@@ -5,8 +5,7 @@ use Rattle.std.proofs.lemmas.List.{get_or_past, length-set}
 use Rattle.std.specs.Prelude.{◌==◌, ◌-◌, ◌||◌, not, replicate, slice_get, nat_lt, if◌then◌else◌}
 use Rattle.lemmas.specs.Bools.{yes_or_no, or_parts, or_first}
 use Rattle.lemmas.specs.Numbers.{test_true, test_same, lt_yes, lt_false}
-use Rattle.facts.specs.EachListed.{IsOne}
-use Rattle.facts.proofs.EachListed.{one_more}
+use Rattle.lemmas.specs.Lists.{in_first, IsIn}
 use Rattle.facts.specs.declared.owners.Owners.{Owners}
 use Rattle.facts.specs.declared.known.Class.{Class}
 use Rattle.facts.specs.declared.known.Known.{Known}
@@ -29,7 +28,7 @@ non_owners_of us non_owners ws class_owners next rows e f g only = subst (λ l. 
 -- ---- a row that is written
 
 module _ (v : ℕ) (row : Row) (rows : List Row) (class_owners : List Owners) (non_owners : List ℕ) (only : ListsNonOwners non_owners class_owners rows) where
-  pub put_non_owners : IsOne v non_owners ⊎ (owns_class (length rows) class_owners v row ≡ true) → ListsNonOwners non_owners class_owners (slice_set rows v row)
+  pub put_non_owners : IsIn v non_owners ⊎ (owns_class (length rows) class_owners v row ≡ true) → ListsNonOwners non_owners class_owners (slice_set rows v row)
   put_non_owners noted = as_many class_owners non_owners rows (slice_set rows v row) (length-set rows v row) (put_unless (owns_class (length rows) class_owners) (λ u. refl) v row non_owners rows only noted)
 
   -- whose value is known to be what it was, or of which nothing is known
@@ -138,43 +137,43 @@ own_non_owners owners non_owners class_owners rows only u = elim (only u) [ inl 
 
 -- a row is listed once it is noted
 pub more_non_owners : (at : ℕ) (non_owners : List ℕ) (class_owners : List Owners) (rows : List Row) → ListsNonOwners non_owners class_owners rows → ListsNonOwners (non_owners ++ at ∷ []) class_owners rows
-more_non_owners at non_owners class_owners rows only u = elim (only u) [ inl one ↦ inl (one_more u at non_owners one) | inr e ↦ inr e ]
+more_non_owners at non_owners class_owners rows only u = elim (only u) [ inl one ↦ inl (in_first u non_owners (at ∷ []) one) | inr e ↦ inr e ]
 
 -- a row whose value does not own its class is listed
-pub was_non_owner : (at : ℕ) (non_owners : List ℕ) (class_owners : List Owners) (rows : List Row) → ListsNonOwners non_owners class_owners rows → owns_class (length rows) class_owners at (row_at rows at) ≡ false → IsOne at non_owners
+pub was_non_owner : (at : ℕ) (non_owners : List ℕ) (class_owners : List Owners) (rows : List Row) → ListsNonOwners non_owners class_owners rows → owns_class (length rows) class_owners at (row_at rows at) ≡ false → IsIn at non_owners
 was_non_owner at non_owners class_owners rows only e = elim (only at) [ inl one ↦ one | inr h ↦ absurd cc ]
 
 -- by the rows as they are seen
 pub kept_non_owners : (seen rows : List Row) → seen ≡ rows → (non_owners more : List ℕ) (class_owners next : List Owners) → (ListsNonOwners non_owners class_owners seen → ListsNonOwners more next seen) → ListsNonOwners non_owners class_owners rows → ListsNonOwners more next rows
 kept_non_owners seen rows e non_owners more class_owners next keeps only = subst (ListsNonOwners more next) e (keeps (subst (ListsNonOwners non_owners class_owners) (sym e) only))
 
-pub noted_non_owners : (seen rows : List Row) → seen ≡ rows → (at : ℕ) (row : Row) (non_owners more : List ℕ) (class_owners next : List Owners) → (ListsNonOwners non_owners class_owners seen → IsOne at more ⊎ (owns_class (length seen) next at row ≡ true)) → ListsNonOwners non_owners class_owners rows → IsOne at more ⊎ (owns_class (length rows) next at row ≡ true)
-noted_non_owners seen rows e at row non_owners more class_owners next notes only = subst (λ (l : List Row). IsOne at more ⊎ (owns_class (length l) next at row ≡ true)) e (notes (subst (ListsNonOwners non_owners class_owners) (sym e) only))
+pub noted_non_owners : (seen rows : List Row) → seen ≡ rows → (at : ℕ) (row : Row) (non_owners more : List ℕ) (class_owners next : List Owners) → (ListsNonOwners non_owners class_owners seen → IsIn at more ⊎ (owns_class (length seen) next at row ≡ true)) → ListsNonOwners non_owners class_owners rows → IsIn at more ⊎ (owns_class (length rows) next at row ≡ true)
+noted_non_owners seen rows e at row non_owners more class_owners next notes only = subst (λ (l : List Row). IsIn at more ⊎ (owns_class (length l) next at row ≡ true)) e (notes (subst (ListsNonOwners non_owners class_owners) (sym e) only))
 
 -- ---- which rows may be of a class
 
 -- each other row is of another class
 abbrev pub OnlyMembers : (c : ℕ) → (listed : List ℕ) → List Row → Type 0
-OnlyMembers c listed rows = (u : ℕ) → IsOne u listed ⊎ (is_of c (row_at rows u).known ≡ false)
+OnlyMembers c listed rows = (u : ℕ) → IsIn u listed ⊎ (is_of c (row_at rows u).known ≡ false)
 
 -- the same owner
 pub same_owners : (c n count : ℕ) (us class_owners : List Owners) → n ≡ count → us ≡ class_owners → owners_of n us c ≡ owners_of count class_owners c
 same_owners c n count us class_owners e f = ap (λ m. owners_of m us c) e ∙ ap (λ l. owners_of count l c) f
 
-non_owner_is_one : (first : Option Owners) (u : ℕ) (non_owners : List ℕ) → IsOne u non_owners → IsOne u (members first non_owners)
+non_owner_is_one : (first : Option Owners) (u : ℕ) (non_owners : List ℕ) → IsIn u non_owners → IsIn u (members first non_owners)
 non_owner_is_one None u non_owners one = one
 non_owner_is_one (Some owners) u non_owners one = inr (inr one)
 
-owner_is_one : (first : Option Owners) (u : ℕ) (non_owners : List ℕ) → is_owner u first ≡ true → IsOne u (members first non_owners)
+owner_is_one : (first : Option Owners) (u : ℕ) (non_owners : List ℕ) → is_owner u first ≡ true → IsIn u (members first non_owners)
 owner_is_one None u non_owners e = absurd cc
-owner_is_one (Some owners) u non_owners e = elim (or_parts (owners.first == u) (owners.second == u) e) [ inl one ↦ inl (test_true owners.first u one) | inr second ↦ inr (inl (test_true owners.second u second)) ]
+owner_is_one (Some owners) u non_owners e = elim (or_parts (owners.first == u) (owners.second == u) e) [ inl one ↦ inl (sym (test_true owners.first u one)) | inr second ↦ inr (inl (sym (test_true owners.second u second))) ]
 
 pub only_members : (c : ℕ) (non_owners : List ℕ) (class_owners : List Owners) (rows : List Row) → ListsNonOwners non_owners class_owners rows → OnlyMembers c (members (owners_of (length rows) class_owners c) non_owners) rows
 only_members c non_owners class_owners rows only u = elim (only u) [ inl one ↦ inl (non_owner_is_one first u non_owners one) | inr e ↦ by (row_at rows u).known e ] where
   first : Option Owners
   first = owners_of (length rows) class_owners c
 
-  by : (known : Known) → owns_class_of (length rows) class_owners u known ≡ true → IsOne u (members first non_owners) ⊎ (is_of c known ≡ false)
+  by : (known : Known) → owns_class_of (length rows) class_owners u known ≡ true → IsIn u (members first non_owners) ⊎ (is_of c known ≡ false)
   by (Cell d layout stale) e = elim (yes_or_no (d == c)) [
     | inl same ↦ inl (owner_is_one first u non_owners (subst (λ x. is_owner u (owners_of (length rows) class_owners x) ≡ true) (test_true d c same) e))
     | inr other ↦ inr other

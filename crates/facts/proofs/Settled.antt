@@ -3,9 +3,8 @@ use Rattle.std.proofs.Common.{◌≡◌, ◌<◌, ◌≤◌, ◌⊎◌, inl, inr
 use Rattle.std.specs.Prelude.{◌==◌, ◌||◌, if◌then◌else◌}
 use Rattle.std.proofs.lemmas.Bool.{cases_eq, cases_lt}
 use Rattle.std.proofs.lemmas.List.{ext_get_or, get_or_past, get_or-set_same, get_or-set_other, length-set, length-map}
-use Rattle.lemmas.specs.Lists.{at_map}
+use Rattle.lemmas.specs.Lists.{IsIn, at_map}
 use Rattle.lemmas.specs.Numbers.{test_true}
-use Rattle.facts.specs.EachListed.{IsOne}
 use Rattle.facts.specs.declared.known.Class.{Class}
 use Rattle.facts.specs.declared.known.Known.{Known}
 use Rattle.facts.specs.declared.known.Known.TheVariants.{Nothing, Number, Cell, Null, Address, GlobalAddress}
@@ -17,7 +16,7 @@ use Rattle.facts.proofs.Groups.{merged_class}
 
 -- each value but the rest is what it is now, and each of the rest that or as before
 abbrev pub AreSettled : Ties → (rest : List ℕ) → (before after : List Known) → Type 0
-AreSettled ties rest before after = (length after ≡ length before) × ((u : ℕ) → (known_at after u ≡ known_now ties (known_at before u)) ⊎ (IsOne u rest × (known_at after u ≡ known_at before u)))
+AreSettled ties rest before after = (length after ≡ length before) × ((u : ℕ) → (known_at after u ≡ known_now ties (known_at before u)) ⊎ (IsIn u rest × (known_at after u ≡ known_at before u)))
 
 -- each of these values is of the class that it has now
 abbrev pub settle_each : Ties → List ℕ → FactSet → FactSet
@@ -74,7 +73,7 @@ module _ (ties : Ties) (are : AreTies ties) where
     here (inl lt) = get_or-set_same after v now Nothing lt ∙ is_now
     here (inr past) = get_or_past (slice_set after v now) v Nothing (rw length-set past) ∙ ap (known_now ties) (sym (get_or_past before v Nothing (rw (← was.0) past)))
 
-    at : (u : ℕ) → (known_at (slice_set after v now) u ≡ known_now ties (known_at before u)) ⊎ (IsOne u rest × (known_at (slice_set after v now) u ≡ known_at before u))
+    at : (u : ℕ) → (known_at (slice_set after v now) u ≡ known_now ties (known_at before u)) ⊎ (IsIn u rest × (known_at (slice_set after v now) u ≡ known_at before u))
     at u = elim (cases_eq v u) [
       | inl same ↦ inl (subst (λ x. known_at (slice_set after v now) x ≡ known_now ties (known_at before x)) same (here (cases_lt v (length after))))
       | inr ne ↦ other ne (was.1 u)
@@ -82,9 +81,9 @@ module _ (ties : Ties) (are : AreTies ties) where
       kept : (v ≡ u → ⊥) → known_at (slice_set after v now) u ≡ known_at after u
       kept ne = get_or-set_other after v u now Nothing (λ e. ne (sym e))
 
-      other : (v ≡ u → ⊥) → (known_at after u ≡ known_now ties (known_at before u)) ⊎ (IsOne u (v ∷ rest) × (known_at after u ≡ known_at before u)) → (known_at (slice_set after v now) u ≡ known_now ties (known_at before u)) ⊎ (IsOne u rest × (known_at (slice_set after v now) u ≡ known_at before u))
+      other : (v ≡ u → ⊥) → (known_at after u ≡ known_now ties (known_at before u)) ⊎ (IsIn u (v ∷ rest) × (known_at after u ≡ known_at before u)) → (known_at (slice_set after v now) u ≡ known_now ties (known_at before u)) ⊎ (IsIn u rest × (known_at (slice_set after v now) u ≡ known_at before u))
       other ne (inl e) = inl (kept ne ∙ e)
-      other ne (inr both) = elim both.0 [ inl same ↦ absurd (ne same) | inr one ↦ inr (one, kept ne ∙ both.1) ]
+      other ne (inr both) = elim both.0 [ inl same ↦ absurd (ne (sym same)) | inr one ↦ inr (one, kept ne ∙ both.1) ]
 
   settled_rest : (list : List ℕ) (before : List Known) (f : FactSet) → AreSettled ties list before f.values → AreSettled ties [] before (settle_each ties list f).values
   settled_rest [] before f is = is

@@ -3,8 +3,7 @@ use Rattle.std.proofs.Common.{◌≡◌, ◌⊎◌, ℕ, zero, suc, List, [], �
 use Rattle.std.proofs.lemmas.List.{get_or-set_other}
 use Rattle.std.specs.Prelude.{slice_set, replicate, if◌then◌else◌}
 use Rattle.std.proofs.lemmas.Bool.{cases_eq}
-use Rattle.facts.specs.EachListed.{IsOne}
-use Rattle.facts.proofs.EachListed.{one_more, one_last}
+use Rattle.lemmas.specs.Lists.{in_first, last_in, IsIn}
 use Rattle.facts.specs.declared.row.Row.{Row}
 use Rattle.facts.specs.Sheets.{blank, row_at, OnlyMarked, is_blank, with_mark}
 use Rattle.facts.proofs.Sets.{set_is}
@@ -12,9 +11,9 @@ use Rattle.facts.proofs.Sets.{set_is}
 -- a row that is filled is marked
 pub set_marked : (v : ℕ) (row : Row) (marked : List ℕ) (rows : List Row) → OnlyMarked marked rows → OnlyMarked (with_mark v (row_at rows v) marked) (slice_set rows v row)
 set_marked v row marked rows only u = pick (is_blank (row_at rows v)) refl (cases_eq v u) (only u) where
-  pick : (b : Bool) → is_blank (row_at rows v) ≡ b → (v ≡ u) ⊎ (v ≡ u → ⊥) → IsOne u marked ⊎ (row_at rows u ≡ blank) → IsOne u (with_mark v (row_at rows v) marked) ⊎ (row_at (slice_set rows v row) u ≡ blank)
-  pick true e (inl same) was = inl (rw e (subst (λ x. IsOne x (marked ++ v ∷ [])) same (one_last v marked)))
-  pick true e (inr ne) (inl one) = inl (rw e (one_more u v marked one))
+  pick : (b : Bool) → is_blank (row_at rows v) ≡ b → (v ≡ u) ⊎ (v ≡ u → ⊥) → IsIn u marked ⊎ (row_at rows u ≡ blank) → IsIn u (with_mark v (row_at rows v) marked) ⊎ (row_at (slice_set rows v row) u ≡ blank)
+  pick true e (inl same) was = inl (rw e (subst (λ x. IsIn x (marked ++ v ∷ [])) same (last_in v marked)))
+  pick true e (inr ne) (inl one) = inl (rw e (in_first u marked (v ∷ []) one))
   pick false e (inl same) (inl one) = inl (rw e one)
   pick false e (inl same) (inr empty) = let full : is_blank (row_at rows u) ≡ true = ap is_blank empty in let here : is_blank (row_at rows v) ≡ is_blank (row_at rows u) = ap (λ x. is_blank (row_at rows x)) same in absurd cc
   pick false e (inr ne) (inl one) = inl (rw e one)
@@ -32,9 +31,9 @@ all_blank marked count rows e v = inr (ap (λ l. row_at l v) e ∙ blank_at coun
 -- a row that is filled, or that stays blank
 pub change_marked : (v : ℕ) (row : Row) (marked : List ℕ) (rows : List Row) → OnlyMarked marked rows → (row_at rows v ≡ blank → row ≡ blank) → OnlyMarked marked (slice_set rows v row)
 change_marked v row marked rows only keeps u = pick (cases_eq v u) where
-  pick : (v ≡ u) ⊎ (v ≡ u → ⊥) → IsOne u marked ⊎ (row_at (slice_set rows v row) u ≡ blank)
+  pick : (v ≡ u) ⊎ (v ≡ u → ⊥) → IsIn u marked ⊎ (row_at (slice_set rows v row) u ≡ blank)
   pick (inl same) = elim (only v) [
-    | inl one ↦ inl (subst (λ x. IsOne x marked) same one)
+    | inl one ↦ inl (subst (λ x. IsIn x marked) same one)
     | inr e ↦ inr (subst (λ x. row_at (slice_set rows v row) x ≡ blank) same (set_is (λ r. r) rows v row blank blank (keeps e) refl))
   ]
   pick (inr ne) = elim (only u) [ inl one ↦ inl one | inr e ↦ inr (get_or-set_other rows v u row blank (λ x. ne (sym x)) ∙ e) ]
@@ -42,6 +41,6 @@ change_marked v row marked rows only keeps u = pick (cases_eq v u) where
 -- more rows are marked
 pub more_marked : (v : ℕ) (row : Row) (marked : List ℕ) (rows : List Row) → OnlyMarked marked rows → OnlyMarked (with_mark v row marked) rows
 more_marked v row marked rows only u = elim (only u) [ inl one ↦ inl (pick (is_blank row) one) | inr e ↦ inr e ] where
-  pick : (b : Bool) → IsOne u marked → IsOne u (if b then marked ++ v ∷ [] else marked)
-  pick true one = one_more u v marked one
+  pick : (b : Bool) → IsIn u marked → IsIn u (if b then marked ++ v ∷ [] else marked)
+  pick true one = in_first u marked (v ∷ []) one
   pick false one = one

@@ -7,7 +7,7 @@ use Rattle.std.proofs.lemmas.List.{get_or_past}
 use Rattle.std.proofs.lemmas.List.FromFn.{length-enumerate_from, get_or-enumerate_from}
 use Rattle.std.proofs.lemmas.List.Sums.{AllPass-from_list_all}
 use Rattle.lemmas.specs.Bools.{and_true}
-use Rattle.facts.specs.EachListed.{IsOne}
+use Rattle.lemmas.specs.Lists.{IsIn}
 use Rattle.facts.specs.declared.chains.Chains.{Chains}
 use Rattle.facts.specs.declared.known.SlotFact.{SlotFact}
 use Rattle.facts.specs.declared.uses.Use.{Use}
@@ -46,11 +46,11 @@ module _ (c d : ℕ) (here there : List SlotFact) where
         (subst (λ (m : ℕ). covers_slot c d there (m, slot) ≡ true) first (h zero))
         (each (n + 1) slots (λ i. let is : n + suc i ≡ n + 1 + i = omega arith in subst (λ (m : ℕ). covers_slot c d there (m, slot_at slots i) ≡ true) is (h (suc i))))
 
-  all_there : (list : List ℕ) → list_all (covers_at c d here there) list ≡ true → (s : ℕ) → IsOne s list → Covers s
+  all_there : (list : List ℕ) → list_all (covers_at c d here there) list ≡ true → (s : ℕ) → IsIn s list → Covers s
   all_there [] e s one = absurd one
   all_there (w ∷ list) e s one = pick (λ i. all_there list i s) (covers_at c d here there w) refl e one where
-    pick : (list_all (covers_at c d here there) list ≡ true → IsOne s list → Covers s) → (b : Bool) → covers_at c d here there w ≡ b → (b && list_all (covers_at c d here there) list) ≡ true → IsOne s (w ∷ list) → Covers s
-    pick more true is e (inl same) = subst Covers same is
+    pick : (list_all (covers_at c d here there) list ≡ true → IsIn s list → Covers s) → (b : Bool) → covers_at c d here there w ≡ b → (b && list_all (covers_at c d here there) list) ≡ true → IsIn s (w ∷ list) → Covers s
+    pick more true is e (inl same) = subst Covers (sym same) is
     pick more true is e (inr one) = more e one
     pick more false is e one = absurd cc
 

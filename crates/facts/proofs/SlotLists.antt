@@ -4,9 +4,9 @@ use Rattle.std.specs.Prelude.{◌||◌, replicate, if◌then◌else◌}
 use Rattle.std.proofs.lemmas.Bool.{cases_eq, cases_lt}
 use Rattle.std.proofs.lemmas.List.{ext_get_or, get_or_past, get_or-set_other, length-map}
 use Rattle.lemmas.specs.Bools.{or_false}
-use Rattle.lemmas.specs.Lists.{at_map}
-use Rattle.facts.specs.EachListed.{IsOne, each_listed}
-use Rattle.facts.proofs.EachListed.{length_each, each_at, one_more, one_last}
+use Rattle.lemmas.specs.Lists.{in_first, last_in, IsIn, at_map}
+use Rattle.facts.specs.EachListed.{each_listed}
+use Rattle.facts.proofs.EachListed.{length_each, each_at}
 use Rattle.facts.specs.declared.known.Class.{Class}
 use Rattle.facts.specs.declared.known.SlotFact.{SlotFact}
 use Rattle.facts.specs.Facts.{open_slot, slot_at, holds_class, slot_nonnull, held_nonnull, holds, let_go, end_hold}
@@ -17,7 +17,7 @@ module _ (change : SlotFact → SlotFact) (opens : change open_slot ≡ open_slo
   changed_filled : (filled : List ℕ) (slots : List SlotFact) → OnlyFilled filled slots → OnlyFilled filled (map change slots)
   changed_filled filled slots only s = elim (only s) [ inl one ↦ inl one | inr e ↦ inr (at_map change slots s open_slot opens ∙ ap change e ∙ opens) ]
 
-  changed_all : ((slot : SlotFact) → change (change slot) ≡ change slot) → (listed : List ℕ) (slots : List SlotFact) → ((s : ℕ) → IsOne s listed ⊎ (change (slot_at slots s) ≡ slot_at slots s)) → each_listed open_slot (λ s. change) listed slots ≡ map change slots
+  changed_all : ((slot : SlotFact) → change (change slot) ≡ change slot) → (listed : List ℕ) (slots : List SlotFact) → ((s : ℕ) → IsIn s listed ⊎ (change (slot_at slots s) ≡ slot_at slots s)) → each_listed open_slot (λ s. change) listed slots ≡ map change slots
   changed_all twice listed slots seen = ext_get_or open_slot (each_listed open_slot (λ s. change) listed slots) (map change slots) (length_each open_slot (λ s. change) listed slots ∙ sym (length-map slots change))
       (λ s lt. each_at open_slot (λ u. change) (λ u. twice) listed slots (λ u at. seen u) s (rw (← length_each open_slot (λ u. change) listed slots) lt) ∙ sym (at_map change slots s open_slot opens))
 
@@ -36,7 +36,7 @@ module _ (c : ℕ) (nonnull : Bool) where
   let_go_not : (slot : SlotFact) → holds c slot ≡ false → let_go c nonnull slot ≡ slot
   let_go_not slot e = ap (λ (b : Bool). if b then record slot { nonnull = slot.nonnull || nonnull; holds = None } else slot) e
 
-  pub let_go_listed : (listed : List ℕ) (slots : List SlotFact) → ((s : ℕ) → IsOne s listed ⊎ (holds c (slot_at slots s) ≡ false)) → each_listed open_slot (λ s. let_go c nonnull) listed slots ≡ map (let_go c nonnull) slots
+  pub let_go_listed : (listed : List ℕ) (slots : List SlotFact) → ((s : ℕ) → IsIn s listed ⊎ (holds c (slot_at slots s) ≡ false)) → each_listed open_slot (λ s. let_go c nonnull) listed slots ≡ map (let_go c nonnull) slots
   let_go_listed listed slots seen = changed_all (let_go c nonnull) refl let_go_twice listed slots (λ s. elim (seen s) [ inl one ↦ inl one | inr e ↦ inr (let_go_not (slot_at slots s) e) ])
 
   pub let_go_filled : (filled : List ℕ) (slots : List SlotFact) → OnlyFilled filled slots → OnlyFilled filled (map (let_go c nonnull) slots)
@@ -79,8 +79,8 @@ none_holding holding count slots e s = inr (ap (λ (slot : SlotFact). slot.holds
 
 pub more_filled : (s : ℕ) (before : SlotFact) (filled : List ℕ) (slots : List SlotFact) → OnlyFilled filled slots → OnlyFilled (with_filled s before filled) slots
 more_filled s before filled slots only u = elim (only u) [ inl one ↦ inl (pick (is_open before) one) | inr e ↦ inr e ] where
-  pick : (b : Bool) → IsOne u filled → IsOne u (if b then filled ++ s ∷ [] else filled)
-  pick true one = one_more u s filled one
+  pick : (b : Bool) → IsIn u filled → IsIn u (if b then filled ++ s ∷ [] else filled)
+  pick true one = in_first u filled (s ∷ []) one
   pick false one = one
 
 module _ (s : ℕ) (slot : SlotFact) (slots : List SlotFact) where
@@ -89,9 +89,9 @@ module _ (s : ℕ) (slot : SlotFact) (slots : List SlotFact) where
 
   pub set_filled : (filled : List ℕ) → OnlyFilled filled slots → OnlyFilled (with_filled s (slot_at slots s) filled) (slice_set slots s slot)
   set_filled filled only u = pick (is_open (slot_at slots s)) refl (cases_eq s u) (only u) where
-    pick : (b : Bool) → is_open (slot_at slots s) ≡ b → (s ≡ u) ⊎ (s ≡ u → ⊥) → IsOne u filled ⊎ (slot_at slots u ≡ open_slot) → IsOne u (with_filled s (slot_at slots s) filled) ⊎ (slot_at (slice_set slots s slot) u ≡ open_slot)
-    pick true e (inl same) was = inl (rw e (subst (λ x. IsOne x (filled ++ s ∷ [])) same (one_last s filled)))
-    pick true e (inr ne) (inl one) = inl (rw e (one_more u s filled one))
+    pick : (b : Bool) → is_open (slot_at slots s) ≡ b → (s ≡ u) ⊎ (s ≡ u → ⊥) → IsIn u filled ⊎ (slot_at slots u ≡ open_slot) → IsIn u (with_filled s (slot_at slots s) filled) ⊎ (slot_at (slice_set slots s slot) u ≡ open_slot)
+    pick true e (inl same) was = inl (rw e (subst (λ x. IsIn x (filled ++ s ∷ [])) same (last_in s filled)))
+    pick true e (inr ne) (inl one) = inl (rw e (in_first u filled (s ∷ []) one))
     pick false e (inl same) (inl one) = inl (rw e one)
     pick false e (inl same) (inr empty) = let full : is_open (slot_at slots u) ≡ true = ap is_open empty in let here : is_open (slot_at slots s) ≡ is_open (slot_at slots u) = ap (λ x. is_open (slot_at slots x)) same in absurd cc
     pick false e (inr ne) (inl one) = inl (rw e one)
@@ -99,11 +99,11 @@ module _ (s : ℕ) (slot : SlotFact) (slots : List SlotFact) where
 
   pub set_holding : (holding : List ℕ) → OnlyHolding holding slots → OnlyHolding (with_holding s slot.holds holding) (slice_set slots s slot)
   set_holding holding only u = pick slot.holds refl (cases_eq s u) (only u) where
-    pick : (h : Option ℕ) → slot.holds ≡ h → (s ≡ u) ⊎ (s ≡ u → ⊥) → IsOne u holding ⊎ ((slot_at slots u).holds ≡ None) → IsOne u (with_holding s h holding) ⊎ ((slot_at (slice_set slots s slot) u).holds ≡ None)
+    pick : (h : Option ℕ) → slot.holds ≡ h → (s ≡ u) ⊎ (s ≡ u → ⊥) → IsIn u holding ⊎ ((slot_at slots u).holds ≡ None) → IsIn u (with_holding s h holding) ⊎ ((slot_at (slice_set slots s slot) u).holds ≡ None)
     pick None e (inl same) was = inr (subst (λ x. (slot_at (slice_set slots s slot) x).holds ≡ None) same (set_is (λ (x : SlotFact). x.holds) slots s slot open_slot None e refl))
-    pick (Some c) e (inl same) was = inl (subst (λ x. IsOne x (holding ++ s ∷ [])) same (one_last s holding))
+    pick (Some c) e (inl same) was = inl (subst (λ x. IsIn x (holding ++ s ∷ [])) same (last_in s holding))
     pick None e (inr ne) (inl one) = inl one
-    pick (Some c) e (inr ne) (inl one) = inl (one_more u s holding one)
+    pick (Some c) e (inr ne) (inl one) = inl (in_first u holding (s ∷ []) one)
     pick h e (inr ne) (inr free) = inr (ap (λ (x : SlotFact). x.holds) (as_before u ne) ∙ free)
 
 module _ (s : ℕ) (slot : SlotFact) (slots : List SlotFact) where
@@ -113,9 +113,9 @@ module _ (s : ℕ) (slot : SlotFact) (slots : List SlotFact) where
   -- a slot that is open only where it was
   pub change_filled : (slot_at slots s ≡ open_slot → slot ≡ open_slot) → (filled : List ℕ) → OnlyFilled filled slots → OnlyFilled filled changed_slots
   change_filled keeps filled only u = pick (cases_eq s u) where
-    pick : (s ≡ u) ⊎ (s ≡ u → ⊥) → IsOne u filled ⊎ (slot_at changed_slots u ≡ open_slot)
+    pick : (s ≡ u) ⊎ (s ≡ u → ⊥) → IsIn u filled ⊎ (slot_at changed_slots u ≡ open_slot)
     pick (inl same) = elim (only s) [
-      | inl one ↦ inl (subst (λ x. IsOne x filled) same one)
+      | inl one ↦ inl (subst (λ x. IsIn x filled) same one)
       | inr e ↦ inr (subst (λ x. slot_at changed_slots x ≡ open_slot) same (set_is (λ (x : SlotFact). x) slots s slot open_slot open_slot (keeps e) refl))
     ]
     pick (inr ne) = elim (only u) [ inl one ↦ inl one | inr e ↦ inr (as_before s slot slots u ne ∙ e) ]
@@ -123,9 +123,9 @@ module _ (s : ℕ) (slot : SlotFact) (slots : List SlotFact) where
   -- a slot that holds no class where it held none
   pub change_holding : ((slot_at slots s).holds ≡ None → slot.holds ≡ None) → (holding : List ℕ) → OnlyHolding holding slots → OnlyHolding holding changed_slots
   change_holding keeps holding only u = pick (cases_eq s u) where
-    pick : (s ≡ u) ⊎ (s ≡ u → ⊥) → IsOne u holding ⊎ ((slot_at changed_slots u).holds ≡ None)
+    pick : (s ≡ u) ⊎ (s ≡ u → ⊥) → IsIn u holding ⊎ ((slot_at changed_slots u).holds ≡ None)
     pick (inl same) = elim (only s) [
-      | inl one ↦ inl (subst (λ x. IsOne x holding) same one)
+      | inl one ↦ inl (subst (λ x. IsIn x holding) same one)
       | inr e ↦ inr (subst (λ x. (slot_at changed_slots x).holds ≡ None) same (set_is (λ (x : SlotFact). x.holds) slots s slot open_slot None (keeps e) refl))
     ]
     pick (inr ne) = elim (only u) [ inl one ↦ inl one | inr e ↦ inr (ap (λ (x : SlotFact). x.holds) (as_before s slot slots u ne) ∙ e) ]
@@ -139,8 +139,8 @@ module _ (s : ℕ) (last : Option ℕ) (nonnull : Bool) (slots : List SlotFact) 
     gone None = only
     gone (Some c) = let_go_filled c nonnull filled slots only
 
-    pick : (s ≡ u) ⊎ (s ≡ u → ⊥) → IsOne u filled ⊎ (slot_at (let_go_others s last nonnull slots) u ≡ open_slot)
-    pick (inl same) = subst (λ x. IsOne x filled ⊎ (slot_at (let_go_others s last nonnull slots) x ≡ open_slot)) same
+    pick : (s ≡ u) ⊎ (s ≡ u → ⊥) → IsIn u filled ⊎ (slot_at (let_go_others s last nonnull slots) u ≡ open_slot)
+    pick (inl same) = subst (λ x. IsIn x filled ⊎ (slot_at (let_go_others s last nonnull slots) x ≡ open_slot)) same
         (elim (only s) [ inl one ↦ inl one | inr e ↦ inr (set_is (λ (x : SlotFact). x) (let_go_last last nonnull slots) s (slot_at slots s) open_slot open_slot e refl) ])
     pick (inr ne) = elim (gone last u) [ inl one ↦ inl one | inr e ↦ inr (as_before s (slot_at slots s) (let_go_last last nonnull slots) u ne ∙ e) ]
 
@@ -150,8 +150,8 @@ module _ (s : ℕ) (last : Option ℕ) (nonnull : Bool) (slots : List SlotFact) 
     gone None = only
     gone (Some c) = let_go_holding c nonnull holding slots only
 
-    pick : (s ≡ u) ⊎ (s ≡ u → ⊥) → IsOne u holding ⊎ ((slot_at (let_go_others s last nonnull slots) u).holds ≡ None)
-    pick (inl same) = subst (λ x. IsOne x holding ⊎ ((slot_at (let_go_others s last nonnull slots) x).holds ≡ None)) same
+    pick : (s ≡ u) ⊎ (s ≡ u → ⊥) → IsIn u holding ⊎ ((slot_at (let_go_others s last nonnull slots) u).holds ≡ None)
+    pick (inl same) = subst (λ x. IsIn x holding ⊎ ((slot_at (let_go_others s last nonnull slots) x).holds ≡ None)) same
         (elim (only s) [ inl one ↦ inl one | inr e ↦ inr (set_is (λ (x : SlotFact). x.holds) (let_go_last last nonnull slots) s (slot_at slots s) open_slot None e refl) ])
     pick (inr ne) = elim (gone last u) [ inl one ↦ inl one | inr e ↦ inr (ap (λ (x : SlotFact). x.holds) (as_before s (slot_at slots s) (let_go_last last nonnull slots) u ne) ∙ e) ]
 

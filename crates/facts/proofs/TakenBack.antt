@@ -6,7 +6,7 @@ use Rattle.std.proofs.Math.Seq.{map-set_same, take-append-add}
 use Rattle.std.specs.Prelude.{false}
 use Rattle.lemmas.specs.Bools.{yes_or_no}
 use Rattle.lemmas.specs.Numbers.{test_true, test_yes}
-use Rattle.facts.specs.EachListed.{IsOne}
+use Rattle.lemmas.specs.Lists.{IsIn}
 use Rattle.facts.specs.declared.known.Class.{Class}
 use Rattle.facts.specs.declared.known.Entry.{Entry}
 use Rattle.facts.specs.declared.known.Known.{Known}
@@ -29,7 +29,7 @@ module _ (v : ℕ) (uses : List Use) (rows : List Row) (only : OnlyUsers uses ro
   unnamed : (u : ℕ) → names v (row_at rows u) ≡ false
   unnamed u = elim (yes_or_no (names v (row_at rows u))) [ inl e ↦ absurd (none (only u v e lt)) | inr e ↦ e ] where
     none : IsUser uses rows u v → ⊥
-    none one = subst (IsOne u) (ap (chain (length uses) uses) unused ∙ chain_none (length uses) uses None refl) one
+    none one = subst (IsIn u) (ap (chain (length uses) uses) unused ∙ chain_none (length uses) uses None refl) one
 
   unchanged : EachRow (changed (Off v)) rows rows
   unchanged = (refl, λ u at. sym (off_same v (row_at rows u) (unnamed u)))

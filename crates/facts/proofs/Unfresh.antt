@@ -1,5 +1,5 @@
 -- A line that lists its value as fresh, where all that is of its class is known to be listed.
-use Rattle.std.proofs.Common.{◌≡◌, ◌∙◌, ap, sym, refl, subst, cond, true, false, Bool, ℕ, Option, Some, None}
+use Rattle.std.proofs.Common.{◌≡◌, ◌∙◌, ap, sym, refl, subst, cond, true, false, Bool, ℕ, Option, Some}
 use Rattle.std.specs.Prelude.{◌==◌, ◌&&◌, not}
 use Rattle.lemmas.specs.Bools.{and_true}
 use Rattle.lemmas.specs.Numbers.{test_true, some_same}

@@ -1,11 +1,12 @@
 -- Chains of uses, and which rows use a value.
-use Rattle.std.proofs.Common.{◌≡◌, ◌<◌, ◌≤◌, ◌⊎◌, ◌+◌, ◌-◌, arith, ℕ, length, zero, suc, List, [], ◌∷◌, ◌++◌, refl, sym, ap, subst, inl, inr, ◌∙◌, true, false, Bool, Option, Some, None, slice_set, slice_get}
+use Rattle.std.proofs.Common.{◌≡◌, ◌<◌, ◌≤◌, ◌⊎◌, ◌+◌, ◌-◌, arith, ℕ, length, zero, suc, List, [], ◌∷◌, ◌++◌, refl, sym, ap, subst, inl, inr, ◌∙◌, true, false, Bool, Option, Some, None, slice_set}
 use Rattle.std.proofs.lemmas.Bool.{cases_eq, cases_lt}
 use Rattle.std.proofs.lemmas.List.{get_or_past, get_or-set_same, get_or-set_other, length-set}
 use Rattle.std.proofs.Math.Seq.{map-set_same}
 use Rattle.std.specs.Prelude.{replicate, if◌then◌else◌}
 use Rattle.lemmas.specs.Bools.{or_first, or_second, or_parts, or_neither, yes_or_no}
-use Rattle.facts.specs.EachListed.{IsOne, each_listed}
+use Rattle.lemmas.specs.Lists.{get_end, IsIn}
+use Rattle.facts.specs.EachListed.{each_listed}
 use Rattle.facts.specs.declared.known.Class.{Class}
 use Rattle.facts.specs.declared.known.Known.{Known}
 use Rattle.facts.specs.declared.known.Test.{Test}
@@ -30,26 +31,22 @@ use_kept [] x found (Some at) e = absurd cc
 use_kept (y ∷ ys) x found (Some zero) e = e
 use_kept (y ∷ ys) x found (Some (suc at)) e = use_kept ys x found (Some at) e
 
-last_use : (uses : List Use) (x : Use) → slice_get (uses ++ x ∷ []) (length uses) ≡ Some x
-last_use [] x = refl
-last_use (y ∷ ys) x = last_use ys x
-
 length_more : (uses : List Use) (x : Use) → length (uses ++ x ∷ []) ≡ suc (length uses)
 length_more [] x = refl
 length_more (y ∷ ys) x = ap suc (length_more ys x)
 
 -- a chain has the same users, however far it may go, once there are more uses
-chain_more : (count : ℕ) (uses : List Use) (x : Use) (at : Option ℕ) (u : ℕ) → IsOne u (chain count uses at) → IsOne u (chain count (uses ++ x ∷ []) at)
+chain_more : (count : ℕ) (uses : List Use) (x : Use) (at : Option ℕ) (u : ℕ) → IsIn u (chain count uses at) → IsIn u (chain count (uses ++ x ∷ []) at)
 chain_more zero uses x at u one = absurd one
 chain_more (suc count) uses x at u one = pick (use_at uses at) refl (λ before. chain_more count uses x before u) one where
-  pick : (found : Option Use) → use_at uses at ≡ found → ((before : Option ℕ) → IsOne u (chain count uses before) → IsOne u (chain count (uses ++ x ∷ []) before)) → IsOne u (users_of found (chain count uses)) → IsOne u (chain (suc count) (uses ++ x ∷ []) at)
+  pick : (found : Option Use) → use_at uses at ≡ found → ((before : Option ℕ) → IsIn u (chain count uses before) → IsIn u (chain count (uses ++ x ∷ []) before)) → IsIn u (users_of found (chain count uses)) → IsIn u (chain (suc count) (uses ++ x ∷ []) at)
   pick None e more one = absurd one
-  pick (Some found) e more one = subst (λ (last : Option Use). IsOne u (users_of last (chain count (uses ++ x ∷ [])))) (sym (use_kept uses x found at e)) (elim one [ inl same ↦ inl same | inr rest ↦ inr (more found.before rest) ])
+  pick (Some found) e more one = subst (λ (last : Option Use). IsIn u (users_of last (chain count (uses ++ x ∷ [])))) (sym (use_kept uses x found at e)) (elim one [ inl same ↦ inl same | inr rest ↦ inr (more found.before rest) ])
 
-chain_longer : (count : ℕ) (uses : List Use) (at : Option ℕ) (u : ℕ) → IsOne u (chain count uses at) → IsOne u (chain (suc count) uses at)
+chain_longer : (count : ℕ) (uses : List Use) (at : Option ℕ) (u : ℕ) → IsIn u (chain count uses at) → IsIn u (chain (suc count) uses at)
 chain_longer zero uses at u one = absurd one
 chain_longer (suc count) uses at u one = pick (use_at uses at) (λ before. chain_longer count uses before u) one where
-  pick : (found : Option Use) → ((before : Option ℕ) → IsOne u (chain count uses before) → IsOne u (chain (suc count) uses before)) → IsOne u (users_of found (chain count uses)) → IsOne u (users_of found (chain (suc count) uses))
+  pick : (found : Option Use) → ((before : Option ℕ) → IsIn u (chain count uses before) → IsIn u (chain (suc count) uses before)) → IsIn u (users_of found (chain count uses)) → IsIn u (users_of found (chain (suc count) uses))
   pick None more one = absurd one
   pick (Some found) more one = elim one [ inl same ↦ inl same | inr rest ↦ inr (more found.before rest) ]
 
@@ -57,11 +54,11 @@ module _ (uses : List Use) (x : Use) where
   abbrev more : List Use
   more = uses ++ x ∷ []
 
-  pub user_kept : (at : Option ℕ) (u : ℕ) → IsOne u (chain (length uses) uses at) → IsOne u (chain (length more) more at)
-  user_kept at u one = subst (λ n. IsOne u (chain n more at)) (sym (length_more uses x)) (chain_longer (length uses) more at u (chain_more (length uses) uses x at u one))
+  pub user_kept : (at : Option ℕ) (u : ℕ) → IsIn u (chain (length uses) uses at) → IsIn u (chain (length more) more at)
+  user_kept at u one = subst (λ n. IsIn u (chain n more at)) (sym (length_more uses x)) (chain_longer (length uses) more at u (chain_more (length uses) uses x at u one))
 
-  pub newest : (u : ℕ) → (x.user ≡ u) ⊎ IsOne u (chain (length uses) uses x.before) → IsOne u (chain (length more) more (Some (length uses)))
-  newest u one = subst (λ n. IsOne u (chain n more (Some (length uses)))) (sym (length_more uses x)) (subst (λ (found : Option Use). IsOne u (users_of found (chain (length uses) more))) (sym (last_use uses x)) (elim one [ inl same ↦ inl same | inr rest ↦ inr (chain_more (length uses) uses x x.before u rest) ]))
+  pub newest : (u : ℕ) → (u ≡ x.user) ⊎ IsIn u (chain (length uses) uses x.before) → IsIn u (chain (length more) more (Some (length uses)))
+  newest u one = subst (λ n. IsIn u (chain n more (Some (length uses)))) (sym (length_more uses x)) (subst (λ (found : Option Use). IsIn u (users_of found (chain (length uses) more))) (sym (get_end uses x)) (elim one [ inl same ↦ inl same | inr rest ↦ inr (chain_more (length uses) uses x x.before u rest) ]))
 
   pub users_kept : (rows : List Row) → OnlyUsers uses rows → OnlyUsers more rows
   users_kept rows only u w e lt = user_kept (row_at rows w).used u (only u w e lt)
@@ -79,18 +76,18 @@ module _ (u v : ℕ) (uses : List Use) (rows : List Row) where
     long : w < length rows
     long = rw (← length-set rows v row) lt
 
-    was : IsOne a (chain (length uses) uses (row_at rows w).used)
+    was : IsIn a (chain (length uses) uses (row_at rows w).used)
     was = only a w (sym (set_part (names w) rows v a row blank refl) ∙ e) long
 
-    pick : (v ≡ w) ⊎ (v ≡ w → ⊥) → IsOne a (chain (length (use_more u v rows uses)) (use_more u v rows uses) (row_at (use_row v uses rows) w).used)
+    pick : (v ≡ w) ⊎ (v ≡ w → ⊥) → IsIn a (chain (length (use_more u v rows uses)) (use_more u v rows uses) (row_at (use_row v uses rows) w).used)
     pick (inl same) =
         let is : row_at (use_row v uses rows) w ≡ row = subst (λ x. row_at (use_row v uses rows) x ≡ row) same (get_or-set_same rows v row blank (subst (λ x. x < length rows) (sym same) long)) in
-        let before : IsOne a (chain (length uses) uses (row_at rows v).used) = subst (λ x. IsOne a (chain (length uses) uses (row_at rows x).used)) (sym same) was in
-        subst (λ (r : Row). IsOne a (chain (length (use_more u v rows uses)) (use_more u v rows uses) r.used)) (sym is) (newest uses found a (inr before))
-    pick (inr ne) = subst (λ (r : Row). IsOne a (chain (length (use_more u v rows uses)) (use_more u v rows uses) r.used)) (sym (get_or-set_other rows v w row blank (λ x. ne (sym x)))) (user_kept uses found (row_at rows w).used a was)
+        let before : IsIn a (chain (length uses) uses (row_at rows v).used) = subst (λ x. IsIn a (chain (length uses) uses (row_at rows x).used)) (sym same) was in
+        subst (λ (r : Row). IsIn a (chain (length (use_more u v rows uses)) (use_more u v rows uses) r.used)) (sym is) (newest uses found a (inr before))
+    pick (inr ne) = subst (λ (r : Row). IsIn a (chain (length (use_more u v rows uses)) (use_more u v rows uses) r.used)) (sym (get_or-set_other rows v w row blank (λ x. ne (sym x)))) (user_kept uses found (row_at rows w).used a was)
 
   pub use_noted : v < length (use_row v uses rows) → IsUser (use_more u v rows uses) (use_row v uses rows) u v
-  use_noted lt = subst (λ (r : Row). IsOne u (chain (length (use_more u v rows uses)) (use_more u v rows uses) r.used)) (sym (get_or-set_same rows v row blank (rw (← length-set rows v row) lt))) (newest uses found u (inl refl))
+  use_noted lt = subst (λ (r : Row). IsIn u (chain (length (use_more u v rows uses)) (use_more u v rows uses) r.used)) (sym (get_or-set_same rows v row blank (rw (← length-set rows v row) lt))) (newest uses found u (inl refl))
 
   -- a value that is used says nothing more
   pub use_same : SayTheSame rows (use_row v uses rows)
@@ -100,7 +97,7 @@ module _ (u v : ℕ) (uses : List Use) (rows : List Row) where
 
 -- a row that is written names only what it is noted for, and is used as it was
 pub users_set : (uses : List Use) (rows : List Row) (v : ℕ) (row : Row) → OnlyUsers uses rows → row.used ≡ (row_at rows v).used → ((w : ℕ) → names w row ≡ true → w < length rows → IsUser uses rows v w) → OnlyUsers uses (slice_set rows v row)
-users_set uses rows v row only same says u w e lt = subst (λ (used : Option ℕ). IsOne u (chain (length uses) uses used)) (sym (set_part (λ r. r.used) rows v w row blank same)) (pick (cases_eq v u)) where
+users_set uses rows v row only same says u w e lt = subst (λ (used : Option ℕ). IsIn u (chain (length uses) uses used)) (sym (set_part (λ r. r.used) rows v w row blank same)) (pick (cases_eq v u)) where
   long : w < length rows
   long = rw (← length-set rows v row) lt
 
@@ -137,7 +134,7 @@ users_each uses change before after each same kept only u v e lt = pick (cases_l
   long = rw (← each.0) lt
 
   pick : (u < length before) ⊎ (length before ≤ u) → IsUser uses after u v
-  pick (inl at) = subst (λ (used : Option ℕ). IsOne u (chain (length uses) uses used)) (sym (ap (λ r. r.used) (each.1 v long) ∙ kept v (row_at before v))) (only u v (sym (ap (names v) (each.1 u at) ∙ same u v (row_at before u)) ∙ e) long)
+  pick (inl at) = subst (λ (used : Option ℕ). IsIn u (chain (length uses) uses used)) (sym (ap (λ r. r.used) (each.1 v long) ∙ kept v (row_at before v))) (only u v (sym (ap (names v) (each.1 u at) ∙ same u v (row_at before u)) ∙ e) long)
   pick (inr past) = let none = ap (names v) (get_or_past after u blank (rw each.0 past)) in absurd cc
 
 -- blank rows name nothing

@@ -1,14 +1,10 @@
 -- Changes of the elements of a list at places that are listed.
 use Rattle.std.specs.Prelude.{◌≡◌, ◌⊎◌, ℕ, List, [], ◌∷◌, slice_index_or, slice_set}
-
--- i is one of these
-abbrev pub IsOne : ℕ → List ℕ → Type 0
-IsOne i [] = ⊥
-IsOne i (first ∷ others) = (first ≡ i) ⊎ IsOne i others
+use Rattle.lemmas.specs.Lists.{IsIn}
 
 -- each element that is not listed is this one
 abbrev pub OnlyListed : {X : Type 0} → (x : X) → (listed : List ℕ) → List X → Type 0
-OnlyListed x listed xs = (i : ℕ) → IsOne i listed ⊎ (slice_index_or xs i x ≡ x)
+OnlyListed x listed xs = (i : ℕ) → IsIn i listed ⊎ (slice_index_or xs i x ≡ x)
 
 -- a change of each element that is listed; after the last element x stands
 abbrev pub each_listed : {X : Type 0} → (x : X) → (ℕ → X → X) → (listed : List ℕ) → List X → List X

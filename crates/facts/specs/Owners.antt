@@ -1,6 +1,6 @@
 -- The values that own a class, and the values that are of a class which they do not own.
 use Rattle.std.specs.Prelude.{◌≡◌, ◌⊎◌, ℕ, ◌-◌, ◌==◌, Bool, true, false, not, ◌||◌, slice_set, slice_index_or, List, ◌∷◌, length, slice_get, nat_lt, Option, Some, None, if◌then◌else◌}
-use Rattle.facts.specs.EachListed.{IsOne}
+use Rattle.lemmas.specs.Lists.{IsIn}
 use Rattle.facts.specs.declared.owners.Owners.{Owners}
 use Rattle.facts.specs.declared.known.Known.{Known}
 use Rattle.facts.specs.declared.known.Known.TheVariants.{Cell}
@@ -27,7 +27,7 @@ owns_class count class_owners u row = owns_class_of count class_owners u row.kno
 
 -- each row that is not listed is of no class, or of one that its value owns
 abbrev pub ListsNonOwners : (non_owners : List ℕ) → (class_owners : List Owners) → List Row → Type 0
-ListsNonOwners non_owners class_owners rows = (v : ℕ) → IsOne v non_owners ⊎ (owns_class (length rows) class_owners v (row_at rows v) ≡ true)
+ListsNonOwners non_owners class_owners rows = (v : ℕ) → IsIn v non_owners ⊎ (owns_class (length rows) class_owners v (row_at rows v) ≡ true)
 
 -- this value owns a class too, where the second of its owners is not needed: that is the first one, or of the class no more
 abbrev pub with_second : (rows : List Row) → (at c : ℕ) → Owners → Owners

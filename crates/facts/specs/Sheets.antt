@@ -1,5 +1,6 @@
 -- A row for each value, of which few are filled.
 use Rattle.std.specs.Prelude.{◌≡◌, ◌<◌, ◌⊎◌, ℕ, Bool, true, false, not, ◌&&◌, ◌||◌, ◌==◌, List, [], ◌∷◌, ◌++◌, length, slice_index_or, Option, Some, None, if◌then◌else◌}
+use Rattle.lemmas.specs.Lists.{IsIn}
 use Rattle.facts.specs.declared.known.Class.{Class}
 use Rattle.facts.specs.declared.known.Known.{Known}
 use Rattle.facts.specs.declared.known.Known.TheVariants.{Nothing, Cell}
@@ -8,7 +9,7 @@ use Rattle.facts.specs.declared.row.Row.{Row}
 use Rattle.facts.specs.declared.sweeps.Change.{Change}
 use Rattle.facts.specs.declared.sweeps.Change.TheVariants.{Off, Settle}
 use Rattle.facts.specs.Facts.{lost_class, class_at, is_of, is_on, off_base, off_test, stale_of}
-use Rattle.facts.specs.EachListed.{IsOne, OnlyListed}
+use Rattle.facts.specs.EachListed.{OnlyListed}
 use Rattle.facts.specs.Lines.{covers_value}
 
 -- ---- rows
@@ -69,7 +70,7 @@ is_settled u row = is_settled_as u row.aside row.class row.known
 
 -- a safepoint leaves each other row as it is
 abbrev pub OnlyCurrent : (current : List ℕ) → List Row → Type 0
-OnlyCurrent current rows = (v : ℕ) → IsOne v current ⊎ (is_settled v (row_at rows v) ≡ true)
+OnlyCurrent current rows = (v : ℕ) → IsIn v current ⊎ (is_settled v (row_at rows v) ≡ true)
 
 -- a safepoint left the row before as it was, and does not leave the row after
 abbrev pub is_unsettled : (v : ℕ) → (before after : Row) → Bool

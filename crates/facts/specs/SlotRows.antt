@@ -1,9 +1,10 @@
 -- The slots of a function, of which few are filled, and of which few hold a class.
 use Rattle.std.specs.Prelude.{◌≡◌, ◌<◌, ◌⊎◌, ℕ, Bool, true, false, not, ◌&&◌, List, [], ◌∷◌, ◌++◌, map, slice_set, Option, Some, None, if◌then◌else◌}
+use Rattle.lemmas.specs.Lists.{IsIn}
 use Rattle.facts.specs.declared.chains.Chains.{Chains}
 use Rattle.facts.specs.declared.known.SlotFact.{SlotFact}
 use Rattle.facts.specs.Chains.{listed}
-use Rattle.facts.specs.EachListed.{IsOne, OnlyListed, each_listed}
+use Rattle.facts.specs.EachListed.{OnlyListed, each_listed}
 use Rattle.facts.specs.Facts.{open_slot, slot_at, holds, let_go}
 use Rattle.facts.specs.Lines.{covers_slot}
 
@@ -22,11 +23,11 @@ OnlyFilled filled slots = OnlyListed open_slot filled slots
 
 -- each slot that is not listed holds no class
 abbrev pub OnlyHolding : (holding : List ℕ) → List SlotFact → Type 0
-OnlyHolding holding slots = (s : ℕ) → IsOne s holding ⊎ ((slot_at slots s).holds ≡ None)
+OnlyHolding holding slots = (s : ℕ) → IsIn s holding ⊎ ((slot_at slots s).holds ≡ None)
 
 -- each slot that holds a class is listed as one of its keepers
 abbrev pub OnlyKeepers : (keepers : Chains) → List SlotFact → Type 0
-OnlyKeepers keepers slots = (s c : ℕ) → holds c (slot_at slots s) ≡ true → IsOne s (listed keepers c)
+OnlyKeepers keepers slots = (s c : ℕ) → holds c (slot_at slots s) ≡ true → IsIn s (listed keepers c)
 
 -- the slots that are not open, those that hold a class, and those that hold each class are noted
 abbrev pub AreNoted : (filled holding : List ℕ) → (keepers : Chains) → List SlotFact → Type 0
@@ -34,7 +35,7 @@ AreNoted filled holding keepers slots = OnlyFilled filled slots × OnlyHolding h
 
 -- each number below `count` that is listed is among the names
 abbrev pub NamesAll : (count : ℕ) → (listed names : List ℕ) → Type 0
-NamesAll count listed names = (s : ℕ) → s < count → IsOne s listed → IsOne s names
+NamesAll count listed names = (s : ℕ) → s < count → IsIn s listed → IsIn s names
 
 -- the filled slots once one more is, of which this was known
 abbrev pub with_filled : (s : ℕ) → SlotFact → (filled : List ℕ) → List ℕ

@@ -1,6 +1,6 @@
 -- Values that are listed as the same, one after the other, in groups that have one class each.
 use Rattle.std.specs.Prelude.{◌≡◌, ◌<◌, ◌⊎◌, ℕ, ◌==◌, ◌||◌, Bool, true, false, List, map, length, nat_eq, slice_index_or, Option, Some, None}
-use Rattle.facts.specs.EachListed.{IsOne}
+use Rattle.lemmas.specs.Lists.{IsIn}
 use Rattle.indexmap.specs.IndexMap.{get}
 use Rattle.facts.specs.declared.known.Class.{Class}
 use Rattle.facts.specs.declared.known.Known.{Known}
@@ -78,7 +78,7 @@ is_place at (Some place) = place == at
 
 -- each value is listed in its group
 abbrev pub AreListed : (places : ℕ → Option ℕ) → (members : ℕ → List ℕ) → Type 0
-AreListed places members = (v place : ℕ) → places v ≡ Some place → IsOne v (members place)
+AreListed places members = (v place : ℕ) → places v ≡ Some place → IsIn v (members place)
 
 -- each group has the class that one of its values had
 abbrev pub AreClasses : (places : ℕ → Option ℕ) → List Group → Type 0
@@ -86,7 +86,7 @@ AreClasses places groups = (v place : ℕ) → places v ≡ Some place → (plac
 
 -- each value that has a group was tied
 abbrev pub AreTied : (places : ℕ → Option ℕ) → (tied : List ℕ) → Type 0
-AreTied places tied = (v : ℕ) → IsOne v tied ⊎ (places v ≡ None)
+AreTied places tied = (v : ℕ) → IsIn v tied ⊎ (places v ≡ None)
 
 -- groups of values that were tied
 abbrev pub AreTies : Ties → Type 0

@@ -1,6 +1,6 @@
 -- The rows that name a value.
 use Rattle.std.specs.Prelude.{◌≡◌, ◌<◌, ℕ, zero, suc, true, List, [], ◌∷◌, ◌++◌, length, slice_get, slice_set, Option, Some, None}
-use Rattle.facts.specs.EachListed.{IsOne}
+use Rattle.lemmas.specs.Lists.{IsIn}
 use Rattle.facts.specs.declared.known.Class.{Class}
 use Rattle.facts.specs.declared.row.Row.{Row}
 use Rattle.facts.specs.declared.uses.Use.{Use}
@@ -24,7 +24,7 @@ chain (suc count) uses at = users_of (use_at uses at) (chain count uses)
 
 -- a row is one of those that have named a value
 abbrev pub IsUser : List Use → List Row → (u v : ℕ) → Type 0
-IsUser uses rows u v = IsOne u (chain (length uses) uses (row_at rows v).used)
+IsUser uses rows u v = IsIn u (chain (length uses) uses (row_at rows v).used)
 
 -- each row that names a value is a user of it
 abbrev pub OnlyUsers : List Use → List Row → Type 0

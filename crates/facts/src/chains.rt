@@ -1,6 +1,6 @@
 //! Lists by number, each as a chain of links from the newest on.
 ghost use Rattle.std.specs.Prelude.{◌≡◌, ℕ, [], nat_eq, IfOk, OnOk};
-ghost use Rattle.facts.specs.EachListed.{IsOne};
+ghost use Rattle.lemmas.specs.Lists.{IsIn};
 ghost use Rattle.indexmap.specs.IndexMap.{get};
 ghost use Rattle.facts.specs.Chains.{listed};
 
@@ -36,8 +36,8 @@ impl Chains {
 
     /// A number is listed.
     pub fn add(&mut self, list: usize, number: usize) -> Result<(), AllocError>
-        ensures kept { (other u : ℕ) → IsOne u (listed self.old other) → IsOne u (listed self.new other) }
-        ensures added { OnOk result (IsOne number (listed self.new list)) }
+        ensures kept { (other u : ℕ) → IsIn u (listed self.old other) → IsIn u (listed self.new other) }
+        ensures added { OnOk result (IsIn number (listed self.new list)) }
     {
         let before = self.newest(list);
         let at = self.links.len();

@@ -73,8 +73,8 @@ impl Contents {
     {
         let filled = other.slots.filled(alloc)?;
         let holding = other.slots.holding(alloc)?;
-        let keepers = other.slots.keepers(alloc)?;
-        self.values.set_from(alloc, &other.values)?;
+        let keepers = other.slots.keepers(alloc, &holding)?;
+        self.values.set_from(&other.values)?;
         self.slots.set_from(filled, holding, keepers, &other.slots);
         Ok(())
     }
@@ -97,7 +97,7 @@ impl Contents {
     {
         let filled = kept.slots.filled(alloc)?;
         let holding = kept.slots.holding(alloc)?;
-        let keepers = kept.slots.keepers(alloc)?;
+        let keepers = kept.slots.keepers(alloc, &holding)?;
         self.values.open(alloc, &kept.values)?;
         self.slots.set_from(filled, holding, keepers, &kept.slots);
         Ok(())

@@ -1,8 +1,8 @@
-ghost use Rattle.std.specs.Prelude.{◌≡◌, true, ◌==◌, ◌&&◌, length, map, slice_set, IfOk, OnOk, OnErr};
+ghost use Rattle.std.specs.Prelude.{◌≡◌, true, ◌==◌, ◌&&◌, length, IfOk, OnOk, OnErr};
 ghost use Rattle.facts.specs.declared.known.Known.TheVariants.{Cell};
-ghost use Rattle.facts.specs.Facts.{FactSet, AreFacts, known_at, slot_at, class_at, test_at, is_of, nothing_known, forget, define, define_new, define_test, set_known, add_class, set_class, drop_fresh, drop_fresh_of, drop_fresh_all, learn_nonnull, set_slot, clear_slot, end_slot, root_slot, hold, store_slot, load_held, load_slot, make_stale, slot_nonnull};
+ghost use Rattle.facts.specs.Facts.{FactSet, AreFacts, known_at, slot_at, class_at, test_at, nothing_known, forget, define, define_new, define_test, set_known, add_class, set_class, drop_fresh, drop_fresh_of, drop_fresh_all, learn_nonnull, set_slot, clear_slot, end_slot, root_slot, hold, store_slot, load_slot, make_stale, slot_nonnull};
 ghost use Rattle.facts.specs.Lines.{covers, facts_of_lines};
-ghost use Rattle.facts.specs.Parts.{AreAsMany, IsSameOrCleared};
+ghost use Rattle.facts.specs.Parts.{IsSameOrCleared};
 ghost use Rattle.facts.specs.TakenBack.{DifferBy, EndsAlone};
 
 use crate::class_id::ClassId;
@@ -89,23 +89,41 @@ impl Facts {
         self.contents.values.classes_law();
     }
 
-    /// Nothing is known any more.
-    pub fn clear(&mut self, _alloc: Global) -> Result<(), AllocError>
-        ensures ok { OnOk result (self.new ≡ nothing_known (length self.old.values) (length self.old.slots)) }
+    /// Nothing is known of this number of values and slots, in place of what is known here.
+    pub fn reset(&mut self, alloc: Global, values: usize, slots: usize) -> Result<(), AllocError>
+        ensures ok { OnOk result (self.new ≡ nothing_known values slots) }
         ensures err { OnErr result (self.new ≡ self.old) }
-        ensures size { AreAsMany self.old self.new }
     {
-        Rc::make_mut(&mut self.contents)?.clear();
+        if self.has(values, slots) {
+            Rc::make_mut(&mut self.contents)?.clear();
+        } else {
+            let fresh = Contents::new(alloc, values, slots)?;
+            self.contents = Rc::new(alloc, fresh)?;
+        }
         Ok(())
     }
 
-    /// What a block with these lines begins with, in place of what is known. Without memory it stays, or nothing is known.
-    pub fn begin(&mut self, alloc: Global, table: &Slots, lines: &[Line]) -> Result<(), AllocError>
-        ensures ok { OnOk result (self.new ≡ facts_of_lines table.now (length self.old.values) (length self.old.slots) lines.now) }
+    /// What a block with these lines begins with, in a function of this number of values and with these slots, in place of
+    /// what is known. Without memory that stays, or nothing is known.
+    pub fn begin(
+        &mut self,
+        alloc: Global,
+        values: usize,
+        table: &Slots,
+        lines: &[Line],
+    ) -> Result<(), AllocError>
+        ensures ok { OnOk result (self.new ≡ facts_of_lines table.now values (length table.now.held) lines.now) }
         ensures err { OnErr result (IsSameOrCleared self.old self.new) }
-        ensures size { AreAsMany self.old self.new }
     {
-        Rc::make_mut(&mut self.contents)?.begin(alloc, table, lines)
+        let slots = table.count();
+        if self.has(values, slots) {
+            Rc::make_mut(&mut self.contents)?.begin(alloc, table, lines)
+        } else {
+            let mut fresh = Contents::new(alloc, values, slots)?;
+            fresh.begin(alloc, table, lines)?;
+            self.contents = Rc::new(alloc, fresh)?;
+            Ok(())
+        }
     }
 
     /// What was known before these phis took what came in, if they changed no more than this can take back. Without memory it

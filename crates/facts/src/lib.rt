@@ -13,6 +13,7 @@ mod laws;
 mod lines;
 mod numbered;
 mod owners;
+mod refill;
 mod row;
 pub mod rows;
 mod sheet;

@@ -1,10 +1,10 @@
 //! The values that own a class, and the values that are of a class which they do not own.
-ghost use Rattle.std.specs.Prelude.{◌≡◌, ◌⊎◌, true, length, OnOk, OnErr};
+ghost use Rattle.std.specs.Prelude.{◌≡◌, ◌⊎◌, true, length, OnOk};
 ghost use Rattle.std.specs.List.{list_any, list_all};
-ghost use Rattle.facts.specs.EachListed.{IsOne};
+ghost use Rattle.lemmas.specs.Lists.{IsIn};
 ghost use Rattle.facts.specs.Owners.{owners_of, is_owner, owns_class, with_second, with_owner, members, ListsNonOwners};
 ghost use Rattle.facts.specs.Owned.{with_owner_of, is_new_non_owner};
-ghost use Rattle.facts.specs.Sheets.{row_is_of, other_is_of, covers_row};
+ghost use Rattle.facts.specs.Sheets.{row_at, row_is_of, other_is_of, covers_row};
 
 use crate::class_id::ClassId;
 use crate::known::Known;
@@ -109,14 +109,15 @@ pub fn note_non_owner(
     class_owners: &mut Vec<Owners>,
     rows: &[Row],
     at: usize,
+    before: &Row,
     after: &Row,
 ) -> Result<(), AllocError>
+    requires { before.now ≡ row_at rows.now at }
     ensures kept { ListsNonOwners non_owners.old.items class_owners.old.items rows.now → ListsNonOwners non_owners.new.items class_owners.new.items rows.now }
-    ensures noted { OnOk result (ListsNonOwners non_owners.old.items class_owners.old.items rows.now → IsOne at non_owners.new.items ⊎ (owns_class (length rows.now) class_owners.new.items at after.now ≡ true)) }
+    ensures noted { OnOk result (ListsNonOwners non_owners.old.items class_owners.old.items rows.now → IsIn at non_owners.new.items ⊎ (owns_class (length rows.now) class_owners.new.items at after.now ≡ true)) }
 {
     add_owner_of(class_owners, rows, at, &after.known);
-    let before = sweeps::row_at(rows, at);
-    if is_new_non_owner(rows.len(), class_owners, at, &before, after) {
+    if is_new_non_owner(rows.len(), class_owners, at, before, after) {
         non_owners.push(at)?;
     }
     Ok(())

@@ -12,6 +12,7 @@ use crate::kept::KeptSheet;
 use crate::known::Class;
 use crate::numbered::{number_rows, numbers_of, write_rows};
 use crate::owners::{self, Owners};
+use crate::refill::{make_room, refill};
 use crate::row::Row;
 use crate::sweeps::{self, Change};
 use crate::uses::Use;
@@ -108,14 +109,15 @@ impl Sheet {
         ensures err { OnErr result (self.new ≡ self.old) }
     {
         if at < self.rows.len() {
-            sweeps::mark(&mut self.marked, &self.rows, at)?;
             let before = sweeps::row_at(&self.rows, at);
+            sweeps::mark(&mut self.marked, at, &before)?;
             sweeps::note(&mut self.current, at, &before, &row)?;
             owners::note_non_owner(
                 &mut self.non_owners,
                 &mut self.class_owners,
                 &self.rows,
                 at,
+                &before,
                 &row,
             )?;
             self.rows[at] = row;
@@ -148,21 +150,21 @@ impl Sheet {
     }
 
     /// The rows are those of a sheet of the same length.
-    pub fn set_from(&mut self, alloc: Global, other: &Sheet) -> Result<(), AllocError>
+    pub fn set_from(&mut self, other: &Sheet) -> Result<(), AllocError>
         requires { length self.old ≡ length other.now }
         ensures ok { OnOk result (self.new ≡ other.now) }
         ensures err { OnErr result (self.new ≡ self.old) }
     {
-        let marked = Vec::from_slice(alloc, &other.marked)?;
-        let current = Vec::from_slice(alloc, &other.current)?;
-        let class_owners = Vec::from_slice(alloc, &other.class_owners)?;
-        let non_owners = Vec::from_slice(alloc, &other.non_owners)?;
+        make_room(&mut self.marked, &other.marked)?;
+        make_room(&mut self.current, &other.current)?;
+        make_room(&mut self.class_owners, &other.class_owners)?;
+        make_room(&mut self.non_owners, &other.non_owners)?;
         sweeps::copy(&mut self.rows, &self.marked, &[]);
-        sweeps::copy(&mut self.rows, &marked, &other.rows);
-        self.marked = marked;
-        self.current = current;
-        self.class_owners = class_owners;
-        self.non_owners = non_owners;
+        sweeps::copy(&mut self.rows, &other.marked, &other.rows);
+        refill(&mut self.marked, &other.marked);
+        refill(&mut self.current, &other.current);
+        refill(&mut self.class_owners, &other.class_owners);
+        refill(&mut self.non_owners, &other.non_owners);
         Ok(())
     }
 
@@ -217,14 +219,15 @@ impl Sheet {
         ensures err { OnErr result (self.new ≡ self.old) }
     {
         let at = v.number() as usize;
-        sweeps::mark(&mut self.marked, &self.rows, at)?;
         let before = sweeps::row_at(&self.rows, at);
+        sweeps::mark(&mut self.marked, at, &before)?;
         sweeps::note(&mut self.current, at, &before, &row)?;
         owners::note_non_owner(
             &mut self.non_owners,
             &mut self.class_owners,
             &self.rows,
             at,
+            &before,
             &row,
         )?;
         sweeps::end_names(&mut self.rows, &self.marked, uses, v);

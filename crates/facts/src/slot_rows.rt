@@ -143,12 +143,11 @@ impl SlotRows {
         slot_sweeps::shorter(alloc, &self.holding, self.slots.len())
     }
 
-    /// The slots that hold each class.
-    pub fn keepers(&self, alloc: Global) -> Result<Chains, AllocError>
-        ensures { IfOk result (λ keepers. OnlyKeepers keepers self.now) }
+    /// The slots that hold each class, where these may hold one.
+    pub fn keepers(&self, alloc: Global, holding: &[usize]) -> Result<Chains, AllocError>
+        ensures { IfOk result (λ keepers. OnlyHolding holding.now self.now → OnlyKeepers keepers self.now) }
     {
-        let holding = self.holding(alloc)?;
-        slot_sweeps::keepers_of(alloc, &self.slots, &holding)
+        slot_sweeps::keepers_of(alloc, &self.slots, holding)
     }
 
     /// The slots are as they are elsewhere, where these may be filled and may hold a class, and these hold each class.

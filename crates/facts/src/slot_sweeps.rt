@@ -1,7 +1,8 @@
 //! What changes in the slots that are listed, and what is asked of them.
 ghost use Rattle.std.specs.Prelude.{◌≡◌, ◌<◌, ℕ, true, slice_set, IfOk, OnOk, OnErr};
 ghost use Rattle.std.specs.List.{list_all};
-ghost use Rattle.facts.specs.EachListed.{IsOne, each_listed, copied};
+ghost use Rattle.lemmas.specs.Lists.{IsIn};
+ghost use Rattle.facts.specs.EachListed.{each_listed, copied};
 ghost use Rattle.facts.specs.Chains.{listed};
 ghost use Rattle.facts.specs.Facts.{open_slot, slot_at, holds, let_go, end_hold};
 ghost use Rattle.facts.specs.SlotRows.{is_open, with_filled, with_holding, each_let_go, covers_at, NamesAll, OnlyHolding, OnlyKeepers, AreNoted};
@@ -55,8 +56,8 @@ fn note_holding(holding: &mut Vec<usize>, at: usize, after: &SlotFact) -> Result
 
 /// A slot of which this is known from now on is a keeper of the class that it holds.
 fn note_keeper(keepers: &mut Chains, at: usize, after: &SlotFact) -> Result<(), AllocError>
-    ensures kept { (c s : ℕ) → IsOne s (listed keepers.old c) → IsOne s (listed keepers.new c) }
-    ensures noted { OnOk result ((c : ℕ) → holds c after.now ≡ true → IsOne at (listed keepers.new c)) }
+    ensures kept { (c s : ℕ) → IsIn s (listed keepers.old c) → IsIn s (listed keepers.new c) }
+    ensures noted { OnOk result ((c : ℕ) → holds c after.now ≡ true → IsIn at (listed keepers.new c)) }
 {
     match after.holds {
         Some(c) => keepers.add(c.number(), at),
@@ -110,7 +111,7 @@ pub fn shorter(alloc: Global, listed: &[usize], count: usize) -> Result<Vec<usiz
 }
 
 fn all_below(alloc: Global, count: usize) -> Result<Vec<usize>, AllocError>
-    ensures { IfOk result (λ names. (s : ℕ) → s < count → IsOne s names.items) }
+    ensures { IfOk result (λ names. (s : ℕ) → s < count → IsIn s names.items) }
 {
     let mut names = Vec::new(alloc);
     for at in 0..count {

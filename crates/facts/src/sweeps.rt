@@ -1,11 +1,11 @@
 //! What changes in the rows that are marked, and what is asked of them.
-ghost use Rattle.std.specs.Prelude.{◌≡◌, ℕ, true, ◌++◌, map, length, replicate, slice_set, IfOk, OnOk, OnErr};
+ghost use Rattle.std.specs.Prelude.{◌≡◌, ◌++◌, map, length, replicate, slice_set, IfOk, OnOk, OnErr};
 ghost use Rattle.std.specs.List.{list_any, list_all};
-ghost use Rattle.facts.specs.EachListed.{each_listed, copied, IsOne};
+ghost use Rattle.facts.specs.EachListed.{each_listed, copied};
 ghost use Rattle.facts.specs.Facts.{class_at};
 ghost use Rattle.facts.specs.Uses.{chain, OnlyUsers};
 ghost use Rattle.facts.specs.declared.sweeps.Change.TheVariants.{Off};
-ghost use Rattle.facts.specs.Sheets.{blank, changed, row_at, with_mark, class_of, known_nonnull, keep_row, settled_class, row_is_of, other_is_of, covers_row, is_settled, is_settled_as, is_unsettled, with_current, EachRow, OnlyMarked};
+ghost use Rattle.facts.specs.Sheets.{blank, changed, row_at, with_mark, class_of, known_nonnull, keep_row, settled_class, row_is_of, other_is_of, covers_row, is_settled, is_unsettled, with_current, EachRow, OnlyMarked};
 
 use crate::class_id::ClassId;
 use crate::known::{Class, Known};
@@ -48,12 +48,12 @@ pub fn row_at(rows: &[Row], at: usize) -> Row
     }
 }
 
-/// A row is marked, unless it is filled.
-pub fn mark(marked: &mut Vec<usize>, rows: &[Row], at: usize) -> Result<(), AllocError>
-    ensures ok { OnOk result (marked.new.items ≡ with_mark at (row_at rows.now at) marked.old.items) }
+/// A row is marked, unless it was filled.
+pub fn mark(marked: &mut Vec<usize>, at: usize, before: &Row) -> Result<(), AllocError>
+    ensures ok { OnOk result (marked.new.items ≡ with_mark at before.now marked.old.items) }
     ensures err { OnErr result (marked.new.items ≡ marked.old.items) }
 {
-    if row_at(rows, at).is_blank() {
+    if before.is_blank() {
         marked.push(at)?;
     }
     Ok(())

@@ -12,6 +12,7 @@ ghost use Rattle.facts.specs.Values.{facts_of_rows, no_values, defined, learned,
 use crate::class_id::ClassId;
 use crate::kept::KeptValues;
 use crate::known::{Class, Known, Test};
+use crate::refill::{make_room, refill};
 use crate::row::Row;
 use crate::rows;
 use crate::sheet::Sheet;
@@ -116,16 +117,16 @@ impl Values {
     }
 
     /// What is known elsewhere of as many values, in place of what is known here.
-    pub fn set_from(&mut self, alloc: Global, other: &Values) -> Result<(), AllocError>
+    pub fn set_from(&mut self, other: &Values) -> Result<(), AllocError>
         requires { length self.old.values ≡ length other.now.values }
         ensures ok { OnOk result (self.new ≡ other.now) }
         ensures err { OnErr result (self.new ≡ self.old) }
     {
-        let added = Vec::from_slice(alloc, &other.added)?;
-        let uses = Vec::from_slice(alloc, &other.uses)?;
-        self.sheet.set_from(alloc, &other.sheet)?;
-        self.added = added;
-        self.uses = uses;
+        make_room(&mut self.added, &other.added)?;
+        make_room(&mut self.uses, &other.uses)?;
+        self.sheet.set_from(&other.sheet)?;
+        refill(&mut self.added, &other.added);
+        refill(&mut self.uses, &other.uses);
         Ok(())
     }
 

@@ -58,7 +58,7 @@ impl FlowFacts {
         ground: &Ground,
         summaries: &Summaries,
     ) -> Result<(), AllocError> {
-        self.here.set_from(alloc, &ground.blank)?;
+        self.here.reset(alloc, ground.values, ground.slots.count())?;
         let mut place = 0usize;
         for parameter in scene.function.parameters.as_slice() {
             let given = given_by(TypeKind::of(scene.module(), parameter.written));
@@ -76,8 +76,7 @@ impl FlowFacts {
         ground: &Ground,
         lines: &[Line],
     ) -> Result<(), AllocError> {
-        self.here.set_from(alloc, &ground.blank)?;
-        self.here.begin(alloc, &ground.slots, lines)
+        self.here.begin(alloc, ground.values, &ground.slots, lines)
     }
 
     /// What a target with these lines begins with.
@@ -87,8 +86,7 @@ impl FlowFacts {
         ground: &Ground,
         lines: &[Line],
     ) -> Result<(), AllocError> {
-        self.there.set_from(alloc, &ground.blank)?;
-        self.there.begin(alloc, &ground.slots, lines)
+        self.there.begin(alloc, ground.values, &ground.slots, lines)
     }
 
     /// Goes past an instruction.

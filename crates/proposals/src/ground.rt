@@ -4,7 +4,6 @@ use crate::incoming_operands::IncomingOperands;
 use crate::scan::Scan;
 use crate::summaries::Summaries;
 use crate::wanted::wanted_of;
-use facts::Facts;
 use ir_ast::{FuncId, Function, Module};
 use shadow_stack::{Slots, slots_of};
 use std::alloc::{AllocError, Global};
@@ -14,8 +13,8 @@ use std::alloc::{AllocError, Global};
 pub struct Ground {
     pub func: FuncId,
     pub slots: Slots,
-    /// Nothing is known of its values and slots.
-    pub blank: Facts,
+    /// How many values it has.
+    pub values: usize,
     pub reading: Reading,
 }
 
@@ -41,15 +40,10 @@ impl Ground {
             drop(slots);
             return Err(AllocError);
         };
-        let Ok(blank) = Facts::new(alloc, function.locals.count(), slots.count()) else {
-            drop(slots);
-            drop(reading);
-            return Err(AllocError);
-        };
         Ok(Ground {
             func,
             slots,
-            blank,
+            values: function.locals.count(),
             reading,
         })
     }

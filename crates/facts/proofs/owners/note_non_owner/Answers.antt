@@ -1,6 +1,5 @@
 use Rattle.std.proofs.Common.{◌≡◌, ◌∙◌, ap, sym, subst, inl, length, false, ℕ, List}
-use Rattle.facts.specs.EachListed.{IsOne}
-use Rattle.facts.proofs.EachListed.{one_last}
+use Rattle.lemmas.specs.Lists.{last_in, IsIn}
 use Rattle.facts.specs.declared.owners.Owners.{Owners}
 use Rattle.facts.specs.declared.row.Row.{Row}
 use Rattle.facts.specs.Owners.{ListsNonOwners}
@@ -20,7 +19,7 @@ returns-in_ok-push-clause-kept c = λ only. subst (λ (us : List ℕ). ListsNonO
     (after_owner c.args.at c.args.after.now.known c.args.non_owners.now.items c.args.class_owners.now.items c.add_owner_of.new.class_owners.items c.args.rows.now c.add_owner_of.ensures only))
 
 pub returns-in_ok-push-clause-noted : goal.returns-in_ok-push-clause-noted
-returns-in_ok-push-clause-noted c = λ only. inl (subst (IsOne c.args.at) (sym c.in_ok-push.ensures.items) (one_last c.args.at c.args.non_owners.now.items))
+returns-in_ok-push-clause-noted c = λ only. inl (subst (IsIn c.args.at) (sym c.in_ok-push.ensures.items) (last_in c.args.at c.args.non_owners.now.items))
 
 pub returns-else-is_new_non_owner-clause-kept : goal.returns-else-is_new_non_owner-clause-kept
 returns-else-is_new_non_owner-clause-kept c = λ only. after_owner c.args.at c.args.after.now.known c.args.non_owners.now.items c.args.class_owners.now.items c.add_owner_of.new.class_owners.items c.args.rows.now c.add_owner_of.ensures only
@@ -31,5 +30,5 @@ returns-else-is_new_non_owner-clause-noted c = λ only.
     let next : List Owners = c.add_owner_of.new.class_owners.items in
     let stays : is_new_non_owner (length rows) next c.args.at (row_at rows c.args.at) c.args.after.now ≡ false =
     ap (λ (class_owners : List Owners). is_new_non_owner (length rows) class_owners c.args.at (row_at rows c.args.at) c.args.after.now) (sym c.deref.ensures.value)
-    ∙ ap (λ (row : Row). is_new_non_owner (length rows) c.deref.result.now c.args.at row c.args.after.now) (sym c.row_at-before.ensures) ∙ sym c.is_new_non_owner.ensures ∙ c.if-is_new_non_owner.false in
+    ∙ ap (λ (row : Row). is_new_non_owner (length rows) c.deref.result.now c.args.at row c.args.after.now) (sym c.requires) ∙ sym c.is_new_non_owner.ensures ∙ c.if-is_new_non_owner.false in
     stays_owner c.args.at c.args.after.now c.args.non_owners.now.items next rows (after_owner c.args.at c.args.after.now.known c.args.non_owners.now.items c.args.class_owners.now.items next rows c.add_owner_of.ensures only) stays

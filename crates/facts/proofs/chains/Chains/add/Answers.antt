@@ -1,7 +1,7 @@
 use Rattle.std.proofs.Common.{◌≡◌, ◌∙◌, ◌++◌, ◌∷◌, [], ap, arith, cond, sym, subst, length, List, ℕ, Option, Some}
 use Rattle.std.specs.Prelude.{◌==◌, nat_eq}
 use Rattle.std.specs.Map.{lookup}
-use Rattle.facts.specs.EachListed.{IsOne}
+use Rattle.lemmas.specs.Lists.{IsIn}
 use Rattle.indexmap.specs.IndexMap.{get}
 use Rattle.facts.specs.declared.uses.Use.{Use}
 use Rattle.facts.specs.Uses.{chain}
@@ -16,8 +16,8 @@ returns-in_err-insert-clause-kept c other u one =
     let link : Use = record { user = c.args.number; before = old c.args.list } in
     let pushed : c.push.new.self.items ≡ links ++ link ∷ [] = c.in_ok-push.ensures.items ∙ ap (λ (before : Option ℕ). links ++ record { user = c.args.number; before = before } ∷ []) c.newest-before.ensures in
     let same : get nat_eq c.insert.new.self other ≡ old other = ap (λ (entries : List (ℕ × ℕ)). lookup (nat_eq other) entries) c.in_err-insert.ensures.err in
-    subst (λ (ls : List Use). IsOne u (chain (length ls) ls (get nat_eq c.insert.new.self other))) (sym pushed)
-    (subst (λ (newest : Option ℕ). IsOne u (chain (length (links ++ link ∷ [])) (links ++ link ∷ []) newest)) (sym same) (user_kept links link (old other) u one))
+    subst (λ (ls : List Use). IsIn u (chain (length ls) ls (get nat_eq c.insert.new.self other))) (sym pushed)
+    (subst (λ (newest : Option ℕ). IsIn u (chain (length (links ++ link ∷ [])) (links ++ link ∷ []) newest)) (sym same) (user_kept links link (old other) u one))
 
 module _ (c : goal.In_ok-insert) where
   abbrev links : List Use
@@ -39,9 +39,9 @@ module _ (c : goal.In_ok-insert) where
   puts other = c.in_ok-insert.ensures.updates.0 other ∙ ap (λ (n : ℕ). cond (c.args.list == other) (Some n) (old other)) at
 
 pub returns-clause-kept : goal.returns-clause-kept
-returns-clause-kept c other u one = subst (λ (ls : List Use). IsOne u (chain (length ls) ls (get nat_eq c.insert.new.self other))) (sym (pushed c))
+returns-clause-kept c other u one = subst (λ (ls : List Use). IsIn u (chain (length ls) ls (get nat_eq c.insert.new.self other))) (sym (pushed c))
     (listed_kept (links c) (old c) (get nat_eq c.insert.new.self) c.args.list c.args.number (puts c) other u one)
 
 pub returns-clause-added : goal.returns-clause-added
-returns-clause-added c = subst (λ (ls : List Use). IsOne c.args.number (chain (length ls) ls (get nat_eq c.insert.new.self c.args.list))) (sym (pushed c))
+returns-clause-added c = subst (λ (ls : List Use). IsIn c.args.number (chain (length ls) ls (get nat_eq c.insert.new.self c.args.list))) (sym (pushed c))
     (listed_there (links c) (old c) (get nat_eq c.insert.new.self) c.args.list c.args.number (puts c))

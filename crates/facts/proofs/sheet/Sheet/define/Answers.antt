@@ -1,5 +1,5 @@
 use Rattle.std.proofs.Common.{◌≡◌, ◌⊎◌, ◌∙◌, ap, length, sym, subst, map, true, List, ℕ, slice_set}
-use Rattle.facts.specs.EachListed.{IsOne}
+use Rattle.lemmas.specs.Lists.{IsIn}
 use Rattle.facts.specs.declared.row.Row.{Row}
 use Rattle.facts.specs.declared.sweeps.Change.TheVariants.{Off}
 use Rattle.facts.specs.Owners.{owns_class, ListsNonOwners}
@@ -11,16 +11,16 @@ use Rattle.facts.proofs.Listed.{more_unless}
 use Rattle.facts.proofs.Sheets.{more_marked}
 use Rattle.facts.proofs.sheet.Sheet.define.Goals as goal
 
-module _ (rows seen : List Row) (marked next : List ℕ) (v at : ℕ) (noted : next ≡ with_mark at (row_at seen at) marked) (same : seen ≡ rows) (is : at ≡ v) where
+module _ (rows seen : List Row) (marked next : List ℕ) (v at : ℕ) (before : Row) (noted : next ≡ with_mark at before marked) (found : before ≡ row_at seen at) (same : seen ≡ rows) (is : at ≡ v) where
   marks : next ≡ with_mark v (row_at rows v) marked
-  marks = noted ∙ ap (λ (l : List Row). with_mark at (row_at l at) marked) same ∙ ap (λ (u : ℕ). with_mark u (row_at rows u) marked) is
+  marks = noted ∙ ap (λ (row : Row). with_mark at row marked) (found ∙ ap (λ (l : List Row). row_at l at) same) ∙ ap (λ (u : ℕ). with_mark u (row_at rows u) marked) is
 
   all_marked : OnlyMarked marked rows → OnlyMarked next rows
   all_marked only = subst (λ (us : List ℕ). OnlyMarked us rows) (sym marks) (more_marked v (row_at rows v) marked rows only)
 
 pub invariant_of-self-in_err-note : goal.invariant_of-self-in_err-note
 invariant_of-self-in_err-note c = (
-  all_marked c.self.inside.rows.items c.deref.result.now c.self.inside.marked.items c.mark.new.marked.items c.args.v c.number-at.result c.in_ok-mark.ensures.ok c.deref.ensures.value c.number-at.ensures c.self.invariant.0,
+  all_marked c.self.inside.rows.items c.deref.result.now c.self.inside.marked.items c.mark.new.marked.items c.args.v c.number-at.result c.row_at-before.result c.in_ok-mark.ensures.ok c.row_at-before.ensures c.deref.ensures.value c.number-at.ensures c.self.invariant.0,
   subst (λ (us : List ℕ). OnlyCurrent us c.self.inside.rows.items) (sym c.in_err-note.ensures.err) c.self.invariant.1,
   c.self.invariant.2,
 )
@@ -31,10 +31,10 @@ noted_current rows seen v at row before current next noted is same e = noted ∙
 
 pub invariant_of-self-in_err-note_non_owner : goal.invariant_of-self-in_err-note_non_owner
 invariant_of-self-in_err-note_non_owner c = (
-  all_marked c.self.inside.rows.items c.deref.result.now c.self.inside.marked.items c.mark.new.marked.items c.args.v c.number-at.result c.in_ok-mark.ensures.ok c.deref.ensures.value c.number-at.ensures c.self.invariant.0,
+  all_marked c.self.inside.rows.items c.deref.result.now c.self.inside.marked.items c.mark.new.marked.items c.args.v c.number-at.result c.row_at-before.result c.in_ok-mark.ensures.ok c.row_at-before.ensures c.deref.ensures.value c.number-at.ensures c.self.invariant.0,
   more_unless is_settled c.args.v (row_at c.self.inside.rows.items c.args.v) c.args.row c.self.inside.current.items c.note.new.current.items c.self.inside.rows.items
-      (noted_current c.self.inside.rows.items c.deref-2.result.now c.args.v c.number-at.result c.args.row c.row_at-before.result c.self.inside.current.items c.note.new.current.items c.in_ok-note.ensures.ok c.row_at-before.ensures c.deref-2.ensures.value c.number-at.ensures) c.self.invariant.1,
-  kept_non_owners c.deref-3.result.now c.self.inside.rows.items c.deref-3.ensures.value c.self.inside.non_owners.items c.note_non_owner.new.non_owners.items c.self.inside.class_owners.items c.note_non_owner.new.class_owners.items c.note_non_owner.ensures.kept c.self.invariant.2,
+      (noted_current c.self.inside.rows.items c.deref.result.now c.args.v c.number-at.result c.args.row c.row_at-before.result c.self.inside.current.items c.note.new.current.items c.in_ok-note.ensures.ok c.row_at-before.ensures c.deref.ensures.value c.number-at.ensures) c.self.invariant.1,
+  kept_non_owners c.deref-2.result.now c.self.inside.rows.items c.deref-2.ensures.value c.self.inside.non_owners.items c.note_non_owner.new.non_owners.items c.self.inside.class_owners.items c.note_non_owner.new.class_owners.items c.note_non_owner.ensures.kept c.self.invariant.2,
 )
 
 module _ (c : goal.After-write) where
@@ -42,24 +42,24 @@ module _ (c : goal.After-write) where
   before = c.self.inside.rows.items
 
   off : EachRow (changed (Off c.args.v)) before c.end_names.new.rows.items
-  off = c.end_names.ensures (subst (λ (rows : List Row). OnlyUsers c.args.uses.now rows) (sym c.self.view_is) c.requires) (subst (λ (us : List ℕ). OnlyMarked us before) (sym c.deref-4.ensures.value) (all_marked before c.deref.result.now c.self.inside.marked.items c.mark.new.marked.items c.args.v c.number-at.result c.in_ok-mark.ensures.ok c.deref.ensures.value c.number-at.ensures c.self.invariant.0))
+  off = c.end_names.ensures (subst (λ (rows : List Row). OnlyUsers c.args.uses.now rows) (sym c.self.view_is) c.requires) (subst (λ (us : List ℕ). OnlyMarked us before) (sym c.deref-3.ensures.value) (all_marked before c.deref.result.now c.self.inside.marked.items c.mark.new.marked.items c.args.v c.number-at.result c.row_at-before.result c.in_ok-mark.ensures.ok c.row_at-before.ensures c.deref.ensures.value c.number-at.ensures c.self.invariant.0))
 
   is : c.write.new.rows.items ≡ slice_set (map (off_row c.args.v) before) c.args.v c.args.row
   is = c.write.ensures ∙ ap (λ (at : ℕ). slice_set c.end_names.new.rows.items at c.args.row) c.number-at.ensures ∙ ap (λ (rows : List Row). slice_set rows c.args.v c.args.row) (off_all c.args.v before c.end_names.new.rows.items off)
 
   notes : c.note.new.current.items ≡ with_current c.args.v (row_at before c.args.v) c.args.row c.self.inside.current.items
-  notes = noted_current before c.deref-2.result.now c.args.v c.number-at.result c.args.row c.row_at-before.result c.self.inside.current.items c.note.new.current.items c.in_ok-note.ensures.ok c.row_at-before.ensures c.deref-2.ensures.value c.number-at.ensures
+  notes = noted_current before c.deref.result.now c.args.v c.number-at.result c.args.row c.row_at-before.result c.self.inside.current.items c.note.new.current.items c.in_ok-note.ensures.ok c.row_at-before.ensures c.deref.ensures.value c.number-at.ensures
 
   kept : ListsNonOwners c.note_non_owner.new.non_owners.items c.note_non_owner.new.class_owners.items before
-  kept = kept_non_owners c.deref-3.result.now before c.deref-3.ensures.value c.self.inside.non_owners.items c.note_non_owner.new.non_owners.items c.self.inside.class_owners.items c.note_non_owner.new.class_owners.items c.note_non_owner.ensures.kept c.self.invariant.2
+  kept = kept_non_owners c.deref-2.result.now before c.deref-2.ensures.value c.self.inside.non_owners.items c.note_non_owner.new.non_owners.items c.self.inside.class_owners.items c.note_non_owner.new.class_owners.items c.note_non_owner.ensures.kept c.self.invariant.2
 
-  noted : IsOne c.args.v c.note_non_owner.new.non_owners.items ⊎ (owns_class (length before) c.note_non_owner.new.class_owners.items c.args.v c.args.row ≡ true)
-  noted = subst (λ (at : ℕ). IsOne at c.note_non_owner.new.non_owners.items ⊎ (owns_class (length before) c.note_non_owner.new.class_owners.items at c.args.row ≡ true)) c.number-at.ensures
-      (noted_non_owners c.deref-3.result.now before c.deref-3.ensures.value c.number-at.result c.args.row c.self.inside.non_owners.items c.note_non_owner.new.non_owners.items c.self.inside.class_owners.items c.note_non_owner.new.class_owners.items c.in_ok-note_non_owner.ensures.noted c.self.invariant.2)
+  noted : IsIn c.args.v c.note_non_owner.new.non_owners.items ⊎ (owns_class (length before) c.note_non_owner.new.class_owners.items c.args.v c.args.row ≡ true)
+  noted = subst (λ (at : ℕ). IsIn at c.note_non_owner.new.non_owners.items ⊎ (owns_class (length before) c.note_non_owner.new.class_owners.items at c.args.row ≡ true)) c.number-at.ensures
+      (noted_non_owners c.deref-2.result.now before c.deref-2.ensures.value c.number-at.result c.args.row c.self.inside.non_owners.items c.note_non_owner.new.non_owners.items c.self.inside.class_owners.items c.note_non_owner.new.class_owners.items c.in_ok-note_non_owner.ensures.noted c.self.invariant.2)
 
 pub invariant_of-self-2 : goal.invariant_of-self-2
 invariant_of-self-2 c = (
-  subst (λ (rows : List Row). OnlyMarked c.mark.new.marked.items rows) (sym (is c)) (subst (λ (us : List ℕ). OnlyMarked us (slice_set (map (off_row c.args.v) (before c)) c.args.v c.args.row)) (sym (marks (before c) c.deref.result.now c.self.inside.marked.items c.mark.new.marked.items c.args.v c.number-at.result c.in_ok-mark.ensures.ok c.deref.ensures.value c.number-at.ensures)) (defined_marked c.args.v (before c) c.args.row c.self.inside.marked.items c.self.invariant.0)),
+  subst (λ (rows : List Row). OnlyMarked c.mark.new.marked.items rows) (sym (is c)) (subst (λ (us : List ℕ). OnlyMarked us (slice_set (map (off_row c.args.v) (before c)) c.args.v c.args.row)) (sym (marks (before c) c.deref.result.now c.self.inside.marked.items c.mark.new.marked.items c.args.v c.number-at.result c.row_at-before.result c.in_ok-mark.ensures.ok c.row_at-before.ensures c.deref.ensures.value c.number-at.ensures)) (defined_marked c.args.v (before c) c.args.row c.self.inside.marked.items c.self.invariant.0)),
   subst (λ (rows : List Row). OnlyCurrent c.note.new.current.items rows) (sym (is c)) (subst (λ (us : List ℕ). OnlyCurrent us (slice_set (map (off_row c.args.v) (before c)) c.args.v c.args.row)) (sym (notes c)) (defined_current c.args.v (before c) c.args.row c.self.inside.current.items c.self.invariant.1)),
   subst (λ (rows : List Row). ListsNonOwners c.note_non_owner.new.non_owners.items c.note_non_owner.new.class_owners.items rows) (sym (is c)) (defined_non_owners c.args.v (before c) c.args.row c.note_non_owner.new.class_owners.items c.note_non_owner.new.non_owners.items (kept c) (noted c)),
 )

@@ -8,10 +8,10 @@ use Rattle.facts.proofs.sheet.Sheet.set.Goals as goal
 use Rattle.facts.proofs.sheet.Sheet.set.Goals.{In_ok-mark, In_ok-note}
 
 marks : (c : In_ok-mark) → c.mark.new.marked.items ≡ with_mark c.args.at (row_at c.self.inside.rows.items c.args.at) c.self.inside.marked.items
-marks c = c.in_ok-mark.ensures.ok ∙ ap (λ (rows : List Row). with_mark c.args.at (row_at rows c.args.at) c.self.inside.marked.items) c.deref.ensures.value
+marks c = c.in_ok-mark.ensures.ok ∙ ap (λ (row : Row). with_mark c.args.at row c.self.inside.marked.items) (c.row_at-before.ensures ∙ ap (λ (rows : List Row). row_at rows c.args.at) c.deref.ensures.value)
 
 notes : (c : In_ok-note) → c.note.new.current.items ≡ with_current c.args.at (row_at c.self.inside.rows.items c.args.at) c.args.row c.self.inside.current.items
-notes c = c.in_ok-note.ensures.ok ∙ ap (λ (row : Row). with_current c.args.at row c.args.row c.self.inside.current.items) (c.row_at-before.ensures ∙ ap (λ (rows : List Row). row_at rows c.args.at) c.deref-then-at-len.ensures.value)
+notes c = c.in_ok-note.ensures.ok ∙ ap (λ (row : Row). with_current c.args.at row c.args.row c.self.inside.current.items) (c.row_at-before.ensures ∙ ap (λ (rows : List Row). row_at rows c.args.at) c.deref.ensures.value)
 
 pub invariant_of-self-in_err-note : goal.invariant_of-self-in_err-note
 invariant_of-self-in_err-note c = (
@@ -24,7 +24,7 @@ pub invariant_of-self-in_err-note_non_owner : goal.invariant_of-self-in_err-note
 invariant_of-self-in_err-note_non_owner c = (
   subst (λ (us : List ℕ). OnlyMarked us c.self.inside.rows.items) (sym (marks (goal.at.invariant_of-self-in_err-note_non_owner c).In_ok-mark)) (more_marked c.args.at (row_at c.self.inside.rows.items c.args.at) c.self.inside.marked.items c.self.inside.rows.items c.self.invariant.0),
   more_unless is_settled c.args.at (row_at c.self.inside.rows.items c.args.at) c.args.row c.self.inside.current.items c.note.new.current.items c.self.inside.rows.items (notes (goal.at.invariant_of-self-in_err-note_non_owner c).In_ok-note) c.self.invariant.1,
-  kept_non_owners c.deref-then-at-len-2.result.now c.self.inside.rows.items c.deref-then-at-len-2.ensures.value c.self.inside.non_owners.items c.note_non_owner.new.non_owners.items c.self.inside.class_owners.items c.note_non_owner.new.class_owners.items c.note_non_owner.ensures.kept c.self.invariant.2,
+  kept_non_owners c.deref-then-at-len.result.now c.self.inside.rows.items c.deref-then-at-len.ensures.value c.self.inside.non_owners.items c.note_non_owner.new.non_owners.items c.self.inside.class_owners.items c.note_non_owner.new.class_owners.items c.note_non_owner.ensures.kept c.self.invariant.2,
 )
 
 pub invariant_of-self-then-at-len : goal.invariant_of-self-then-at-len
@@ -32,8 +32,8 @@ invariant_of-self-then-at-len c = (
   subst (λ (us : List ℕ). OnlyMarked us (slice_set rows c.args.at c.args.row)) (sym (marks (goal.at.invariant_of-self-then-at-len c).In_ok-mark)) (set_marked c.args.at c.args.row c.self.inside.marked.items rows c.self.invariant.0),
   subst (λ (us : List ℕ). OnlyCurrent us (slice_set rows c.args.at c.args.row)) (sym (notes (goal.at.invariant_of-self-then-at-len c).In_ok-note)) (set_unless is_settled (λ u. refl) c.args.at c.args.row c.self.inside.current.items rows c.self.invariant.1),
   put_non_owners c.args.at c.args.row rows c.note_non_owner.new.class_owners.items c.note_non_owner.new.non_owners.items
-      (kept_non_owners c.deref-then-at-len-2.result.now rows c.deref-then-at-len-2.ensures.value c.self.inside.non_owners.items c.note_non_owner.new.non_owners.items c.self.inside.class_owners.items c.note_non_owner.new.class_owners.items c.note_non_owner.ensures.kept c.self.invariant.2)
-      (noted_non_owners c.deref-then-at-len-2.result.now rows c.deref-then-at-len-2.ensures.value c.args.at c.args.row c.self.inside.non_owners.items c.note_non_owner.new.non_owners.items c.self.inside.class_owners.items c.note_non_owner.new.class_owners.items c.in_ok-note_non_owner.ensures.noted c.self.invariant.2),
+      (kept_non_owners c.deref-then-at-len.result.now rows c.deref-then-at-len.ensures.value c.self.inside.non_owners.items c.note_non_owner.new.non_owners.items c.self.inside.class_owners.items c.note_non_owner.new.class_owners.items c.note_non_owner.ensures.kept c.self.invariant.2)
+      (noted_non_owners c.deref-then-at-len.result.now rows c.deref-then-at-len.ensures.value c.args.at c.args.row c.self.inside.non_owners.items c.note_non_owner.new.non_owners.items c.self.inside.class_owners.items c.note_non_owner.new.class_owners.items c.in_ok-note_non_owner.ensures.noted c.self.invariant.2),
 ) where
   rows : List Row
   rows = c.self.inside.rows.items

@@ -1,6 +1,6 @@
 use Rattle.std.proofs.Common.{◌≡◌, ◌∙◌, ap, arith, cond, sym, subst, length, List, ℕ, Option, Some}
 use Rattle.std.specs.Prelude.{◌==◌, nat_eq}
-use Rattle.facts.specs.EachListed.{IsOne}
+use Rattle.lemmas.specs.Lists.{IsIn}
 use Rattle.indexmap.specs.IndexMap.{get}
 use Rattle.facts.specs.declared.ties.Group.{Group}
 use Rattle.facts.specs.Chains.{listed}
@@ -30,8 +30,8 @@ module _ (c : goal.In_ok-insert) where
   own : c.new.result ≡ c.args.v
   own = c.new.ensures ∙ c.number-number.ensures
 
-  added : IsOne c.args.v (listed c.add.new.self (length groups))
-  added = subst (λ (n : ℕ). IsOne c.args.v (listed c.add.new.self n)) at (subst (λ (n : ℕ). IsOne n (listed c.add.new.self c.len-place.result)) c.number-number.ensures c.in_ok-add.ensures.added)
+  added : IsIn c.args.v (listed c.add.new.self (length groups))
+  added = subst (λ (n : ℕ). IsIn c.args.v (listed c.add.new.self n)) at (subst (λ (n : ℕ). IsIn n (listed c.add.new.self c.len-place.result)) c.number-number.ensures c.in_ok-add.ensures.added)
 
 pub returns-clause-ties : goal.returns-clause-ties
 returns-clause-ties c = (
