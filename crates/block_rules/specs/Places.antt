@@ -12,6 +12,7 @@ use Rattle.pools.specs.declared.word_kind.WordKind.{WordKind}
 use Rattle.pools.specs.declared.word_kind.WordKind.TheVariants as word
 use Rattle.pools.specs.declared.word_set.WordSet.{WordSet}
 use Rattle.shadow_stack.specs.Slots.{SlotTable, slot_of, held_type}
+use Rattle.types.specs.References.{is_opaque}
 use Rattle.facts.specs.declared.known.Known.{Known}
 use Rattle.facts.specs.declared.known.Known.TheVariants.{Nothing, Number, Cell, Null, Address, GlobalAddress}
 use Rattle.facts.specs.Facts.{FactSet, known_at, define, define_new, drop_fresh_of, store_slot, load_slot}
@@ -19,13 +20,13 @@ use Rattle.block_rules.specs.declared.wanted_word.WantedWord.{WantedWord}
 use Rattle.block_rules.specs.declared.wanted_word.WantedWord.TheVariants as want
 use Rattle.block_rules.specs.declared.type_kind.TypeKind.{TypeKind}
 use Rattle.block_rules.specs.declared.type_kind.TypeKind.TheVariants.{Bits, Reference, AnyReference}
-use Rattle.block_rules.specs.Operands.{slot_named, known_of, known_fits, is_null_constant}
+use Rattle.block_rules.specs.Operands.{slot_named, place_known, known_fits, is_null_constant}
 use Rattle.block_rules.specs.TypeKinds.{kind_of, slot_kind, is_any_reference, is_word}
 
 -- a value may be loaded from a slot: the load writes the type that the slot holds, or i8*; a slot that does not exist holds nothing
 abbrev pub loads_slot : Module → (written : ℕ) → (held : Option ℕ) → Bool
 loads_slot m written None = false
-loads_slot m written (Some held) = (written == held) || is_any_reference (kind_of m written)
+loads_slot m written (Some held) = (written == held) || (is_any_reference (kind_of m written) && not (is_opaque m written))
 
 -- a value may be stored in a slot: the slot holds integers or references, and its type is the one that the store writes, or it holds references and i8* is written
 abbrev pub moves_kind : (same : Bool) → (written : TypeKind) → (held : TypeKind) → Bool
@@ -100,18 +101,11 @@ abbrev pub loads_local : LaidOut → SlotTable → FactSet → Known → (loaded
 loads_local p slots facts known loaded None = loads_known p facts (kind_of p.of_module loaded) known
 loads_local p slots facts known loaded (Some s) = loads_slot p.of_module loaded (held_type slots s)
 
--- a load of this type may be from this place
-abbrev pub may_load : LaidOut → SlotTable → FactSet → (loaded : ℕ) → (place : Operand) → Bool
-may_load p slots facts loaded (Written c) = is_null_constant c
-may_load p slots facts loaded (Local v) = loads_local p slots facts (known_at facts.values v) loaded (slot_of slots v)
-may_load p slots facts loaded place = loads_known p facts (kind_of p.of_module loaded) (known_of facts place)
-
--- what a store of this kind wants of words
-abbrev pub wanted_by_store : TypeKind → WantedWord
-wanted_by_store (Bits bits) = want.Integer bits
-wanted_by_store (Reference layout) = want.Reference layout
-wanted_by_store AnyReference = want.AnyReference
-wanted_by_store _ = want.Nothing
+-- a load of this type may be from this place, of which this is known
+abbrev pub may_load : LaidOut → SlotTable → FactSet → (loaded : ℕ) → (place : Operand) → Known → Bool
+may_load p slots facts loaded (Written c) known = is_null_constant c
+may_load p slots facts loaded (Local v) known = loads_local p slots facts known loaded (slot_of slots v)
+may_load p slots facts loaded place known = loads_known p facts (kind_of p.of_module loaded) known
 
 -- what a value wants of words, if anything is known of it; null goes into each reference
 abbrev pub wanted_by_value : Known → Option WantedWord
@@ -125,6 +119,13 @@ wanted_by_value _ = Some want.Nothing
 abbrev pub fits_words : (layouts : List (List WordKind)) → (layout : ℕ) → WordSet → Option WantedWord → Bool
 fits_words layouts layout words None = true
 fits_words layouts layout words (Some wanted) = each_word wanted layouts layout words
+
+-- what a store of this kind wants of words
+abbrev pub wanted_by_store : TypeKind → WantedWord
+wanted_by_store (Bits bits) = want.Integer bits
+wanted_by_store (Reference layout) = want.Reference layout
+wanted_by_store AnyReference = want.AnyReference
+wanted_by_store _ = want.Nothing
 
 -- both, of words of the cell that a base refers to
 abbrev pub stores_base : LaidOut → TypeKind → (value : Known) → WordSet → (base : Known) → Bool
@@ -156,11 +157,15 @@ abbrev pub stores_local : LaidOut → SlotTable → FactSet → Known → (store
 stores_local p slots facts place stored value None = stores_known p facts (kind_of p.of_module stored) value place
 stores_local p slots facts place stored value (Some s) = stores_slot p.of_module slots stored value s
 
--- a store of this type may put what is known of a value at this place; at null its type is one of a word
-abbrev pub may_store : LaidOut → SlotTable → FactSet → (stored : ℕ) → (value : Known) → (place : Operand) → Bool
-may_store p slots facts stored value (Written c) = is_null_constant c && is_word (kind_of p.of_module stored)
-may_store p slots facts stored value (Local v) = stores_local p slots facts (known_at facts.values v) stored value (slot_of slots v)
-may_store p slots facts stored value place = stores_known p facts (kind_of p.of_module stored) value (known_of facts place)
+-- a store of this type may put what is known of a value at this place, of which this is known; at null its type is one of a word
+abbrev pub may_store : LaidOut → SlotTable → FactSet → (stored : ℕ) → (value : Known) → (place : Operand) → Known → Bool
+may_store p slots facts stored value (Written c) known = is_null_constant c && is_word (kind_of p.of_module stored)
+may_store p slots facts stored value (Local v) known = stores_local p slots facts known stored value (slot_of slots v)
+may_store p slots facts stored value place known = stores_known p facts (kind_of p.of_module stored) value known
+
+-- a store by `ptr` wants references of one layout, as a load does
+abbrev pub is_one_layout : LaidOut → FactSet → (stored : ℕ) → (place : Known) → Bool
+is_one_layout p facts stored place = not (is_opaque p.of_module stored) || loads_known p facts (kind_of p.of_module stored) place
 
 -- v is null or a cell of this layout, which is held; without a layout nothing is known
 abbrev pub define_held : (v : ℕ) → (layout : Option ℕ) → (nonnull : Bool) → FactSet → FactSet
@@ -199,13 +204,13 @@ load_known p v kind (GlobalAddress symbol) facts = load_word v kind (global_word
 load_known p v kind _ facts = define v Nothing facts
 
 -- after a load, by the slot that the place is
-abbrev pub load_place : LaidOut → SlotTable → (v loaded : ℕ) → Operand → (slot : Option ℕ) → FactSet → FactSet
-load_place p slots v loaded place None facts = load_known p v (kind_of p.of_module loaded) (known_of facts place) facts
+abbrev pub load_place : LaidOut → SlotTable → (v loaded : ℕ) → Known → (slot : Option ℕ) → FactSet → FactSet
+load_place p slots v loaded place None facts = load_known p v (kind_of p.of_module loaded) place facts
 load_place p slots v loaded place (Some s) facts = load_kind v s (slot_kind p.of_module slots s) facts
 
 -- after a load
-abbrev pub after_load : LaidOut → SlotTable → (v loaded : ℕ) → (place : Operand) → FactSet → FactSet
-after_load p slots v loaded place facts = load_place p slots v loaded place (slot_named slots place) facts
+abbrev pub after_load : LaidOut → SlotTable → (v loaded place_type : ℕ) → (place : Operand) → FactSet → FactSet
+after_load p slots v loaded place_type place facts = load_place p slots v loaded (place_known p.of_module facts place_type place) (slot_named slots place) facts
 
 -- after a store: a slot holds the value, or null, or a number; in a word others may find it, so its class is fresh no more
 abbrev pub after_store : (value : Known) → (slot : Option ℕ) → FactSet → FactSet

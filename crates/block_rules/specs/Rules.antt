@@ -31,8 +31,8 @@ use Rattle.block_rules.specs.declared.rule.Rule.{Rule}
 use Rattle.block_rules.specs.declared.rule.Rule.TheVariants.{K1, K2, K3, K4, K5, K6, K8, K10, K11, K12, K14, K19}
 use Rattle.block_rules.specs.declared.standing.Standing.{Standing}
 use Rattle.block_rules.specs.FirstFailing.{first_failing}
-use Rattle.block_rules.specs.Operands.{slot_named, known_of, is_available, constant_fits, is_typed, is_value, is_current, is_based, is_no_slot}
-use Rattle.block_rules.specs.Places.{may_load, may_store, after_load, after_store}
+use Rattle.block_rules.specs.Operands.{slot_named, known_of, is_available, constant_fits, is_typed, is_value, is_current, place_known, is_based, is_no_slot}
+use Rattle.block_rules.specs.Places.{may_load, may_store, is_one_layout, after_load, after_store}
 use Rattle.block_rules.specs.Signature.{callee_of}
 use Rattle.block_rules.specs.TypeKinds.{kind_of, is_integer, is_pointer, is_void, is_bits}
 use Rattle.block_rules.specs.Barriers.{needs_no_barrier}
@@ -89,8 +89,8 @@ abbrev pub are_cases : Module → Function → (written : ℕ) → List Case →
 are_cases m f written cases = list_all (is_case m f written) cases
 
 -- K2: an operand is a value of the type i1
-abbrev pub is_condition : Module → Function → FactSet → (written : ℕ) → Operand → Bool
-is_condition m f facts written condition = is_bits 1 (kind_of m written) && is_value m f facts written condition
+abbrev pub is_condition : Module → Function → SlotTable → FactSet → (written : ℕ) → Operand → Bool
+is_condition m f slots facts written condition = is_bits 1 (kind_of m written) && is_value m f slots facts written condition
 
 -- ---- the conditions, in the order of their numbers
 
@@ -98,15 +98,15 @@ is_condition m f facts written condition = is_bits 1 (kind_of m written) && is_v
 abbrev pub number_conditions : LaidOut → Function → SlotTable → Standing → FactSet → NumberOp → List (Rule × Bool)
 number_conditions p f slots here facts (number.Arithmetic kind written first second) =
     (K1, is_available slots facts first && is_available slots facts second)
-    ∷ (K2, is_value p.of_module f facts written first && is_value p.of_module f facts written second && is_integer (kind_of p.of_module written) && is_no_slot slots first && is_no_slot slots second)
+    ∷ (K2, is_value p.of_module f slots facts written first && is_value p.of_module f slots facts written second && is_integer (kind_of p.of_module written) && is_no_slot slots first && is_no_slot slots second)
     ∷ (K12, here.collected) ∷ []
 number_conditions p f slots here facts (number.Resize kind from operand to) =
     (K1, is_available slots facts operand)
-    ∷ (K2, is_value p.of_module f facts from operand && may_resize kind (kind_of p.of_module from) (kind_of p.of_module to) && is_no_slot slots operand)
+    ∷ (K2, is_value p.of_module f slots facts from operand && may_resize kind (kind_of p.of_module from) (kind_of p.of_module to) && is_no_slot slots operand)
     ∷ (K12, here.collected) ∷ []
 number_conditions p f slots here facts (number.Compare kind written first second) =
     (K1, is_available slots facts first && is_available slots facts second)
-    ∷ (K2, is_value p.of_module f facts written first && is_value p.of_module f facts written second && may_compare kind (kind_of p.of_module written))
+    ∷ (K2, is_value p.of_module f slots facts written first && is_value p.of_module f slots facts written second && may_compare kind (kind_of p.of_module written))
     ∷ (K3, is_current facts (known_of facts first) && is_current facts (known_of facts second))
     ∷ (K10, is_no_slot slots first && is_no_slot slots second)
     ∷ (K12, here.collected) ∷ []
@@ -117,17 +117,17 @@ memory_conditions p f slots here facts result (memory.Alloca held) =
     (K8, may_hold p.of_module slots result held) ∷ (K11, here.in_entry) ∷ (K12, here.collected) ∷ []
 memory_conditions p f slots here facts result (memory.Load loaded place_type place) =
     (K1, is_available slots facts place)
-    ∷ (K2, is_typed p.of_module f place_type place && may_load p slots facts loaded place)
-    ∷ (K3, is_current facts (known_of facts place))
-    ∷ (K4, is_based facts place)
+    ∷ (K2, is_typed p.of_module f place_type place && may_load p slots facts loaded place (place_known p.of_module facts place_type place))
+    ∷ (K3, is_current facts (place_known p.of_module facts place_type place))
+    ∷ (K4, is_based facts place (place_known p.of_module facts place_type place))
     ∷ (K12, here.collected)
     ∷ (K19, casts_operand p.of_module place) ∷ []
 memory_conditions p f slots here facts result (memory.Store stored value place_type place) =
     (K1, is_available slots facts value && is_available slots facts place)
-    ∷ (K2, is_value p.of_module f facts stored value && is_typed p.of_module f place_type place && may_store p slots facts stored (known_of facts value) place)
-    ∷ (K3, is_current facts (known_of facts value) && is_current facts (known_of facts place))
-    ∷ (K4, is_based facts place)
-    ∷ (K6, needs_no_barrier p.of_module slots facts stored place)
+    ∷ (K2, is_value p.of_module f slots facts stored value && is_typed p.of_module f place_type place && may_store p slots facts stored (known_of facts value) place (place_known p.of_module facts place_type place) && is_one_layout p facts stored (place_known p.of_module facts place_type place))
+    ∷ (K3, is_current facts (known_of facts value) && is_current facts (place_known p.of_module facts place_type place))
+    ∷ (K4, is_based facts place (place_known p.of_module facts place_type place))
+    ∷ (K6, needs_no_barrier p.of_module slots facts stored place (place_known p.of_module facts place_type place))
     ∷ (K10, is_no_slot slots value)
     ∷ (K12, here.collected)
     ∷ (K19, casts_operand p.of_module place) ∷ []
@@ -139,7 +139,7 @@ element_conditions p f slots here facts x =
     ∷ (
       K2,
       is_typed p.of_module f x.base_type x.base && is_pointer (kind_of p.of_module x.base_type) && may_be_base (known_of facts x.base)
-          && are_indices p.of_module f facts x.indices && no_slots slots x.indices,
+          && are_indices p.of_module f slots facts x.indices && no_slots slots x.indices,
     )
     ∷ (K3, is_current facts (known_of facts x.base))
     ∷ (K5, may_lead p facts x.source x.indices (known_of facts x.base))
@@ -162,8 +162,8 @@ choice_conditions p f slots here facts x =
     (K1, is_available slots facts x.condition && is_available slots facts x.chosen && is_available slots facts x.other)
     ∷ (
       K2,
-      is_condition p.of_module f facts x.condition_type x.condition
-          && is_value p.of_module f facts x.written x.chosen && is_value p.of_module f facts x.written x.other
+      is_condition p.of_module f slots facts x.condition_type x.condition
+          && is_value p.of_module f slots facts x.written x.chosen && is_value p.of_module f slots facts x.written x.other
           && may_choose (kind_of p.of_module x.written) && one_layout (known_layout (known_of facts x.chosen)) (known_layout (known_of facts x.other))
           && is_no_slot slots x.condition,
     )
@@ -196,18 +196,18 @@ end_conditions p f slots here facts (end.Jump target) =
     (K2, names_target f target) ∷ (K12, here.collected) ∷ []
 end_conditions p f slots here facts (end.Branch condition_type condition taken other) =
     (K1, is_available slots facts condition)
-    ∷ (K2, is_condition p.of_module f facts condition_type condition && names_target f taken && names_target f other && is_no_slot slots condition)
+    ∷ (K2, is_condition p.of_module f slots facts condition_type condition && names_target f taken && names_target f other && is_no_slot slots condition)
     ∷ (K12, here.collected) ∷ []
 end_conditions p f slots here facts (end.Switch written value otherwise cases) =
     (K1, is_available slots facts value)
-    ∷ (K2, is_value p.of_module f facts written value && is_integer (kind_of p.of_module written) && names_target f otherwise && are_cases p.of_module f written cases && is_no_slot slots value)
+    ∷ (K2, is_value p.of_module f slots facts written value && is_integer (kind_of p.of_module written) && names_target f otherwise && are_cases p.of_module f written cases && is_no_slot slots value)
     ∷ (K12, here.collected) ∷ []
 end_conditions p f slots here facts end.Unreachable = (K12, here.collected) ∷ []
 end_conditions p f slots here facts end.ReturnVoid =
     (K2, is_void (kind_of p.of_module f.returned)) ∷ (K12, here.collected) ∷ []
 end_conditions p f slots here facts (end.Return argument) =
     (K1, is_available slots facts argument.operand)
-    ∷ (K2, is_value p.of_module f facts argument.written argument.operand && (argument.written == f.returned))
+    ∷ (K2, is_value p.of_module f slots facts argument.written argument.operand && (argument.written == f.returned))
     ∷ (K3, is_current facts (known_of facts argument.operand))
     ∷ (K10, is_no_slot slots argument.operand)
     ∷ (K12, here.collected)
@@ -230,7 +230,7 @@ after_number m v (number.Compare kind written first second) facts = after_compar
 abbrev pub after_memory : LaidOut → SlotTable → (result : Option ℕ) → MemoryOp → FactSet → FactSet
 after_memory p slots result (memory.Store stored value place_type place) facts = after_store (known_of facts value) (slot_named slots place) facts
 after_memory p slots (Some v) (memory.Alloca held) facts = after_alloca (slot_of slots v) facts
-after_memory p slots (Some v) (memory.Load loaded place_type place) facts = after_load p slots v loaded place facts
+after_memory p slots (Some v) (memory.Load loaded place_type place) facts = after_load p slots v loaded place_type place facts
 after_memory p slots None _ facts = facts
 
 -- any other operation that defines this name

@@ -7,10 +7,10 @@ ghost use Rattle.block_rules.specs.Barriers.{is_own_place, needs_no_barrier, is_
 use crate::casts::casts_operand;
 use crate::conditions::first_failing;
 use crate::operands::{
-    is_available, is_based, is_no_slot, is_null, is_operand_current, is_typed, is_value, known_of,
-    slot_named,
+    is_available, is_based, is_current, is_no_slot, is_null, is_operand_current, is_typed, is_value,
+    known_of, place_known, slot_named,
 };
-use crate::places::{load_known, loads_known, publish, stores_known};
+use crate::places::{is_one_layout, load_known, loads_known, publish, stores_known};
 use crate::rule::Rule;
 use crate::scene::Scene;
 use crate::signature::is_written_as;
@@ -31,13 +31,19 @@ fn is_own_place(facts: &Facts, place: &Known) -> bool
     }
 }
 
-/// Whether what is stored at a place goes there without a barrier.
-pub fn needs_no_barrier(scene: &Scene, facts: &Facts, stored: TypeId, place: &Operand) -> bool
-    ensures { result ≡ needs_no_barrier scene.now.program.now.of_module scene.now.slots.now facts.now stored place.now }
+/// Whether what is stored at a place, of which this is known, goes there without a barrier.
+pub fn needs_no_barrier(
+    scene: &Scene,
+    facts: &Facts,
+    stored: TypeId,
+    place: &Operand,
+    known: &Known,
+) -> bool
+    ensures { result ≡ needs_no_barrier scene.now.program.now.of_module scene.now.slots.now facts.now stored place.now known.now }
 {
     slot_named(scene.slots, place).is_some()
         || !TypeKind::of(scene.module(), stored).may_be_reference()
-        || is_own_place(facts, &known_of(facts, place))
+        || is_own_place(facts, known)
 }
 
 fn is_known_null(known: &Known) -> bool
@@ -74,29 +80,30 @@ fn lies_in_object(facts: &Facts, object: &Known, place: &Known) -> bool
     }
 }
 
-fn names_object(facts: &Facts, object: &Operand, place: &Operand) -> bool
+fn names_object(facts: &Facts, object: &Operand, place: &Known) -> bool
     ensures { result ≡ names_object facts.now object.now place.now }
 {
     let known = known_of(facts, object);
     is_null(object)
         || is_known_null(&known)
-        || lies_in_object(facts, &known, &known_of(facts, place))
+        || lies_in_object(facts, &known, place)
 }
 
-fn may_read(scene: &Scene, facts: &Facts, place: &Operand) -> bool
-    ensures { result ≡ may_read scene.now.program.now scene.now.slots.now facts.now place.now }
+fn may_read(scene: &Scene, facts: &Facts, place: &Operand, known: &Known) -> bool
+    ensures { result ≡ may_read scene.now.program.now scene.now.slots.now facts.now place.now known.now }
 {
     slot_named(scene.slots, place).is_some()
-        || loads_known(
-            scene.program,
-            facts,
-            TypeKind::AnyReference,
-            &known_of(facts, place),
-        )
+        || loads_known(scene.program, facts, TypeKind::AnyReference, known)
 }
 
-fn may_write(scene: &Scene, facts: &Facts, value: &Operand, place: &Operand) -> bool
-    ensures { result ≡ may_write scene.now.program.now scene.now.slots.now facts.now value.now place.now }
+fn may_write(
+    scene: &Scene,
+    facts: &Facts,
+    value: &Operand,
+    place: &Operand,
+    known: &Known,
+) -> bool
+    ensures { result ≡ may_write scene.now.program.now scene.now.slots.now facts.now value.now place.now known.now }
 {
     slot_named(scene.slots, place).is_some()
         || stores_known(
@@ -104,7 +111,7 @@ fn may_write(scene: &Scene, facts: &Facts, value: &Operand, place: &Operand) -> 
             facts,
             TypeKind::AnyReference,
             &known_of(facts, value),
-            &known_of(facts, place),
+            known,
         )
 }
 
@@ -119,7 +126,12 @@ fn is_read(
 {
     is_value(scene, facts, object.written, &object.operand)
         && is_typed(scene, place.written, &place.operand)
-        && may_read(scene, facts, &place.operand)
+        && may_read(
+            scene,
+            facts,
+            &place.operand,
+            &place_known(scene, facts, place.written, &place.operand),
+        )
         && is_written_as(
             scene.module(),
             returned,
@@ -139,6 +151,7 @@ pub fn read_refusal(
 ) -> Option<Rule>
     ensures { result ≡ first_failing (read_conditions scene.now.program.now scene.now.function.now scene.now.slots.now here facts.now returned object.now place.now) }
 {
+    let at = place_known(scene, facts, place.written, &place.operand);
     first_failing(&[
         (
             Rule::K1,
@@ -148,12 +161,12 @@ pub fn read_refusal(
         (Rule::K2, is_read(scene, facts, returned, object, place)),
         (
             Rule::K3,
-            is_operand_current(facts, &object.operand) && is_operand_current(facts, &place.operand),
+            is_operand_current(facts, &object.operand) && is_current(facts, &at),
         ),
-        (Rule::K4, is_based(facts, &place.operand)),
+        (Rule::K4, is_based(facts, &place.operand, &at)),
         (
             Rule::K7,
-            names_object(facts, &object.operand, &place.operand),
+            names_object(facts, &object.operand, &at),
         ),
         (
             Rule::K10,
@@ -189,7 +202,7 @@ fn after_read(
 {
     match arguments {
         [_, place] => {
-            let known = known_of(facts, &place.operand);
+            let known = place_known(scene, facts, place.written, &place.operand);
             load_known(scene.program, facts, v, TypeKind::AnyReference, &known)
         }
         _ => facts.define(v, Known::Nothing),
@@ -209,7 +222,19 @@ fn is_write(
     is_value(scene, facts, value.written, &value.operand)
         && is_value(scene, facts, object.written, &object.operand)
         && is_typed(scene, place.written, &place.operand)
-        && may_write(scene, facts, &value.operand, &place.operand)
+        && may_write(
+            scene,
+            facts,
+            &value.operand,
+            &place.operand,
+            &place_known(scene, facts, place.written, &place.operand),
+        )
+        && is_one_layout(
+            scene,
+            facts,
+            value.written,
+            &place_known(scene, facts, place.written, &place.operand),
+        )
         && is_written_as(
             scene.module(),
             returned,
@@ -230,6 +255,7 @@ pub fn write_refusal(
 ) -> Option<Rule>
     ensures { result ≡ first_failing (write_conditions scene.now.program.now scene.now.function.now scene.now.slots.now here facts.now returned value.now object.now place.now) }
 {
+    let at = place_known(scene, facts, place.written, &place.operand);
     first_failing(&[
         (
             Rule::K1,
@@ -245,12 +271,12 @@ pub fn write_refusal(
             Rule::K3,
             is_operand_current(facts, &value.operand)
                 && is_operand_current(facts, &object.operand)
-                && is_operand_current(facts, &place.operand),
+                && is_current(facts, &at),
         ),
-        (Rule::K4, is_based(facts, &place.operand)),
+        (Rule::K4, is_based(facts, &place.operand, &at)),
         (
             Rule::K7,
-            names_object(facts, &object.operand, &place.operand),
+            names_object(facts, &object.operand, &at),
         ),
         (
             Rule::K10,

@@ -8,10 +8,10 @@ use crate::barrier::needs_no_barrier;
 use crate::casts::casts_operand;
 use crate::conditions::first_failing;
 use crate::operands::{
-    is_available, is_based, is_no_slot, is_operand_current, is_typed, is_value, known_of,
-    slot_named,
+    is_available, is_based, is_current, is_no_slot, is_operand_current, is_typed, is_value,
+    known_of, place_known, slot_named,
 };
-use crate::places::{after_load, after_store, may_load, may_store};
+use crate::places::{after_load, after_store, is_one_layout, may_load, may_store};
 use crate::rule::Rule;
 use crate::scene::Scene;
 use crate::standing::Standing;
@@ -71,14 +71,15 @@ fn load_refusal(
 ) -> Option<Rule>
     ensures { result ≡ first_failing (memory_conditions scene.now.program.now scene.now.function.now scene.now.slots.now here facts.now None (MemoryOp.Load loaded place_type place.now)) }
 {
+    let at = place_known(scene, facts, place_type, place);
     first_failing(&[
         (Rule::K1, is_available(scene.slots, facts, place)),
         (
             Rule::K2,
-            is_typed(scene, place_type, place) && may_load(scene, facts, loaded, place),
+            is_typed(scene, place_type, place) && may_load(scene, facts, loaded, place, &at),
         ),
-        (Rule::K3, is_operand_current(facts, place)),
-        (Rule::K4, is_based(facts, place)),
+        (Rule::K3, is_current(facts, &at)),
+        (Rule::K4, is_based(facts, place, &at)),
         (Rule::K12, here.collected),
         (Rule::K19, casts_operand(scene.module(), place)),
     ])
@@ -96,6 +97,7 @@ fn store_refusal(
     ensures { result ≡ first_failing (memory_conditions scene.now.program.now scene.now.function.now scene.now.slots.now here facts.now None (MemoryOp.Store stored value.now place_type place.now)) }
 {
     let known = known_of(facts, value);
+    let at = place_known(scene, facts, place_type, place);
     first_failing(&[
         (
             Rule::K1,
@@ -105,14 +107,18 @@ fn store_refusal(
             Rule::K2,
             is_value(scene, facts, stored, value)
                 && is_typed(scene, place_type, place)
-                && may_store(scene, facts, stored, &known, place),
+                && may_store(scene, facts, stored, &known, place, &at)
+                && is_one_layout(scene, facts, stored, &at),
         ),
         (
             Rule::K3,
-            is_operand_current(facts, value) && is_operand_current(facts, place),
+            is_operand_current(facts, value) && is_current(facts, &at),
         ),
-        (Rule::K4, is_based(facts, place)),
-        (Rule::K6, needs_no_barrier(scene, facts, stored, place)),
+        (Rule::K4, is_based(facts, place, &at)),
+        (
+            Rule::K6,
+            needs_no_barrier(scene, facts, stored, place, &at),
+        ),
         (Rule::K10, is_no_slot(scene.slots, value)),
         (Rule::K12, here.collected),
         (Rule::K19, casts_operand(scene.module(), place)),
@@ -162,9 +168,14 @@ pub fn after_memory(
             Some(s) => facts.end_slot(s),
             None => Ok(()),
         },
-        (MemoryOp::Load { loaded, place, .. }, Some(v)) => {
-            after_load(scene, facts, v, *loaded, place)
-        }
+        (
+            MemoryOp::Load {
+                loaded,
+                place_type,
+                place,
+            },
+            Some(v),
+        ) => after_load(scene, facts, v, *loaded, *place_type, place),
         (_, None) => Ok(()),
     }
 }

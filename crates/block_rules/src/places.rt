@@ -2,9 +2,9 @@ ghost use Rattle.std.specs.Prelude.{◌≡◌, OnOk, Some};
 ghost use Rattle.pools.specs.Layouts.{kind_of_word};
 ghost use Rattle.facts.specs.Facts.{drop_fresh_of};
 ghost use Rattle.block_rules.specs.Operands.{known_of};
-ghost use Rattle.block_rules.specs.Places.{loads_slot, moves_kind, moves, holds_wanted, layout_of_word, cell_words, each_word, first_layout, one_reference, wanted_by_load, loads_words, loads_base, loads_word, loads_known, may_load, wanted_by_store, wanted_by_value, fits_words, stores_base, fits_word, stores_word, stores_known, stores_slot, may_store, define_held, load_kind, load_words, load_base, load_word, load_known, load_place, after_load, after_store};
+ghost use Rattle.block_rules.specs.Places.{loads_slot, moves_kind, moves, holds_wanted, layout_of_word, cell_words, each_word, first_layout, one_reference, wanted_by_load, loads_words, loads_base, loads_word, loads_known, may_load, wanted_by_store, is_one_layout, wanted_by_value, fits_words, stores_base, fits_word, stores_word, stores_known, stores_slot, may_store, define_held, load_kind, load_words, load_base, load_word, load_known, load_place, after_load, after_store};
 
-use crate::operands::{is_null_constant, known_fits, known_of, slot_named};
+use crate::operands::{is_null_constant, known_fits, known_of, place_known, slot_named};
 use crate::scene::Scene;
 use crate::type_kind::TypeKind;
 use crate::wanted_word::WantedWord;
@@ -14,12 +14,16 @@ use layout::{Program, global_word};
 use pools::{CELL_WORDS, LayoutId, Layouts, WordKind, WordSet};
 use shadow_stack::SlotId;
 use std::alloc::AllocError;
+use types::is_opaque;
 
 fn loads_slot(module: &Module, written: TypeId, held: Option<TypeId>) -> bool
     ensures { result ≡ loads_slot «module».now written held }
 {
     match held {
-        Some(held) => written == held || TypeKind::of(module, written).is_any_reference(),
+        Some(held) => {
+            written == held
+                || (TypeKind::of(module, written).is_any_reference() && !is_opaque(module, written))
+        }
         None => false,
     }
 }
@@ -154,9 +158,15 @@ pub fn loads_known(program: &Program, facts: &Facts, kind: TypeKind, place: &Kno
     }
 }
 
-/// Whether a load of this type may be from a place.
-pub fn may_load(scene: &Scene, facts: &Facts, loaded: TypeId, place: &Operand) -> bool
-    ensures { result ≡ may_load scene.now.program.now scene.now.slots.now facts.now loaded place.now }
+/// Whether a load of this type may be from a place, of which this is known.
+pub fn may_load(
+    scene: &Scene,
+    facts: &Facts,
+    loaded: TypeId,
+    place: &Operand,
+    known: &Known,
+) -> bool
+    ensures { result ≡ may_load scene.now.program.now scene.now.slots.now facts.now loaded place.now known.now }
 {
     match place {
         Operand::Constant(constant) => is_null_constant(*constant),
@@ -164,12 +174,12 @@ pub fn may_load(scene: &Scene, facts: &Facts, loaded: TypeId, place: &Operand) -
             Some(s) => loads_slot(scene.module(), loaded, scene.slots.held_type(s)),
             None => {
                 let kind = TypeKind::of(scene.module(), loaded);
-                loads_known(scene.program, facts, kind, &facts.known(*v))
+                loads_known(scene.program, facts, kind, known)
             }
         },
-        place => {
+        _ => {
             let kind = TypeKind::of(scene.module(), loaded);
-            loads_known(scene.program, facts, kind, &known_of(facts, place))
+            loads_known(scene.program, facts, kind, known)
         }
     }
 }
@@ -183,6 +193,17 @@ fn wanted_by_store(kind: TypeKind) -> WantedWord
         TypeKind::AnyReference => WantedWord::AnyReference,
         _ => WantedWord::Nothing,
     }
+}
+
+/// Whether a store by `ptr` finds references of one layout, as a load does.
+pub fn is_one_layout(scene: &Scene, facts: &Facts, stored: TypeId, place: &Known) -> bool
+    ensures { result ≡ is_one_layout scene.now.program.now facts.now stored place.now }
+{
+    if !is_opaque(scene.module(), stored) {
+        return true;
+    }
+    let kind = TypeKind::of(scene.module(), stored);
+    loads_known(scene.program, facts, kind, place)
 }
 
 fn wanted_by_value(value: &Known) -> Option<WantedWord>
@@ -278,15 +299,16 @@ fn stores_slot(scene: &Scene, stored: TypeId, value: &Known, s: SlotId) -> bool
     ) && known_fits(TypeKind::of_slot(scene.module(), scene.slots, s), value)
 }
 
-/// Whether a value may be stored at a place.
+/// Whether a value may be stored at a place, of which this is known.
 pub fn may_store(
     scene: &Scene,
     facts: &Facts,
     stored: TypeId,
     value: &Known,
     place: &Operand,
+    known: &Known,
 ) -> bool
-    ensures { result ≡ may_store scene.now.program.now scene.now.slots.now facts.now stored value.now place.now }
+    ensures { result ≡ may_store scene.now.program.now scene.now.slots.now facts.now stored value.now place.now known.now }
 {
     match place {
         Operand::Constant(constant) => {
@@ -296,12 +318,12 @@ pub fn may_store(
             Some(s) => stores_slot(scene, stored, value, s),
             None => {
                 let kind = TypeKind::of(scene.module(), stored);
-                stores_known(scene.program, facts, kind, value, &facts.known(*v))
+                stores_known(scene.program, facts, kind, value, known)
             }
         },
-        place => {
+        _ => {
             let kind = TypeKind::of(scene.module(), stored);
-            stores_known(scene.program, facts, kind, value, &known_of(facts, place))
+            stores_known(scene.program, facts, kind, value, known)
         }
     }
 }
@@ -418,9 +440,10 @@ pub fn after_load(
     facts: &mut Facts,
     v: ValueId,
     loaded: TypeId,
+    place_type: TypeId,
     place: &Operand,
 ) -> Result<(), AllocError>
-    ensures { OnOk result (facts.new ≡ after_load scene.now.program.now scene.now.slots.now v loaded place.now facts.old) }
+    ensures { OnOk result (facts.new ≡ after_load scene.now.program.now scene.now.slots.now v loaded place_type place.now facts.old) }
 {
     match slot_named(scene.slots, place) {
         Some(s) => {
@@ -429,7 +452,7 @@ pub fn after_load(
         }
         None => {
             let kind = TypeKind::of(scene.module(), loaded);
-            let known = known_of(facts, place);
+            let known = place_known(scene, facts, place_type, place);
             load_known(scene.program, facts, v, kind, &known)
         }
     }

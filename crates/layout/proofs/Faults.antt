@@ -1,5 +1,5 @@
 -- A module has layouts exactly where its first fault is none.
-use Rattle.std.proofs.Common.{◌≡◌, ◌≤◌, ◌<◌, inl, inr, ℕ, Bool, true, false, List, [], ◌∷◌, length, position, map, Option, Some, None, is_none, refl, sym, ap, ◌∙◌, subst, arith, unwrap_or, zero, suc, get_or, min}
+use Rattle.std.proofs.Common.{◌≡◌, ◌≤◌, ◌<◌, inl, inr, ℕ, Bool, true, false, List, [], ◌∷◌, length, position, map, if◌then◌else◌, Option, Some, None, is_none, refl, sym, ap, ◌∙◌, subst, arith, unwrap_or, zero, suc, get_or, min}
 use Rattle.std.specs.List.{list_any}
 use Rattle.std.specs.Prelude.{slice_get}
 use Rattle.std.proofs.lemmas.List.Quantifiers.{position-Some}
@@ -11,13 +11,14 @@ use Rattle.ir_ast.specs.declared.items_of_module.StructType.{StructType}
 use Rattle.pools.specs.declared.word_kind.WordKind.{WordKind}
 use Rattle.pools.specs.declared.word_kind.WordKind.TheVariants as kind
 use Rattle.layout.specs.declared.fault.LayoutFault.{LayoutFault}
-use Rattle.layout.specs.declared.fault.LayoutFault.TheVariants.{HoldsItself, TooManyWords, NoSuchLayout, Memory}
+use Rattle.layout.specs.declared.fault.LayoutFault.TheVariants.{ShapesWanted, HoldsItself, TooManyWords, NoSuchLayout, Memory}
 use Rattle.layout.specs.declared.survey.SizeMark.{SizeMark}
 use Rattle.layout.specs.declared.survey.SizeMark.TheVariants.{New, Open, Endless, Large, Known}
 use Rattle.layout.specs.declared.survey.Span.{Span}
-use Rattle.layout.specs.Words.{Scalars, word_of, AreWords}
-use Rattle.layout.specs.Layouts.{IsLayout, AreLayoutsOf, AreLayouts, IsFirst, HasNoEnd, HasTooManyWords, PointsNowhere, StructHoldsItself, IsLayoutFault, IsSize, AreSizes}
-use Rattle.layout.specs.Survey.{mark_at, fields_at, IsWithin, IsLarge, MarkFits, IsSettled, is_new, is_endless, is_large, span_of, size_in, struct_is_endless, struct_is_large, struct_fields, points_nowhere, known_word, words_of, fault_by, first_fault}
+use Rattle.ir_ast.specs.Shapes.{shape_at}
+use Rattle.layout.specs.Words.{Scalars, shaped_word, shapes_of, AreWords, some_nowhere}
+use Rattle.layout.specs.Layouts.{IsLayout, AreLayoutsOf, AreLayouts, IsFirst, HasNoEnd, HasTooManyWords, PointsNowhere, StructHoldsItself, IsLayoutFault, IsSize, AreSizes, wants_shapes}
+use Rattle.layout.specs.Survey.{mark_at, fields_at, IsWithin, IsLarge, MarkFits, IsSettled, is_new, is_endless, is_large, span_of, size_in, struct_is_endless, struct_is_large, struct_fields, points_nowhere, known_words, words_of, fault_by, first_fault}
 use Rattle.layout.specs.Ring.{IsFirstIfAny, at_ring}
 use Rattle.layout.specs.Rings.{one_list}
 use Rattle.layout.proofs.FirstRings.{order, ring_has_no_end, one_first, none_first}
@@ -87,19 +88,19 @@ known : (w : Option WordKind) → is_none w ≡ false → w ≡ Some (unwrap_or 
 known None e = absurd cc
 known (Some w) e = refl
 
-are_words : (m : Module) (fields : List ℕ) → list_any (λ field. is_none (word_of m field)) fields ≡ false → AreWords m fields (map (known_word m) fields)
-are_words m [] e = tt
-are_words m (field ∷ fields) e =
-    let b = or_neither (is_none (word_of m field)) (list_any (λ field. is_none (word_of m field)) fields) e in
-    (known (word_of m field) b.0, are_words m fields b.1)
+are_words : (m : Module) (shapes : List (Option ℕ)) (place : ℕ) (fields : List ℕ) → some_nowhere m shapes place fields ≡ false → AreWords m shapes place fields (known_words m shapes place fields)
+are_words m shapes place [] e = tt
+are_words m shapes place (field ∷ fields) e =
+    let b = or_neither (is_none (shaped_word m (shape_at shapes place) field)) (some_nowhere m shapes (suc place) fields) e in
+    (known (shaped_word m (shape_at shapes place) field) b.0, are_words m shapes (suc place) fields b.1)
 
-are_known : (m : Module) (fields : List ℕ) (words : List WordKind) → AreWords m fields words
-    → (list_any (λ field. is_none (word_of m field)) fields ≡ false) × (words ≡ map (known_word m) fields)
-are_known m [] [] h = (refl, refl)
-are_known m [] (w ∷ ws) h = absurd h
-are_known m (f ∷ fs) [] h = absurd h
-are_known m (f ∷ fs) (w ∷ ws) h =
-    let r = are_known m fs ws h.1 in
+are_known : (m : Module) (shapes : List (Option ℕ)) (place : ℕ) (fields : List ℕ) (words : List WordKind) → AreWords m shapes place fields words
+    → (some_nowhere m shapes place fields ≡ false) × (words ≡ known_words m shapes place fields)
+are_known m shapes place [] [] h = (refl, refl)
+are_known m shapes place [] (w ∷ ws) h = absurd h
+are_known m shapes place (f ∷ fs) [] h = absurd h
+are_known m shapes place (f ∷ fs) (w ∷ ws) h =
+    let r = are_known m shapes (suc place) fs ws h.1 in
     (rw (h.0, r.0) refl, rw (h.0, r.1) refl)
 
 -- ---- the structs
@@ -200,11 +201,10 @@ module _ (m : Module) (marks : List SizeMark) (fields : List ℕ) (settled : IsS
   says_nowhere none_endless none_large = record {
     to = λ s st is e.
         let k = known_type st.body (mark_at marks st.body) refl (none_at (struct_is_endless marks) m.structs s st none_endless is) (none_at (struct_is_large marks) m.structs s st none_large is) in
-        record { body = st.body; fields = struct_fields marks fields st; body_is = body_from m s st is; scalars = k.0; nowhere = e };
+        record { of_struct = st; fields = struct_fields marks fields st; struct_is = is; scalars = k.0; nowhere = e };
     back = λ s h.
-        let at : (st : StructType) × ((slice_get m.structs s ≡ Some st) × (st.body ≡ h.body)) = body_at m s h.body (slice_get m.structs s) refl h.body_is in
-        let k = with_fields at.0.body h.fields (mark_at marks at.0.body) refl (subst (λ b. Scalars m b h.fields) (sym at.1.1) h.scalars) (none_at (struct_is_large marks) m.structs s at.0 none_large at.1.0) in
-        (at.0, (at.1.0, subst (λ fs. list_any (λ field. is_none (word_of m field)) fs ≡ true) (sym k.same) h.nowhere));
+        let k = with_fields h.of_struct.body h.fields (mark_at marks h.of_struct.body) refl h.scalars (none_at (struct_is_large marks) m.structs s h.of_struct none_large h.struct_is) in
+        (h.of_struct, (h.struct_is, subst (λ fs. some_nowhere m (shapes_of m h.of_struct) 0 fs ≡ true) (sym k.same) h.nowhere));
   }
 
   laid_out_from : (structs : List StructType) → list_any (struct_is_endless marks) structs ≡ false → list_any (struct_is_large marks) structs ≡ false → list_any (points_nowhere m marks fields) structs ≡ false
@@ -215,7 +215,7 @@ module _ (m : Module) (marks : List SizeMark) (fields : List ℕ) (settled : IsS
       let b = or_neither (struct_is_large marks s) (list_any (struct_is_large marks) ss) large in
       let c = or_neither (points_nowhere m marks fields s) (list_any (points_nowhere m marks fields) ss) nowhere in
       let k = known_type s.body (mark_at marks s.body) refl a.0 b.0 in
-      (record { fields = struct_fields marks fields s; scalars = k.0; few = k.1; words_are = are_words m (struct_fields marks fields s) c.0 }, laid_out_from ss a.1 b.1 c.1)
+      (record { fields = struct_fields marks fields s; scalars = k.0; few = k.1; words_are = are_words m (shapes_of m s) 0 (struct_fields marks fields s) c.0 }, laid_out_from ss a.1 b.1 c.1)
 
   record NoFault (structs : List StructType) (layouts : List (List WordKind)) : Type 0 where
     endless : list_any (struct_is_endless marks) structs ≡ false
@@ -243,9 +243,9 @@ module _ (m : Module) (marks : List SizeMark) (fields : List ℕ) (settled : IsS
       let one : IsLayout m s w = h.0 in
       let small = not_large_type s.body one.fields (mark_at marks s.body) refl one.scalars one.few in
       let k = with_fields s.body one.fields (mark_at marks s.body) refl one.scalars small in
-      let words = are_known m one.fields w one.words_are in
-      let fine : points_nowhere m marks fields s ≡ false = subst (λ fs. list_any (λ field. is_none (word_of m field)) fs ≡ false) (sym k.same) words.0 in
-      let same : w ≡ words_of m marks fields s = words.1 ∙ ap (map (known_word m)) (sym k.same) in
+      let words = are_known m (shapes_of m s) 0 one.fields w one.words_are in
+      let fine : points_nowhere m marks fields s ≡ false = subst (λ fs. some_nowhere m (shapes_of m s) 0 fs ≡ false) (sym k.same) words.0 in
+      let same : w ≡ words_of m marks fields s = words.1 ∙ ap (known_words m (shapes_of m s) 0) (sym k.same) in
       record {
         endless = rw k.not_endless r.endless;
         large = rw small r.large;
@@ -266,29 +266,30 @@ module _ (m : Module) (marks : List SizeMark) (fields : List ℕ) (settled : IsS
 
   -- ---- the results
 
-  by_places : first_fault m marks fields ≡ None → (position (struct_is_endless marks) m.structs ≡ None) × (position (struct_is_large marks) m.structs ≡ None) × (position (points_nowhere m marks fields) m.structs ≡ None)
-  by_places e = cases (position (struct_is_endless marks) m.structs) (position (struct_is_large marks) m.structs) (position (points_nowhere m marks fields) m.structs) e where
-    cases : (a b c : Option ℕ) → fault_by a b c ≡ None → (a ≡ None) × (b ≡ None) × (c ≡ None)
-    cases (Some s) b c e = absurd cc
-    cases None (Some s) c e = absurd cc
-    cases None None (Some s) e = absurd cc
-    cases None None None e = (refl, refl, refl)
+  by_places : first_fault m marks fields ≡ None → (wants_shapes m ≡ false) × (position (struct_is_endless marks) m.structs ≡ None) × (position (struct_is_large marks) m.structs ≡ None) × (position (points_nowhere m marks fields) m.structs ≡ None)
+  by_places e = cases (wants_shapes m) (position (struct_is_endless marks) m.structs) (position (struct_is_large marks) m.structs) (position (points_nowhere m marks fields) m.structs) e where
+    cases : (w : Bool) (a b c : Option ℕ) → (if w then Some ShapesWanted else fault_by a b c) ≡ None → (w ≡ false) × (a ≡ None) × (b ≡ None) × (c ≡ None)
+    cases true a b c e = absurd cc
+    cases false (Some s) b c e = absurd cc
+    cases false None (Some s) c e = absurd cc
+    cases false None None (Some s) e = absurd cc
+    cases false None None None e = (refl, refl, refl, refl)
 
   -- with no fault these are the layouts
   pub laid_out : first_fault m marks fields ≡ None → AreLayouts m (map (words_of m marks fields) m.structs)
   laid_out e =
       let p = by_places e in
-      laid_out_from m.structs (none_passes (struct_is_endless marks) m.structs p.0) (none_passes (struct_is_large marks) m.structs p.1) (none_passes (points_nowhere m marks fields) m.structs p.2)
+      (laid_out_from m.structs (none_passes (struct_is_endless marks) m.structs p.1) (none_passes (struct_is_large marks) m.structs p.2) (none_passes (points_nowhere m marks fields) m.structs p.3), p.0)
 
   -- and no others
   pub only_layouts : (layouts : List (List WordKind)) → AreLayouts m layouts → map (words_of m marks fields) m.structs ≡ layouts
-  only_layouts layouts h = sym (no_fault m.structs layouts h).same
+  only_layouts layouts h = sym (no_fault m.structs layouts h.0).same
 
   -- where there are layouts there is no fault
   pub no_layouts : (layouts : List (List WordKind)) → AreLayouts m layouts → first_fault m marks fields ≡ None
   no_layouts layouts h =
-      let n = no_fault m.structs layouts h in
-      rw (no_place (struct_is_endless marks) m.structs n.endless, no_place (struct_is_large marks) m.structs n.large, no_place (points_nowhere m marks fields) m.structs n.nowhere) refl
+      let n = no_fault m.structs layouts h.0 in
+      rw (h.1, no_place (struct_is_endless marks) m.structs n.endless, no_place (struct_is_large marks) m.structs n.large, no_place (points_nowhere m marks fields) m.structs n.nowhere) refl
 
   -- the first struct that holds itself is known, where the fault is one of a struct that has no end
   abbrev RingFor : Option ℕ → LayoutFault → Type 0
@@ -296,23 +297,26 @@ module _ (m : Module) (marks : List SizeMark) (fields : List ℕ) (settled : IsS
 
   -- the first fault is one, at the first struct that holds itself if there is one
   pub is_fault : (ring : Option ℕ) (fault : LayoutFault) → RingFor ring fault → first_fault m marks fields ≡ Some fault → IsLayoutFault m (at_ring ring fault)
-  is_fault ring fault rings e = cases (position (struct_is_endless marks) m.structs) (position (struct_is_large marks) m.structs) (position (points_nowhere m marks fields) m.structs) refl refl refl fault rings e where
-    ring_or : (s : ℕ) (o : Option ℕ) → IsFirstIfAny (StructHoldsItself m) o → IsFirst (HasNoEnd m) s → IsLayoutFault m (at_ring o (HoldsItself s))
-    ring_or s None none first = inr (none, first)
-    ring_or s (Some k) found first = inl found
+  is_fault ring fault rings e =
+      cases (wants_shapes m) (position (struct_is_endless marks) m.structs) (position (struct_is_large marks) m.structs) (position (points_nowhere m marks fields) m.structs) refl refl refl refl fault rings e where
+    ring_or : (s : ℕ) (o : Option ℕ) → wants_shapes m ≡ false → IsFirstIfAny (StructHoldsItself m) o → IsFirst (HasNoEnd m) s → IsLayoutFault m (at_ring o (HoldsItself s))
+    ring_or s None shaped none first = (shaped, inr (none, first))
+    ring_or s (Some k) shaped found first = (shaped, inl found)
 
-    cases : (a b c : Option ℕ) → position (struct_is_endless marks) m.structs ≡ a → position (struct_is_large marks) m.structs ≡ b → position (points_nowhere m marks fields) m.structs ≡ c
-        → (fault : LayoutFault) → RingFor ring fault → fault_by a b c ≡ Some fault → IsLayoutFault m (at_ring ring fault)
-    cases (Some s) b c ia ib ic fault rings e =
-        subst (λ f. IsLayoutFault m (at_ring ring f)) (some_same (HoldsItself s) fault e) (ring_or s ring (rings s (sym (some_same (HoldsItself s) fault e))) (is_first m.structs (struct_is_endless marks) (HasNoEnd m) says_endless s ia))
-    cases None (Some s) c ia ib ic fault rings e = subst (λ f. IsLayoutFault m (at_ring ring f)) (some_same (TooManyWords s) fault e)
-        (is_none_of m.structs (struct_is_endless marks) (HasNoEnd m) says_endless ia, is_first m.structs (struct_is_large marks) (HasTooManyWords m) says_large s ib)
-    cases None None (Some s) ia ib ic fault rings e = subst (λ f. IsLayoutFault m (at_ring ring f)) (some_same (NoSuchLayout s) fault e) (
+    cases : (w : Bool) (a b c : Option ℕ) → wants_shapes m ≡ w → position (struct_is_endless marks) m.structs ≡ a → position (struct_is_large marks) m.structs ≡ b → position (points_nowhere m marks fields) m.structs ≡ c
+        → (fault : LayoutFault) → RingFor ring fault → (if w then Some ShapesWanted else fault_by a b c) ≡ Some fault → IsLayoutFault m (at_ring ring fault)
+    cases true a b c iw ia ib ic fault rings e = subst (λ f. IsLayoutFault m (at_ring ring f)) (some_same ShapesWanted fault e) iw
+    cases false (Some s) b c iw ia ib ic fault rings e =
+        subst (λ f. IsLayoutFault m (at_ring ring f)) (some_same (HoldsItself s) fault e) (ring_or s ring iw (rings s (sym (some_same (HoldsItself s) fault e))) (is_first m.structs (struct_is_endless marks) (HasNoEnd m) says_endless s ia))
+    cases false None (Some s) c iw ia ib ic fault rings e = subst (λ f. IsLayoutFault m (at_ring ring f)) (some_same (TooManyWords s) fault e)
+        (iw, is_none_of m.structs (struct_is_endless marks) (HasNoEnd m) says_endless ia, is_first m.structs (struct_is_large marks) (HasTooManyWords m) says_large s ib)
+    cases false None None (Some s) iw ia ib ic fault rings e = subst (λ f. IsLayoutFault m (at_ring ring f)) (some_same (NoSuchLayout s) fault e) (
+      iw,
       is_none_of m.structs (struct_is_endless marks) (HasNoEnd m) says_endless ia,
       is_none_of m.structs (struct_is_large marks) (HasTooManyWords m) says_large ib,
       is_first m.structs (points_nowhere m marks fields) (PointsNowhere m) (says_nowhere (none_passes (struct_is_endless marks) m.structs ia) (none_passes (struct_is_large marks) m.structs ib)) s ic,
     )
-    cases None None None ia ib ic fault rings e = absurd cc
+    cases false None None None iw ia ib ic fault rings e = absurd cc
 
   -- there is a first struct that has no end
   endless_there : (s : ℕ) → HasNoEnd m s → (k : ℕ) × (position (struct_is_endless marks) m.structs ≡ Some k)
@@ -329,22 +333,23 @@ module _ (m : Module) (marks : List SizeMark) (fields : List ℕ) (settled : IsS
 
   -- and the only one
   there_is : (fault : LayoutFault) → IsLayoutFault m fault → FoundFault fault
-  there_is (HoldsItself s) (inl h) =
+  there_is ShapesWanted h = record { found = ShapesWanted; found_is = rw h refl; at = λ ring known. refl }
+  there_is (HoldsItself s) (shaped, inl h) =
       let k : (k : ℕ) × (position (struct_is_endless marks) m.structs ≡ Some k) = endless_there s (ring_has_no_end m s h.holds) in
       let is = k.1 in
-      record { found = HoldsItself k.0; found_is = rw is refl; at = λ ring known. let e : ring ≡ Some s = one_first (StructHoldsItself m) ring s (known k.0 refl) h in rw e refl }
-  there_is (HoldsItself s) (inr h) =
+      record { found = HoldsItself k.0; found_is = rw (shaped, is) refl; at = λ ring known. let e : ring ≡ Some s = one_first (StructHoldsItself m) ring s (known k.0 refl) h in rw e refl }
+  there_is (HoldsItself s) (shaped, inr h) =
       let is : position (struct_is_endless marks) m.structs ≡ Some s = only_first m.structs (struct_is_endless marks) (HasNoEnd m) says_endless s h.1 in
-      record { found = HoldsItself s; found_is = rw is refl; at = λ ring known. let e : ring ≡ None = none_first (StructHoldsItself m) ring (known s refl) h.0 in rw e refl }
+      record { found = HoldsItself s; found_is = rw (shaped, is) refl; at = λ ring known. let e : ring ≡ None = none_first (StructHoldsItself m) ring (known s refl) h.0 in rw e refl }
   there_is (TooManyWords s) h =
-      let a = none_there m.structs (struct_is_endless marks) (HasNoEnd m) says_endless h.0 in
-      let b = only_first m.structs (struct_is_large marks) (HasTooManyWords m) says_large s h.1 in
-      record { found = TooManyWords s; found_is = rw (a, b) refl; at = λ ring known. refl }
+      let a = none_there m.structs (struct_is_endless marks) (HasNoEnd m) says_endless h.1 in
+      let b = only_first m.structs (struct_is_large marks) (HasTooManyWords m) says_large s h.2 in
+      record { found = TooManyWords s; found_is = rw (h.0, a, b) refl; at = λ ring known. refl }
   there_is (NoSuchLayout s) h =
-      let a = none_there m.structs (struct_is_endless marks) (HasNoEnd m) says_endless h.0 in
-      let b = none_there m.structs (struct_is_large marks) (HasTooManyWords m) says_large h.1 in
-      let c = only_first m.structs (points_nowhere m marks fields) (PointsNowhere m) (says_nowhere (none_passes (struct_is_endless marks) m.structs a) (none_passes (struct_is_large marks) m.structs b)) s h.2 in
-      record { found = NoSuchLayout s; found_is = rw (a, b, c) refl; at = λ ring known. refl }
+      let a = none_there m.structs (struct_is_endless marks) (HasNoEnd m) says_endless h.1 in
+      let b = none_there m.structs (struct_is_large marks) (HasTooManyWords m) says_large h.2 in
+      let c = only_first m.structs (points_nowhere m marks fields) (PointsNowhere m) (says_nowhere (none_passes (struct_is_endless marks) m.structs a) (none_passes (struct_is_large marks) m.structs b)) s h.3 in
+      record { found = NoSuchLayout s; found_is = rw (h.0, a, b, c) refl; at = λ ring known. refl }
   there_is Memory h = absurd h
 
   pub only_fault : (ring : Option ℕ) (fault other : LayoutFault) → RingFor ring fault → first_fault m marks fields ≡ Some fault → IsLayoutFault m other → at_ring ring fault ≡ other
@@ -354,6 +359,7 @@ module _ (m : Module) (marks : List SizeMark) (fields : List ℕ) (settled : IsS
       ap (at_ring ring) same ∙ there.at ring (λ s is. rings s (same ∙ is))
 
   elsewhere : (fault : LayoutFault) → ((s : ℕ) → fault ≡ HoldsItself s → ⊥) → at_ring None fault ≡ fault
+  elsewhere ShapesWanted other = refl
   elsewhere (HoldsItself s) other = refl
   elsewhere (TooManyWords s) other = refl
   elsewhere (NoSuchLayout s) other = refl

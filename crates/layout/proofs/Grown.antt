@@ -1,21 +1,22 @@
 -- Layouts, sizes and the words of globals where the table of types has grown. Functions are no part of any of them.
-use Rattle.std.proofs.Common.{◌≡◌, ℕ, true, List, [], ◌∷◌, map, Option, Some, None, is_none, unwrap_or, refl, ap, sym, ◌∙◌, subst}
+use Rattle.std.proofs.Common.{◌≡◌, ℕ, suc, if◌then◌else◌, true, false, List, [], ◌∷◌, map, Option, Some, None, is_none, unwrap_or, refl, ap, sym, ◌∙◌, subst}
 use Rattle.std.specs.Prelude.{slice_get}
 use Rattle.ir_ast.specs.declared.function.Function.{Function}
 use Rattle.ir_ast.specs.declared.items_of_module.Global.{Global}
 use Rattle.ir_ast.specs.declared.items_of_module.StructType.{StructType}
 use Rattle.ir_ast.specs.declared.ir_type.IrType.{IrType}
-use Rattle.ir_ast.specs.declared.ir_type.IrType.TheVariants.{Void, Integer, Pointer, Array, EmptyStruct, Struct, Named}
+use Rattle.ir_ast.specs.declared.ir_type.IrType.TheVariants.{Void, Integer, Pointer, Opaque, Array, EmptyStruct, Struct, Named}
 use Rattle.ir_ast.specs.declared.module.Module.{Module}
 use Rattle.pools.specs.declared.word_kind.WordKind.{WordKind}
 use Rattle.pools.specs.declared.word_kind.WordKind.TheVariants as kind
 use Rattle.types.specs.Elements.{body_in, body_of_layout, body_named}
-use Rattle.types.specs.References.{struct_named, layout_of_struct}
+use Rattle.ir_ast.specs.Shapes.{shape_at, word_shapes, global_shape}
+use Rattle.types.specs.References.{is_opaque_type, struct_named, layout_of_struct}
 use Rattle.layout.specs.Functions.{with_functions}
-use Rattle.layout.specs.Globals.{kind_of_global, globals_of}
+use Rattle.layout.specs.Globals.{word_of_global, kind_of_global, globals_of}
 use Rattle.layout.specs.Grown.{TablesGrow}
-use Rattle.layout.specs.Layouts.{IsLayout, AreLayoutsOf, AreLayouts, IsSize, AreSizes}
-use Rattle.layout.specs.Words.{Scalars, is_scalar, reference_to, word_of_type, word_of, AreWords}
+use Rattle.layout.specs.Layouts.{IsLayout, AreLayoutsOf, AreLayouts, wants_shapes, IsSize, AreSizes}
+use Rattle.layout.specs.Words.{Scalars, is_scalar, reference_to, word_of_type, shaped_word, shapes_of, AreWords}
 
 -- ---- scalars and words
 
@@ -32,6 +33,7 @@ module _ (m n : Module) (grow : TablesGrow m n) where
   scalar_by written (Some Void) at h = rw (grow.types written Void at) refl
   scalar_by written (Some (Integer bits)) at h = rw (grow.types written (Integer bits) at) refl
   scalar_by written (Some (Pointer part)) at h = rw (grow.types written (Pointer part) at) refl
+  scalar_by written (Some Opaque) at h = rw (grow.types written Opaque at) refl
   scalar_by written (Some (Array length part)) at h = absurd cc
   scalar_by written (Some EmptyStruct) at h = absurd cc
   scalar_by written (Some (Struct first rest)) at h = absurd cc
@@ -55,19 +57,21 @@ module _ (m n : Module) (grow : TablesGrow m n) where
   reference_stays part word None is h = absurd cc
   reference_stays part word (Some layout) is h = ap reference_to (layout_by part layout (slice_get m.types part) refl is) ∙ h
 
-  word_by : (field : ℕ) (word : WordKind) (type : Option IrType) → slice_get m.types field ≡ type → word_of_type m type ≡ Some word → word_of n field ≡ Some word
-  word_by field word (Some (Integer bits)) at h = rw (grow.types field (Integer bits) at) h
-  word_by field word (Some (Pointer part)) at h = rw (grow.types field (Pointer part) at) (reference_stays part word (layout_of_struct m (slice_get m.types part)) refl h)
-  word_by field word _ at h = absurd cc
+  -- a type under which a word is there keeps its kind: `ptr` stays `ptr`, and another type that is a word no `ptr`
+  shaped_by : (shape : Option ℕ) (field : ℕ) (word : WordKind) (type : Option IrType) → slice_get m.types field ≡ type → (if is_opaque_type type then reference_to shape else word_of_type m type) ≡ Some word → shaped_word n shape field ≡ Some word
+  shaped_by shape field word (Some Opaque) at h = rw (grow.types field Opaque at) h
+  shaped_by shape field word (Some (Integer bits)) at h = rw (grow.types field (Integer bits) at) h
+  shaped_by shape field word (Some (Pointer part)) at h = rw (grow.types field (Pointer part) at) (reference_stays part word (layout_of_struct m (slice_get m.types part)) refl h)
+  shaped_by shape field word _ at h = absurd cc
 
-  word_stays : (field : ℕ) (word : WordKind) → word_of m field ≡ Some word → word_of n field ≡ Some word
-  word_stays field word h = word_by field word (slice_get m.types field) refl h
+  shaped_stays : (shape : Option ℕ) (field : ℕ) (word : WordKind) → shaped_word m shape field ≡ Some word → shaped_word n shape field ≡ Some word
+  shaped_stays shape field word h = shaped_by shape field word (slice_get m.types field) refl h
 
-  words_stay : (fields : List ℕ) (words : List WordKind) → AreWords m fields words → AreWords n fields words
-  words_stay [] [] h = tt
-  words_stay [] (word ∷ words) h = absurd h
-  words_stay (field ∷ fields) [] h = absurd h
-  words_stay (field ∷ fields) (word ∷ words) h = (word_stays field word h.0, words_stay fields words h.1)
+  words_stay : (shapes : List (Option ℕ)) (place : ℕ) (fields : List ℕ) (words : List WordKind) → AreWords m shapes place fields words → AreWords n shapes place fields words
+  words_stay shapes place [] [] h = tt
+  words_stay shapes place [] (word ∷ words) h = absurd h
+  words_stay shapes place (field ∷ fields) [] h = absurd h
+  words_stay shapes place (field ∷ fields) (word ∷ words) h = (shaped_stays (shape_at shapes place) field word h.0, words_stay shapes (suc place) fields words h.1)
 
   -- ---- layouts
 
@@ -76,7 +80,7 @@ module _ (m n : Module) (grow : TablesGrow m n) where
     fields = h.fields;
     scalars = scalars_stay struct.body h.fields h.scalars;
     few = h.few;
-    words_are = words_stay h.fields words h.words_are;
+    words_are = subst (λ row. AreWords n row 0 h.fields words) (ap (λ x. word_shapes x struct.name) (sym grow.shapes)) (words_stay (shapes_of m struct) 0 h.fields words h.words_are);
   }
 
   layouts_of : (structs : List StructType) (layouts : List (List WordKind)) → AreLayoutsOf m structs layouts → AreLayoutsOf n structs layouts
@@ -85,20 +89,20 @@ module _ (m n : Module) (grow : TablesGrow m n) where
   layouts_of (struct ∷ structs) [] h = absurd h
   layouts_of (struct ∷ structs) (words ∷ layouts) h = (layout_stays struct words h.0, layouts_of structs layouts h.1)
 
-  pub layouts_stay : (layouts : List (List WordKind)) → AreLayouts m layouts → AreLayouts n layouts
-  layouts_stay layouts h = subst (λ structs. AreLayoutsOf n structs layouts) (sym grow.structs) (layouts_of m.structs layouts h)
+  pub layouts_stay : (layouts : List (List WordKind)) → wants_shapes n ≡ false → AreLayouts m layouts → AreLayouts n layouts
+  layouts_stay layouts shaped h = (subst (λ structs. AreLayoutsOf n structs layouts) (sym grow.structs) (layouts_of m.structs layouts h.0), shaped)
 
 -- ---- other functions
 
 functions_only : (m : Module) (fs : List Function) → TablesGrow m (with_functions m fs)
-functions_only m fs = record { types = λ written type at. at; names = λ written name at. refl; structs = refl }
+functions_only m fs = record { types = λ written type at. at; names = λ written name at. refl; structs = refl; shapes = refl }
 
 functions_back : (m : Module) (fs : List Function) → TablesGrow (with_functions m fs) m
-functions_back m fs = record { types = λ written type at. at; names = λ written name at. refl; structs = refl }
+functions_back m fs = record { types = λ written type at. at; names = λ written name at. refl; structs = refl; shapes = refl }
 
 -- layouts depend on no function
 pub layouts_with : (m : Module) (fs : List Function) (layouts : List (List WordKind)) → AreLayouts m layouts → AreLayouts (with_functions m fs) layouts
-layouts_with m fs layouts h = layouts_stay m (with_functions m fs) (functions_only m fs) layouts h
+layouts_with m fs layouts h = layouts_stay m (with_functions m fs) (functions_only m fs) layouts h.1 h
 
 size_with : (m : Module) (fs : List Function) (written : ℕ) (size : Option ℕ) → IsSize m written size → IsSize (with_functions m fs) written size
 size_with m fs written size h =
@@ -112,13 +116,13 @@ size_with m fs written size h =
 pub sizes_with : (m : Module) (fs : List Function) (sizes : List (Option ℕ)) → AreSizes m sizes → AreSizes (with_functions m fs) sizes
 sizes_with m fs sizes h = record { one_each = h.one_each; each = λ written size at. size_with m fs written size (h.each written size at) }
 
-word_with : (m : Module) (fs : List Function) (held : ℕ) (one other : Option WordKind) → word_of m held ≡ one → word_of (with_functions m fs) held ≡ other → other ≡ one
-word_with m fs held (Some word) other is is_other = sym is_other ∙ word_stays m (with_functions m fs) (functions_only m fs) held word is
-word_with m fs held None None is is_other = refl
-word_with m fs held None (Some word) is is_other = let back = word_stays (with_functions m fs) m (functions_back m fs) held word is_other in absurd cc
+word_with : (m : Module) (fs : List Function) (shape : Option ℕ) (held : ℕ) (one other : Option WordKind) → shaped_word m shape held ≡ one → shaped_word (with_functions m fs) shape held ≡ other → other ≡ one
+word_with m fs shape held (Some word) other is is_other = sym is_other ∙ shaped_stays m (with_functions m fs) (functions_only m fs) shape held word is
+word_with m fs shape held None None is is_other = refl
+word_with m fs shape held None (Some word) is is_other = let back = shaped_stays (with_functions m fs) m (functions_back m fs) shape held word is_other in absurd cc
 
 kind_with : (m : Module) (fs : List Function) (global : Global) → kind_of_global (with_functions m fs) global ≡ kind_of_global m global
-kind_with m fs global = ap (λ word. unwrap_or word (kind.Integer 64)) (word_with m fs global.held (word_of m global.held) (word_of (with_functions m fs) global.held) refl refl)
+kind_with m fs global = ap (λ word. unwrap_or word (kind.Integer 64)) (word_with m fs (global_shape m.shapes global.symbol) global.held (word_of_global m global) (word_of_global (with_functions m fs) global) refl refl)
 
 kinds_with : (m : Module) (fs : List Function) (globals : List Global) → map (kind_of_global (with_functions m fs)) globals ≡ map (kind_of_global m) globals
 kinds_with m fs [] = refl

@@ -1,14 +1,15 @@
 -- The layouts of a module, or the first fault in them.
-use Rattle.std.specs.Prelude.{◌≡◌, ◌<◌, ◌≤◌, ◌⊎◌, ℕ, true, List, [], ◌∷◌, length, Option, Some, None, is_none, slice_get}
+use Rattle.std.specs.Prelude.{◌≡◌, ◌<◌, ◌≤◌, ◌⊎◌, ◌&&◌, ℕ, Bool, true, false, List, [], ◌∷◌, length, Option, Some, None, is_none, is_some, slice_get}
 use Rattle.std.specs.List.{list_any}
 use Rattle.ir_ast.specs.declared.module.Module.{Module}
 use Rattle.ir_ast.specs.declared.items_of_module.StructType.{StructType}
 use Rattle.ir_ast.specs.declared.ir_type.IrType.{IrType}
-use Rattle.ir_ast.specs.declared.ir_type.IrType.TheVariants.{Array, Struct, Named}
+use Rattle.ir_ast.specs.declared.ir_type.IrType.TheVariants.{Opaque, Array, Struct, Named}
+use Rattle.ir_ast.specs.Types.{place_of_type}
 use Rattle.pools.specs.declared.word_kind.WordKind.{WordKind}
 use Rattle.layout.specs.declared.fault.LayoutFault.{LayoutFault}
-use Rattle.layout.specs.declared.fault.LayoutFault.TheVariants.{HoldsItself, TooManyWords, NoSuchLayout, Memory}
-use Rattle.layout.specs.Words.{Scalars, word_of, AreWords}
+use Rattle.layout.specs.declared.fault.LayoutFault.TheVariants.{ShapesWanted, HoldsItself, TooManyWords, NoSuchLayout, Memory}
+use Rattle.layout.specs.Words.{Scalars, shapes_of, AreWords, some_nowhere}
 use Rattle.types.specs.Elements.{body_of_layout, body_named}
 use Rattle.types.specs.References.{layout_of_struct}
 
@@ -33,7 +34,7 @@ pub record IsLayout (m : Module) (struct : StructType) (words : List WordKind) :
   pub fields : List ℕ
   pub scalars : Scalars m struct.body fields
   pub few : length fields ≤ 64
-  pub words_are : AreWords m fields words
+  pub words_are : AreWords m (shapes_of m struct) 0 fields words
 
 -- each struct has its words
 abbrev pub AreLayoutsOf : Module → List StructType → List (List WordKind) → Type 0
@@ -41,9 +42,13 @@ AreLayoutsOf m [] [] = Unit {0}
 AreLayoutsOf m (struct ∷ structs) (words ∷ layouts) = IsLayout m struct words × AreLayoutsOf m structs layouts
 AreLayoutsOf m structs layouts = ⊥
 
--- the layouts of the module
+-- shapes are wanted: a type is `ptr`, and there are none
+abbrev pub wants_shapes : Module → Bool
+wants_shapes m = is_none m.shapes && is_some (place_of_type Opaque m.types)
+
+-- the layouts of the module, which has shapes where a type is `ptr`
 abbrev pub AreLayouts : Module → List (List WordKind) → Type 0
-AreLayouts m layouts = AreLayoutsOf m m.structs layouts
+AreLayouts m layouts = AreLayoutsOf m m.structs layouts × (wants_shapes m ≡ false)
 
 -- the first number of which this holds
 pub record IsFirst (P : ℕ → Type 0) (number : ℕ) : Type 0 where
@@ -81,20 +86,22 @@ pub record HasTooManyWords (m : Module) (struct : ℕ) : Type 0 where
   pub scalars : Scalars m body fields
   pub many : 64 < length fields
 
--- a scalar field of a struct is no word, since it points to no named struct
+-- a scalar field of a struct is no word, since it points to no named struct, or has no shape
 pub record PointsNowhere (m : Module) (struct : ℕ) : Type 0 where
-  pub body : ℕ
+  pub of_struct : StructType
   pub fields : List ℕ
-  pub body_is : body_of_layout m (Some struct) ≡ Some body
-  pub scalars : Scalars m body fields
-  pub nowhere : list_any (λ field. is_none (word_of m field)) fields ≡ true
+  pub struct_is : slice_get m.structs struct ≡ Some of_struct
+  pub scalars : Scalars m of_struct.body fields
+  pub nowhere : some_nowhere m (shapes_of m of_struct) 0 fields ≡ true
 
--- The first fault in its layouts. A struct that holds itself goes before one of too many words, and that before one with a word that points
+-- The first fault in its layouts. That shapes are wanted goes before all. A struct that holds itself goes before one of too many words, and that before one with a word that points
 -- nowhere. Each is found at the first struct that has it.
 abbrev pub IsLayoutFault : Module → LayoutFault → Type 0
-IsLayoutFault m (HoldsItself struct) = IsFirstRing m struct
-IsLayoutFault m (TooManyWords struct) = ((other : ℕ) → HasNoEnd m other → ⊥) × IsFirst (HasTooManyWords m) struct
-IsLayoutFault m (NoSuchLayout struct) = ((other : ℕ) → HasNoEnd m other → ⊥) × ((other : ℕ) → HasTooManyWords m other → ⊥) × IsFirst (PointsNowhere m) struct
+IsLayoutFault m ShapesWanted = wants_shapes m ≡ true
+IsLayoutFault m (HoldsItself struct) = (wants_shapes m ≡ false) × IsFirstRing m struct
+IsLayoutFault m (TooManyWords struct) = (wants_shapes m ≡ false) × ((other : ℕ) → HasNoEnd m other → ⊥) × IsFirst (HasTooManyWords m) struct
+IsLayoutFault m (NoSuchLayout struct) =
+    (wants_shapes m ≡ false) × ((other : ℕ) → HasNoEnd m other → ⊥) × ((other : ℕ) → HasTooManyWords m other → ⊥) × IsFirst (PointsNowhere m) struct
 IsLayoutFault m Memory = ⊥
 
 -- how many words a type of the table has: none where it holds itself or has more than 64

@@ -5,12 +5,13 @@ use Rattle.ir_ast.specs.declared.items_of_module.StructType.{StructType}
 use Rattle.pools.specs.declared.word_kind.WordKind.{WordKind}
 use Rattle.pools.specs.declared.word_kind.WordKind.TheVariants as kind
 use Rattle.layout.specs.declared.fault.LayoutFault.{LayoutFault}
-use Rattle.layout.specs.declared.fault.LayoutFault.TheVariants.{HoldsItself, TooManyWords, NoSuchLayout}
+use Rattle.layout.specs.declared.fault.LayoutFault.TheVariants.{ShapesWanted, HoldsItself, TooManyWords, NoSuchLayout}
 use Rattle.ir_ast.specs.declared.module.Module.{Module}
 use Rattle.ir_ast.specs.declared.ir_type.IrType.{IrType}
 use Rattle.ir_ast.specs.declared.ir_type.IrType.TheVariants.{Array, EmptyStruct, Struct, Named}
-use Rattle.layout.specs.Words.{Scalars, is_scalar, copies, word_of}
-use Rattle.layout.specs.Layouts.{IsPart, Holds}
+use Rattle.ir_ast.specs.Shapes.{shape_at}
+use Rattle.layout.specs.Words.{Scalars, is_scalar, copies, shaped_word, shapes_of, some_nowhere}
+use Rattle.layout.specs.Layouts.{IsPart, Holds, wants_shapes}
 use Rattle.layout.specs.declared.survey.SizeMark.{SizeMark}
 use Rattle.layout.specs.declared.survey.SizeMark.TheVariants.{New, Open, Endless, Large, Known}
 use Rattle.layout.specs.declared.survey.Span.{Span}
@@ -236,15 +237,20 @@ struct_fields marks fields struct = fields_at fields (span_of (mark_at marks str
 
 -- a scalar field of a struct is no word
 abbrev pub points_nowhere : Module → List SizeMark → (fields : List ℕ) → StructType → Bool
-points_nowhere m marks fields struct = list_any (λ field. is_none (word_of m field)) (struct_fields marks fields struct)
+points_nowhere m marks fields struct = some_nowhere m (shapes_of m struct) 0 (struct_fields marks fields struct)
 
 -- what a field holds, where it is a word
-abbrev pub known_word : Module → (field : ℕ) → WordKind
-known_word m field = unwrap_or (word_of m field) (kind.Integer 64)
+abbrev pub known_word : Module → (shape : Option ℕ) → (field : ℕ) → WordKind
+known_word m shape field = unwrap_or (shaped_word m shape field) (kind.Integer 64)
+
+-- what some fields hold, the first of which has this place among the shapes
+abbrev pub known_words : Module → (shapes : List (Option ℕ)) → (place : ℕ) → (fields : List ℕ) → List WordKind
+known_words m shapes place [] = []
+known_words m shapes place (field ∷ fields) = known_word m (shape_at shapes place) field ∷ known_words m shapes (suc place) fields
 
 -- the words of a struct, where each of its fields is one
 abbrev pub words_of : Module → List SizeMark → (fields : List ℕ) → StructType → List WordKind
-words_of m marks fields struct = map (known_word m) (struct_fields marks fields struct)
+words_of m marks fields struct = known_words m (shapes_of m struct) 0 (struct_fields marks fields struct)
 
 -- the first fault by the first struct of each kind
 abbrev pub fault_by : (endless large nowhere : Option ℕ) → Option LayoutFault
@@ -255,4 +261,6 @@ fault_by None None None = None
 
 -- the first fault in the layouts, by what was found of each struct
 abbrev pub first_fault : Module → List SizeMark → (fields : List ℕ) → Option LayoutFault
-first_fault m marks fields = fault_by (position (struct_is_endless marks) m.structs) (position (struct_is_large marks) m.structs) (position (points_nowhere m marks fields) m.structs)
+first_fault m marks fields =
+    if wants_shapes m then Some ShapesWanted
+    else fault_by (position (struct_is_endless marks) m.structs) (position (struct_is_large marks) m.structs) (position (points_nowhere m marks fields) m.structs)

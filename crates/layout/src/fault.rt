@@ -13,6 +13,9 @@ pub enum LayoutFault {
     /// The fault Y3.
     #[error("a word of struct {0} points to no named struct")]
     NoSuchLayout(usize),
+    /// The fault Y5.
+    #[error("a type is ptr, and there are no shapes")]
+    ShapesWanted,
     #[error("out of memory")]
     Memory,
 }

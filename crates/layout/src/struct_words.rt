@@ -1,7 +1,8 @@
 ghost use Rattle.std.specs.Prelude.{◌≡◌, ◌≢◌, ◌⊎◌, List, length, map, position, Some, Ok, Err, IfOk, IfErr};
 ghost use Rattle.layout.specs.Jumps.{AreOver};
-ghost use Rattle.layout.specs.Layouts.{AreLayouts, AreSizes, IsLayoutFault};
-ghost use Rattle.layout.specs.Survey.{IsSettled, is_endless, is_large, struct_is_endless, struct_is_large, points_nowhere, known_word, words_of, first_fault, span_of, size_in, mark_at, fields_at, IsWithin};
+ghost use Rattle.layout.specs.Layouts.{AreLayouts, AreSizes, IsLayoutFault, wants_shapes};
+ghost use Rattle.layout.specs.Words.{shapes_of, some_nowhere};
+ghost use Rattle.layout.specs.Survey.{IsSettled, is_endless, is_large, struct_is_endless, struct_is_large, points_nowhere, known_word, known_words, words_of, first_fault, span_of, size_in, mark_at, fields_at, IsWithin};
 ghost use Rattle.layout.specs.declared.fault.LayoutFault.{LayoutFault as AFault};
 ghost use Rattle.layout.specs.declared.fault.LayoutFault.TheVariants.{Memory};
 ghost use Rattle.pools.specs.declared.word_kind.WordKind.{WordKind as AWord};
@@ -10,17 +11,38 @@ use crate::fault::LayoutFault;
 use crate::ring::first_ring;
 use crate::sizes::Sizes;
 use crate::survey::{NO_FIELDS, SizeMark, Span, Survey};
-use crate::word::word_of;
-use ir_ast::{IrType, Module, StructType, TypeId};
+use crate::word::shaped_word;
+use ir_ast::{IrType, Module, StructType, TypeId, shape_at};
 use items::Items;
-use pools::{Layouts, WordKind};
+use pools::{LayoutId, Layouts, WordKind};
 use std::alloc::{AllocError, Global};
 
 /// What a field holds, where it is a word.
-fn known_word(module: &Module, field: TypeId) -> WordKind
-    ensures { result ≡ known_word «module».now field }
+fn known_word(module: &Module, shape: Option<LayoutId>, field: TypeId) -> WordKind
+    ensures { result ≡ known_word «module».now shape field }
 {
-    word_of(module, field).unwrap_or(WordKind::Integer(64))
+    shaped_word(module, shape, field).unwrap_or(WordKind::Integer(64))
+}
+
+/// The shapes of a struct's words.
+fn shapes_of<'a>(module: &'a Module, named: &StructType) -> &'a [Option<LayoutId>]
+    ensures { result.now ≡ shapes_of «module».now named.now }
+{
+    module.word_shapes(named.name)
+}
+
+/// Whether some of these scalar fields is no word.
+fn some_nowhere(module: &Module, shapes: &[Option<LayoutId>], fields: &[TypeId]) -> bool
+    ensures { result ≡ some_nowhere «module».now shapes.now 0 fields.now }
+{
+    let mut place = 0;
+    for field in fields {
+        if shaped_word(module, shape_at(shapes, place), *field).is_none() {
+            return true;
+        }
+        place += 1;
+    }
+    false
 }
 
 fn struct_is_endless(survey: &Survey, named: &StructType) -> bool
@@ -54,9 +76,11 @@ fn points_nowhere(survey: &Survey, module: &Module, named: &StructType) -> bool
     ensures { result ≡ points_nowhere «module».now survey.now.marks survey.now.fields.items named.now }
 {
     let span = span_of(survey.mark(named.body));
-    fields_at(survey.fields.as_slice(), span)
-        .iter()
-        .any(|field| word_of(module, *field).is_none())
+    some_nowhere(
+        module,
+        shapes_of(module, named),
+        fields_at(survey.fields.as_slice(), span),
+    )
 }
 
 /// The fields at a span, as far as they are there.
@@ -68,19 +92,19 @@ fn fields_at(fields: &[TypeId], span: Span) -> &[TypeId]
     &rest[..span.count.min(rest.len())]
 }
 
-/// The words of the fields at a span.
+/// The words of some fields, by their shapes.
 fn words_at(
     alloc: Global,
     module: &Module,
+    shapes: &[Option<LayoutId>],
     fields: &[TypeId],
-    span: Span,
 ) -> Result<Items<WordKind>, AllocError>
-    requires { IsWithin fields.now span }
-    ensures { IfOk result (λ words. words ≡ map (known_word «module».now) (fields_at fields.now span)) }
+    ensures { IfOk result (λ words. words ≡ known_words «module».now shapes.now 0 fields.now) }
 {
     let mut words = Items::new(alloc);
-    for field in &fields[span.start..span.start + span.count] {
-        words.push(known_word(module, *field))?;
+    for field in fields {
+        let place = words.len();
+        words.push(known_word(module, shape_at(shapes, place), *field))?;
     }
     Ok(words)
 }
@@ -95,7 +119,12 @@ fn words_of(
     ensures { IfOk result (λ words. words ≡ words_of «module».now survey.now.marks survey.now.fields.items named.now) }
 {
     let span = span_of(survey.mark(named.body));
-    words_at(alloc, module, survey.fields.as_slice(), span)
+    words_at(
+        alloc,
+        module,
+        shapes_of(module, named),
+        fields_at(survey.fields.as_slice(), span),
+    )
 }
 
 fn all_words(
@@ -138,10 +167,20 @@ fn first_nowhere(survey: &Survey, module: &Module, structs: &[StructType]) -> Op
         .position(|named| points_nowhere(survey, module, named))
 }
 
+/// Whether a type is `ptr`, and there are no shapes.
+fn wants_shapes(module: &Module) -> bool
+    ensures { result ≡ wants_shapes «module».now }
+{
+    module.shapes.is_none() && module.types.find(IrType::Opaque).is_some()
+}
+
 /// The first fault in the layouts of a module.
 fn first_fault(survey: &Survey, module: &Module) -> Option<LayoutFault>
     ensures { result ≡ first_fault «module».now survey.now.marks survey.now.fields.items }
 {
+    if wants_shapes(module) {
+        return Some(LayoutFault::ShapesWanted);
+    }
     let structs = module.structs.as_slice();
     if let Some(number) = first_endless(survey, structs) {
         return Some(LayoutFault::HoldsItself(number));
@@ -229,7 +268,7 @@ pub(crate) fn table(alloc: Global, module: &Module) -> Result<(Layouts, Sizes), 
     Ok((layouts, sizes))
 }
 
-/// The words of each struct of a module. Of several faults a struct that holds itself goes before one of too many words, and that before one
+/// The words of each struct of a module. Of several faults that shapes are wanted goes first. A struct that holds itself goes before one of too many words, and that before one
 /// with a word that points to no named struct. Each is found at the first such struct in text order. The section of the LLVM Language Reference
 /// is 'Structure Type'.
 pub fn layouts(alloc: Global, module: &Module) -> Result<Layouts, LayoutFault>

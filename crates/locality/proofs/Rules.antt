@@ -4,7 +4,7 @@ use Rattle.std.specs.Prelude.{List, None, Option, Some, [], refl, ℕ, ◌&&◌,
 use Rattle.block_rules.specs.Calls.{no_slots}
 use Rattle.block_rules.specs.Elements.{may_be_base}
 use Rattle.block_rules.specs.Integers.{after_select, arithmetic_below, below_of, define_number, known_layout, may_choose, may_compare, may_resize, one_layout, resized_below}
-use Rattle.block_rules.specs.Operands.{constant_fits, is_available, is_based, is_current, is_no_slot, known_of}
+use Rattle.block_rules.specs.Operands.{constant_fits, is_available, is_based, is_current, is_no_slot, known_of, place_known}
 use Rattle.block_rules.specs.Promises.{keeps_promise}
 use Rattle.block_rules.specs.Rules.{after_memory, after_named, after_number, all_come_in, are_cases, cast_conditions, choice_conditions, element_conditions, end_conditions, gives_root, is_case, is_condition, may_come_in, may_hold, memory_conditions, names_target, number_conditions, phi_conditions}
 use Rattle.block_rules.specs.TypeKinds.{is_bits, is_integer, is_pointer, is_void}
@@ -24,7 +24,7 @@ use Rattle.shadow_stack.specs.Slots.{SlotTable}
 use Rattle.locality.proofs.Casts.{after_cast_same, casts_operand_same, may_cast_same}
 use Rattle.locality.proofs.Elements.{after_element_same, are_indices_same, may_lead_same}
 use Rattle.locality.proofs.Operands.{is_typed_same, is_value_same, kind_of_same}
-use Rattle.locality.proofs.Places.{after_load_same, may_load_same, may_store_same, needs_no_barrier_same}
+use Rattle.locality.proofs.Places.{is_one_layout_same, after_load_same, may_load_same, may_store_same, needs_no_barrier_same}
 use Rattle.locality.specs.Local.{laid_with, with_functions}
 use Rattle.ir_ast.specs.declared.ends.End.TheVariants as end
 use Rattle.ir_ast.specs.declared.memory.MemoryOp.TheVariants as memory
@@ -52,17 +52,17 @@ pub are_cases_same : (m : Module) (fs : List Function) → are_cases (with_funct
 are_cases_same m fs = λ along f written cases. list_all (is_case_same m fs along f written) cases
 
 pub is_condition_same : (m : Module) (fs : List Function) → is_condition (with_functions m fs) ≡ is_condition m
-is_condition_same m fs = λ along f facts written condition. is_bits 1 (kind_of_same m fs along written) && is_value_same m fs along f facts written condition
+is_condition_same m fs = λ along f slots facts written condition. is_bits 1 (kind_of_same m fs along written) && is_value_same m fs along f slots facts written condition
 
 number_conditions_by : (p : LaidOut) (fs : List Function) (f : Function) (slots : SlotTable) (here : Standing) (facts : FactSet) (x : NumberOp) → number_conditions (laid_with p fs) f slots here facts x ≡ number_conditions p f slots here facts x
 number_conditions_by p fs f slots here facts (number.Arithmetic kind written first second) = λ along. (K1, is_available slots facts first && is_available slots facts second)
-    ∷ (K2, is_value_same p.of_module fs along f facts written first && is_value_same p.of_module fs along f facts written second && is_integer (kind_of_same p.of_module fs along written) && is_no_slot slots first && is_no_slot slots second)
+    ∷ (K2, is_value_same p.of_module fs along f slots facts written first && is_value_same p.of_module fs along f slots facts written second && is_integer (kind_of_same p.of_module fs along written) && is_no_slot slots first && is_no_slot slots second)
     ∷ (K12, here.collected) ∷ []
 number_conditions_by p fs f slots here facts (number.Resize kind from operand to) = λ along. (K1, is_available slots facts operand)
-    ∷ (K2, is_value_same p.of_module fs along f facts from operand && may_resize kind (kind_of_same p.of_module fs along from) (kind_of_same p.of_module fs along to) && is_no_slot slots operand)
+    ∷ (K2, is_value_same p.of_module fs along f slots facts from operand && may_resize kind (kind_of_same p.of_module fs along from) (kind_of_same p.of_module fs along to) && is_no_slot slots operand)
     ∷ (K12, here.collected) ∷ []
 number_conditions_by p fs f slots here facts (number.Compare kind written first second) = λ along. (K1, is_available slots facts first && is_available slots facts second)
-    ∷ (K2, is_value_same p.of_module fs along f facts written first && is_value_same p.of_module fs along f facts written second && may_compare kind (kind_of_same p.of_module fs along written))
+    ∷ (K2, is_value_same p.of_module fs along f slots facts written first && is_value_same p.of_module fs along f slots facts written second && may_compare kind (kind_of_same p.of_module fs along written))
     ∷ (K3, is_current facts (known_of facts first) && is_current facts (known_of facts second))
     ∷ (K10, is_no_slot slots first && is_no_slot slots second)
     ∷ (K12, here.collected) ∷ []
@@ -73,16 +73,16 @@ number_conditions_same p fs = λ along f slots here facts x. number_conditions_b
 memory_conditions_by : (p : LaidOut) (fs : List Function) (f : Function) (slots : SlotTable) (here : Standing) (facts : FactSet) (result : Option ℕ) (x : MemoryOp) → memory_conditions (laid_with p fs) f slots here facts result x ≡ memory_conditions p f slots here facts result x
 memory_conditions_by p fs f slots here facts result (memory.Alloca held) = λ along. (K8, may_hold_same p.of_module fs along slots result held) ∷ (K11, here.in_entry) ∷ (K12, here.collected) ∷ []
 memory_conditions_by p fs f slots here facts result (memory.Load loaded place_type place) = λ along. (K1, is_available slots facts place)
-    ∷ (K2, is_typed_same p.of_module fs along f place_type place && may_load_same p fs along slots facts loaded place)
-    ∷ (K3, is_current facts (known_of facts place))
-    ∷ (K4, is_based facts place)
+    ∷ (K2, is_typed_same p.of_module fs along f place_type place && may_load_same p fs along slots facts loaded place (place_known p.of_module facts place_type place))
+    ∷ (K3, is_current facts (place_known p.of_module facts place_type place))
+    ∷ (K4, is_based facts place (place_known p.of_module facts place_type place))
     ∷ (K12, here.collected)
     ∷ (K19, casts_operand_same p.of_module fs along place) ∷ []
 memory_conditions_by p fs f slots here facts result (memory.Store stored value place_type place) = λ along. (K1, is_available slots facts value && is_available slots facts place)
-    ∷ (K2, is_value_same p.of_module fs along f facts stored value && is_typed_same p.of_module fs along f place_type place && may_store_same p fs along slots facts stored (known_of facts value) place)
-    ∷ (K3, is_current facts (known_of facts value) && is_current facts (known_of facts place))
-    ∷ (K4, is_based facts place)
-    ∷ (K6, needs_no_barrier_same p.of_module fs along slots facts stored place)
+    ∷ (K2, is_value_same p.of_module fs along f slots facts stored value && is_typed_same p.of_module fs along f place_type place && may_store_same p fs along slots facts stored (known_of facts value) place (place_known p.of_module facts place_type place) && is_one_layout_same p fs along facts stored (place_known p.of_module facts place_type place))
+    ∷ (K3, is_current facts (known_of facts value) && is_current facts (place_known p.of_module facts place_type place))
+    ∷ (K4, is_based facts place (place_known p.of_module facts place_type place))
+    ∷ (K6, needs_no_barrier_same p.of_module fs along slots facts stored place (place_known p.of_module facts place_type place))
     ∷ (K10, is_no_slot slots value)
     ∷ (K12, here.collected)
     ∷ (K19, casts_operand_same p.of_module fs along place) ∷ []
@@ -95,7 +95,7 @@ element_conditions_same p fs = λ along f slots here facts x. (K1, is_available 
     ∷ (
       K2,
       is_typed_same p.of_module fs along f x.base_type x.base && is_pointer (kind_of_same p.of_module fs along x.base_type) && may_be_base (known_of facts x.base)
-          && are_indices_same p.of_module fs along f facts x.indices && no_slots slots x.indices,
+          && are_indices_same p.of_module fs along f slots facts x.indices && no_slots slots x.indices,
     )
     ∷ (K3, is_current facts (known_of facts x.base))
     ∷ (K5, may_lead_same p fs along facts x.source x.indices (known_of facts x.base))
@@ -114,8 +114,8 @@ pub choice_conditions_same : (p : LaidOut) (fs : List Function) → choice_condi
 choice_conditions_same p fs = λ along f slots here facts x. (K1, is_available slots facts x.condition && is_available slots facts x.chosen && is_available slots facts x.other)
     ∷ (
       K2,
-      is_condition_same p.of_module fs along f facts x.condition_type x.condition
-          && is_value_same p.of_module fs along f facts x.written x.chosen && is_value_same p.of_module fs along f facts x.written x.other
+      is_condition_same p.of_module fs along f slots facts x.condition_type x.condition
+          && is_value_same p.of_module fs along f slots facts x.written x.chosen && is_value_same p.of_module fs along f slots facts x.written x.other
           && may_choose (kind_of_same p.of_module fs along x.written) && one_layout (known_layout (known_of facts x.chosen)) (known_layout (known_of facts x.other))
           && is_no_slot slots x.condition,
     )
@@ -129,15 +129,15 @@ phi_conditions_same m fs = λ along f slots here phi. (K2, may_choose (kind_of_s
 end_conditions_by : (p : LaidOut) (fs : List Function) (f : Function) (slots : SlotTable) (here : Standing) (facts : FactSet) (x : End) → end_conditions (laid_with p fs) f slots here facts x ≡ end_conditions p f slots here facts x
 end_conditions_by p fs f slots here facts (end.Jump target) = refl
 end_conditions_by p fs f slots here facts (end.Branch condition_type condition taken other) = λ along. (K1, is_available slots facts condition)
-    ∷ (K2, is_condition_same p.of_module fs along f facts condition_type condition && names_target f taken && names_target f other && is_no_slot slots condition)
+    ∷ (K2, is_condition_same p.of_module fs along f slots facts condition_type condition && names_target f taken && names_target f other && is_no_slot slots condition)
     ∷ (K12, here.collected) ∷ []
 end_conditions_by p fs f slots here facts (end.Switch written value otherwise cases) = λ along. (K1, is_available slots facts value)
-    ∷ (K2, is_value_same p.of_module fs along f facts written value && is_integer (kind_of_same p.of_module fs along written) && names_target f otherwise && are_cases_same p.of_module fs along f written cases && is_no_slot slots value)
+    ∷ (K2, is_value_same p.of_module fs along f slots facts written value && is_integer (kind_of_same p.of_module fs along written) && names_target f otherwise && are_cases_same p.of_module fs along f written cases && is_no_slot slots value)
     ∷ (K12, here.collected) ∷ []
 end_conditions_by p fs f slots here facts end.Unreachable = refl
 end_conditions_by p fs f slots here facts end.ReturnVoid = λ along. (K2, is_void (kind_of_same p.of_module fs along f.returned)) ∷ (K12, here.collected) ∷ []
 end_conditions_by p fs f slots here facts (end.Return argument) = λ along. (K1, is_available slots facts argument.operand)
-    ∷ (K2, is_value_same p.of_module fs along f facts argument.written argument.operand && (argument.written == f.returned))
+    ∷ (K2, is_value_same p.of_module fs along f slots facts argument.written argument.operand && (argument.written == f.returned))
     ∷ (K3, is_current facts (known_of facts argument.operand))
     ∷ (K10, is_no_slot slots argument.operand)
     ∷ (K12, here.collected)
@@ -157,7 +157,7 @@ after_number_same m fs = λ along v x facts. after_number_by m fs v x facts alon
 after_memory_by : (p : LaidOut) (fs : List Function) (slots : SlotTable) (result : Option ℕ) (x : MemoryOp) (facts : FactSet) → after_memory (laid_with p fs) slots result x facts ≡ after_memory p slots result x facts
 after_memory_by p fs slots result (memory.Store stored value place_type place) facts = refl
 after_memory_by p fs slots (Some v) (memory.Alloca held) facts = refl
-after_memory_by p fs slots (Some v) (memory.Load loaded place_type place) facts = λ along. after_load_same p fs along slots v loaded place facts
+after_memory_by p fs slots (Some v) (memory.Load loaded place_type place) facts = λ along. after_load_same p fs along slots v loaded place_type place facts
 after_memory_by p fs slots None _ facts = refl
 
 pub after_memory_same : (p : LaidOut) (fs : List Function) → after_memory (laid_with p fs) ≡ after_memory p

@@ -1,5 +1,5 @@
 -- What an instruction asks for.
-use Rattle.std.specs.Prelude.{ℕ, ◌==◌, nat_lt, Bool, true, false, ◌&&◌, ◌||◌, if◌then◌else◌, List, [], ◌∷◌, length, slice_get, Option, Some, None, is_some}
+use Rattle.std.specs.Prelude.{ℕ, ◌==◌, nat_lt, Bool, true, false, ◌&&◌, ◌||◌, if◌then◌else◌, List, [], ◌∷◌, length, slice_get, Option, Some, None, is_some, not}
 use Rattle.std.specs.List.{list_all}
 use Rattle.ir_ast.specs.declared.argument.Argument.{Argument}
 use Rattle.ir_ast.specs.declared.calls.Call.{Call}
@@ -29,7 +29,7 @@ use Rattle.ir_ast.specs.declared.runtime.Runtime.TheVariants as runtime
 use Rattle.pools.specs.Layouts.{kind_of_word}
 use Rattle.layout.specs.Layouts.{LaidOut}
 use Rattle.types.specs.Elements.{element_type}
-use Rattle.types.specs.References.{pointee}
+use Rattle.types.specs.References.{pointee, is_opaque}
 use Rattle.types.specs.RuntimeCall.{runtime_called}
 use Rattle.types.specs.ValueTypes.{target_of}
 use Rattle.shadow_stack.specs.Slots.{SlotTable, operand_slot, held_type, slot_layout}
@@ -59,10 +59,10 @@ abbrev pub is_held_as : Module → (layout held : Option ℕ) → (written : ℕ
 is_held_as m layout None written = false
 is_held_as m layout (Some held) written = is_slot_type m layout held written
 
--- a value of this type may be loaded from a slot: the slot's own type, or i8*
+-- a value of this type may be loaded from a slot: the slot's own type, or i8*, but not ptr
 abbrev pub is_loaded_as : Module → (held : Option ℕ) → (written : ℕ) → Bool
 is_loaded_as m None written = false
-is_loaded_as m (Some held) written = (held == written) || is_byte_pointer m written
+is_loaded_as m (Some held) written = (held == written) || (is_byte_pointer m written && not (is_opaque m written))
 
 -- ---- bitcasts
 

@@ -18,6 +18,7 @@ use ir_ast::{MemoryOp, Module, Operand, TypeId};
 use layout::Program;
 use pools::LayoutId;
 use shadow_stack::SlotId;
+use types::is_opaque;
 
 fn is_slot_type(of_module: &Module, layout: Option<LayoutId>, held: TypeId, written: TypeId) -> bool
     ensures { result ≡ is_slot_type of_module.now layout held written }
@@ -45,7 +46,10 @@ fn is_loaded_as(of_module: &Module, held: Option<TypeId>, written: TypeId) -> bo
     ensures { result ≡ is_loaded_as of_module.now held written }
 {
     match held {
-        Some(held) => held == written || is_byte_pointer(of_module, written),
+        Some(held) => {
+            held == written
+                || (is_byte_pointer(of_module, written) && !is_opaque(of_module, written))
+        }
         None => false,
     }
 }

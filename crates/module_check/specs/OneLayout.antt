@@ -8,20 +8,20 @@ use Rattle.layout.specs.Layouts.{IsLayout, AreLayouts, AreLayoutsOf, IsSize, Are
 use Rattle.layout.specs.Rings.{one_list}
 
 -- fields have one list of words
-one_words : (m : Module) (fields : List ℕ) (a b : List WordKind) → AreWords m fields a → AreWords m fields b → a ≡ b
-one_words m [] [] [] h k = refl
-one_words m [] [] (y ∷ b) h k = absurd k
-one_words m [] (x ∷ a) b h k = absurd h
-one_words m (field ∷ fields) [] b h k = absurd h
-one_words m (field ∷ fields) (x ∷ a) [] h k = absurd k
-one_words m (field ∷ fields) (x ∷ a) (y ∷ b) h k =
+one_words : (m : Module) (shapes : List (Option ℕ)) (place : ℕ) (fields : List ℕ) (a b : List WordKind) → AreWords m shapes place fields a → AreWords m shapes place fields b → a ≡ b
+one_words m shapes place [] [] [] h k = refl
+one_words m shapes place [] [] (y ∷ b) h k = absurd k
+one_words m shapes place [] (x ∷ a) b h k = absurd h
+one_words m shapes place (field ∷ fields) [] b h k = absurd h
+one_words m shapes place (field ∷ fields) (x ∷ a) [] h k = absurd k
+one_words m shapes place (field ∷ fields) (x ∷ a) (y ∷ b) h k =
     let same : Some x ≡ Some y = sym h.0 ∙ k.0 in
     let head : x ≡ y = cc in
-    ap₂ (λ u us. u ∷ us) head (one_words m fields a b h.1 k.1)
+    ap₂ (λ u us. u ∷ us) head (one_words m shapes (suc place) fields a b h.1 k.1)
 
 -- a struct has one layout
 one_layout : (m : Module) (struct : StructType) (a b : List WordKind) → IsLayout m struct a → IsLayout m struct b → a ≡ b
-one_layout m struct a b h k = one_words m k.fields a b (subst (λ fields. AreWords m fields a) (one_list m struct.body h.fields k.fields h.scalars k.scalars) h.words_are) k.words_are
+one_layout m struct a b h k = one_words m (shapes_of m struct) 0 k.fields a b (subst (λ fields. AreWords m (shapes_of m struct) 0 fields a) (one_list m struct.body h.fields k.fields h.scalars k.scalars) h.words_are) k.words_are
 
 -- structs have one list of layouts
 one_layouts_of : (m : Module) (structs : List StructType) (a b : List (List WordKind)) → AreLayoutsOf m structs a → AreLayoutsOf m structs b → a ≡ b
@@ -33,7 +33,7 @@ one_layouts_of m (struct ∷ structs) (x ∷ a) [] h k = absurd k
 one_layouts_of m (struct ∷ structs) (x ∷ a) (y ∷ b) h k = ap₂ (λ u us. u ∷ us) (one_layout m struct x y h.0 k.0) (one_layouts_of m structs a b h.1 k.1)
 
 pub one_layouts : (m : Module) (a b : List (List WordKind)) → AreLayouts m a → AreLayouts m b → a ≡ b
-one_layouts m a b h k = one_layouts_of m m.structs a b h k
+one_layouts m a b h k = one_layouts_of m m.structs a b h.0 k.0
 
 -- a type has one size
 one_size : (m : Module) (written : ℕ) (a b : Option ℕ) → IsSize m written a → IsSize m written b → a ≡ b

@@ -1,6 +1,6 @@
 -- Calls of gcread and gcwrite.
 use Rattle.std.proofs.Common.{◌≡◌, ℕ, List, [], ◌∷◌, length, refl, sym, ap, ◌∙◌, subst, true, false, Bool, Option, Some, None}
-use Rattle.std.specs.Prelude.{◌==◌, ◌&&◌, not, is_some}
+use Rattle.std.specs.Prelude.{◌==◌, ◌&&◌, ◌||◌, not, is_some}
 use Rattle.lemmas.specs.Numbers.{test_true}
 use Rattle.lemmas.specs.Bools.{and_parts}
 use Rattle.ir_ast.specs.declared.function.Function.{Function}
@@ -38,6 +38,9 @@ use Rattle.machine.specs.Asks as a
 use Rattle.machine.specs.Kinds as k
 use Rattle.machine.specs.Log.{Log, IsFresh}
 use Rattle.machine.specs.Machine as mc
+use Rattle.types.specs.References.{is_opaque}
+use Rattle.block_rules.specs.Places.{is_one_layout}
+use Rattle.soundness.proofs.Values.{of_value}
 use Rattle.soundness.specs.Meaning.{Cells, Guarded, Holds}
 use Rattle.soundness.proofs.KindLemmas.{pointer_same}
 use Rattle.soundness.specs.Goes.{Goes, HaveMembers}
@@ -59,14 +62,15 @@ any_reference AddressKind e = absurd cc
 any_reference Other e = absurd cc
 
 -- a type of places of `i8*` is one of pointers
-is_place : (m : Module) (written : ℕ) → is_any_reference (place_kind m written) ≡ true → is_pointer (kind_of m written) ≡ true
-is_place m written e = pointer_same m written ∙ leads (pointee m written) e where
-  leads : (part : Option ℕ) → is_any_reference (kind_at m part) ≡ true → is_some part ≡ true
-  leads None e = absurd cc
-  leads (Some part) e = refl
+is_place : (m : Module) (written : ℕ) → is_runtime_type m written types.PointerToPointer ≡ true → is_pointer (kind_of m written) ≡ true
+is_place m written e = pointer_same m written ∙ leads (is_opaque m written) (pointee m written) e where
+  leads : (b : Bool) (part : Option ℕ) → (b || is_any_reference (kind_at m part)) ≡ true → (b || is_some part) ≡ true
+  leads true part e = refl
+  leads false None e = absurd cc
+  leads false (Some part) e = refl
 
 -- a place of such a type that is not null is no constant
-no_constant : (m : Module) (f : Function) (written : ℕ) (x : Operand) → o.is_typed m f written x ≡ true → is_any_reference (place_kind m written) ≡ true → not (o.is_null x) ≡ true → o.is_constant x ≡ false
+no_constant : (m : Module) (f : Function) (written : ℕ) (x : Operand) → o.is_typed m f written x ≡ true → is_runtime_type m written types.PointerToPointer ≡ true → not (o.is_null x) ≡ true → o.is_constant x ≡ false
 no_constant m f written (operand.Constant (constant.Number n)) typed e some = absurd (no_pointer n (kind_of m written) typed (is_place m written e))
 no_constant m f written (operand.Constant (constant.Truth b)) typed e some = absurd cc
 no_constant m f written (operand.Constant constant.Null) typed e some = absurd cc
@@ -75,10 +79,10 @@ no_constant m f written (operand.Global symbol) typed e some = refl
 no_constant m f written (operand.CastGlobal from symbol to) typed e some = refl
 
 -- a place of an access that is allowed
-access_place : (p : LaidOut) (f : Function) (table : SlotTable) (facts : FactSet) (written : ℕ) (x : Operand) → o.is_available table facts x ≡ true → o.is_typed p.of_module f written x ≡ true → o.is_current facts (o.known_of facts x) ≡ true → o.is_based facts x ≡ true
-    → o.is_no_slot table x ≡ true → casts_operand p.of_module x ≡ true → is_any_reference (place_kind p.of_module written) ≡ true → IsPlace p f table facts written x
+access_place : (p : LaidOut) (f : Function) (table : SlotTable) (facts : FactSet) (written : ℕ) (x : Operand) → o.is_available table facts x ≡ true → o.is_typed p.of_module f written x ≡ true → o.is_current facts (o.place_known p.of_module facts written x) ≡ true → o.is_based facts x (o.place_known p.of_module facts written x) ≡ true
+    → o.is_no_slot table x ≡ true → casts_operand p.of_module x ≡ true → is_runtime_type p.of_module written types.PointerToPointer ≡ true → IsPlace p f table facts written x
 access_place p f table facts written x k1 k2 k3 k4 k10 k19 type =
-    let k = and_parts (not (o.is_null x)) (o.base_nonnull facts (o.known_of facts x)) k4 in
+    let k = and_parts (not (o.is_null x)) (o.base_nonnull facts (o.place_known p.of_module facts written x)) k4 in
     record { there = k1; typed = k2; current = k3; based = k.1; casts = k19; varies = no_constant p.of_module f written x k2 type k.0; no_slot = none_of (o.slot_named table x) k10 }
 
 module _ (heap : Setup) (p : LaidOut) (certs : List Section) (reaches : Bool) (f : Function) (table : SlotTable) (guarded : Guarded) (log : Log) (guards : (cell : ℕ) → guarded cell → IsFresh log cell) (fits : IsHeapFor heap p) (here : Standing) (cells : Cells) (facts : FactSet) (frame : Frame)
@@ -95,12 +99,12 @@ module _ (heap : Setup) (p : LaidOut) (certs : List Section) (reaches : Bool) (f
 
   -- a read under `i8*` for an object that may be used
   read_by : (object place : Argument) → a.are_gcread_types p.of_module d.returned d.parameters ≡ true → a.are_gcread_types p.of_module returned (object.written ∷ place.written ∷ []) ≡ true → k.is_usable p.of_module f table frame.registers object.written object.operand ≡ true
-      → kind_of p.of_module returned ≡ AnyReference → IsPlace p f table facts place.written place.operand → r.loads_known p facts AnyReference (o.known_of facts place.operand) ≡ true
+      → kind_of p.of_module returned ≡ AnyReference → IsPlace p f table facts place.written place.operand → r.loads_known p facts AnyReference (o.place_known p.of_module facts place.written place.operand) ≡ true
       → Goes heap p table frame.slots reaches guarded log (after_read_call p result (object ∷ place ∷ []) facts) (asked (object ∷ place ∷ []) runtime.GcRead) (afterwards (object ∷ place ∷ []) runtime.GcRead)
   read_by object place declared written object_usable kind s loads =
       subst (λ x. Goes heap p table frame.slots reaches guarded log (after_read_call p result (object ∷ place ∷ []) facts) x (afterwards (object ∷ place ∷ []) runtime.GcRead)) (sym (rw (declared, written, object_usable) refl))
       (read_goes heap p certs reaches f table guarded log guards fits cells facts frame h result returned place.written place.operand (λ name. after_read_call p name (object ∷ place ∷ []) facts) s
-      (subst (λ x. r.loads_known p facts x (o.known_of facts place.operand) ≡ true) (sym kind) loads) refl (λ n. ap (λ x. r.load_known p n x (o.known_of facts place.operand) facts) (sym kind)))
+      (subst (λ x. r.loads_known p facts x (o.place_known p.of_module facts place.written place.operand) ≡ true) (sym kind) loads) refl (λ n. ap (λ x. r.load_known p n x (o.place_known p.of_module facts place.written place.operand) facts) (sym kind)))
 
   -- a call of gcread with this object and place that the rules allow
   read_pair : (object place : Argument) → is_declared_as p.of_module d runtime.GcRead ≡ true → first_failing (read_conditions p f table here facts returned object place) ≡ None
@@ -108,19 +112,19 @@ module _ (heap : Setup) (p : LaidOut) (certs : List Section) (reaches : Bool) (f
   read_pair object place declared e =
       let all = rules_hold (read_conditions p f table here facts returned object place) e in
       let k1 = and_parts (o.is_available table facts object.operand) (o.is_available table facts place.operand) (all K1) in
-      let k2 = and_parts (o.is_value p.of_module f facts object.written object.operand && o.is_typed p.of_module f place.written place.operand && may_read p table facts place.operand) (is_written_as p.of_module returned (object ∷ place ∷ []) runtime.GcRead) (all K2) in
-      let m = and_parts (o.is_value p.of_module f facts object.written object.operand && o.is_typed p.of_module f place.written place.operand) (may_read p table facts place.operand) k2.0 in
-      let t = and_parts (o.is_value p.of_module f facts object.written object.operand) (o.is_typed p.of_module f place.written place.operand) m.0 in
-      let k3 = and_parts (o.is_current facts (o.known_of facts object.operand)) (o.is_current facts (o.known_of facts place.operand)) (all K3) in
+      let k2 = and_parts (o.is_value p.of_module f table facts object.written object.operand && o.is_typed p.of_module f place.written place.operand && may_read p table facts place.operand (o.place_known p.of_module facts place.written place.operand)) (is_written_as p.of_module returned (object ∷ place ∷ []) runtime.GcRead) (all K2) in
+      let m = and_parts (o.is_value p.of_module f table facts object.written object.operand && o.is_typed p.of_module f place.written place.operand) (may_read p table facts place.operand (o.place_known p.of_module facts place.written place.operand)) k2.0 in
+      let t = and_parts (o.is_value p.of_module f table facts object.written object.operand) (o.is_typed p.of_module f place.written place.operand) m.0 in
+      let k3 = and_parts (o.is_current facts (o.known_of facts object.operand)) (o.is_current facts (o.place_known p.of_module facts place.written place.operand)) (all K3) in
       let k10 = and_parts (o.is_no_slot table object.operand) (o.is_no_slot table place.operand) (all K10) in
       let w = and_parts (is_runtime_type p.of_module returned types.Pointer) (is_runtime_type p.of_module object.written types.Pointer && (is_runtime_type p.of_module place.written types.PointerToPointer && true)) k2.1 in
       let w2 = and_parts (is_runtime_type p.of_module object.written types.Pointer) (is_runtime_type p.of_module place.written types.PointerToPointer && true) w.1 in
       let w3 = and_parts (is_runtime_type p.of_module place.written types.PointerToPointer) true w2.1 in
       let s = access_place p f table facts place.written place.operand k1.1 t.1 k3.1 (all K4) k10.1 (all K19) w3.0 in
       read_by object place (read_declared p.of_module d declared) (read_types p.of_module returned object.written place.written w.0 w2.0 w3.0)
-      (usable heap p certs reaches f table guarded log cells facts frame h object.written object.operand k1.0 t.0 (none_of (o.slot_named table object.operand) k10.0))
+      (usable heap p certs reaches f table guarded log cells facts frame h object.written object.operand k1.0 (of_value p.of_module f table facts object.written object.operand t.0) (none_of (o.slot_named table object.operand) k10.0))
       (any_reference (kind_of p.of_module returned) w.0) s (reads s.no_slot m.1) where
-        reads : o.slot_named table place.operand ≡ None → may_read p table facts place.operand ≡ true → r.loads_known p facts AnyReference (o.known_of facts place.operand) ≡ true
+        reads : o.slot_named table place.operand ≡ None → may_read p table facts place.operand (o.place_known p.of_module facts place.written place.operand) ≡ true → r.loads_known p facts AnyReference (o.place_known p.of_module facts place.written place.operand) ≡ true
         reads none e = rw none at e
 
   -- a call of gcread that the rules allow
@@ -136,12 +140,12 @@ module _ (heap : Setup) (p : LaidOut) (certs : List Section) (reaches : Bool) (f
   -- a write of a value under `i8*` for an object that may be used
   write_by : (stored object place : Argument) → a.are_gcwrite_types p.of_module d.returned d.parameters ≡ true → a.are_gcwrite_types p.of_module returned (stored.written ∷ object.written ∷ place.written ∷ []) ≡ true
       → k.is_usable p.of_module f table frame.registers stored.written stored.operand ≡ true → k.is_usable p.of_module f table frame.registers object.written object.operand ≡ true
-      → kind_of p.of_module stored.written ≡ AnyReference → IsStored p f table facts stored.written stored.operand → IsPlace p f table facts place.written place.operand → r.stores_known p facts AnyReference (o.known_of facts stored.operand) (o.known_of facts place.operand) ≡ true
+      → kind_of p.of_module stored.written ≡ AnyReference → IsStored p f table facts stored.written stored.operand → IsPlace p f table facts place.written place.operand → r.stores_known p facts AnyReference (o.known_of facts stored.operand) (o.place_known p.of_module facts place.written place.operand) ≡ true
       → Goes heap p table frame.slots reaches guarded log (after_write (stored ∷ object ∷ place ∷ []) facts) (asked (stored ∷ object ∷ place ∷ []) runtime.GcWrite) (afterwards (stored ∷ object ∷ place ∷ []) runtime.GcWrite)
   write_by stored object place declared written stored_usable object_usable kind i s stores =
       subst (λ x. Goes heap p table frame.slots reaches guarded log (after_write (stored ∷ object ∷ place ∷ []) facts) x (afterwards (stored ∷ object ∷ place ∷ []) runtime.GcWrite)) (sym (rw (declared, written, stored_usable, object_usable) refl))
       (write_goes heap p certs reaches f table guarded log fits cells facts frame h members stored.written stored.operand place.written place.operand i s (ap may_be_reference kind)
-      (subst (λ x. r.stores_known p facts x (o.known_of facts stored.operand) (o.known_of facts place.operand) ≡ true) (sym kind) stores))
+      (subst (λ x. r.stores_known p facts x (o.known_of facts stored.operand) (o.place_known p.of_module facts place.written place.operand) ≡ true) (sym kind) stores))
 
   -- a call of gcwrite with this value, object and place that the rules allow
   write_triple : (stored object place : Argument) → is_declared_as p.of_module d runtime.GcWrite ≡ true → first_failing (write_conditions p f table here facts returned stored object place) ≡ None
@@ -150,12 +154,13 @@ module _ (heap : Setup) (p : LaidOut) (certs : List Section) (reaches : Bool) (f
       let all = rules_hold (write_conditions p f table here facts returned stored object place) e in
       let k1 = and_parts (o.is_available table facts stored.operand && o.is_available table facts object.operand) (o.is_available table facts place.operand) (all K1) in
       let k1s = and_parts (o.is_available table facts stored.operand) (o.is_available table facts object.operand) k1.0 in
-      let k2 = and_parts (o.is_value p.of_module f facts stored.written stored.operand && o.is_value p.of_module f facts object.written object.operand && o.is_typed p.of_module f place.written place.operand && may_write p table facts stored.operand place.operand)
+      let k2 = and_parts (o.is_value p.of_module f table facts stored.written stored.operand && o.is_value p.of_module f table facts object.written object.operand && o.is_typed p.of_module f place.written place.operand && may_write p table facts stored.operand place.operand (o.place_known p.of_module facts place.written place.operand) && is_one_layout p facts stored.written (o.place_known p.of_module facts place.written place.operand))
       (is_written_as p.of_module returned (stored ∷ object ∷ place ∷ []) runtime.GcWrite) (all K2) in
-      let m = and_parts (o.is_value p.of_module f facts stored.written stored.operand && o.is_value p.of_module f facts object.written object.operand && o.is_typed p.of_module f place.written place.operand) (may_write p table facts stored.operand place.operand) k2.0 in
-      let t = and_parts (o.is_value p.of_module f facts stored.written stored.operand && o.is_value p.of_module f facts object.written object.operand) (o.is_typed p.of_module f place.written place.operand) m.0 in
-      let v = and_parts (o.is_value p.of_module f facts stored.written stored.operand) (o.is_value p.of_module f facts object.written object.operand) t.0 in
-      let k3 = and_parts (o.is_current facts (o.known_of facts stored.operand) && o.is_current facts (o.known_of facts object.operand)) (o.is_current facts (o.known_of facts place.operand)) (all K3) in
+      let one = and_parts (o.is_value p.of_module f table facts stored.written stored.operand && o.is_value p.of_module f table facts object.written object.operand && o.is_typed p.of_module f place.written place.operand && may_write p table facts stored.operand place.operand (o.place_known p.of_module facts place.written place.operand)) (is_one_layout p facts stored.written (o.place_known p.of_module facts place.written place.operand)) k2.0 in
+      let m = and_parts (o.is_value p.of_module f table facts stored.written stored.operand && o.is_value p.of_module f table facts object.written object.operand && o.is_typed p.of_module f place.written place.operand) (may_write p table facts stored.operand place.operand (o.place_known p.of_module facts place.written place.operand)) one.0 in
+      let t = and_parts (o.is_value p.of_module f table facts stored.written stored.operand && o.is_value p.of_module f table facts object.written object.operand) (o.is_typed p.of_module f place.written place.operand) m.0 in
+      let v = and_parts (o.is_value p.of_module f table facts stored.written stored.operand) (o.is_value p.of_module f table facts object.written object.operand) t.0 in
+      let k3 = and_parts (o.is_current facts (o.known_of facts stored.operand) && o.is_current facts (o.known_of facts object.operand)) (o.is_current facts (o.place_known p.of_module facts place.written place.operand)) (all K3) in
       let k3s = and_parts (o.is_current facts (o.known_of facts stored.operand)) (o.is_current facts (o.known_of facts object.operand)) k3.0 in
       let k10 = and_parts (o.is_no_slot table stored.operand && o.is_no_slot table object.operand) (o.is_no_slot table place.operand) (all K10) in
       let k10s = and_parts (o.is_no_slot table stored.operand) (o.is_no_slot table object.operand) k10.0 in
@@ -167,10 +172,10 @@ module _ (heap : Setup) (p : LaidOut) (certs : List Section) (reaches : Bool) (f
       let none = none_of (o.slot_named table stored.operand) k10s.0 in
       let s = access_place p f table facts place.written place.operand k1.1 t.1 k3.1 (all K4) k10.1 (all K19) w3.0 in
       write_by stored object place (write_declared p.of_module d declared) (write_types p.of_module returned stored.written object.written place.written w.0 w1.0 w2.0 w3.0)
-      (usable heap p certs reaches f table guarded log cells facts frame h stored.written stored.operand k1s.0 v.0 none)
-      (usable heap p certs reaches f table guarded log cells facts frame h object.written object.operand k1s.1 v.1 (none_of (o.slot_named table object.operand) k10s.1))
-      (any_reference (kind_of p.of_module stored.written) w1.0) (record { there = k1s.0; typed = v.0; current = k3s.0; no_slot = none }) s (writes s.no_slot m.1) where
-        writes : o.slot_named table place.operand ≡ None → may_write p table facts stored.operand place.operand ≡ true → r.stores_known p facts AnyReference (o.known_of facts stored.operand) (o.known_of facts place.operand) ≡ true
+      (usable heap p certs reaches f table guarded log cells facts frame h stored.written stored.operand k1s.0 (of_value p.of_module f table facts stored.written stored.operand v.0) none)
+      (usable heap p certs reaches f table guarded log cells facts frame h object.written object.operand k1s.1 (of_value p.of_module f table facts object.written object.operand v.1) (none_of (o.slot_named table object.operand) k10s.1))
+      (any_reference (kind_of p.of_module stored.written) w1.0) (record { there = k1s.0; typed = of_value p.of_module f table facts stored.written stored.operand v.0; current = k3s.0; no_slot = none }) s (writes s.no_slot m.1) where
+        writes : o.slot_named table place.operand ≡ None → may_write p table facts stored.operand place.operand (o.place_known p.of_module facts place.written place.operand) ≡ true → r.stores_known p facts AnyReference (o.known_of facts stored.operand) (o.place_known p.of_module facts place.written place.operand) ≡ true
         writes none e = rw none at e
 
   -- a call of gcwrite that the rules allow

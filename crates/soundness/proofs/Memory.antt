@@ -24,6 +24,7 @@ use Rattle.block_rules.specs.Casts as c
 use Rattle.block_rules.specs.Rules.{memory_conditions, after_memory}
 use Rattle.machine.specs.declared.frame.Frame.{Frame}
 use Rattle.machine.specs.Log.{Log, IsFresh}
+use Rattle.soundness.proofs.Values.{of_value}
 use Rattle.soundness.specs.Meaning.{Cells, Guarded, Holds}
 use Rattle.soundness.specs.Goes.{HaveMembers}
 use Rattle.soundness.proofs.Steps.{OpGoes, none_of, alloca_goes}
@@ -42,16 +43,16 @@ module _ (heap : Setup) (p : LaidOut) (certs : List Section) (reaches : Bool) (f
       → OpGoes heap p certs reaches f table guarded log facts frame result (op.Memory (memory.Load loaded place_type place))
   load_by result loaded place_type place e =
       let all = rules_hold (memory_conditions p f table here facts result (memory.Load loaded place_type place)) e in
-      let k2 = and_parts (o.is_typed p.of_module f place_type place) (q.may_load p table facts loaded place) (all K2) in
-      let k4 = and_parts (not (o.is_null place)) (o.base_nonnull facts (o.known_of facts place)) (all K4) in
+      let k2 = and_parts (o.is_typed p.of_module f place_type place) (q.may_load p table facts loaded place (o.place_known p.of_module facts place_type place)) (all K2) in
+      let k4 = and_parts (not (o.is_null place)) (o.base_nonnull facts (o.place_known p.of_module facts place_type place)) (all K4) in
       by place (all K1) k2.0 k2.1 (all K3) k4.0 k4.1 (all K19) where
-        of_name : (u : ℕ) → o.is_available table facts (operand.Local u) ≡ true → has_type p.of_module f place_type u ≡ true → q.loads_local p table facts (known_at facts.values u) loaded (slot_of table u) ≡ true → o.is_current facts (known_at facts.values u) ≡ true
-            → o.base_nonnull facts (known_at facts.values u) ≡ true → (slot : Option ℕ) → slot_of table u ≡ slot → OpGoes heap p certs reaches f table guarded log facts frame result (op.Memory (memory.Load loaded place_type (operand.Local u)))
+        of_name : (u : ℕ) → o.is_available table facts (operand.Local u) ≡ true → has_type p.of_module f place_type u ≡ true → q.loads_local p table facts (o.place_known p.of_module facts place_type (operand.Local u)) loaded (slot_of table u) ≡ true → o.is_current facts (o.place_known p.of_module facts place_type (operand.Local u)) ≡ true
+            → o.base_nonnull facts (o.place_known p.of_module facts place_type (operand.Local u)) ≡ true → (slot : Option ℕ) → slot_of table u ≡ slot → OpGoes heap p certs reaches f table guarded log facts frame result (op.Memory (memory.Load loaded place_type (operand.Local u)))
         of_name u k1 k2 may k3 k4 None none =
             load_goes heap p certs reaches f table guarded log guards fits cells facts frame h result loaded place_type (operand.Local u) (record { there = k1; typed = k2; current = k3; based = k4; casts = refl; varies = refl; no_slot = none }) (rw none at may)
         of_name u k1 k2 may k3 k4 (Some s) is = slot_load_goes heap p certs reaches f table guarded log cells facts frame h result loaded place_type u s (λ v named. forget_members v facts members) is k2 (rw is at may)
 
-        by : (x : Operand) → o.is_available table facts x ≡ true → o.is_typed p.of_module f place_type x ≡ true → q.may_load p table facts loaded x ≡ true → o.is_current facts (o.known_of facts x) ≡ true → not (o.is_null x) ≡ true → o.base_nonnull facts (o.known_of facts x) ≡ true
+        by : (x : Operand) → o.is_available table facts x ≡ true → o.is_typed p.of_module f place_type x ≡ true → q.may_load p table facts loaded x (o.place_known p.of_module facts place_type x) ≡ true → o.is_current facts (o.place_known p.of_module facts place_type x) ≡ true → not (o.is_null x) ≡ true → o.base_nonnull facts (o.place_known p.of_module facts place_type x) ≡ true
             → c.casts_operand p.of_module x ≡ true → OpGoes heap p certs reaches f table guarded log facts frame result (op.Memory (memory.Load loaded place_type x))
         by (operand.Constant d) k1 k2 may k3 some k4 k19 = absurd (let x = not_true (o.is_null_constant d) some in cc)
         by (operand.Local u) k1 k2 may k3 some k4 k19 = of_name u k1 k2 may k3 k4 (slot_of table u) refl
@@ -66,20 +67,21 @@ module _ (heap : Setup) (p : LaidOut) (certs : List Section) (reaches : Bool) (f
   store_by result stored x place_type place e =
       let all = rules_hold (memory_conditions p f table here facts result (memory.Store stored x place_type place)) e in
       let k1 = and_parts (o.is_available table facts x) (o.is_available table facts place) (all K1) in
-      let k2 = and_parts (o.is_value p.of_module f facts stored x && o.is_typed p.of_module f place_type place) (q.may_store p table facts stored (o.known_of facts x) place) (all K2) in
-      let t = and_parts (o.is_value p.of_module f facts stored x) (o.is_typed p.of_module f place_type place) k2.0 in
-      let k3 = and_parts (o.is_current facts (o.known_of facts x)) (o.is_current facts (o.known_of facts place)) (all K3) in
-      let k4 = and_parts (not (o.is_null place)) (o.base_nonnull facts (o.known_of facts place)) (all K4) in
-      by (record { there = k1.0; typed = t.0; current = k3.0; no_slot = none_of (o.slot_named table x) (all K10) }) place k1.1 t.1 k2.1 k3.1 k4.0 k4.1 (all K6) (all K19) where
-        of_name : IsStored p f table facts stored x → (u : ℕ) → o.is_available table facts (operand.Local u) ≡ true → has_type p.of_module f place_type u ≡ true → q.stores_local p table facts (known_at facts.values u) stored (o.known_of facts x) (slot_of table u) ≡ true
-            → o.is_current facts (known_at facts.values u) ≡ true → o.base_nonnull facts (known_at facts.values u) ≡ true → needs_no_barrier p.of_module table facts stored (operand.Local u) ≡ true → (slot : Option ℕ) → slot_of table u ≡ slot
+      let k2o = and_parts (o.is_value p.of_module f table facts stored x && o.is_typed p.of_module f place_type place && q.may_store p table facts stored (o.known_of facts x) place (o.place_known p.of_module facts place_type place)) (q.is_one_layout p facts stored (o.place_known p.of_module facts place_type place)) (all K2) in
+      let k2 = and_parts (o.is_value p.of_module f table facts stored x && o.is_typed p.of_module f place_type place) (q.may_store p table facts stored (o.known_of facts x) place (o.place_known p.of_module facts place_type place)) k2o.0 in
+      let t = and_parts (o.is_value p.of_module f table facts stored x) (o.is_typed p.of_module f place_type place) k2.0 in
+      let k3 = and_parts (o.is_current facts (o.known_of facts x)) (o.is_current facts (o.place_known p.of_module facts place_type place)) (all K3) in
+      let k4 = and_parts (not (o.is_null place)) (o.base_nonnull facts (o.place_known p.of_module facts place_type place)) (all K4) in
+      by (record { there = k1.0; typed = of_value p.of_module f table facts stored x t.0; current = k3.0; no_slot = none_of (o.slot_named table x) (all K10) }) place k1.1 t.1 k2.1 k3.1 k4.0 k4.1 (all K6) (all K19) where
+        of_name : IsStored p f table facts stored x → (u : ℕ) → o.is_available table facts (operand.Local u) ≡ true → has_type p.of_module f place_type u ≡ true → q.stores_local p table facts (o.place_known p.of_module facts place_type (operand.Local u)) stored (o.known_of facts x) (slot_of table u) ≡ true
+            → o.is_current facts (o.place_known p.of_module facts place_type (operand.Local u)) ≡ true → o.base_nonnull facts (o.place_known p.of_module facts place_type (operand.Local u)) ≡ true → needs_no_barrier p.of_module table facts stored (operand.Local u) (o.place_known p.of_module facts place_type (operand.Local u)) ≡ true → (slot : Option ℕ) → slot_of table u ≡ slot
             → OpGoes heap p certs reaches f table guarded log facts frame result (op.Memory (memory.Store stored x place_type (operand.Local u)))
         of_name v u k1 k2 may k3 k4 k6 None none =
             store_goes heap p certs reaches f table guarded log fits cells facts frame h members result stored x place_type (operand.Local u) v (record { there = k1; typed = k2; current = k3; based = k4; casts = refl; varies = refl; no_slot = none }) (rw none at may) k6
         of_name v u k1 k2 may k3 k4 k6 (Some s) is = slot_store_goes heap p certs reaches f table guarded log cells facts frame h result stored x place_type u s v.there v.typed v.current v.no_slot is k2 (rw is at may)
 
-        by : IsStored p f table facts stored x → (y : Operand) → o.is_available table facts y ≡ true → o.is_typed p.of_module f place_type y ≡ true → q.may_store p table facts stored (o.known_of facts x) y ≡ true → o.is_current facts (o.known_of facts y) ≡ true → not (o.is_null y) ≡ true
-            → o.base_nonnull facts (o.known_of facts y) ≡ true → needs_no_barrier p.of_module table facts stored y ≡ true → c.casts_operand p.of_module y ≡ true → OpGoes heap p certs reaches f table guarded log facts frame result (op.Memory (memory.Store stored x place_type y))
+        by : IsStored p f table facts stored x → (y : Operand) → o.is_available table facts y ≡ true → o.is_typed p.of_module f place_type y ≡ true → q.may_store p table facts stored (o.known_of facts x) y (o.place_known p.of_module facts place_type y) ≡ true → o.is_current facts (o.place_known p.of_module facts place_type y) ≡ true → not (o.is_null y) ≡ true
+            → o.base_nonnull facts (o.place_known p.of_module facts place_type y) ≡ true → needs_no_barrier p.of_module table facts stored y (o.place_known p.of_module facts place_type y) ≡ true → c.casts_operand p.of_module y ≡ true → OpGoes heap p certs reaches f table guarded log facts frame result (op.Memory (memory.Store stored x place_type y))
         by v (operand.Constant d) k1 k2 may k3 some k4 k6 k19 = absurd (let y = not_true (o.is_null_constant d) some in let z = (and_parts (o.is_null_constant d) _ may).0 in cc)
         by v (operand.Local u) k1 k2 may k3 some k4 k6 k19 = of_name v u k1 k2 may k3 k4 k6 (slot_of table u) refl
         by v (operand.Global symbol) k1 k2 may k3 some k4 k6 k19 =
@@ -102,4 +104,4 @@ module _ (p : LaidOut) (table : SlotTable) (facts : FactSet) (members : HaveMemb
   memory_members None (memory.Alloca held) = members
   memory_members None (memory.Load loaded place_type place) = members
   memory_members (Some v) (memory.Alloca held) = alloca_members facts members (slot_of table v)
-  memory_members (Some v) (memory.Load loaded place_type place) = load_place_members facts members p table v loaded place (slot_named table place)
+  memory_members (Some v) (memory.Load loaded place_type place) = load_place_members facts members p table v loaded (o.place_known p.of_module facts place_type place) (slot_named table place)

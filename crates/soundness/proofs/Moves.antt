@@ -1,6 +1,6 @@
 -- Loads from slots, and stores to slots.
 use Rattle.std.proofs.Common.{◌≡◌, ◌≢◌, ℕ, ◌<◌, List, length, refl, sym, ap, ◌∙◌, subst, arith, true, false, Bool, Option, Some, None, inl, inr, slice_set}
-use Rattle.std.specs.Prelude.{◌==◌, ◌||◌, ◌&&◌}
+use Rattle.std.specs.Prelude.{◌==◌, ◌||◌, ◌&&◌, not}
 use Rattle.std.proofs.lemmas.List.{length-set}
 use Rattle.lemmas.specs.Numbers.{test_true, test_yes}
 use Rattle.lemmas.specs.Bools.{and_parts, or_second, or_first}
@@ -11,6 +11,7 @@ use Rattle.ir_ast.specs.declared.operand.Operand.{Operand}
 use Rattle.ir_ast.specs.declared.operand.Operand.TheVariants as operand
 use Rattle.pools.specs.Heap.{Setup}
 use Rattle.layout.specs.Layouts.{LaidOut}
+use Rattle.types.specs.References.{is_opaque}
 use Rattle.types.specs.ValueTypes.{has_type}
 use Rattle.shadow_stack.specs.Slots.{SlotTable, slot_of, held_type, slot_layout, is_reference_held}
 use Rattle.certs.specs.declared.section.Section.{Section}
@@ -69,9 +70,11 @@ module _ (p : LaidOut) (f : Function) (table : SlotTable) where
   pub loaded_as : (written : ℕ) (held : Option ℕ) → r.loads_slot p.of_module written held ≡ true → a.is_loaded_as p.of_module held written ≡ true
   loaded_as written None e = absurd cc
   loaded_as written (Some held) e = pick (written == held) refl e where
-    pick : (b : Bool) → (written == held) ≡ b → (b || is_any_reference (kind_of p.of_module written)) ≡ true → a.is_loaded_as p.of_module (Some held) written ≡ true
-    pick true same e = or_first (held == written) (k.is_byte_pointer p.of_module written) (turned written held same)
-    pick false same e = or_second (held == written) (k.is_byte_pointer p.of_module written) (sym (bytes_same p.of_module written) ∙ e)
+    pick : (b : Bool) → (written == held) ≡ b → (b || (is_any_reference (kind_of p.of_module written) && not (is_opaque p.of_module written))) ≡ true → a.is_loaded_as p.of_module (Some held) written ≡ true
+    pick true same e = or_first (held == written) (k.is_byte_pointer p.of_module written && not (is_opaque p.of_module written)) (turned written held same)
+    pick false same e =
+        or_second (held == written) (k.is_byte_pointer p.of_module written && not (is_opaque p.of_module written))
+        (subst (λ b. (b && not (is_opaque p.of_module written)) ≡ true) (bytes_same p.of_module written) e)
 
 module _ (heap : Setup) (p : LaidOut) (certs : List Section) (reaches : Bool) (f : Function) (table : SlotTable) (guarded : Guarded) (log : Log) (cells : Cells) (facts : FactSet) (frame : Frame) (h : Holds heap p table guarded log cells facts frame.registers frame.slots) where
   -- ---- loads
@@ -234,7 +237,7 @@ module _ (heap : Setup) (p : LaidOut) (certs : List Section) (reaches : Bool) (f
   known_reference layout (GlobalAddress g) v means is fits current = absurd cc
 
   -- what is stored under the type of a slot of references is one, and is own
-  reference_stored : (stored held layout : ℕ) (x : Operand) → is_reference_held p.of_module (Some held) ≡ true → o.is_available table facts x ≡ true → o.is_value p.of_module f facts stored x ≡ true → o.is_current facts (o.known_of facts x) ≡ true → o.slot_named table x ≡ None
+  reference_stored : (stored held layout : ℕ) (x : Operand) → is_reference_held p.of_module (Some held) ≡ true → o.is_available table facts x ≡ true → o.is_of_type p.of_module f facts stored x ≡ true → o.is_current facts (o.known_of facts x) ≡ true → o.slot_named table x ≡ None
       → r.moves_kind (stored == held) (kind_of p.of_module stored) (Reference layout) ≡ true → o.known_fits (Reference layout) (o.known_of facts x) ≡ true
       → IsReferenceTo heap layout (value_of p.of_module frame.registers stored x) × IsOwn log guarded (value_of p.of_module frame.registers stored x)
   reference_stored stored held layout (operand.Constant (constant.Number n)) is k1 k2 k3 none moves fits = absurd (number_in stored held n layout is (and_parts (o.fits_bits n (kind_of p.of_module stored)) true k2).0 moves)
@@ -245,7 +248,7 @@ module _ (heap : Setup) (p : LaidOut) (certs : List Section) (reaches : Bool) (f
   reference_stored stored held layout (operand.CastGlobal a b c) is k1 k2 k3 none moves fits = absurd (no_value _ k2)
 
   -- what is stored fits the slot
-  module _ (stored held : ℕ) (x : Operand) (k1 : o.is_available table facts x ≡ true) (k2 : o.is_value p.of_module f facts stored x ≡ true) (k3 : o.is_current facts (o.known_of facts x) ≡ true) (none : o.slot_named table x ≡ None) where
+  module _ (stored held : ℕ) (x : Operand) (k1 : o.is_available table facts x ≡ true) (k2 : o.is_of_type p.of_module f facts stored x ≡ true) (k3 : o.is_current facts (o.known_of facts x) ≡ true) (none : o.slot_named table x ≡ None) where
     abbrev given : Value
     given = value_of p.of_module frame.registers stored x
 
@@ -296,7 +299,7 @@ module _ (heap : Setup) (p : LaidOut) (certs : List Section) (reaches : Bool) (f
   apart_number v n e c = subst (AreApart (cells c)) (sym e) (apart_turned (value.Number n) (cells c) tt)
 
   -- what the slot is then known to hold
-  stored_keeps : (stored s : ℕ) (x : Operand) → o.is_available table facts x ≡ true → o.is_value p.of_module f facts stored x ≡ true → o.is_current facts (o.known_of facts x) ≡ true → o.slot_named table x ≡ None
+  stored_keeps : (stored s : ℕ) (x : Operand) → o.is_available table facts x ≡ true → o.is_of_type p.of_module f facts stored x ≡ true → o.is_current facts (o.known_of facts x) ≡ true → o.slot_named table x ≡ None
       → FitsSlot heap p.of_module guarded log (held_type table s) (slot_layout table s) (value_of p.of_module frame.registers stored x) → Holds heap p table guarded log cells (store_slot s (o.known_of facts x) facts) frame.registers (slice_set frame.slots s (value_of p.of_module frame.registers stored x))
   stored_keeps stored s (operand.Constant (constant.Number n)) k1 k2 k3 none fits = slot_keeps heap p table guarded log cells facts frame.registers frame.slots h s _ _ fits (apart_plain s _ (apart_number _ _ refl))
   stored_keeps stored s (operand.Constant (constant.Truth b)) k1 k2 k3 none fits = absurd cc
@@ -321,7 +324,7 @@ module _ (heap : Setup) (p : LaidOut) (certs : List Section) (reaches : Bool) (f
     by (GlobalAddress g) is means known fits2 current = absurd cc
 
   -- a store to a slot
-  pub slot_store_goes : (result : Option ℕ) (stored : ℕ) (x : Operand) (place_type u s : ℕ) → o.is_available table facts x ≡ true → o.is_value p.of_module f facts stored x ≡ true → o.is_current facts (o.known_of facts x) ≡ true → o.slot_named table x ≡ None
+  pub slot_store_goes : (result : Option ℕ) (stored : ℕ) (x : Operand) (place_type u s : ℕ) → o.is_available table facts x ≡ true → o.is_of_type p.of_module f facts stored x ≡ true → o.is_current facts (o.known_of facts x) ≡ true → o.slot_named table x ≡ None
       → slot_of table u ≡ Some s → has_type p.of_module f place_type u ≡ true → r.stores_slot p.of_module table stored (o.known_of facts x) s ≡ true
       → Goes heap p table frame.slots reaches guarded log (after_memory p table result (memory.Store stored x place_type (operand.Local u)) facts)
       (a.store_action p table stored (k.is_usable p.of_module f table frame.registers stored x) (value_of p.of_module frame.registers stored x) (k.slot_at_place p.of_module f table place_type (operand.Local u)) (k.address_at_place p.of_module f table frame.registers place_type (operand.Local u)))

@@ -52,12 +52,12 @@ use Rattle.soundness.proofs.SameKinds.{part_refers}
 use Rattle.soundness.proofs.WordReads.{bits_of_word}
 use Rattle.soundness.proofs.Steps.{available, integer_is, no_number, no_value, usable}
 use Rattle.soundness.proofs.Stored.{class_stored}
-use Rattle.soundness.proofs.Touches.{Touches, IsPlace, place_at, no_slot_at, on_base, on_global, known_place, word_touches}
+use Rattle.soundness.proofs.Touches.{Touches, IsPlace, place_value_of, place_at, no_slot_at, on_base, on_global, known_place, word_touches}
 
 -- an operand whose value is stored: available, a value of its type, not stale, and no slot
 pub record IsStored (p : LaidOut) (f : Function) (table : SlotTable) (facts : FactSet) (written : ℕ) (x : Operand) : Type 0 where
   pub there : o.is_available table facts x ≡ true
-  pub typed : o.is_value p.of_module f facts written x ≡ true
+  pub typed : o.is_of_type p.of_module f facts written x ≡ true
   pub current : o.is_current facts (o.known_of facts x) ≡ true
   pub no_slot : o.slot_named table x ≡ None
 
@@ -231,30 +231,32 @@ module _ (heap : Setup) (p : LaidOut) (certs : List Section) (reaches : Bool) (f
   -- the word that a place names, which takes a value
   record Takes (stored : ℕ) (x : Operand) (written : ℕ) (place : Operand) : Type 0 where
     kind : Option WordKind
-    touches : Touches heap p log (value_of p.of_module frame.registers written place) kind
+    touches : Touches heap p log (place_value_of p frame.registers written place) kind
     takes_it : IsTaken heap p guarded log stored (value_of p.of_module frame.registers stored x) kind
-    own : is_own_place facts (o.known_of facts place) ≡ true → IsFresh log touches.cell.cell
+    own : is_own_place facts (o.place_known p.of_module facts written place) ≡ true → IsFresh log touches.cell.cell
 
-  place_takes : (stored : ℕ) (x : Operand) (written : ℕ) (place : Operand) → IsStored p f table facts stored x → IsPlace p f table facts written place → r.stores_known p facts (kind_of p.of_module stored) (o.known_of facts x) (o.known_of facts place) ≡ true → Takes stored x written place
-  place_takes stored x written place i s stores = by (o.known_of facts place) refl stores where
+  place_takes : (stored : ℕ) (x : Operand) (written : ℕ) (place : Operand) → IsStored p f table facts stored x → IsPlace p f table facts written place → r.stores_known p facts (kind_of p.of_module stored) (o.known_of facts x) (o.place_known p.of_module facts written place) ≡ true → Takes stored x written place
+  place_takes stored x written place i s stores = by (o.place_known p.of_module facts written place) refl stores where
     at : Value
-    at = value_of p.of_module frame.registers written place
+    at = place_value_of p frame.registers written place
 
-    by : (known : Known) → o.known_of facts place ≡ known → r.stores_known p facts (kind_of p.of_module stored) (o.known_of facts x) known ≡ true → Takes stored x written place
-    by Nothing is stores = absurd (known_place heap p certs reaches f table guarded log fits cells facts frame h place s.there s.no_slot s.varies is)
+    by : (known : Known) → o.place_known p.of_module facts written place ≡ known → r.stores_known p facts (kind_of p.of_module stored) (o.known_of facts x) known ≡ true → Takes stored x written place
+    by Nothing is stores = absurd (known_place heap p certs reaches f table guarded log fits cells facts frame h written place s.there s.no_slot s.varies is)
     by (Number bits below) is stores = absurd cc
     by (Cell class layout stale) is stores = absurd cc
     by Null is stores = absurd cc
     by (Address base words) is stores =
-        let b = on_base heap p certs reaches f table guarded log fits cells facts frame h written place s base words is in
+        let wants : ℕ → WantedWord = λ layout. r.wanted_by_store (kind_of p.of_module stored) in
+        let fits_each : (class layout : ℕ) → known_at facts.values base ≡ Cell class layout false → (r.each_word (wants layout) p.layouts layout words ≡ true) × (r.fits_words p.layouts layout words (r.wanted_by_value (o.known_of facts x)) ≡ true) = λ class layout known. and_parts (r.each_word (wants layout) p.layouts layout words) (r.fits_words p.layouts layout words (r.wanted_by_value (o.known_of facts x)))
+            (subst (λ y. r.stores_base p (kind_of p.of_module stored) (o.known_of facts x) words y ≡ true) known stores) in
+        let b = on_base heap p certs reaches f table guarded log fits cells facts frame h written place s base words is wants (λ class layout known. (fits_each class layout known).0) in
         let l = b.located in
-        let each = and_parts (r.each_word (r.wanted_by_store (kind_of p.of_module stored)) p.layouts b.layout words) (r.fits_words p.layouts b.layout words (r.wanted_by_value (o.known_of facts x)))
-        (subst (λ y. r.stores_base p (kind_of p.of_module stored) (o.known_of facts x) words y ≡ true) b.known stores) in
+        let each = fits_each b.class b.layout b.known in
         record {
           kind = kind_of_word p.layouts b.layout l.word;
           touches = word_touches heap p log b.layout words at l;
           takes_it = taken stored x i (kind_of p.of_module stored) refl (kind_of_word p.layouts b.layout l.word)
-              (holds_as_asked heap p table guarded log cells facts frame.registers frame.slots fits h (r.wanted_by_store (kind_of p.of_module stored)) b.layout l.word words l.within l.has each.0)
+              (holds_as_asked heap p table guarded log cells facts frame.registers frame.slots fits h (wants b.layout) b.layout l.word words l.within l.has each.0)
               (fit_word b.layout l.word words l.within l.has (r.wanted_by_value (o.known_of facts x)) each.1);
           own = λ e. b.fresh (fresh_base base b.class b.layout b.known (subst (λ y. is_own_place facts y ≡ true) is e));
         }
@@ -268,15 +270,15 @@ module _ (heap : Setup) (p : LaidOut) (certs : List Section) (reaches : Bool) (f
         }
 
   -- a reference is stored plainly in a fresh cell alone
-  plainly : (stored : ℕ) (place : Operand) → o.slot_named table place ≡ None → needs_no_barrier p.of_module table facts stored place ≡ true → may_be_reference (kind_of p.of_module stored) ≡ true → is_own_place facts (o.known_of facts place) ≡ true
-  plainly stored place none e refers = pick (may_be_reference (kind_of p.of_module stored)) (rw none at e) refers where
-    pick : (b : Bool) → (not b || is_own_place facts (o.known_of facts place)) ≡ true → b ≡ true → is_own_place facts (o.known_of facts place) ≡ true
+  plainly : (stored : ℕ) (place : Operand) (known : Known) → o.slot_named table place ≡ None → needs_no_barrier p.of_module table facts stored place known ≡ true → may_be_reference (kind_of p.of_module stored) ≡ true → is_own_place facts known ≡ true
+  plainly stored place known none e refers = pick (may_be_reference (kind_of p.of_module stored)) (rw none at e) refers where
+    pick : (b : Bool) → (not b || is_own_place facts known) ≡ true → b ≡ true → is_own_place facts known ≡ true
     pick true e z = e
     pick false e z = absurd cc
 
   -- a store to an operand that is a place
   pub store_goes : (result : Option ℕ) (stored : ℕ) (x : Operand) (place_type : ℕ) (place : Operand) → IsStored p f table facts stored x → IsPlace p f table facts place_type place
-      → r.stores_known p facts (kind_of p.of_module stored) (o.known_of facts x) (o.known_of facts place) ≡ true → needs_no_barrier p.of_module table facts stored place ≡ true
+      → r.stores_known p facts (kind_of p.of_module stored) (o.known_of facts x) (o.place_known p.of_module facts place_type place) ≡ true → needs_no_barrier p.of_module table facts stored place (o.place_known p.of_module facts place_type place) ≡ true
       → Goes heap p table frame.slots reaches guarded log (after_memory p table result (memory.Store stored x place_type place) facts)
       (a.store_action p table stored (k.is_usable p.of_module f table frame.registers stored x) (value_of p.of_module frame.registers stored x) (k.slot_at_place p.of_module f table place_type place) (k.address_at_place p.of_module f table frame.registers place_type place))
       (λ given. mc.set_slot (k.slot_at_place p.of_module f table place_type place) (value_of p.of_module frame.registers stored x) frame)
@@ -292,17 +294,17 @@ module _ (heap : Setup) (p : LaidOut) (certs : List Section) (reaches : Bool) (f
       (sym (usable heap p certs reaches f table guarded log cells facts frame h stored x i.there i.typed i.no_slot))
       (subst (λ y. Goes heap p table frame.slots reaches guarded log (drop_fresh_of (o.known_of facts x) facts) (a.plain_action p stored new y) (λ given. frame))
       (sym (place_at heap p certs reaches f table guarded log fits cells facts frame h place_type place s t.touches.at t.touches.is))
-      (plain_goes stored x i (value_of p.of_module frame.registers place_type place) t.kind t.touches t.takes_it (λ refers. t.own (plainly stored place s.no_slot k6 refers)))))) where
+      (plain_goes stored x i (place_value_of p frame.registers place_type place) t.kind t.touches t.takes_it (λ refers. t.own (plainly stored place (o.place_known p.of_module facts place_type place) s.no_slot k6 refers)))))) where
         new : Value
         new = value_of p.of_module frame.registers stored x
 
   -- a write with the barrier to an operand that is a place
   pub write_goes : (stored : ℕ) (x : Operand) (written : ℕ) (place : Operand) → IsStored p f table facts stored x → IsPlace p f table facts written place → may_be_reference (kind_of p.of_module stored) ≡ true
-      → r.stores_known p facts (kind_of p.of_module stored) (o.known_of facts x) (o.known_of facts place) ≡ true
+      → r.stores_known p facts (kind_of p.of_module stored) (o.known_of facts x) (o.place_known p.of_module facts written place) ≡ true
       → Goes heap p table frame.slots reaches guarded log (drop_fresh_of (o.known_of facts x) facts)
       (a.barrier_action p stored (value_of p.of_module frame.registers stored x) (k.address_at_place p.of_module f table frame.registers written place)) (λ given. frame)
   write_goes stored x written place i s refers stores =
       let t = place_takes stored x written place i s stores in
       subst (λ y. Goes heap p table frame.slots reaches guarded log (drop_fresh_of (o.known_of facts x) facts) (a.barrier_action p stored (value_of p.of_module frame.registers stored x) y) (λ given. frame))
       (sym (place_at heap p certs reaches f table guarded log fits cells facts frame h written place s t.touches.at t.touches.is))
-      (barrier_goes stored x i (value_of p.of_module frame.registers written place) t.kind t.touches t.takes_it refers)
+      (barrier_goes stored x i (place_value_of p frame.registers written place) t.kind t.touches t.takes_it refers)
