@@ -8,7 +8,7 @@ use items::Items;
 use std::alloc::{AllocError, Global};
 
 /// Whether the callers of a function see that it was replaced.
-#[derive(Clone, Copy, PartialEq, Eq)]
+#[derive(Clone, Copy)]
 pub enum Callers {
     /// Its types, its mark, or what is promised of its parameters or its result may be others.
     SeeChange,

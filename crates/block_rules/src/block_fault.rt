@@ -14,7 +14,7 @@ pub struct Detail {
 }
 
 /// What an instruction breaks: a rule, and for a fact that an edge does not show where that one is.
-#[derive(Clone, Copy, PartialEq, Eq)]
+#[derive(Clone, Copy)]
 pub struct Breach {
     pub rule: Rule,
     pub detail: Option<Detail>,

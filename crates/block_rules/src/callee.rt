@@ -1,7 +1,7 @@
 use ir_ast::{FuncId, Runtime};
 
 /// Which function a call is of.
-#[derive(Clone, Copy, PartialEq, Eq)]
+#[derive(Clone, Copy)]
 pub enum Callee {
     /// A function of the runtime.
     OfRuntime(Runtime),

@@ -1,7 +1,7 @@
 use certs::{Mark, Promise};
 
 /// Where an instruction is.
-#[derive(Clone, Copy, PartialEq, Eq)]
+#[derive(Clone, Copy)]
 pub struct Standing {
     pub in_entry: bool,
     /// In the head of the entry block, where gcroot is allowed.

@@ -1,5 +1,5 @@
 /// What an index leads past: `size` words for each of the numbers that it may be.
-#[derive(Clone, Copy, PartialEq, Eq)]
+#[derive(Clone, Copy)]
 pub struct Stride {
     pub size: u32,
     /// The least number that it may be.

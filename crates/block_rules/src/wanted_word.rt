@@ -1,7 +1,7 @@
 use pools::LayoutId;
 
 /// What a word has to hold.
-#[derive(Clone, Copy, PartialEq, Eq)]
+#[derive(Clone, Copy)]
 pub enum WantedWord {
     /// Integers of this number of bits.
     Integer(u32),

@@ -5,7 +5,7 @@ use ir_ast::Module;
 use layout::LayoutFault;
 
 /// Why no certificates are made.
-#[derive(Clone, Copy, PartialEq, Eq)]
+#[derive(Clone, Copy)]
 pub enum MakeFault {
     /// The module has no layouts.
     Layout(LayoutFault),

@@ -25,7 +25,7 @@ pub enum Tried {
 }
 
 /// Why there are no certificates of a module that has layouts.
-#[derive(Clone, Copy, PartialEq, Eq)]
+#[derive(Clone, Copy)]
 pub enum Lack {
     NoAnswer,
     /// Memory was refused.

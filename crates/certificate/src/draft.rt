@@ -11,7 +11,7 @@ use shadow_stack::{Slots, slots_of};
 use std::alloc::{AllocError, Global};
 
 /// A value that the block has to list.
-#[derive(Clone, Copy, PartialEq, Eq)]
+#[derive(Clone, Copy)]
 pub struct RequiredValue {
     pub value: ValueId,
     /// How much of the text is left where it is named.

@@ -15,7 +15,7 @@ use ir_ast::{BlockId, Function, Module, SymbolId, ValueId};
 use std::alloc::Global;
 
 /// Which fact a word begins.
-#[derive(Clone, Copy, PartialEq, Eq)]
+#[derive(Clone, Copy)]
 pub enum Head {
     Number(u32),
     Reference,

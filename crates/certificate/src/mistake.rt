@@ -1,5 +1,5 @@
 /// What may be wrong with a certificate whose words are of the format. Each place is how much of the text is left there.
-#[derive(Clone, Copy, PartialEq, Eq)]
+#[derive(Clone, Copy)]
 pub enum Mistake {
     Version(usize),
     UnknownName(usize),

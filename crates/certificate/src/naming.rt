@@ -8,7 +8,7 @@ use std::alloc::{AllocError, Global};
 use types::global_named;
 
 /// What a word names where something is to be named.
-#[derive(Clone, Copy, PartialEq, Eq)]
+#[derive(Clone, Copy)]
 pub enum Naming {
     /// It is no name with the sign that is asked for.
     NoName,

@@ -11,7 +11,7 @@ use ir_ast::Module;
 use std::alloc::Global;
 
 /// What a word promises.
-#[derive(Clone, Copy, PartialEq, Eq)]
+#[derive(Clone, Copy)]
 pub enum Promised {
     /// `ref`.
     Layout,

@@ -8,7 +8,7 @@ use pools::LayoutId;
 use types::element_of;
 
 /// What a value is, and so which facts may be given of it.
-#[derive(Clone, Copy, PartialEq, Eq)]
+#[derive(Clone, Copy)]
 pub enum Family {
     /// An integer of this number of bits.
     Number(u32),

@@ -3,7 +3,7 @@ use items::Items;
 use pools::{LayoutId, WordSet};
 
 /// Whether a function may reach a safepoint.
-#[derive(Clone, Copy, Debug, PartialEq, Eq)]
+#[derive(Clone, Copy)]
 pub enum Mark {
     May,
     None,
@@ -20,7 +20,7 @@ pub struct Promise {
 }
 
 /// Whether a reference was published, or has lost its cell.
-#[derive(Clone, Copy, PartialEq, Eq)]
+#[derive(Clone, Copy)]
 pub enum Age {
     /// No word points to its cell, and no name but those of the same reference.
     Fresh,
@@ -30,7 +30,7 @@ pub enum Age {
 }
 
 /// What a line of a block says of its value.
-#[derive(Clone, Copy, PartialEq, Eq)]
+#[derive(Clone, Copy)]
 pub enum Fact {
     Number {
         bits: u32,
@@ -52,7 +52,7 @@ pub enum Fact {
 }
 
 /// A line of a block.
-#[derive(Clone, Copy, PartialEq, Eq)]
+#[derive(Clone, Copy)]
 pub enum Line {
     Value {
         value: ValueId,

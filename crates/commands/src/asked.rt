@@ -9,7 +9,7 @@ use mutators::Limits;
 use std::alloc::{AllocError, Global};
 
 /// Check a module against a certificate, by `workers` workers.
-#[derive(Clone, Copy, PartialEq, Eq)]
+#[derive(Clone, Copy)]
 pub struct CheckLine<'a> {
     pub module_path: &'a str,
     pub certificate_path: &'a str,
@@ -17,21 +17,21 @@ pub struct CheckLine<'a> {
 }
 
 /// Whether to say what is refused where no certificate is made.
-#[derive(Clone, Copy, PartialEq, Eq)]
+#[derive(Clone, Copy)]
 pub enum Why {
     Wanted,
     NotWanted,
 }
 
 /// Make a certificate of a module.
-#[derive(Clone, Copy, PartialEq, Eq)]
+#[derive(Clone, Copy)]
 pub struct MakeLine<'a> {
     pub module_path: &'a str,
     pub why: Why,
 }
 
 /// Check a module against a certificate, and again after each of some edits.
-#[derive(Clone, Copy, PartialEq, Eq)]
+#[derive(Clone, Copy)]
 pub struct RecheckLine<'a> {
     pub module_path: &'a str,
     pub certificate_path: &'a str,
@@ -39,14 +39,14 @@ pub struct RecheckLine<'a> {
 }
 
 /// Make the steps of a trace of a module.
-#[derive(Clone, Copy, PartialEq, Eq)]
+#[derive(Clone, Copy)]
 pub struct ReplayLine<'a> {
     pub module_path: &'a str,
     pub trace_path: &'a str,
 }
 
 /// From the start of a trace of a module, make `steps` steps by the schedule of each of `seeds` seeds.
-#[derive(Clone, Copy, PartialEq, Eq)]
+#[derive(Clone, Copy)]
 pub struct SoakLine<'a> {
     pub module_path: &'a str,
     pub trace_path: &'a str,
@@ -56,7 +56,7 @@ pub struct SoakLine<'a> {
 
 /// Check a module against a certificate. Then run the threads of a trace on real threads, beside the collector, within these
 /// limits.
-#[derive(Clone, Copy, PartialEq, Eq)]
+#[derive(Clone, Copy)]
 pub struct RunLine<'a> {
     pub module_path: &'a str,
     pub certificate_path: &'a str,
@@ -65,7 +65,7 @@ pub struct RunLine<'a> {
 }
 
 /// A command with the paths of its files and its options.
-#[derive(Clone, Copy, PartialEq, Eq)]
+#[derive(Clone, Copy)]
 pub enum Line<'a> {
     Check(CheckLine<'a>),
     Make(MakeLine<'a>),

@@ -70,7 +70,7 @@ fn is_alike(one: &Facts, other: &Facts) -> bool {
 }
 
 /// A call that changes what a sample says.
-#[derive(Clone, Copy, Debug)]
+#[derive(Clone, Copy)]
 enum FactCall {
     Reset,
     Forget,

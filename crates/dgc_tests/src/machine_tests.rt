@@ -16,7 +16,7 @@ const PARITY: &str =
     "%T = type { i64 }\ndeclare i8* @dg_alloc(i32)\ndefine void @main(i64 %n) gc \"shadow-stack\" {\nentry:\n  %v = call i64 @even(i64 %n)\n  %c = icmp eq i64 %v, 1\n  br i1 %c, label %yes, label %no\nyes:\n  %a = call i8* @dg_alloc(i32 0)\n  ret void\nno:\n  ret void\n}\ndefine i64 @even(i64 %n) {\nentry:\n  %c = icmp eq i64 %n, 0\n  br i1 %c, label %out, label %on\non:\n  %m = sub i64 %n, 1\n  %v = call i64 @odd(i64 %m)\n  ret i64 %v\nout:\n  ret i64 1\n}\ndefine i64 @odd(i64 %n) {\nentry:\n  %c = icmp eq i64 %n, 0\n  br i1 %c, label %out, label %on\non:\n  %m = sub i64 %n, 1\n  %v = call i64 @even(i64 %m)\n  ret i64 %v\nout:\n  ret i64 0\n}\n";
 
 /// The number of local steps of a thread, and what it asks for after them.
-#[derive(Clone, Copy, PartialEq, Eq)]
+#[derive(Clone, Copy)]
 struct Fate {
     steps: u32,
     asked: Action,

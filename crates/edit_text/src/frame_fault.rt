@@ -1,7 +1,7 @@
 use std::alloc::AllocError;
 
 /// A fault of the frame, with how much of the text is left where it is found.
-#[derive(Clone, Copy, PartialEq, Eq)]
+#[derive(Clone, Copy)]
 pub enum FrameFault {
     /// No form continues with this word, line end or end of the text.
     Syntax(usize),

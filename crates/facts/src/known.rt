@@ -6,7 +6,7 @@ use ir_ast::{Comparison, Constant, SymbolId, ValueId};
 use pools::{LayoutId, WordSet};
 
 /// What is known of a class of references, which are equal.
-#[derive(Clone, Copy, PartialEq, Eq)]
+#[derive(Clone, Copy)]
 pub struct Class {
     pub nonnull: bool,
     /// Null, or a cell that this thread claimed and that nothing outside the class names.
@@ -14,7 +14,7 @@ pub struct Class {
 }
 
 /// What is known of a value.
-#[derive(Clone, Copy, Debug, PartialEq, Eq)]
+#[derive(Clone, Copy)]
 pub enum Known {
     Nothing,
     /// An integer of this number of bits, which is below a number.
@@ -39,7 +39,7 @@ pub enum Known {
 }
 
 /// A comparison that gave a value: what it asked of another, whose operand was the first.
-#[derive(Clone, Copy, PartialEq, Eq)]
+#[derive(Clone, Copy)]
 pub struct Test {
     pub tested: ValueId,
     pub kind: Comparison,
@@ -47,14 +47,14 @@ pub struct Test {
 }
 
 /// A phi, and what is known of the entry that it takes.
-#[derive(Clone, Copy, PartialEq, Eq)]
+#[derive(Clone, Copy)]
 pub struct Entry {
     pub phi: ValueId,
     pub known: Known,
 }
 
 /// What is known of a slot.
-#[derive(Clone, Copy, PartialEq, Eq)]
+#[derive(Clone, Copy)]
 pub struct SlotFact {
     /// A gcroot came in this block.
     pub rooted: bool,
@@ -64,7 +64,7 @@ pub struct SlotFact {
 }
 
 /// What the type of a parameter says of it.
-#[derive(Clone, Copy, PartialEq, Eq)]
+#[derive(Clone, Copy)]
 pub enum Given {
     Nothing,
     /// An integer of this number of bits.

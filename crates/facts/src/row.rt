@@ -4,7 +4,7 @@ ghost use Rattle.facts.specs.Sheets.{blank, is_blank};
 use crate::known::{Class, Known, Test};
 
 /// What is known of a value and of the class that it has for itself.
-#[derive(Clone, Copy, PartialEq, Eq)]
+#[derive(Clone, Copy)]
 pub(crate) struct Row {
     pub known: Known,
     pub test: Option<Test>,

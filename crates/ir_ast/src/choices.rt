@@ -5,7 +5,7 @@ use crate::value_id::ValueId;
 use items::Items;
 
 /// select: `chosen` where the condition, whose type is i1, is 1, and `other` else.
-#[derive(Clone, Copy, PartialEq, Eq)]
+#[derive(Clone, Copy)]
 pub struct Choice {
     pub condition_type: TypeId,
     pub condition: Operand,
@@ -15,7 +15,7 @@ pub struct Choice {
 }
 
 /// What a phi gives where its block is entered from the block with this label.
-#[derive(Clone, Copy, PartialEq, Eq)]
+#[derive(Clone, Copy)]
 pub struct Incoming {
     pub operand: Operand,
     pub from: ValueId,

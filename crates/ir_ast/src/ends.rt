@@ -6,7 +6,7 @@ use crate::value_id::ValueId;
 use items::Items;
 
 /// Where a switch goes on if its value is this constant.
-#[derive(Clone, Copy, PartialEq, Eq)]
+#[derive(Clone, Copy)]
 pub struct Case {
     pub constant: Constant,
     pub target: ValueId,

@@ -7,7 +7,7 @@ use crate::value_id::ValueId;
 use items::Items;
 
 /// What a local name means.
-#[derive(Clone, Copy, PartialEq, Eq)]
+#[derive(Clone, Copy)]
 pub enum LocalSort {
     /// It was used, and not defined so far.
     Unknown,
@@ -21,7 +21,7 @@ pub enum LocalSort {
 }
 
 /// A parameter of a defined function.
-#[derive(Clone, Copy, PartialEq, Eq)]
+#[derive(Clone, Copy)]
 pub struct Parameter {
     pub written: TypeId,
     pub value: ValueId,

@@ -3,7 +3,7 @@ ghost use Rattle.std.specs.Prelude.{◌≡◌};
 use std::marker::Model;
 
 /// The number of a global, in text order from 0; it is the global's word in the globals' cell.
-#[derive(Clone, Copy, Debug, PartialEq, Eq)]
+#[derive(Clone, Copy)]
 pub struct GlobalId {
     number: u32,
 }

@@ -17,7 +17,7 @@ pub struct StructType {
 }
 
 /// A global, which is one word.
-#[derive(Clone, Copy, Debug, PartialEq, Eq)]
+#[derive(Clone, Copy)]
 pub struct Global {
     pub symbol: SymbolId,
     pub is_constant: bool,
@@ -36,7 +36,7 @@ pub struct Declare {
 }
 
 /// What a global name means.
-#[derive(Clone, Copy, PartialEq, Eq)]
+#[derive(Clone, Copy)]
 pub enum SymbolSort {
     /// It was used, and not defined so far.
     Unknown,

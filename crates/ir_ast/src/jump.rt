@@ -1,7 +1,7 @@
 use crate::type_id::TypeId;
 
 /// A way over some fields of a struct type, from the first one on.
-#[derive(Clone, Copy, Debug, PartialEq, Eq)]
+#[derive(Clone, Copy)]
 pub struct Jump {
     /// The struct of the fields after them.
     pub to: TypeId,

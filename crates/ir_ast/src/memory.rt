@@ -3,7 +3,7 @@ use crate::operand::Operand;
 use crate::type_id::TypeId;
 
 /// An operation on memory.
-#[derive(Clone, Copy, PartialEq, Eq)]
+#[derive(Clone, Copy)]
 pub enum MemoryOp {
     /// A slot that holds a value of this type.
     Alloca(TypeId),

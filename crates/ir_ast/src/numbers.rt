@@ -3,7 +3,7 @@ use crate::operand::Operand;
 use crate::type_id::TypeId;
 
 /// Integer instructions of two operands, which are taken modulo 2 to the bits.
-#[derive(Clone, Copy, PartialEq, Eq)]
+#[derive(Clone, Copy)]
 pub enum Arithmetic {
     Add,
     Sub,
@@ -14,7 +14,7 @@ pub enum Arithmetic {
 }
 
 /// Changes of an integer's width.
-#[derive(Clone, Copy, PartialEq, Eq)]
+#[derive(Clone, Copy)]
 pub enum Resize {
     ZeroExtend,
     SignExtend,
@@ -22,7 +22,7 @@ pub enum Resize {
 }
 
 /// What icmp asks of its operands.
-#[derive(Clone, Copy, PartialEq, Eq)]
+#[derive(Clone, Copy)]
 pub enum Comparison {
     Equal,
     NotEqual,
@@ -37,7 +37,7 @@ pub enum Comparison {
 }
 
 /// An operation that gives an integer.
-#[derive(Clone, Copy, PartialEq, Eq)]
+#[derive(Clone, Copy)]
 pub enum NumberOp {
     Arithmetic {
         kind: Arithmetic,

@@ -3,7 +3,7 @@ use crate::type_id::TypeId;
 use crate::value_id::ValueId;
 
 /// A constant, as it is written; `undef` is read as the number 0 or as null.
-#[derive(Clone, Copy, Debug, PartialEq, Eq)]
+#[derive(Clone, Copy)]
 pub enum Constant {
     /// The number modulo 2 to the 64: at an integer type of fewer bits it is below 2 to the bits.
     Number(u64),
@@ -13,7 +13,7 @@ pub enum Constant {
 }
 
 /// What an instruction reads.
-#[derive(Clone, Copy, PartialEq, Eq)]
+#[derive(Clone, Copy)]
 pub enum Operand {
     Constant(Constant),
     Local(ValueId),

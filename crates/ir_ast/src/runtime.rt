@@ -2,7 +2,7 @@ ghost use Rattle.std.specs.Prelude.{◌≡◌};
 ghost use Rattle.ir_ast.specs.RuntimeNames.{runtime_of};
 
 /// A function of the runtime or an intrinsic, known by its name.
-#[derive(Clone, Copy, PartialEq, Eq)]
+#[derive(Clone, Copy)]
 pub enum Runtime {
     /// `dg_alloc`
     Alloc,

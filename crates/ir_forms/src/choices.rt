@@ -77,7 +77,7 @@ fn incoming(alloc: Global, input: &mut Input<'_>, bits: Option<u32>) -> Result<I
 }
 
 /// The entries of a phi so far.
-#[derive(Clone, Copy, PartialEq, Eq)]
+#[derive(Clone, Copy)]
 pub struct Entries {
     /// How many bits the values have, if they are integers.
     pub bits: Option<u32>,

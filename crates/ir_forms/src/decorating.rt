@@ -28,7 +28,7 @@ pub fn any_token(input: &mut Input<'_>) -> Result<Kind, Fault>
 // ---- what follows a word
 
 /// How many round brackets are open.
-#[derive(Clone, Copy, PartialEq, Eq)]
+#[derive(Clone, Copy)]
 pub struct Brackets {
     pub depth: u32,
 }
@@ -72,7 +72,7 @@ fn past_brackets(alloc: Global, input: &mut Input<'_>) -> Result<(), Fault>
 }
 
 /// Which part of a form the decorations are written beside.
-#[derive(Clone, Copy, PartialEq, Eq)]
+#[derive(Clone, Copy)]
 pub enum Spot {
     /// A global, after its `=`.
     Global,
@@ -298,7 +298,7 @@ pub fn flags(alloc: Global, input: &mut Input<'_>, may_wrap: bool) -> Result<(),
 // ---- after an instruction or a global
 
 /// Which decorations may follow an instruction or a global.
-#[derive(Clone, Copy, PartialEq, Eq)]
+#[derive(Clone, Copy)]
 pub enum Trail {
     /// Those of an alloca, whose count is left out.
     Slot,

@@ -1,7 +1,7 @@
 use std::alloc::AllocError;
 
 /// The first fault of a text, and at which byte it is found.
-#[derive(Clone, Copy, PartialEq, Eq)]
+#[derive(Clone, Copy)]
 pub enum Fault {
     Memory,
     /// No token begins here, or one is not finished.

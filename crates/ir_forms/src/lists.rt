@@ -95,7 +95,7 @@ fn index(alloc: Global, input: &mut Input<'_>) -> Result<Argument, Fault>
 }
 
 /// The indices of a getelementptr so far.
-#[derive(Clone, Copy, PartialEq, Eq)]
+#[derive(Clone, Copy)]
 pub struct IndexList {
     /// Whether there is one.
     pub is_further: bool,

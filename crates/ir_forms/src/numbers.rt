@@ -15,7 +15,7 @@ use ir_tokens::Kind;
 use std::alloc::Global;
 
 /// Two operands of one type.
-#[derive(Clone, Copy, PartialEq, Eq)]
+#[derive(Clone, Copy)]
 pub struct TwoOperands {
     pub written: TypeId,
     pub first: Operand,

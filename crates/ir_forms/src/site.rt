@@ -4,7 +4,7 @@ ghost use Rattle.ir_forms.specs.Sites as spec;
 use ir_ast::BlockId;
 
 /// Where an instruction is.
-#[derive(Clone, Copy, PartialEq, Eq)]
+#[derive(Clone, Copy)]
 pub struct Site {
     pub block: BlockId,
     /// How many instructions of its block's body are before it.

@@ -2,7 +2,7 @@
 use ir_ast::{StructNameId, SymbolId, ValueId};
 
 /// A use of a struct's name.
-#[derive(Clone, Copy, PartialEq, Eq)]
+#[derive(Clone, Copy)]
 pub struct StructUse {
     pub name: StructNameId,
     /// Where the name is.
@@ -10,7 +10,7 @@ pub struct StructUse {
 }
 
 /// What a local name has to mean where it is used.
-#[derive(Clone, Copy, PartialEq, Eq)]
+#[derive(Clone, Copy)]
 pub enum Wanted {
     Value,
     Block,
@@ -19,7 +19,7 @@ pub enum Wanted {
 }
 
 /// A use of a local name.
-#[derive(Clone, Copy, PartialEq, Eq)]
+#[derive(Clone, Copy)]
 pub struct LocalUse {
     pub value: ValueId,
     pub wanted: Wanted,
@@ -28,7 +28,7 @@ pub struct LocalUse {
 }
 
 /// A use of a global name.
-#[derive(Clone, Copy, PartialEq, Eq)]
+#[derive(Clone, Copy)]
 pub struct SymbolUse {
     pub symbol: SymbolId,
     /// Whether a function is called here; otherwise a global is wanted.

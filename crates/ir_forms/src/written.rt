@@ -12,7 +12,7 @@ use name_text::decimal;
 use std::alloc::Global;
 
 /// What a type is before its stars.
-#[derive(Clone, Copy, PartialEq, Eq)]
+#[derive(Clone, Copy)]
 pub enum Base {
     /// An integer of this number of bits.
     Integer(u32),
@@ -23,7 +23,7 @@ pub enum Base {
 }
 
 /// A type as it is written: a base with stars after it.
-#[derive(Clone, Copy, PartialEq, Eq)]
+#[derive(Clone, Copy)]
 pub struct WrittenType {
     pub base: Base,
     pub stars: u32,

@@ -47,7 +47,7 @@ fn block(alloc: Global, input: &mut Input<'_>, number: BlockId) -> Result<Block,
 }
 
 /// The blocks of a function so far.
-#[derive(Clone, Copy, PartialEq, Eq)]
+#[derive(Clone, Copy)]
 pub struct Blocks {
     pub count: u32,
 }

@@ -1,5 +1,5 @@
 /// What a token is. Words of a form of an item, an instruction, a type or a constant have kinds of their own.
-#[derive(Clone, Copy, PartialEq, Eq)]
+#[derive(Clone, Copy)]
 pub enum Kind {
     /// What comes after the last token. No token has this kind.
     End,
@@ -134,7 +134,7 @@ pub enum Kind {
 }
 
 /// A token: what it is, and which bytes of the text spell it.
-#[derive(Clone, Copy, PartialEq, Eq)]
+#[derive(Clone, Copy)]
 pub struct Token {
     pub kind: Kind,
     /// Whether no token is before it on its line: it is the first of the text, or a line ends between it and the

@@ -10,7 +10,7 @@ use std::alloc::{AllocError, Global};
 const WORD_LIMIT: u64 = 64;
 
 /// A jump over fields of a struct type.
-#[derive(Clone, Copy, Debug, PartialEq, Eq)]
+#[derive(Clone, Copy)]
 pub struct Over {
     /// The struct of the fields after them.
     pub to: TypeId,

@@ -1,7 +1,7 @@
 use ir_ast::TypeId;
 
 /// How an index of a getelementptr leads from a type to a part of it.
-#[derive(Clone, Copy, PartialEq, Eq)]
+#[derive(Clone, Copy)]
 pub enum Step {
     /// To a field, after this number of words.
     Field {

@@ -14,14 +14,14 @@ const WORD_LIMIT: u32 = 64;
 pub const NO_FIELDS: Span = Span { start: 0, count: 0 };
 
 /// Some scalar fields, one after another.
-#[derive(Clone, Copy, Debug, PartialEq, Eq)]
+#[derive(Clone, Copy)]
 pub struct Span {
     pub start: usize,
     pub count: usize,
 }
 
 /// What is known of a type.
-#[derive(Clone, Copy, Debug, PartialEq, Eq)]
+#[derive(Clone, Copy)]
 pub enum SizeMark {
     /// Nothing so far.
     New,
@@ -36,7 +36,7 @@ pub enum SizeMark {
 }
 
 /// What comes next at a type.
-#[derive(Clone, Copy, Debug, PartialEq, Eq)]
+#[derive(Clone, Copy)]
 pub enum SizeTurn {
     /// A part of it has to be known first.
     Wait(TypeId),

@@ -5,7 +5,7 @@ use crate::value::{Reference, Value};
 use pools::LayoutId;
 
 /// What the instruction at which a thread is asks for.
-#[derive(Clone, Copy, PartialEq, Eq)]
+#[derive(Clone, Copy)]
 pub enum Action {
     /// One step that touches no shared word.
     Local,

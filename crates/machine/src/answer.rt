@@ -1,7 +1,7 @@
 use crate::value::Reference;
 
 /// What an action is answered with.
-#[derive(Clone, Copy, PartialEq, Eq)]
+#[derive(Clone, Copy)]
 pub enum Answer {
     /// The step is done; of a safepoint, nothing new was posted.
     Done,

@@ -6,7 +6,7 @@ use crate::value::Value;
 use ir_ast::{End, Module};
 
 /// How a thread ended.
-#[derive(Clone, Copy, PartialEq, Eq)]
+#[derive(Clone, Copy)]
 pub enum Ending {
     /// Its first function returned, with this result if it has one.
     Returned(Option<Value>),

@@ -9,7 +9,7 @@ pub struct Reference {
 }
 
 /// Where an address points.
-#[derive(Clone, Copy, Debug, PartialEq, Eq)]
+#[derive(Clone, Copy)]
 pub enum Pointee {
     /// The address was taken from null: it points to no word.
     OfNull,
@@ -24,7 +24,7 @@ pub enum Pointee {
 }
 
 /// What a register or a slot holds.
-#[derive(Clone, Copy, PartialEq, Eq)]
+#[derive(Clone, Copy)]
 pub enum Value {
     /// Nothing was put there.
     Unset,

@@ -12,7 +12,7 @@ use layout::{LayoutFault, Program};
 use std::alloc::Global;
 
 /// Why a module is not accepted.
-#[derive(Clone, Copy, PartialEq, Eq)]
+#[derive(Clone, Copy)]
 pub enum Verdict {
     /// An instruction is refused, the first one in text order.
     Refused(Refusal),

@@ -1,5 +1,5 @@
 /// Who makes a step.
-#[derive(Clone, Copy, PartialEq, Eq)]
+#[derive(Clone, Copy)]
 pub enum Actor {
     /// The thread with this number, from 0.
     Thread(u32),

@@ -2,7 +2,7 @@ use crate::reference::Reference;
 use pools::LayoutId;
 
 /// What a thread's current instruction asks for. A base is the cell of the globals, as cell 0, or a reference that is not null.
-#[derive(Clone, Copy, PartialEq, Eq)]
+#[derive(Clone, Copy)]
 pub enum Call {
     /// One step that touches no shared word.
     Local,
@@ -30,7 +30,7 @@ pub enum Call {
 }
 
 /// What a call gets back.
-#[derive(Clone, Copy, PartialEq, Eq)]
+#[derive(Clone, Copy)]
 pub enum Answer {
     Done,
     /// What was read, or the cell of an alloc.

@@ -5,7 +5,7 @@ use crate::reference::Reference;
 use crate::shared::Shared;
 
 /// How a move itself breaks a run.
-#[derive(Clone, Copy, PartialEq, Eq)]
+#[derive(Clone, Copy)]
 pub enum Cause {
     /// The thread is at an instruction that has no meaning.
     Wrong,

@@ -1,7 +1,7 @@
 use crate::reference::Reference;
 
 /// A step of a thread: a local one, or one on the heap with its references.
-#[derive(Clone, Copy, PartialEq, Eq)]
+#[derive(Clone, Copy)]
 pub enum Move {
     /// A local step.
     Works,

@@ -1,5 +1,5 @@
 /// What a thread's roots are after its move.
-#[derive(Clone, Copy, PartialEq, Eq)]
+#[derive(Clone, Copy)]
 pub enum RootsAfter {
     /// They are those before it.
     Same,

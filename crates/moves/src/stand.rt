@@ -2,7 +2,7 @@ use crate::reference::Reference;
 use items::Items;
 
 /// Where a thread is in the call that it asks for.
-#[derive(Clone, Copy, PartialEq, Eq)]
+#[derive(Clone, Copy)]
 pub enum Stance {
     /// Between two calls.
     Ready,

@@ -8,7 +8,7 @@ use serving::{Job, ServingEnd};
 use std::alloc::{AllocError, Global};
 
 /// How a thread of a run ended.
-#[derive(Clone, Copy, PartialEq, Eq)]
+#[derive(Clone, Copy)]
 pub enum ThreadEnd {
     /// Its first function returned, with this result if it has one.
     Returned(Option<Value>),

@@ -1,5 +1,5 @@
 /// How a blank is printed between quotes.
-#[derive(Clone, Copy, PartialEq, Eq)]
+#[derive(Clone, Copy)]
 pub enum Blank {
     /// As it is.
     Kept,

@@ -1,7 +1,7 @@
 use std::alloc::AllocError;
 
 /// A fault of a text, with how much of the text is left where it is found.
-#[derive(Clone, Copy, PartialEq, Eq)]
+#[derive(Clone, Copy)]
 pub enum Found<M> {
     /// No form continues with this word or line end.
     Syntax(usize),

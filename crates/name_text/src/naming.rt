@@ -11,7 +11,7 @@ use items::Items;
 use std::alloc::{AllocError, Global};
 
 /// The sign before a name.
-#[derive(Clone, Copy, PartialEq, Eq)]
+#[derive(Clone, Copy)]
 pub enum Sigil {
     /// `@`.
     Global,

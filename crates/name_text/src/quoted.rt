@@ -3,7 +3,7 @@ ghost use Rattle.std.specs.Prelude.{◌≡◌};
 ghost use Rattle.name_text.specs.Names as spec;
 
 /// The bytes that are printed for one byte between quotes.
-#[derive(Clone, Copy, PartialEq, Eq)]
+#[derive(Clone, Copy)]
 pub enum QuotedByte {
     /// The byte itself.
     Shown([u8; 1]),

@@ -12,7 +12,7 @@ use pools::LayoutId;
 use std::alloc::{AllocError, Global};
 
 /// How much is promised at first.
-#[derive(Clone, Copy, PartialEq, Eq)]
+#[derive(Clone, Copy)]
 pub enum Boldness {
     /// No reference is null.
     Bold,

@@ -8,7 +8,7 @@ use stepping::Gone;
 use trace_text::Actor;
 
 /// Why a run is broken after a step.
-#[derive(Clone, Copy, PartialEq, Eq)]
+#[derive(Clone, Copy)]
 pub enum BreakCause {
     /// The step itself went wrong or used a cell that was gone.
     OfStep(moves::Cause),
@@ -31,7 +31,7 @@ impl Display for BreakCause {
 }
 
 /// The first step after which a run is broken.
-#[derive(Clone, Copy, PartialEq, Eq)]
+#[derive(Clone, Copy)]
 pub struct Break {
     /// The step's number, from 1.
     pub step: u64,
@@ -60,14 +60,14 @@ pub enum Outcome {
 }
 
 /// A seed whose schedule breaks its run.
-#[derive(Clone, Copy, PartialEq, Eq)]
+#[derive(Clone, Copy)]
 pub struct SeedBreak {
     pub seed: u32,
     pub broken: Break,
 }
 
 /// The outcome of many seeds: the least one whose schedule breaks its run, or that there is none.
-#[derive(Clone, Copy, PartialEq, Eq)]
+#[derive(Clone, Copy)]
 pub enum SoakOutcome {
     Sound,
     Broken(SeedBreak),

@@ -1,7 +1,7 @@
 use machine::Value;
 
 /// Where a thread is after a run.
-#[derive(Clone, Copy, PartialEq, Eq)]
+#[derive(Clone, Copy)]
 pub enum ThreadOutcome {
     /// It begins late, and has not begun.
     Absent,

@@ -27,7 +27,7 @@ pub struct Job<R> {
 }
 
 /// How many turns the collector makes at most, and after how many steps a thread is stopped.
-#[derive(Clone, Copy, Debug, PartialEq, Eq)]
+#[derive(Clone, Copy)]
 pub struct Limits {
     pub turns: u32,
     pub steps: u32,

@@ -19,7 +19,7 @@ const ARRIVAL: u64 = 3;
 const FAILED_TRY: u64 = 4;
 
 /// How the serving of a thread ended.
-#[derive(Clone, Copy, Debug, PartialEq, Eq)]
+#[derive(Clone, Copy)]
 pub enum ServingEnd {
     /// It asked for its end.
     Ended,

@@ -8,7 +8,7 @@ use items::Items;
 use std::alloc::{AllocError, Global};
 
 /// What a local name was defined as.
-#[derive(Clone, Copy, PartialEq, Eq)]
+#[derive(Clone, Copy)]
 pub enum Origin {
     /// Nothing that can be a slot.
     Nowhere,

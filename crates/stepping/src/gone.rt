@@ -5,7 +5,7 @@ ghost use Rattle.stepping.specs.Reach.{IsSchemaOf};
 use pools::{Layouts, Pools, WordKind};
 
 /// A reference is gone that can be reached.
-#[derive(Clone, Copy, PartialEq, Eq)]
+#[derive(Clone, Copy)]
 pub enum Gone {
     /// This cell can be reached, and is free.
     Blue(u64),

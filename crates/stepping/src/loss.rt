@@ -9,7 +9,7 @@ use colours::Turn;
 use moves::{Move, RootsAfter};
 
 /// Whether a step may lose something: leave a reference that is gone reachable, where none was before.
-#[derive(Clone, Copy, PartialEq, Eq)]
+#[derive(Clone, Copy)]
 pub enum Loss {
     /// It may not: it frees no cell, stores no reference, begins no thread, and leaves the roots of its thread unchanged.
     Nothing,

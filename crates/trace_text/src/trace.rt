@@ -9,7 +9,7 @@ pub const THREAD_LIMIT: usize = 64;
 pub const STEP_LIMIT: u64 = 10_000_000;
 
 /// Who makes a step.
-#[derive(Clone, Copy, PartialEq, Eq)]
+#[derive(Clone, Copy)]
 pub enum Actor {
     /// The thread with this number; threads are numbered from 0 in the order of their starts.
     Thread(u32),
@@ -17,14 +17,14 @@ pub enum Actor {
 }
 
 /// Steps of one actor, one after the other.
-#[derive(Clone, Copy, PartialEq, Eq)]
+#[derive(Clone, Copy)]
 pub struct Steps {
     pub actor: Actor,
     pub count: u32,
 }
 
 /// When a thread begins.
-#[derive(Clone, Copy, PartialEq, Eq)]
+#[derive(Clone, Copy)]
 pub enum Arrival {
     /// It is there from the first step on.
     AtStart,

@@ -6,7 +6,7 @@ ghost use Rattle.trace_text.specs.Arrivals as spec;
 use crate::trace::{Arrival, Start};
 
 /// The version of a trace's text.
-#[derive(Clone, Copy, PartialEq, Eq)]
+#[derive(Clone, Copy)]
 pub enum Version {
     /// No thread begins late.
     One,
