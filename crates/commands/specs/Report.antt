@@ -100,6 +100,7 @@ abbrev pub of_layout_fault : Module → LayoutFault → Answer
 of_layout_fault m (layout.HoldsItself number) = unread (codes "Y1 " ++ found_name (name_of_struct m number))
 of_layout_fault m (layout.TooManyWords number) = unread (codes "Y2 " ++ found_name (name_of_struct m number))
 of_layout_fault m (layout.NoSuchLayout number) = unread (codes "Y3")
+of_layout_fault m layout.ShapesWanted = unread (codes "Y5")
 of_layout_fault m layout.Memory = no_memory
 
 -- ---- the check

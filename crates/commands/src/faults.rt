@@ -128,6 +128,10 @@ pub fn no_layouts<W: Write>(err: &mut W, of_module: &Module, fault: LayoutFault)
             writeln!(err, "error Y3")?;
             Ok(STATUS_UNREADABLE)
         }
+        LayoutFault::ShapesWanted => {
+            writeln!(err, "error Y5")?;
+            Ok(STATUS_UNREADABLE)
+        }
         LayoutFault::Memory => memory(err),
     }
 }
@@ -181,6 +185,7 @@ pub fn code_of_edit(fault: &EditFault) -> &'static str
     match fault {
         EditFault::NoFunction => "L5",
         EditFault::NoSection => "C3",
+        EditFault::ShapesWanted => "C2",
         EditFault::Code(fault) => code_of_module(fault),
         EditFault::Cert(fault) => code_of_certificate(*fault),
         EditFault::Memory => "memory",
