@@ -8,4 +8,4 @@ mod tables;
 
 pub use function::copy_function;
 pub use of_module::copy_module;
-pub use tables::{copy_names, copy_types};
+pub use tables::{Tables, copy_names, copy_tables, copy_types};
