@@ -14,8 +14,8 @@ use Rattle.ir_forms.specs.Place.{Place}
 use Rattle.ir_forms.specs.declared.fault.Fault.{Fault}
 use Rattle.ir_forms.specs.declared.input.Input.{Input}
 use Rattle.ir_forms.specs.Input.{Form, Outcome, start_of, unexpected, skip, sees_a}
-use Rattle.ir_text.specs.declared.anew.Tables.{Tables}
-use Rattle.ir_text.specs.declared.anew.Replacement.{Replacement}
+use Rattle.copies.specs.declared.tables.Tables.{Tables}
+use Rattle.function_text.specs.declared.anew.Replacement.{Replacement}
 use Rattle.ir_text.specs.declared.items_of_text.FunctionHead.{FunctionHead}
 use Rattle.ir_text.specs.declared.read_fault.ReadFault.{ReadFault}
 use Rattle.ir_text.specs.declared.read_fault.ReadFault.TheVariants as shown

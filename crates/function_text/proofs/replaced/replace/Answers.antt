@@ -1,6 +1,6 @@
-use Rattle.ir_text.proofs.ReplacedLaws.{found, only, not_refused, no_fault, fault, no_text, only_fault, refused_for_memory, no_other_fault}
-use Rattle.ir_text.specs.Replaced.{IsReplaceFault}
-use Rattle.ir_text.proofs.replaced.replace.Goals as goal
+use Rattle.function_text.proofs.ReplacedLaws.{found, only, not_refused, no_fault, fault, no_text, only_fault, refused_for_memory, no_other_fault}
+use Rattle.function_text.specs.Replaced.{IsReplaceFault}
+use Rattle.function_text.proofs.replaced.replace.Goals as goal
 
 pub returns-in_err-tables-clause-fault : goal.returns-in_err-tables-clause-fault
 returns-in_err-tables-clause-fault c = refused_for_memory (IsReplaceFault c.args.of_module.now c.args.func c.args.bytes.now) c.from_residual.result c.from_residual.ensures.1

@@ -3,14 +3,15 @@ use Rattle.std.proofs.Common.{◌≡◌, ℕ, Result, Ok, Err, ap, sym, subst, �
 use Rattle.std.specs.Prelude.{IfOk, IfErr, IsErrAnd, ◌≢◌}
 use Rattle.ir_tokens.specs.Bytes.{Text}
 use Rattle.ir_ast.specs.declared.module.Module.{Module}
-use Rattle.ir_text.specs.declared.anew.Replacement.{Replacement}
-use Rattle.ir_text.specs.declared.anew.Tables.{Tables}
+use Rattle.function_text.specs.declared.anew.Replacement.{Replacement}
+use Rattle.copies.specs.declared.tables.Tables.{Tables}
 use Rattle.ir_text.specs.declared.read_fault.ReadFault.{ReadFault}
 use Rattle.ir_text.specs.declared.read_fault.ReadFault.TheVariants.{Memory}
 use Rattle.ir_text.specs.Read.{Gives}
-use Rattle.ir_text.specs.Anew.{IsTextAnew, IsFaultAnew}
-use Rattle.ir_text.specs.Replaced.{tables_of, name_of, with_replacement, IsReplaced, IsReplaceFault}
-use Rattle.ir_text.proofs.Laws.{gives_same}
+use Rattle.function_text.specs.Anew.{IsTextAnew, IsFaultAnew}
+use Rattle.copies.specs.Tables.{tables_of}
+use Rattle.function_text.specs.Replaced.{name_of, with_replacement, IsReplaced, IsReplaceFault}
+use Rattle.function_text.proofs.AnewLaws.{gives_same}
 
 abbrev ok : {X : Type 0} → X → Result X ReadFault
 ok x = Ok x

@@ -1,34 +1,23 @@
 //! One function of a module, read anew.
 ghost use Rattle.std.specs.Prelude.{◌≡◌, ◌≢◌, ◌≤◌, length, IfOk, IfErr, Ok, Err};
 ghost use Rattle.ir_forms.specs.Input.{Reads};
-ghost use Rattle.ir_text.specs.Anew as spec;
-ghost use Rattle.ir_text.specs.Anew.{IsTextAnew, IsFaultAnew};
+ghost use Rattle.function_text.specs.Anew as spec;
+ghost use Rattle.function_text.specs.Anew.{IsTextAnew, IsFaultAnew};
 ghost use Rattle.ir_text.specs.Read.{Gives, text_limit};
-ghost use Rattle.ir_text.specs.declared.anew.Replacement.{Replacement as AReplacement};
+ghost use Rattle.function_text.specs.declared.anew.Replacement.{Replacement as AReplacement};
 ghost use Rattle.ir_text.specs.declared.read_fault.ReadFault.{ReadFault as AFault};
 ghost use Rattle.ir_text.specs.declared.read_fault.ReadFault.TheVariants.{Memory};
 
-use crate::items_of_text::{FunctionHead, body_after, defined_result, head_after};
-use crate::late::late_fault;
-use crate::read_fault::ReadFault;
-use crate::reader::located;
-use ir_ast::{FuncId, Function, Names, SymbolSort, Types};
+use copies::Tables;
+use ir_ast::{FuncId, Function, Names, SymbolSort};
 use ir_forms::{Cursor, Fault, Input, Table};
+use ir_text::{
+    FunctionHead, ReadFault, body_after, defined_result, head_after, late_fault, located,
+};
 use ir_tokens::{Kind, Lexed, Position, TEXT_LIMIT, read_tokens};
 use items::Items;
-use pools::LayoutId;
 use std::alloc::{AllocError, Global};
 use std::mem;
-
-/// The names and types that a module mentions, and what its names stand for.
-#[derive(Drop)]
-pub struct Tables {
-    pub types: Types,
-    pub struct_names: Names,
-    pub struct_of: Items<Option<LayoutId>>,
-    pub symbols: Names,
-    pub sorts: Items<SymbolSort>,
-}
 
 /// A function that is read anew, with the tables of its module, to which its text may add.
 #[derive(Drop)]
@@ -122,16 +111,27 @@ fn start_with<'x>(alloc: Global, tables: Tables, cursor: Cursor<'x>) -> Input<'x
     ensures { result ≡ spec.start_with tables cursor.entry }
 {
     Input {
+        cursor,
         types: tables.types,
         struct_names: Table {
             names: tables.struct_names,
             sorts: tables.struct_of,
         },
+        struct_uses: Items::new(alloc),
         symbols: Table {
             names: tables.symbols,
             sorts: tables.sorts,
         },
-        ..Input::new(alloc, cursor)
+        symbol_uses: Items::new(alloc),
+        locals: Table::new(alloc),
+        local_uses: Items::new(alloc),
+        values: 0,
+        unnamed: 0,
+        missing: None,
+        structs: Items::new(alloc),
+        globals: Items::new(alloc),
+        declares: Items::new(alloc),
+        functions: Items::new(alloc),
     }
 }
 

@@ -4,14 +4,11 @@ use Rattle.ir_tokens.specs.Bytes.{Text}
 use Rattle.ir_ast.specs.Names.{name_at}
 use Rattle.ir_ast.specs.declared.function.Function.{Function}
 use Rattle.ir_ast.specs.declared.module.Module.{Module}
-use Rattle.ir_text.specs.Anew.{IsTextAnew, IsFaultAnew}
-use Rattle.ir_text.specs.declared.anew.Replacement.{Replacement}
-use Rattle.ir_text.specs.declared.anew.Tables.{Tables}
+use Rattle.copies.specs.Tables.{tables_of}
+use Rattle.function_text.specs.Anew.{IsTextAnew, IsFaultAnew}
+use Rattle.function_text.specs.declared.anew.Replacement.{Replacement}
+use Rattle.copies.specs.declared.tables.Tables.{Tables}
 use Rattle.ir_text.specs.declared.read_fault.ReadFault.{ReadFault}
-
--- the tables of a module
-abbrev pub tables_of : Module → Tables
-tables_of m = record { types = m.types; struct_names = m.struct_names; struct_of = m.struct_of; symbols = m.symbols; sorts = m.sorts }
 
 -- the name of a function, if there is one
 abbrev pub name_in : Module → Option Function → Text
