@@ -1,8 +1,9 @@
 //! One function of a module, read anew from a text of its own.
 use crate::texts::joined;
+use function_text::replace;
 use ir_ast::{FuncId, Module};
 use ir_print::print;
-use ir_text::{ReadFault, read, replace};
+use ir_text::{ReadFault, read};
 use std::alloc::{AllocError, Global};
 use std::test::Fail;
 
