@@ -13,6 +13,8 @@ mod late;
 #[cfg(test)]
 mod opening;
 #[cfg(test)]
+mod parts;
+#[cfg(test)]
 mod steps;
 #[cfg(test)]
 mod tests;
