@@ -15,6 +15,8 @@ mod opening;
 #[cfg(test)]
 mod parts;
 #[cfg(test)]
+mod starved;
+#[cfg(test)]
 mod steps;
 #[cfg(test)]
 mod tests;
