@@ -1,6 +1,6 @@
 use Rattle.std.proofs.Common.{◌∙◌}
 use Rattle.serving.proofs.Roots.{root_fits, one_cell_more}
-use Rattle.serving.proofs.calls.root_cells.Goals as goal
+use Rattle.serving.proofs.root_cells.fill.Goals as goal
 
 pub cell_of-requires : goal.cell_of-requires
 cell_of-requires g c = root_fits c.args.me.now.setup _ (g.R.Machine.roots c.args.machine.now) c.deref-root-items.result.now c.loop-root.root-index c.root-item.result c.requires.same (c.deref-root-items.ensures.value ∙ c.in_ok-roots.ensures)
