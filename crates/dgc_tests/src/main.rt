@@ -8,28 +8,16 @@
 #![tactic(auto)]
 
 #[cfg(test)]
-mod anew_tests;
-#[cfg(test)]
-mod block_tests;
-#[cfg(test)]
 mod command_tests;
-#[cfg(test)]
-mod machine_tests;
 #[cfg(test)]
 mod meeting;
 mod printed;
-#[cfg(test)]
-mod printing_tests;
-#[cfg(test)]
-mod reading_tests;
 #[cfg(test)]
 mod replaying_tests;
 mod row;
 mod row_failure;
 #[cfg(test)]
 mod running_tests;
-#[cfg(test)]
-mod section_tests;
 #[cfg(test)]
 mod texts;
 #[cfg(test)]

@@ -5,10 +5,6 @@ use std::alloc::{AllocError, Global};
 pub(crate) const HEAD: &str =
     "%Node = type { i64, %Node* }\n@g = global %Node* null\ndeclare i8* @dg_alloc(i32)\ndeclare void @dg_safepoint()\ndeclare void @llvm.gcroot(i8**, i8*)\ndeclare i8* @llvm.gcread(i8*, i8**)\ndeclare void @llvm.gcwrite(i8*, i8*, i8**)\n";
 
-/// Claims a cell and keeps it in its slot, if it is not null.
-pub(crate) const TWO: &str =
-    "define void @two() gc \"shadow-stack\" {\nentry:\n  %s = alloca %Node*\n  %r = bitcast %Node** %s to i8**\n  call void @llvm.gcroot(i8** %r, i8* null)\n  %a = call i8* @dg_alloc(i32 0)\n  %x = bitcast i8* %a to %Node*\n  %c = icmp eq %Node* %x, null\n  br i1 %c, label %no, label %ok\nno:\n  ret void\nok:\n  store %Node* %x, %Node** %s\n  ret void\n}\n";
-
 /// Loads its root again after the safepoints.
 pub(crate) const FOUR: &str =
     "define void @four() gc \"shadow-stack\" {\nentry:\n  %s = alloca %Node*\n  %r = bitcast %Node** %s to i8**\n  call void @llvm.gcroot(i8** %r, i8* null)\n  %a = call i8* @dg_alloc(i32 0)\n  %x = bitcast i8* %a to %Node*\n  %c = icmp eq %Node* %x, null\n  br i1 %c, label %no, label %ok\nno:\n  ret void\nok:\n  store %Node* %x, %Node** %s\n  call void @dg_safepoint()\n  call void @dg_safepoint()\n  call void @dg_safepoint()\n  %y = load %Node*, %Node** %s\n  %p = getelementptr %Node, %Node* %y, i32 0, i32 0\n  %v = load i64, i64* %p\n  ret void\n}\n";

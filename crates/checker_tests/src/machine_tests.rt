@@ -3,7 +3,6 @@ use ir_ast::FuncId;
 use ir_text::read;
 use layout::Program;
 use machine::{Action, Answer, StartFault, Thread};
-use pools::LayoutId;
 use std::alloc::{AllocError, Global};
 use std::test::Fail;
 
@@ -15,11 +14,17 @@ const DOWN: &str =
 const PARITY: &str =
     "%T = type { i64 }\ndeclare i8* @dg_alloc(i32)\ndefine void @main(i64 %n) gc \"shadow-stack\" {\nentry:\n  %v = call i64 @even(i64 %n)\n  %c = icmp eq i64 %v, 1\n  br i1 %c, label %yes, label %no\nyes:\n  %a = call i8* @dg_alloc(i32 0)\n  ret void\nno:\n  ret void\n}\ndefine i64 @even(i64 %n) {\nentry:\n  %c = icmp eq i64 %n, 0\n  br i1 %c, label %out, label %on\non:\n  %m = sub i64 %n, 1\n  %v = call i64 @odd(i64 %m)\n  ret i64 %v\nout:\n  ret i64 1\n}\ndefine i64 @odd(i64 %n) {\nentry:\n  %c = icmp eq i64 %n, 0\n  br i1 %c, label %out, label %on\non:\n  %m = sub i64 %n, 1\n  %v = call i64 @even(i64 %m)\n  ret i64 %v\nout:\n  ret i64 0\n}\n";
 
-/// The number of local steps of a thread, and what it asks for after them.
-#[derive(Clone, Copy)]
-struct Fate {
-    steps: u32,
-    asked: Action,
+/// The number of local steps of a thread, and what it asks for after them, with the number of a layout.
+type Fate = (u32, &'static str, u32);
+
+/// The fate of a thread after this number of steps.
+fn fate_after(steps: u32, asked: Action) -> Fate {
+    match asked {
+        Action::Local => (steps, "local", 0),
+        Action::End => (steps, "end", 0),
+        Action::Alloc(layout) => (steps, "alloc", layout.number()),
+        _ => (steps, "other", 0),
+    }
 }
 
 fn program_of(alloc: Global, text: &str) -> Option<Program> {
@@ -33,15 +38,12 @@ fn program_of(alloc: Global, text: &str) -> Option<Program> {
 fn fate_of(thread: &mut Thread<'_>) -> Result<Fate, AllocError> {
     for steps in 0..100_000u32 {
         let asked = thread.next();
-        if asked != Action::Local {
-            return Ok(Fate { steps, asked });
+        if !matches!(asked, Action::Local) {
+            return Ok(fate_after(steps, asked));
         }
         thread.resume(Answer::Done)?;
     }
-    Ok(Fate {
-        steps: 100_000,
-        asked: Action::Local,
-    })
+    Ok(fate_after(100_000, Action::Local))
 }
 
 /// Starts a thread at a program's first function with this number, and makes its local steps.
@@ -72,48 +74,39 @@ fn tried(alloc: Global, text: &str, number: u64) -> Result<Option<Fate>, AllocEr
     }
 }
 
+/// What comes of the deepest calls for which there is room, and of one more.
+fn depths(alloc: Global) -> Result<[Option<Fate>; 2], AllocError> {
+    Ok([tried(alloc, DOWN, 9_999)?, tried(alloc, DOWN, 10_000)?])
+}
+
+// Four steps a level on the way down, three in the deepest, one for each return but the last. A call that has no room for its
+// frame ends the thread.
 #[test]
 fn a_thread_has_ten_thousand_frames(rt: HostRuntime) -> Result<(), Fail> {
-    let alloc = rt.alloc();
-    // Four steps a level on the way down, three in the deepest, one for each return but the last.
-    let deepest = tried(alloc, DOWN, 9_999)?;
-    assert!(rt;
-        deepest
-            == Some(Fate {
-                steps: 4 * 9_999 + 3 + 9_998,
-                asked: Action::End
-            })
-    );
-    // A call that has no room for its frame ends the thread.
-    let too_deep = tried(alloc, DOWN, 10_000)?;
-    assert!(rt;
-        too_deep
-            == Some(Fate {
-                steps: 4 * 9_999 + 3,
-                asked: Action::End
-            })
+    assert_eq!(rt;
+        depths(rt.alloc())?,
+        [
+            Some((4 * 9_999 + 3 + 9_998, "end", 0)),
+            Some((4 * 9_999 + 3, "end", 0)),
+        ]
     );
     Ok(())
 }
 
+/// What comes of an even number, and of an odd one.
+fn parities(alloc: Global) -> Result<[Option<Fate>; 2], AllocError> {
+    Ok([tried(alloc, PARITY, 1_000)?, tried(alloc, PARITY, 7)?])
+}
+
+// A call, four steps a level on the way down, three in the deepest, a return for each of the others, the test of the result.
 #[test]
 fn functions_call_each_other(rt: HostRuntime) -> Result<(), Fail> {
-    let alloc = rt.alloc();
-    // A call, four steps a level on the way down, three in the deepest, a return for each of the others, the test of the result.
-    let even = tried(alloc, PARITY, 1_000)?;
-    let steps = 1 + 4 * 1_000 + 3 + 1_000 + 2;
-    assert!(rt;
-        even == Some(Fate {
-            steps,
-            asked: Action::Alloc(LayoutId::new(0))
-        })
-    );
-    let odd = tried(alloc, PARITY, 7)?;
-    assert!(rt;
-        odd == Some(Fate {
-            steps: 1 + 4 * 7 + 3 + 7 + 2,
-            asked: Action::End
-        })
+    assert_eq!(rt;
+        parities(rt.alloc())?,
+        [
+            Some((1 + 4 * 1_000 + 3 + 1_000 + 2, "alloc", 0)),
+            Some((1 + 4 * 7 + 3 + 7 + 2, "end", 0)),
+        ]
     );
     Ok(())
 }

@@ -25,19 +25,28 @@ fn is_printed_as(alloc: Global, text: &[u8], printed: &[u8]) -> Result<bool, All
     }
 }
 
+/// Whether a function as a compiler prints it, and as `print` does, is printed as by `print`.
+fn are_printed(alloc: Global) -> Result<(bool, bool), AllocError> {
+    Ok((
+        is_printed_as(alloc, ADDS.as_bytes(), ADDS_PRINTED.as_bytes())?,
+        is_printed_as(alloc, ADDS_PRINTED.as_bytes(), ADDS_PRINTED.as_bytes())?,
+    ))
+}
+
 #[test]
 fn prints_without_decorations(rt: HostRuntime) -> Result<(), Fail> {
-    let alloc = rt.alloc();
-    assert!(rt; is_printed_as(alloc, ADDS.as_bytes(), ADDS_PRINTED.as_bytes())?);
-    assert!(rt; is_printed_as(alloc, ADDS_PRINTED.as_bytes(), ADDS_PRINTED.as_bytes())?);
+    assert_eq!(rt; are_printed(rt.alloc())?, (true, true));
     Ok(())
+}
+
+/// Whether the module of these texts is printed as they are: one item or instruction a line, without decorations.
+fn is_printed_again(alloc: Global, texts: &[&str]) -> Result<bool, AllocError> {
+    let text = joined(alloc, texts)?;
+    is_printed_as(alloc, text.as_slice(), text.as_slice())
 }
 
 #[test]
 fn prints_its_own_form_again(rt: HostRuntime) -> Result<(), Fail> {
-    let alloc = rt.alloc();
-    // This text has the printed form: one item or instruction a line, without decorations.
-    let text = joined(alloc, [HEAD, TWO].as_slice())?;
-    assert!(rt; is_printed_as(alloc, text.as_slice(), text.as_slice())?);
+    assert!(rt; is_printed_again(rt.alloc(), [HEAD, TWO].as_slice())?);
     Ok(())
 }

@@ -1,36 +1,8 @@
-//! Modules that are read: texts that are cut at any byte, and what a compiler prints.
-use crate::texts::{HEAD, TWO, joined};
+//! A module that a compiler prints.
 use ir_ast::{Function, Module};
-use ir_text::{ReadFault, read};
+use ir_text::read;
 use std::alloc::{AllocError, Global};
 use std::test::Fail;
-
-/// Whether this can be the front of a module. It is a smaller module, or it has a bad byte or ends too early, or it ends in
-/// the front of an intrinsic's name.
-fn may_be_cut(alloc: Global, text: &[u8]) -> bool {
-    match read(alloc, text) {
-        Ok(module) => {
-            let count = module.functions.len();
-            drop(module);
-            count <= 1
-        }
-        Err(ReadFault::BadByte(_) | ReadFault::Unfinished(_) | ReadFault::Unexpected(_)) => true,
-        Err(ReadFault::LeftOut { word, .. }) => {
-            word.as_slice().starts_with(b"@llvm.") && text.ends_with(word.as_slice())
-        }
-        Err(_) => false,
-    }
-}
-
-#[test]
-fn reads_each_front_of_a_text(rt: HostRuntime) -> Result<(), Fail> {
-    let alloc = rt.alloc();
-    let text = joined(alloc, [HEAD, TWO].as_slice())?;
-    for end in 0..text.len() {
-        assert!(rt; may_be_cut(alloc, &text[..end]), "{end}");
-    }
-    Ok(())
-}
 
 /// What a C compiler prints for a small function: values and blocks without names, with decorations.
 const COMPILED: &str =
@@ -75,8 +47,7 @@ fn has_blocks(alloc: Global, text: &[u8], sizes: &[(usize, usize)]) -> Result<bo
 
 #[test]
 fn reads_what_a_compiler_prints(rt: HostRuntime) -> Result<(), Fail> {
-    let alloc = rt.alloc();
     let sizes = [(0, 5), (0, 0), (1, 0)];
-    assert!(rt; has_blocks(alloc, COMPILED.as_bytes(), sizes.as_slice())?);
+    assert!(rt; has_blocks(rt.alloc(), COMPILED.as_bytes(), sizes.as_slice())?);
     Ok(())
 }
