@@ -5,23 +5,20 @@
 //! - `args`: the command line after `dgc`, one word a line.
 //! - `status`, `stdout`, `stderr`: the wanted exit status and the wanted bytes of both outputs.
 //! - The files that `args` names. A file that is not there cannot be read by the command either.
+//!
+//! Before the rows it writes a line for each case that is made here, with its name and what comes of it. The file `stdout` has what
+//! must be written.
 #![tactic(auto)]
 
-#[cfg(test)]
-mod command_tests;
-#[cfg(test)]
+mod command_cases;
 mod meeting;
 mod printed;
-#[cfg(test)]
-mod replaying_tests;
+mod replaying_cases;
 mod row;
 mod row_failure;
-#[cfg(test)]
-mod running_tests;
-#[cfg(test)]
+mod running_cases;
 mod texts;
-#[cfg(test)]
-mod worker_tests;
+mod worker_cases;
 
 use row::CommandRow;
 use row_failure::RowFailure;
@@ -102,11 +99,23 @@ fn tally_of<O: Write>(
     Ok(tally)
 }
 
-/// Runs all rows and writes how many are as wanted. Returns whether all are.
+/// Writes what comes of each case that is made here.
+fn write_cases<O: Write>(
+    rt: &(impl Runtime + AllocGlobal + Threads + Sync),
+    out: &mut O,
+) -> Result<(), RowFailure> {
+    command_cases::write_cases(rt, out)?;
+    replaying_cases::write_cases(rt, out)?;
+    running_cases::write_cases(rt, out)?;
+    worker_cases::write_cases(rt, out)
+}
+
+/// Writes what comes of the cases that are made here. Then runs all rows and writes how many are as wanted. Returns whether all are.
 fn run<O: Write>(
     rt: &(impl Runtime + AllocGlobal + Threads + Sync),
     out: &mut O,
 ) -> Result<bool, RowFailure> {
+    write_cases(rt, out)?;
     let Tally { alike, different } = tally_of(rt, out)?;
     writeln!(out, "{alike} rows as wanted, {different} not")?;
     Ok(different == 0)

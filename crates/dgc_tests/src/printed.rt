@@ -61,6 +61,15 @@ impl Printed {
             && self.err.as_slice() == other.err.as_slice()
     }
 
+    /// Writes a line with this name, the status and both outputs.
+    pub fn write<W: Write>(&self, out: &mut W, name: &str) -> io::Result<()> {
+        write!(out, "{name}: {} '", self.status)?;
+        write_front(out, self.out.as_slice())?;
+        write!(out, "' '")?;
+        write_front(out, self.err.as_slice())?;
+        writeln!(out, "'")
+    }
+
     /// Returns whether this is as wanted, and writes what differs in the row of this name.
     pub fn compare<W: Write>(&self, out: &mut W, name: &str, wanted: &Printed) -> io::Result<bool> {
         if self.status != wanted.status {
@@ -93,8 +102,19 @@ fn write_difference<W: Write>(
     writeln!(out, "'")
 }
 
+/// Writes a text up to the end of the first place where the other one stands in it; all of it where there is none.
+pub fn write_up_to<W: Write>(out: &mut W, text: &str, last: &str) -> io::Result<()> {
+    match text.split_once(last) {
+        Some((front, _)) => {
+            write_front(out, front.as_bytes())?;
+            write_front(out, last.as_bytes())
+        }
+        None => write_front(out, text.as_bytes()),
+    }
+}
+
 /// Writes the first bytes of a text, a line end as `\n`.
-fn write_front<W: Write>(out: &mut W, text: &[u8]) -> io::Result<()> {
+pub fn write_front<W: Write>(out: &mut W, text: &[u8]) -> io::Result<()> {
     for byte in text.iter().take(SHOWN) {
         if *byte == b'\n' {
             out.write_all(b"\\n".as_slice())?;

@@ -123,7 +123,7 @@ impl CommandRow {
             certificate_path: module_path,
             workers: 1,
         });
-        printed_of(rt, &line, files.as_slice())
+        Ok(printed_of(rt, &line, files.as_slice()))
     }
 
     /// Runs the command of a line that is accepted.
@@ -140,16 +140,16 @@ impl CommandRow {
             let path = format!(in alloc; "{}/{path}", self.folder)?;
             files.push(bytes_of(rt, path.as_str())?)?;
         }
-        printed_of(rt, line, files.as_slice())
+        Ok(printed_of(rt, line, files.as_slice()))
     }
 }
 
-/// Runs the command of a line on the bytes of its files.
-fn printed_of(
+/// What the command of a line prints of the bytes of its files.
+pub fn printed_of(
     rt: &(impl Runtime + AllocGlobal + Threads + Sync),
     line: &Line<'_>,
     files: &[Option<Vec<u8>>],
-) -> Result<Printed, RowFailure>
+) -> Printed
     requires { HasWorkers (asked_by line.now) }
 {
     let alloc = rt.alloc();
@@ -157,5 +157,5 @@ fn printed_of(
     let mut err = Vec::new(alloc);
     let answered = work(rt, alloc, line, files, &mut out, &mut err);
     let status = status_of(answered);
-    Ok(Printed { status, out, err })
+    Printed { status, out, err }
 }

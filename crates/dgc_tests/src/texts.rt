@@ -1,4 +1,4 @@
-//! Module texts for several tests.
+//! Module texts for several cases, and files of such texts.
 use std::alloc::{AllocError, Global};
 
 /// The seven lines before the functions.
@@ -28,4 +28,16 @@ pub(crate) fn text_of(alloc: Global, bytes: &[u8]) -> Result<String, AllocError>
         Ok(text) => text.to_owned(alloc),
         Err(_) => Ok(String::new(alloc)),
     }
+}
+
+/// A file for each of these lists of texts, which stand in it one after the other.
+pub(crate) fn files_of(
+    alloc: Global,
+    each: &[&[&str]],
+) -> Result<Vec<Option<Vec<u8>>>, AllocError> {
+    let mut files = Vec::new(alloc);
+    for texts in each {
+        files.push(Some(joined(alloc, texts)?))?;
+    }
+    Ok(files)
 }

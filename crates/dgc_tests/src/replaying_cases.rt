@@ -1,11 +1,15 @@
 //! Replays of traces that are made here: one that a seed draws, and those in which an actor stops for good.
-use crate::texts::{FOUR, HEAD, PUBLISHER_AND_CLEARER, joined, text_of};
-use commands::{Line, ReplayLine, status_of, work};
+use crate::printed::write_front;
+use crate::row::printed_of;
+use crate::row_failure::RowFailure;
+use crate::texts::{FOUR, HEAD, PUBLISHER_AND_CLEARER, files_of, joined, text_of};
+use commands::{Line, ReplayLine};
 use ir_text::read;
 use layout::Program;
 use replay::drawn_trace;
 use std::alloc::{AllocError, Global};
-use std::test::Fail;
+use std::io::Write;
+use std::rt::Runtime;
 use std::thread::Threads;
 use trace_text::{Actor, Trace, print_trace, read_trace};
 
@@ -49,21 +53,17 @@ fn program_of(alloc: Global, functions: &str) -> Result<Option<Program>, AllocEr
     }
 }
 
-/// What a replay of this trace of these functions prints.
+/// What a replay of this trace of these functions prints on the standard output.
 fn answer_to(
-    rt: &(impl Threads + Sync),
-    alloc: Global,
+    rt: &(impl Runtime + AllocGlobal + Threads + Sync),
     functions: &str,
     trace: &str,
 ) -> Result<String, AllocError> {
-    let files = vec![in alloc;
-        Some(joined(alloc, [HEAD, functions].as_slice())?),
-        Some(joined(alloc, [trace].as_slice())?),
-    ]?;
-    let mut out = Vec::new(alloc);
-    let mut err = Vec::new(alloc);
-    status_of(work(rt, alloc, &REPLAY, files.as_slice(), &mut out, &mut err));
-    text_of(alloc, out.as_slice())
+    let (functions, trace) = ([HEAD, functions], [trace]);
+    let texts = [functions.as_slice(), trace.as_slice()];
+    let files = files_of(rt.alloc(), texts.as_slice())?;
+    let printed = printed_of(rt, &REPLAY, files.as_slice());
+    text_of(rt.alloc(), printed.out.as_slice())
 }
 
 /// The text of the trace that a seed draws for this program.
@@ -91,14 +91,13 @@ fn drawn_text(alloc: Global, seed: u32) -> Result<String, AllocError> {
     }
 }
 
-#[test]
-fn replays_what_a_broken_seed_draws(rt: HostRuntime) -> Result<(), Fail> {
-    let alloc = rt.alloc();
-    // By the row `register_kept_for_ever` this is the least seed whose run is broken.
-    let text = drawn_text(alloc, 50)?;
-    let answer = answer_to(&rt, alloc, KEEPER, text.as_str())?;
-    assert_eq!(rt; answer.as_str(), "broken 45 t 0 touch-blue 1\n", "{text}");
-    Ok(())
+/// What a replay prints of the trace that a seed draws for the keeper.
+fn drawn_answer(
+    rt: &(impl Runtime + AllocGlobal + Threads + Sync),
+    seed: u32,
+) -> Result<String, AllocError> {
+    let text = drawn_text(rt.alloc(), seed)?;
+    answer_to(rt, KEEPER, text.as_str())
 }
 
 /// The actor of each step of a trace.
@@ -112,6 +111,24 @@ fn actors_of(alloc: Global, trace: &Trace) -> Result<Vec<Actor>, AllocError> {
     Ok(actors)
 }
 
+/// Whether two actors are the same.
+fn is_same_actor(one: Actor, other: Actor) -> bool {
+    match (one, other) {
+        (Actor::Thread(one), Actor::Thread(other)) => one == other,
+        (Actor::Collector, Actor::Collector) => true,
+        _ => false,
+    }
+}
+
+/// Adds a line with a step of this actor.
+fn push_step(alloc: Global, text: &mut String, actor: Actor) -> Result<(), AllocError> {
+    match actor {
+        Actor::Thread(thread) => text.push_str(format!(in alloc; "t {thread} 1\n")?.as_str())?,
+        Actor::Collector => text.push_str("c 1\n")?,
+    }
+    Ok(())
+}
+
 /// The text of a trace with a step of each of these actors. One of them makes no step after the last place.
 fn stopped(
     alloc: Global,
@@ -122,13 +139,10 @@ fn stopped(
 ) -> Result<String, AllocError> {
     let mut text = String::new(alloc);
     text.push_str(head)?;
+    text.push_str("steps\n")?;
     for (place, actor) in actors.iter().enumerate() {
-        if place > last && *actor == stops {
-            continue;
-        }
-        match actor {
-            Actor::Thread(thread) => text.push_str(format!(in alloc; "t {thread} 1\n")?.as_str())?,
-            Actor::Collector => text.push_str("c 1\n")?,
+        if place <= last || !is_same_actor(*actor, stops) {
+            push_step(alloc, &mut text, *actor)?;
         }
     }
     text.push_str("end\n")?;
@@ -159,41 +173,45 @@ fn actors_at(alloc: Global, functions: &str, trace: &str) -> Result<Vec<Actor>, 
     }
 }
 
-/// For each step of a trace, the trace in which its actor makes no further step.
-fn stops_of(alloc: Global, functions: &str, trace: &str) -> Result<Vec<String>, AllocError> {
-    let mut texts = Vec::new(alloc);
+/// Whether no step breaks the run of these actors in which one of them makes no step after the last place.
+fn is_sound(
+    rt: &(impl Runtime + AllocGlobal + Threads + Sync),
+    case: Case<'_>,
+    actors: &[Actor],
+    last: usize,
+    stops: Actor,
+) -> Result<bool, AllocError> {
+    let (functions, trace) = case;
     let Some((head, _)) = trace.split_once("steps\n") else {
-        return Ok(texts);
+        return Ok(false);
     };
-    let head = format!(in alloc; "{head}steps\n")?;
-    let actors = actors_at(alloc, functions, trace)?;
-    for (last, stops) in actors.iter().enumerate() {
-        texts.push(stopped(alloc, head.as_str(), actors.as_slice(), last, *stops)?)?;
-    }
-    Ok(texts)
+    let text = stopped(rt.alloc(), head, actors, last, stops)?;
+    let answer = answer_to(rt, functions, text.as_str())?;
+    Ok(answer.as_str().starts_with("sound "))
 }
 
-/// Functions with a trace of them, and its number of steps.
-const CASES: [(Case<'static>, usize); 4] = [
-    ((FOUR, FULL_CYCLE), 35),
-    ((FOUR, LATE_FULL_CYCLE), 41),
-    ((PUBLISHER_AND_CLEARER, IN_THE_MIDDLE), 47),
-    ((CLAIMER, THIRD_CLAIM), 27),
-];
-
-#[test]
-fn lets_actors_stop_for_good(rt: HostRuntime) -> Result<(), Fail> {
-    let alloc = rt.alloc();
-    for ((functions, trace), steps) in CASES {
-        let stops = stops_of(alloc, functions, trace)?;
-        assert_eq!(rt; stops.len(), steps);
-        for text in &stops {
-            let answer = answer_to(&rt, alloc, functions, text.as_str())?;
-            assert!(rt; answer.as_str().starts_with("sound "), "{text} {answer}");
+/// The number of steps of a trace, and for how many of them no step breaks the run in which its actor makes no further step.
+fn sound_stops(
+    rt: &(impl Runtime + AllocGlobal + Threads + Sync),
+    case: Case<'_>,
+) -> Result<(usize, u32), AllocError> {
+    let actors = actors_at(rt.alloc(), case.0, case.1)?;
+    let mut sound = 0u32;
+    for (last, stops) in actors.iter().enumerate() {
+        if is_sound(rt, case, actors.as_slice(), last, *stops)? {
+            sound = sound.saturating_add(1);
         }
     }
-    Ok(())
+    Ok((actors.len(), sound))
 }
+
+/// Functions with a trace of them.
+const CASES: [Case<'static>; 4] = [
+    (FOUR, FULL_CYCLE),
+    (FOUR, LATE_FULL_CYCLE),
+    (PUBLISHER_AND_CLEARER, IN_THE_MIDDLE),
+    (CLAIMER, THIRD_CLAIM),
+];
 
 /// What is printed of the trace of a text, if it is a trace of this program.
 fn printed_again(
@@ -234,10 +252,23 @@ fn is_read_again(alloc: Global, functions: &str, trace: &str) -> Result<bool, Al
     }
 }
 
-#[test]
-fn reads_printed_traces_again(rt: HostRuntime) -> Result<(), Fail> {
-    for ((functions, trace), steps) in CASES {
-        assert!(rt; is_read_again(rt.alloc(), functions, trace)?, "{steps}");
+/// Writes a line for each of these cases.
+pub fn write_cases<O: Write>(
+    rt: &(impl Runtime + AllocGlobal + Threads + Sync),
+    out: &mut O,
+) -> Result<(), RowFailure> {
+    // By the row `register_kept_for_ever` 50 is the least seed whose run is broken.
+    write!(out, "replays_what_a_broken_seed_draws: '")?;
+    write_front(out, drawn_answer(rt, 50)?.as_str().as_bytes())?;
+    write!(out, "'\nlets_actors_stop_for_good:")?;
+    for case in CASES {
+        let (steps, sound) = sound_stops(rt, case)?;
+        write!(out, " {sound} of {steps}")?;
     }
+    write!(out, "\nreads_printed_traces_again:")?;
+    for (functions, trace) in CASES {
+        write!(out, " {}", is_read_again(rt.alloc(), functions, trace)?)?;
+    }
+    writeln!(out, "")?;
     Ok(())
 }
