@@ -24,9 +24,9 @@ use Rattle.serving.specs.declared.beside.Limits.{Limits}
 use Rattle.mutators.specs.Faults.{HasNoRunFault, IsRunFault}
 use Rattle.mutators.specs.Reports.{IsReport}
 use Rattle.mutators.specs.declared.report.RunReport.{RunReport}
-use Rattle.commands.specs.declared.asked.Why.{Why}
-use Rattle.commands.specs.declared.asked.Why.TheVariants.{Wanted}
-use Rattle.commands.specs.Asked.{Asked, check, make, recheck, replay, soak, run}
+use Rattle.command_line.specs.declared.asked.Why.{Why}
+use Rattle.command_line.specs.declared.asked.Why.TheVariants.{Wanted}
+use Rattle.command_line.specs.Asked.{Asked, check, make, recheck, replay, soak, run}
 use Rattle.commands.specs.Report.{Answer, IsTold, line_of, made_text, no, no_answer, no_memory, of_layout_fault, yes}
 use Rattle.commands.specs.Runs.{of_outcome, of_setup_fault, of_soak}
 use Rattle.commands.specs.RunReport.{of_report}
@@ -151,5 +151,5 @@ OfCommand (recheck module_path cert_path edits_path) file_at =
     OfCertified (OfEditsFile edits_path (file_at 2)) module_path cert_path (file_at 0) (file_at 1)
 OfCommand (replay module_path trace_path) file_at = OfRun OfTrace module_path trace_path (file_at 0) (file_at 1)
 OfCommand (soak module_path trace_path seeds steps) file_at = OfRun (OfSeeds seeds steps) module_path trace_path (file_at 0) (file_at 1)
-OfCommand (run module_path cert_path trace_path limits) file_at =
-    OfCertified (OfRunCerts limits trace_path (file_at 2)) module_path cert_path (file_at 0) (file_at 1)
+OfCommand (run module_path cert_path trace_path turns steps) file_at =
+    OfCertified (OfRunCerts (record { turns = turns; steps = steps }) trace_path (file_at 2)) module_path cert_path (file_at 0) (file_at 1)

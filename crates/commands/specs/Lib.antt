@@ -1,6 +1,4 @@
 pub mod Report
-pub mod Asked
-pub mod Grammar
 pub mod Runs
 pub mod RunReport
 pub mod Rechecks

@@ -4,9 +4,9 @@ ghost use Rattle.commands.specs.Commands.{OfCertified, OfCerts, OfVerdict, Says}
 ghost use Rattle.commands.specs.Files as spec;
 ghost use Rattle.module_check.specs.Accepted.{IsFirstRefusal, IsVerdictOf};
 
-use crate::asked::CheckLine;
 use crate::files::{Certified, read_certified};
 use crate::outcomes::unread;
+use command_line::CheckLine;
 use module_check::{NotAccepted, Refusal, Verdict};
 use parallel_check::{OpenGate, check_with};
 use std::alloc::Global;

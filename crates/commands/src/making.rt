@@ -8,16 +8,16 @@ ghost use Rattle.cert_maker.specs.Plain.{plain};
 ghost use Rattle.cert_maker.specs.declared.made.MakeFault.TheVariants as fault;
 ghost use Rattle.commands.specs.Commands.{OfMade, OfMake, Says};
 ghost use Rattle.commands.specs.Files as spec;
-ghost use Rattle.commands.specs.declared.asked.Why.TheVariants.{Wanted};
+ghost use Rattle.command_line.specs.declared.asked.Why.TheVariants.{Wanted};
 ghost use Rattle.commands.specs.Report.{IsTold, made_text, no_answer};
 
-use crate::asked::{MakeLine, Why};
 use crate::files::module_in;
 use crate::outcomes::unread;
 use crate::status::{STATUS_NO, STATUS_YES};
 use crate::verdicts::{line_of_refusal, refused};
 use cert_maker::{MakeFault, NotMade, Refused, make};
 use certificate::print_cert;
+use command_line::{MakeLine, Why};
 use ir_ast::Module;
 use module_check::Accepted;
 use std::alloc::Global;

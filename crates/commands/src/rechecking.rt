@@ -9,12 +9,12 @@ ghost use Rattle.commands.specs.Rechecks.{OfEdit, OfEdits, OfSession};
 ghost use Rattle.commands.specs.Report.{Answer, IsTold};
 ghost use Rattle.recheck.specs.declared.edit_fault.EditFault.TheVariants as edit_fault;
 
-use crate::asked::RecheckLine;
 use crate::faults::{code_of_edit, memory, no_layouts};
 use crate::files::{Certified, edits_in, read_certified};
 use crate::outcomes::unread;
 use crate::status::{STATUS_NO, STATUS_YES};
 use crate::verdicts::{accepted, line_of_refusal, refused};
+use command_line::RecheckLine;
 use module_check::{NotAccepted, Verdict};
 use recheck::{Edit, EditFault, Session};
 use std::alloc::{AllocError, Global};

@@ -4,9 +4,9 @@ ghost use Rattle.commands.specs.Commands.{OfRun, OfTrace, Says};
 ghost use Rattle.commands.specs.Files as spec;
 ghost use Rattle.trace_text.specs.Traces.{IsTraceOf};
 
-use crate::asked::ReplayLine;
 use crate::files::{Traced, read_traced};
 use crate::outcomes::{no_threads, replayed, unread};
+use command_line::ReplayLine;
 use replay::replay;
 use std::alloc::Global;
 use std::io;

@@ -4,11 +4,11 @@ ghost use Rattle.commands.specs.Commands.{OfCertified, OfRunCerts, OfThreads, Of
 ghost use Rattle.commands.specs.Files as spec;
 ghost use Rattle.trace_text.specs.Traces.{IsTraceOf};
 
-use crate::asked::RunLine;
 use crate::checking::report_verdict;
 use crate::files::{Certified, read_certified, trace_in};
 use crate::outcomes::{no_threads, unread};
 use crate::run_report::ran;
+use command_line::RunLine;
 use gate::OpenGate;
 use module_check::{Accepted, check};
 use mutators::{Limits, run};
@@ -97,15 +97,19 @@ pub fn run_files<O: Write, E: Write>(
     out: &mut O,
     err: &mut E,
 ) -> io::Result<u8>
-    ensures { IfOk result (Says (OfCertified (OfRunCerts asked.entry.limits asked.entry.trace_path.now (spec.file_at files.now 2)) asked.entry.module_path.now asked.entry.certificate_path.now (spec.file_at files.now 0) (spec.file_at files.now 1)) (O.contents out.old) (O.contents out.new) (E.contents err.old) (E.contents err.new)) }
+    ensures { IfOk result (Says (OfCertified (OfRunCerts (record { turns = asked.entry.turns; steps = asked.entry.steps }) asked.entry.trace_path.now (spec.file_at files.now 2)) asked.entry.module_path.now asked.entry.certificate_path.now (spec.file_at files.now 0) (spec.file_at files.now 1)) (O.contents out.old) (O.contents out.new) (E.contents err.old) (E.contents err.new)) }
 {
+    let limits = Limits {
+        turns: asked.turns,
+        steps: asked.steps,
+    };
     match read_certified(alloc, (asked.module_path, asked.certificate_path), files) {
         Ok(certified) => run_certified(
             rt,
             alloc,
             certified,
             asked.trace_path,
-            asked.limits,
+            limits,
             files,
             out,
             err,

@@ -4,9 +4,9 @@ ghost use Rattle.commands.specs.Commands.{OfRun, OfSeeds, Says};
 ghost use Rattle.commands.specs.Files as spec;
 ghost use Rattle.trace_text.specs.Traces.{IsTraceOf};
 
-use crate::asked::SoakLine;
 use crate::files::{Traced, read_traced};
 use crate::outcomes::{no_threads, soaked, unread};
+use command_line::SoakLine;
 use replay::soak;
 use std::alloc::Global;
 use std::io;

@@ -1,6 +1,6 @@
 //! A row: a command line, the folder of its files, and what it has to print.
 ghost use Rattle.std.specs.Prelude.{◌≡◌, length, true};
-ghost use Rattle.commands.specs.Asked.{asked_by, HasWorkers};
+ghost use Rattle.command_line.specs.Asked.{asked_by, HasWorkers};
 
 use crate::printed::Printed;
 use crate::row_failure::RowFailure;

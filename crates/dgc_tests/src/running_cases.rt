@@ -60,7 +60,8 @@ fn printed_within(
         module_path: "module.ll",
         certificate_path: "module.cert",
         trace_path: "module.trace",
-        limits,
+        turns: limits.turns,
+        steps: limits.steps,
     });
     let (functions, certificates, trace) = ([HEAD, functions], [certificates], [trace]);
     let texts = [

@@ -1,7 +1,7 @@
 use Rattle.std.proofs.Common.{◌∙◌, Some, None, ap, option_map, refl, sym}
 use Rattle.clap.specs.Words.{first_value, found_of}
-use Rattle.commands.proofs.LineLemmas.{paths_from}
-use Rattle.commands.proofs.reader.paths_given.Goals as goal
+use Rattle.command_line.proofs.LineLemmas.{paths_from}
+use Rattle.command_line.proofs.reader.paths_given.Goals as goal
 
 pub returns-in_default : goal.returns-in_default
 returns-in_default c =

@@ -14,11 +14,11 @@ use Rattle.clap.specs.declared.parser.matches.Found.{Found}
 use Rattle.clap.specs.declared.error.Error.{Error}
 use Rattle.clap.proofs.OnLiterals.{clap_on_literals}
 use Rattle.clap.proofs.WalkLemmas.{first_value-rows, one_text-rows}
-use Rattle.commands.specs.Asked.{Asked, fault_of_error, is_memory_kind}
-use Rattle.commands.specs.declared.asked.Line.{Line}
-use Rattle.commands.specs.declared.asked.LineFault.{LineFault}
-use Rattle.commands.specs.declared.asked.LineFault.TheVariants.{Memory, Words}
-use Rattle.commands.specs.Grammar.{IsRefusalOf, asked_in, asked_of, dgc_app, number_in, number_of, paths_in}
+use Rattle.command_line.specs.Asked.{Asked, fault_of_error, is_memory_kind}
+use Rattle.command_line.specs.declared.asked.Line.{Line}
+use Rattle.command_line.specs.declared.asked.LineFault.{LineFault}
+use Rattle.command_line.specs.declared.asked.LineFault.TheVariants.{Memory, Words}
+use Rattle.command_line.specs.Grammar.{IsRefusalOf, asked_in, asked_of, dgc_app, number_in, number_of, paths_in}
 
 -- both paths from the texts that were given
 pub paths_from : (held : Found) (second : Text) (m p : Option Text) → m ≡ first_value held (codes "MODULE") → p ≡ first_value held second

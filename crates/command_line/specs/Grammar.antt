@@ -6,11 +6,11 @@ use Rattle.std.specs.Str.Parse.{digits_value, without_leading_plus}
 use Rattle.clap.specs.Words.{App, IsAmong, Row, Rule, Text, fault_of, first_of, kind_of, new_app, new_rule, one_of, subcommand_of, with_rule, with_subcommand}
 use Rattle.clap.specs.declared.builder.action.ArgAction.TheVariants.{SetTrue}
 use Rattle.clap.specs.declared.builder.value_parser.ValueParser.TheVariants.{Signed}
-use Rattle.commands.specs.Asked.{Asked, check, make, recheck, replay, soak, run}
-use Rattle.commands.specs.declared.asked.LineFault.{LineFault}
-use Rattle.commands.specs.declared.asked.LineFault.TheVariants.{Memory, NoCommand, Words}
-use Rattle.commands.specs.declared.asked.Why.{Why}
-use Rattle.commands.specs.declared.asked.Why.TheVariants.{Wanted, NotWanted}
+use Rattle.command_line.specs.Asked.{Asked, check, make, recheck, replay, soak, run}
+use Rattle.command_line.specs.declared.asked.LineFault.{LineFault}
+use Rattle.command_line.specs.declared.asked.LineFault.TheVariants.{Memory, NoCommand, Words}
+use Rattle.command_line.specs.declared.asked.Why.{Why}
+use Rattle.command_line.specs.declared.asked.Why.TheVariants.{Wanted, NotWanted}
 
 -- a word that has to be given: a file's path
 abbrev pub file_rule : Text → Rule
@@ -147,7 +147,7 @@ soak_of given =
 -- `run` with what was given to it, if that is a module, a certificate, a trace and both limits
 abbrev pub run_of : List Row → Option Asked
 run_of given =
-    option_and_then (λ paths. option_and_then (λ trace_path. option_and_then (λ turns. option_map (λ steps. run paths.0 paths.1 trace_path (record { turns = turns; steps = steps }))
+    option_and_then (λ paths. option_and_then (λ trace_path. option_and_then (λ turns. option_map (λ steps. run paths.0 paths.1 trace_path turns steps)
     (number_of (codes "steps") given)) (number_of (codes "turns") given)) (first_of (codes "TRACE") given)) (paths_in (codes "CERT") given)
 
 -- what a command's name with what was given to it asks for

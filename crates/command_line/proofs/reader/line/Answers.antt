@@ -1,7 +1,7 @@
 use Rattle.std.proofs.Common.{◌∙◌, ap, map, subst, sym}
 use Rattle.clap.specs.Words.{HasKind, fault_of, found_of, is_simple, is_simple_and_free, rows_of, subcommand_of}
-use Rattle.commands.proofs.LineLemmas.{asked_from, is_simple_and_free_dgc, is_simple_dgc, refuses}
-use Rattle.commands.proofs.reader.line.Goals as goal
+use Rattle.command_line.proofs.LineLemmas.{asked_from, is_simple_and_free_dgc, is_simple_dgc, refuses}
+use Rattle.command_line.proofs.reader.line.Goals as goal
 
 pub returns-in_err-matches-clause-refused : goal.returns-in_err-matches-clause-refused
 returns-in_err-matches-clause-refused c =

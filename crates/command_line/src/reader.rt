@@ -2,8 +2,8 @@
 ghost use Rattle.std.specs.Prelude.{◌≡◌, IfOk, IfErr, IsOk, [], map, option_map, false, codes};
 ghost use Rattle.clap.specs.Words.{app_of, fault_of, first_of, found_of, new_app, rows_of, rule_of};
 ghost use Rattle.clap.specs.declared.builder.command.Command.TheViews.{out-Command};
-ghost use Rattle.commands.specs.Asked.{asked_by, HasWorkers};
-ghost use Rattle.commands.specs.Grammar.{asked_in, asked_of, check_app, check_of, dgc_app, file_rule, files_app, flag_of, flag_rule, IsRefusalOf, limit_rule, make_app, make_of, module_app, number_of, number_rule, paths_in, recheck_app, recheck_of, replay_of, run_app, run_of, soak_app, soak_of, why_of, with_version_and_commands, workers_of, workers_rule};
+ghost use Rattle.command_line.specs.Asked.{asked_by, HasWorkers};
+ghost use Rattle.command_line.specs.Grammar.{asked_in, asked_of, check_app, check_of, dgc_app, file_rule, files_app, flag_of, flag_rule, IsRefusalOf, limit_rule, make_app, make_of, module_app, number_of, number_rule, paths_in, recheck_app, recheck_of, replay_of, run_app, run_of, soak_app, soak_of, why_of, with_version_and_commands, workers_of, workers_rule};
 
 use crate::asked::{
     CheckLine, Line, LineFault, MakeLine, RecheckLine, ReplayLine, RunLine, SoakLine, Why,
@@ -13,7 +13,6 @@ use crate::help::{
     REPLAY, RUN, RUN_STEPS, RUN_TRACE, SEEDS, SOAK, STEPS, TURNS, WHY, WORKERS,
 };
 use clap::{Arg, ArgAction, ArgMatches, Command, value_parser};
-use mutators::Limits;
 use std::alloc::{AllocError, Global};
 
 /// A file's path, which has to be given.
@@ -324,12 +323,13 @@ fn run_line<'a>(given: &ArgMatches<'a>) -> Option<Line<'a>>
         module_path,
         certificate_path,
         trace_path,
-        limits: Limits { turns, steps },
+        turns,
+        steps,
     }))
 }
 
 /// The line of a command with what was given to it.
-fn command_line<'a>(name: &str, given: &ArgMatches<'a>) -> Option<Line<'a>>
+fn line_of<'a>(name: &str, given: &ArgMatches<'a>) -> Option<Line<'a>>
     ensures { option_map asked_by result ≡ asked_of (Some (name.now, rows_of (found_of given.now))) }
 {
     match name {
@@ -355,7 +355,7 @@ pub fn line<'a>(alloc: Global, words: &'a [&'a str]) -> Result<Line<'a>, LineFau
         drop(matches);
         return Err(LineFault::NoCommand);
     };
-    let line = command_line(name, given);
+    let line = line_of(name, given);
     drop(matches);
     match line {
         Some(line) => Ok(line),

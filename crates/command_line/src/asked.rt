@@ -1,11 +1,10 @@
 //! What a command line asks for, and why it may ask for nothing.
 ghost use Rattle.std.specs.Prelude.{◌≡◌, map, IfOk};
-ghost use Rattle.commands.specs.Asked.{asked_by, fault_of_error, paths_of};
-ghost use Rattle.commands.specs.declared.asked.LineFault.TheVariants.{Memory};
+ghost use Rattle.command_line.specs.Asked.{asked_by, fault_of_error, paths_of};
+ghost use Rattle.command_line.specs.declared.asked.LineFault.TheVariants.{Memory};
 
 use clap::Error;
 use clap::error::ErrorKind;
-use mutators::Limits;
 use std::alloc::{AllocError, Global};
 
 /// Check a module against a certificate, by `workers` workers.
@@ -54,14 +53,15 @@ pub struct SoakLine<'a> {
     pub steps: u32,
 }
 
-/// Check a module against a certificate. Then run the threads of a trace on real threads, beside the collector, within these
-/// limits.
+/// Check a module against a certificate. Then run the threads of a trace on real threads for at most `steps` steps each, beside at
+/// most `turns` steps of the collector.
 #[derive(Clone, Copy)]
 pub struct RunLine<'a> {
     pub module_path: &'a str,
     pub certificate_path: &'a str,
     pub trace_path: &'a str,
-    pub limits: Limits,
+    pub turns: u32,
+    pub steps: u32,
 }
 
 /// A command with the paths of its files and its options.
