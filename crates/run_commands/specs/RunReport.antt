@@ -1,17 +1,16 @@
 -- The lines that a run on real threads is printed as.
-use Rattle.std.specs.Prelude.{◌++◌, ℕ, List, [], ◌∷◌, Some, None, codes}
+use Rattle.std.specs.Prelude.{◌++◌, ℕ, List, [], ◌∷◌, codes}
 use Rattle.std.specs.Fmt.{decimal}
 use Rattle.std.specs.List.{enumerate_from, flat_map}
 use Rattle.mutators.specs.declared.report.RunReport.{RunReport}
 use Rattle.mutators.specs.declared.thread_end.ThreadEnd.{ThreadEnd}
 use Rattle.mutators.specs.declared.thread_end.ThreadEnd.TheVariants.{Returned, Ended, Stopped, Memory, Absent}
 use Rattle.reports.specs.Report.{Answer}
-use Rattle.run_commands.specs.Runs.{returned_text}
+use Rattle.run_commands.specs.Runs.{given_back}
 
 -- how a thread came to its end
 abbrev pub end_text : ThreadEnd → List ℕ
-end_text (Returned None) = codes " returned"
-end_text (Returned (Some value)) = codes " returned" ++ returned_text value
+end_text (Returned value) = given_back value
 end_text Ended = codes " ended"
 end_text Stopped = codes " stopped"
 end_text Memory = codes " memory"

@@ -1,5 +1,5 @@
 -- The lines that the outcome of a trace or of many seeds is printed as, and the status that the program then ends with.
-use Rattle.std.specs.Prelude.{◌++◌, ℕ, List, [], ◌∷◌, Some, None, codes}
+use Rattle.std.specs.Prelude.{◌++◌, ℕ, List, [], ◌∷◌, Option, Some, None, codes}
 use Rattle.std.specs.Fmt.{decimal}
 use Rattle.std.specs.List.{enumerate_from, flat_map}
 use Rattle.trace_text.specs.declared.trace.Actor.{Actor}
@@ -47,11 +47,15 @@ returned_text value.Null = codes " null"
 returned_text (value.Cell layout at) = codes " ref " ++ decimal at.cell
 returned_text (value.Address place) = []
 
+-- what a thread returned, if anything
+abbrev pub given_back : Option Value → List ℕ
+given_back None = codes " returned"
+given_back (Some value) = codes " returned" ++ returned_text value
+
 -- where a thread is
 abbrev pub standing_text : ThreadOutcome → List ℕ
 standing_text thread.Absent = codes " absent"
-standing_text (thread.Returned None) = codes " returned"
-standing_text (thread.Returned (Some value)) = codes " returned" ++ returned_text value
+standing_text (thread.Returned value) = given_back value
 standing_text thread.Ended = codes " ended"
 standing_text (thread.Running stage) = codes " running " ++ decimal stage
 

@@ -37,8 +37,8 @@ fn write_break<W: Write>(out: &mut W, broken: &Break) -> io::Result<()>
     writeln!(out, "")
 }
 
-/// What a thread returned: ` 7`, ` null` or ` ref 1`.
-pub fn write_returned<W: Write>(out: &mut W, value: Value) -> io::Result<()>
+/// A value that a thread returned: ` 7`, ` null` or ` ref 1`.
+fn write_returned<W: Write>(out: &mut W, value: Value) -> io::Result<()>
     ensures { OnOk result (Appends (W.contents out.old) (W.contents out.new) (spec.returned_text value)) }
 {
     match value {
@@ -49,22 +49,35 @@ pub fn write_returned<W: Write>(out: &mut W, value: Value) -> io::Result<()>
     }
 }
 
-/// Where a thread is: `t 0 absent`, `t 0 returned`, `t 0 ended`, `t 0 running 3`.
+/// What a thread returned, if anything: ` returned`, ` returned 7`.
+pub fn write_given_back<W: Write>(out: &mut W, value: Option<Value>) -> io::Result<()>
+    ensures { OnOk result (Appends (W.contents out.old) (W.contents out.new) (spec.given_back value)) }
+{
+    write!(out, " returned")?;
+    match value {
+        Some(value) => write_returned(out, value),
+        None => Ok(()),
+    }
+}
+
+/// Where a thread is.
+fn write_standing<W: Write>(out: &mut W, end: &ThreadOutcome) -> io::Result<()>
+    ensures { OnOk result (Appends (W.contents out.old) (W.contents out.new) (spec.standing_text end.now)) }
+{
+    match *end {
+        ThreadOutcome::Absent => write!(out, " absent"),
+        ThreadOutcome::Returned(value) => write_given_back(out, value),
+        ThreadOutcome::Ended => write!(out, " ended"),
+        ThreadOutcome::Running(stage) => write!(out, " running {stage}"),
+    }
+}
+
+/// The line of a thread: `t 0 absent`, `t 0 returned`, `t 0 ended`, `t 0 running 3`.
 fn write_end<W: Write>(out: &mut W, thread: usize, end: &ThreadOutcome) -> io::Result<()>
     ensures { OnOk result (Appends (W.contents out.old) (W.contents out.new) (spec.end_text (thread, end.now))) }
 {
     write!(out, "t {thread}")?;
-    match *end {
-        ThreadOutcome::Absent => write!(out, " absent")?,
-        ThreadOutcome::Returned(value) => {
-            write!(out, " returned")?;
-            if let Some(value) = value {
-                write_returned(out, value)?;
-            }
-        }
-        ThreadOutcome::Ended => write!(out, " ended")?,
-        ThreadOutcome::Running(stage) => write!(out, " running {stage}")?,
-    }
+    write_standing(out, end)?;
     writeln!(out, "")
 }
 

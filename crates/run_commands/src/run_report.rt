@@ -5,29 +5,31 @@ ghost use Rattle.std.specs.List.{enumerate_from, flat_map};
 ghost use Rattle.reports.specs.Report.{IsTold};
 ghost use Rattle.run_commands.specs.RunReport as spec;
 
-use crate::outcomes::write_returned;
+use crate::outcomes::write_given_back;
 use mutators::{RunReport, ThreadEnd};
 use reports::STATUS_YES;
 use std::io;
 use std::io::Write;
 
-/// How a thread came to its end: `t 0 returned 7`, `t 0 ended`, `t 0 stopped`, `t 0 memory`, `t 0 absent`.
+/// How a thread came to its end.
+fn write_thread_end<W: Write>(out: &mut W, end: &ThreadEnd) -> io::Result<()>
+    ensures { OnOk result (Appends (W.contents out.old) (W.contents out.new) (spec.end_text end.now)) }
+{
+    match *end {
+        ThreadEnd::Returned(value) => write_given_back(out, value),
+        ThreadEnd::Ended => write!(out, " ended"),
+        ThreadEnd::Stopped => write!(out, " stopped"),
+        ThreadEnd::Memory => write!(out, " memory"),
+        ThreadEnd::Absent => write!(out, " absent"),
+    }
+}
+
+/// The line of a thread: `t 0 returned 7`, `t 0 ended`, `t 0 stopped`, `t 0 memory`, `t 0 absent`.
 fn write_thread<W: Write>(out: &mut W, thread: usize, end: &ThreadEnd) -> io::Result<()>
     ensures { OnOk result (Appends (W.contents out.old) (W.contents out.new) (spec.thread_text (thread, end.now))) }
 {
     write!(out, "t {thread}")?;
-    match *end {
-        ThreadEnd::Returned(value) => {
-            write!(out, " returned")?;
-            if let Some(value) = value {
-                write_returned(out, value)?;
-            }
-        }
-        ThreadEnd::Ended => write!(out, " ended")?,
-        ThreadEnd::Stopped => write!(out, " stopped")?,
-        ThreadEnd::Memory => write!(out, " memory")?,
-        ThreadEnd::Absent => write!(out, " absent")?,
-    }
+    write_thread_end(out, end)?;
     writeln!(out, "")
 }
 
