@@ -1,16 +1,14 @@
 //! The commands, from the bytes of their files to the printed lines and the status.
 ghost use Rattle.std.specs.Prelude.{IfOk};
-ghost use Rattle.commands.specs.Asked.{asked_by, HasWorkers};
-ghost use Rattle.commands.specs.Commands.{OfCommand, Says};
-ghost use Rattle.commands.specs.Files as spec;
+ghost use Rattle.command_line.specs.Asked.{asked_by, HasWorkers};
+ghost use Rattle.commands.specs.Commands.{OfCommand};
+ghost use Rattle.reports.specs.Said.{Says};
+ghost use Rattle.reports.specs.Files as spec;
 
-use crate::asked::Line;
-use crate::checking::check_files;
-use crate::making::make_file;
-use crate::rechecking::recheck_files;
-use crate::replaying::replay_files;
-use crate::running::run_files;
-use crate::soaking::soak_files;
+use check_commands::{check_files, make_file};
+use command_line::Line;
+use recheck_command::recheck_files;
+use run_commands::{replay_files, run_files, soak_files};
 use std::alloc::Global;
 use std::io;
 use std::io::Write;

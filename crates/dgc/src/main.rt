@@ -3,7 +3,7 @@
 
 mod failure;
 
-ghost use Rattle.commands.specs.Asked.{asked_by, HasWorkers};
+ghost use Rattle.command_line.specs.Asked.{asked_by, HasWorkers};
 
 use commands::{Line, LineFault, STATUS_USAGE, STATUS_YES, line, memory, status_of, work};
 use failure::Failure;

@@ -5,35 +5,20 @@
 //! - `args`: the command line after `dgc`, one word a line.
 //! - `status`, `stdout`, `stderr`: the wanted exit status and the wanted bytes of both outputs.
 //! - The files that `args` names. A file that is not there cannot be read by the command either.
+//!
+//! Before the rows it writes a line for each case that is made here, with its name and what comes of it. The file `stdout` has what
+//! must be written.
 #![tactic(auto)]
 
-#[cfg(test)]
-mod anew_tests;
-#[cfg(test)]
-mod block_tests;
-#[cfg(test)]
-mod command_tests;
-#[cfg(test)]
-mod machine_tests;
-#[cfg(test)]
+mod command_cases;
 mod meeting;
 mod printed;
-#[cfg(test)]
-mod printing_tests;
-#[cfg(test)]
-mod reading_tests;
-#[cfg(test)]
-mod replaying_tests;
+mod replaying_cases;
 mod row;
 mod row_failure;
-#[cfg(test)]
-mod running_tests;
-#[cfg(test)]
-mod section_tests;
-#[cfg(test)]
+mod running_cases;
 mod texts;
-#[cfg(test)]
-mod worker_tests;
+mod worker_cases;
 
 use row::CommandRow;
 use row_failure::RowFailure;
@@ -53,6 +38,19 @@ struct Tally {
     different: u32,
 }
 
+/// Runs the command of a row with these words after it. Returns whether it prints what is wanted, and writes what differs.
+fn compare_with<O: Write>(
+    rt: &(impl Runtime + AllocGlobal + Threads + Sync),
+    name: &str,
+    row: &CommandRow,
+    more: &[&str],
+    out: &mut O,
+) -> Result<bool, RowFailure> {
+    let printed = row.printed(rt, more)?;
+    let is_alike = printed.compare(out, name, row.wanted())?;
+    Ok(is_alike)
+}
+
 /// Runs the command of a row, and a check once more by three workers, and once more with a certificate that is made if the
 /// module is accepted. Returns whether each prints what is wanted, and writes what differs.
 fn compare_row<O: Write>(
@@ -61,13 +59,12 @@ fn compare_row<O: Write>(
     out: &mut O,
 ) -> Result<bool, RowFailure> {
     let row = CommandRow::read(rt, name)?;
-    let printed = row.printed(rt, [].as_slice())?;
-    let is_alike = printed.compare(out, name, row.wanted())?;
+    let is_alike = compare_with(rt, name, &row, [].as_slice(), out)?;
     if !row.is_plain_check() {
         return Ok(is_alike);
     }
-    let printed = row.printed(rt, ["--workers", "3"].as_slice())?;
-    let is_alike_by_three = printed.compare(out, name, row.wanted())?;
+    let by_three = ["--workers", "3"];
+    let is_alike_by_three = compare_with(rt, name, &row, by_three.as_slice(), out)?;
     if !row.is_accepted() {
         return Ok(is_alike && is_alike_by_three);
     }
@@ -114,11 +111,23 @@ fn tally_of<O: Write>(
     Ok(tally)
 }
 
-/// Runs all rows and writes how many are as wanted. Returns whether all are.
+/// Writes what comes of each case that is made here.
+fn write_cases<O: Write>(
+    rt: &(impl Runtime + AllocGlobal + Threads + Sync),
+    out: &mut O,
+) -> Result<(), RowFailure> {
+    command_cases::write_cases(rt, out)?;
+    replaying_cases::write_cases(rt, out)?;
+    running_cases::write_cases(rt, out)?;
+    worker_cases::write_cases(rt, out)
+}
+
+/// Writes what comes of the cases that are made here. Then runs all rows and writes how many are as wanted. Returns whether all are.
 fn run<O: Write>(
     rt: &(impl Runtime + AllocGlobal + Threads + Sync),
     out: &mut O,
 ) -> Result<bool, RowFailure> {
+    write_cases(rt, out)?;
     let Tally { alike, different } = tally_of(rt, out)?;
     writeln!(out, "{alike} rows as wanted, {different} not")?;
     Ok(different == 0)

@@ -25,13 +25,19 @@ fn status_in(text: &str) -> Result<u8, RowFailure> {
     }
 }
 
+/// Reads the file `status` of a folder.
+fn status_at(rt: &(impl Runtime + AllocGlobal), folder: &str) -> Result<u8, RowFailure> {
+    let path = format!(in rt.alloc(); "{folder}/status")?;
+    let status = fs::read_to_string(rt, path.as_str())?;
+    status_in(status.as_str())
+}
+
 impl Printed {
     /// Reads the files `status`, `stdout` and `stderr` of a folder.
     pub fn read(rt: &(impl Runtime + AllocGlobal), folder: &str) -> Result<Printed, RowFailure> {
         let alloc = rt.alloc();
-        let status = fs::read_to_string(rt, format!(in alloc; "{folder}/status")?.as_str())?;
         Ok(Printed {
-            status: status_in(status.as_str())?,
+            status: status_at(rt, folder)?,
             out: fs::read(rt, format!(in alloc; "{folder}/stdout")?.as_str())?,
             err: fs::read(rt, format!(in alloc; "{folder}/stderr")?.as_str())?,
         })
@@ -59,6 +65,15 @@ impl Printed {
         self.status == other.status
             && self.out.as_slice() == other.out.as_slice()
             && self.err.as_slice() == other.err.as_slice()
+    }
+
+    /// Writes the status and both outputs after a name, and ends the line.
+    pub fn write<W: Write>(&self, out: &mut W) -> io::Result<()> {
+        write!(out, ": {} '", self.status)?;
+        write_front(out, self.out.as_slice())?;
+        write!(out, "' '")?;
+        write_front(out, self.err.as_slice())?;
+        writeln!(out, "'")
     }
 
     /// Returns whether this is as wanted, and writes what differs in the row of this name.
@@ -93,8 +108,19 @@ fn write_difference<W: Write>(
     writeln!(out, "'")
 }
 
+/// Writes a text up to the end of the first place where the other one stands in it; all of it where there is none.
+pub fn write_up_to<W: Write>(out: &mut W, text: &str, last: &str) -> io::Result<()> {
+    match text.split_once(last) {
+        Some((front, _)) => {
+            write_front(out, front.as_bytes())?;
+            write_front(out, last.as_bytes())
+        }
+        None => write_front(out, text.as_bytes()),
+    }
+}
+
 /// Writes the first bytes of a text, a line end as `\n`.
-fn write_front<W: Write>(out: &mut W, text: &[u8]) -> io::Result<()> {
+pub fn write_front<W: Write>(out: &mut W, text: &[u8]) -> io::Result<()> {
     for byte in text.iter().take(SHOWN) {
         if *byte == b'\n' {
             out.write_all(b"\\n".as_slice())?;

@@ -1,6 +1,6 @@
 //! A row: a command line, the folder of its files, and what it has to print.
 ghost use Rattle.std.specs.Prelude.{◌≡◌, length, true};
-ghost use Rattle.commands.specs.Asked.{asked_by, HasWorkers};
+ghost use Rattle.command_line.specs.Asked.{asked_by, HasWorkers};
 
 use crate::printed::Printed;
 use crate::row_failure::RowFailure;
@@ -32,17 +32,24 @@ fn bytes_of(rt: &(impl Runtime + AllocGlobal), path: &str) -> Result<Option<Vec<
     }
 }
 
+/// The words of the command line of the row in a folder, the program's name first.
+fn words_of(rt: &(impl Runtime + AllocGlobal), folder: &str) -> Result<Vec<String>, RowFailure> {
+    let alloc = rt.alloc();
+    let args = fs::read_to_string(rt, format!(in alloc; "{folder}/args")?.as_str())?;
+    let mut words = Vec::new(alloc);
+    words.push("dgc".to_owned(alloc)?)?;
+    for word in args.lines() {
+        words.push(word.to_owned(alloc)?)?;
+    }
+    Ok(words)
+}
+
 impl CommandRow {
     /// Reads the row of this name.
     pub fn read(rt: &(impl Runtime + AllocGlobal), name: &str) -> Result<CommandRow, RowFailure> {
         let alloc = rt.alloc();
         let folder = format!(in alloc; "rows/{name}")?;
-        let args = fs::read_to_string(rt, format!(in alloc; "{folder}/args")?.as_str())?;
-        let mut words = Vec::new(alloc);
-        words.push("dgc".to_owned(alloc)?)?;
-        for word in args.lines() {
-            words.push(word.to_owned(alloc)?)?;
-        }
+        let words = words_of(rt, folder.as_str())?;
         let wanted = Printed::read(rt, folder.as_str())?;
         Ok(CommandRow {
             folder,
@@ -114,16 +121,25 @@ impl CommandRow {
         if made.status != STATUS_YES {
             return Ok(made);
         }
-        let path = format!(in alloc; "{}/{module_path}", self.folder)?;
         let mut files = Vec::new(alloc);
-        files.push(bytes_of(rt, path.as_str())?)?;
+        files.push(self.bytes_at(rt, module_path)?)?;
         files.push(Some(made.out))?;
         let line = Line::Check(CheckLine {
             module_path,
             certificate_path: module_path,
             workers: 1,
         });
-        printed_of(rt, &line, files.as_slice())
+        Ok(printed_of(rt, &line, files.as_slice()))
+    }
+
+    /// The bytes of the file at this path of the row's folder, if it can be read.
+    fn bytes_at(
+        &self,
+        rt: &(impl Runtime + AllocGlobal),
+        path: &str,
+    ) -> Result<Option<Vec<u8>>, RowFailure> {
+        let path = format!(in rt.alloc(); "{}/{path}", self.folder)?;
+        bytes_of(rt, path.as_str())
     }
 
     /// Runs the command of a line that is accepted.
@@ -137,19 +153,18 @@ impl CommandRow {
         let alloc = rt.alloc();
         let mut files = Vec::new(alloc);
         for path in line.paths(alloc)? {
-            let path = format!(in alloc; "{}/{path}", self.folder)?;
-            files.push(bytes_of(rt, path.as_str())?)?;
+            files.push(self.bytes_at(rt, path)?)?;
         }
-        printed_of(rt, line, files.as_slice())
+        Ok(printed_of(rt, line, files.as_slice()))
     }
 }
 
-/// Runs the command of a line on the bytes of its files.
-fn printed_of(
+/// What the command of a line prints of the bytes of its files.
+pub fn printed_of(
     rt: &(impl Runtime + AllocGlobal + Threads + Sync),
     line: &Line<'_>,
     files: &[Option<Vec<u8>>],
-) -> Result<Printed, RowFailure>
+) -> Printed
     requires { HasWorkers (asked_by line.now) }
 {
     let alloc = rt.alloc();
@@ -157,5 +172,5 @@ fn printed_of(
     let mut err = Vec::new(alloc);
     let answered = work(rt, alloc, line, files, &mut out, &mut err);
     let status = status_of(answered);
-    Ok(Printed { status, out, err })
+    Printed { status, out, err }
 }

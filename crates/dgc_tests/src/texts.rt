@@ -1,13 +1,9 @@
-//! Module texts for several tests.
+//! Module texts for several cases, and files of such texts.
 use std::alloc::{AllocError, Global};
 
 /// The seven lines before the functions.
 pub(crate) const HEAD: &str =
     "%Node = type { i64, %Node* }\n@g = global %Node* null\ndeclare i8* @dg_alloc(i32)\ndeclare void @dg_safepoint()\ndeclare void @llvm.gcroot(i8**, i8*)\ndeclare i8* @llvm.gcread(i8*, i8**)\ndeclare void @llvm.gcwrite(i8*, i8*, i8**)\n";
-
-/// Claims a cell and keeps it in its slot, if it is not null.
-pub(crate) const TWO: &str =
-    "define void @two() gc \"shadow-stack\" {\nentry:\n  %s = alloca %Node*\n  %r = bitcast %Node** %s to i8**\n  call void @llvm.gcroot(i8** %r, i8* null)\n  %a = call i8* @dg_alloc(i32 0)\n  %x = bitcast i8* %a to %Node*\n  %c = icmp eq %Node* %x, null\n  br i1 %c, label %no, label %ok\nno:\n  ret void\nok:\n  store %Node* %x, %Node** %s\n  ret void\n}\n";
 
 /// Loads its root again after the safepoints.
 pub(crate) const FOUR: &str =
@@ -32,4 +28,16 @@ pub(crate) fn text_of(alloc: Global, bytes: &[u8]) -> Result<String, AllocError>
         Ok(text) => text.to_owned(alloc),
         Err(_) => Ok(String::new(alloc)),
     }
+}
+
+/// A file for each of these lists of texts, which stand in it one after the other.
+pub(crate) fn files_of(
+    alloc: Global,
+    each: &[&[&str]],
+) -> Result<Vec<Option<Vec<u8>>>, AllocError> {
+    let mut files = Vec::new(alloc);
+    for texts in each {
+        files.push(Some(joined(alloc, texts)?))?;
+    }
+    Ok(files)
 }

@@ -1,0 +1,23 @@
+use Rattle.std.proofs.Common.{◌≡◌, length, refl, subst, rules}
+use Rattle.std.proofs.lemmas.Result.{IfOk-weaker}
+use Rattle.certs.specs.declared.certs.Certs.{Certs}
+use Rattle.ir_ast.specs.declared.module.Module.{Module}
+use Rattle.reports.specs.Report.{IsTold, yes}
+use Rattle.reports.specs.Said.{OfVerdict, OnOutput}
+use Rattle.check_commands.specs.Checks.{accepted, not_accepted}
+use Rattle.check_commands.proofs.checking.check_certified.Goals as goal
+
+pub returns-in-Ok : goal.returns-in-Ok
+returns-in-Ok g c =
+    let count : c.len-count.result ≡ length c.args.certified.of_module.functions = search rules in
+    IfOk-weaker c.accepted.result _ _
+    (λ status told. (OnOutput _, accepted c.in-Ok.ensures.accepted, (subst (λ n. IsTold (g.O.Write.contents c.args.out.now) (g.O.Write.contents c.accepted.new.out) status (yes n)) count told, refl)))
+    c.accepted.ensures
+
+pub returns-in-Err : goal.returns-in-Err
+returns-in-Err g c =
+    let answer = c.in-Err.answer in
+    let back = c.in-Err.ensures.given_back in
+    IfOk-weaker c.report_verdict-status.result _ _
+    (λ status told. (told.0, not_accepted told.0 (subst (λ (m : Module). OfVerdict m c.args.certified.certs.sections told.0) back.0 (subst (λ (certs : Certs). OfVerdict answer.of_module certs.sections told.0) back.1 told.1)), told.2))
+    c.report_verdict-status.ensures

@@ -1,0 +1,67 @@
+//! The command `check`.
+ghost use Rattle.std.specs.Prelude.{◌≤◌, IfOk};
+ghost use Rattle.reports.specs.Said.{OfCertified, Says};
+ghost use Rattle.check_commands.specs.Checks.{OfCerts};
+ghost use Rattle.reports.specs.Files as spec;
+
+use command_line::CheckLine;
+use parallel_check::{OpenGate, check_with};
+use reports::{Certified, read_certified, report_verdict, unread};
+use std::alloc::Global;
+use std::io;
+use std::io::Write;
+use std::thread::Threads;
+
+/// Checks a module and its certificates.
+fn check_certified<O: Write, E: Write>(
+    rt: &(impl Threads + Sync),
+    alloc: Global,
+    certified: Certified,
+    workers: u32,
+    out: &mut O,
+    err: &mut E,
+) -> io::Result<u8>
+    requires some { 1 ≤ workers }
+    requires few { workers ≤ 64 }
+    ensures { IfOk result (Says (OfCerts certified.of_module certified.certs.sections) (O.contents out.old) (O.contents out.new) (E.contents err.old) (E.contents err.new)) }
+{
+    match check_with(
+        rt,
+        alloc,
+        workers,
+        &OpenGate,
+        certified.of_module,
+        certified.certs,
+    ) {
+        Ok(accepted) => {
+            let count = accepted.program().module().functions.len();
+            drop(accepted);
+            reports::accepted(out, count)
+        }
+        Err(answer) => {
+            let status = report_verdict(alloc, &answer, out, err);
+            drop(answer);
+            status
+        }
+    }
+}
+
+/// Checks the module and the certificate of a line, by its workers. The first fault counts: of each file in the line's order, its
+/// path and then its text, then of the layouts, then of the check.
+pub fn check_files<O: Write, E: Write>(
+    rt: &(impl Threads + Sync),
+    alloc: Global,
+    asked: CheckLine<'_>,
+    files: &[Option<Vec<u8>>],
+    out: &mut O,
+    err: &mut E,
+) -> io::Result<u8>
+    requires some { 1 ≤ asked.workers }
+    requires few { asked.workers ≤ 64 }
+    ensures { IfOk result (Says (OfCertified OfCerts asked.entry.module_path.now asked.entry.certificate_path.now (spec.file_at files.now 0) (spec.file_at files.now 1)) (O.contents out.old) (O.contents out.new) (E.contents err.old) (E.contents err.new)) }
+{
+    match read_certified(alloc, (asked.module_path, asked.certificate_path), files) {
+        Ok(certified) => check_certified(rt, alloc, certified, asked.workers, out, err),
+        Err(fault) => unread(err, fault),
+    }
+}

@@ -1,0 +1,163 @@
+//! The command `make`.
+ghost use Rattle.std.specs.Prelude.{◌≡◌, IfOk, IfSome, true};
+ghost use Rattle.certs.specs.Fits.{fits};
+ghost use Rattle.module_check.specs.Accepted.{IsAccepted};
+ghost use Rattle.layout.specs.Layouts.{IsLayoutFault};
+ghost use Rattle.cert_maker.specs.Made.{IfLayout, IsRefusedWith};
+ghost use Rattle.cert_maker.specs.Plain.{plain};
+ghost use Rattle.cert_maker.specs.declared.made.MakeFault.TheVariants as fault;
+ghost use Rattle.check_commands.specs.Checks.{OfMade, OfMake};
+ghost use Rattle.reports.specs.Said.{Says};
+ghost use Rattle.reports.specs.Files as spec;
+ghost use Rattle.command_line.specs.declared.asked.Why.TheVariants.{Wanted};
+ghost use Rattle.reports.specs.Report.{IsTold, made_text, no_answer};
+
+use cert_maker::{MakeFault, NotMade, Refused, make};
+use certificate::print_cert;
+use command_line::{MakeLine, Why};
+use ir_ast::Module;
+use module_check::Accepted;
+use reports::{
+    STATUS_NO, STATUS_YES, line_of_refusal, memory, module_in, no_layouts, refused, unread,
+};
+use std::alloc::Global;
+use std::io;
+use std::io::Write;
+
+/// Prints the certificates with which a module is accepted.
+fn print_made<O: Write, E: Write>(
+    alloc: Global,
+    accepted: &Accepted,
+    why: Why,
+    out: &mut O,
+    err: &mut E,
+) -> io::Result<u8>
+    requires fits { fits accepted.now.program.of_module accepted.now.certs.sections ≡ true }
+    requires certified { IsAccepted accepted.now.program.of_module accepted.now.certs.sections }
+    ensures { IfOk result (Says (OfMade why accepted.now.program.of_module) (O.contents out.old) (O.contents out.new) (E.contents err.old) (E.contents err.new)) }
+{
+    match print_cert(alloc, accepted.certs(), accepted.program().module()) {
+        Ok(text) => print_text(out, text.as_slice()),
+        Err(_) => memory(err),
+    }
+}
+
+/// Prints the text of certificates.
+fn print_text<O: Write>(out: &mut O, text: &[u8]) -> io::Result<u8>
+    ensures { IfOk result (λ status. IsTold (O.contents out.old) (O.contents out.new) status (made_text text.now)) }
+{
+    out.write_all(text)?;
+    Ok(STATUS_YES)
+}
+
+/// No certificates are made: `no answer`.
+fn print_no_answer<O: Write>(out: &mut O) -> io::Result<u8>
+    ensures { IfOk result (λ status. IsTold (O.contents out.old) (O.contents out.new) status no_answer) }
+{
+    writeln!(out, "no answer")?;
+    Ok(STATUS_NO)
+}
+
+/// Prints that no certificates are made, and the first refusal with some.
+fn print_refused<O: Write, E: Write>(
+    alloc: Global,
+    of_module: &Module,
+    tried: &Refused,
+    out: &mut O,
+    err: &mut E,
+) -> io::Result<u8>
+    requires plain { IsAccepted of_module.now (plain of_module.now) → ⊥ }
+    requires refused { IsRefusedWith of_module.now tried.now }
+    ensures { IfOk result (Says (OfMade Wanted of_module.now) (O.contents out.old) (O.contents out.new) (E.contents err.old) (E.contents err.new)) }
+{
+    match line_of_refusal(alloc, of_module, &tried.certs, &tried.refusal) {
+        Ok(line) => {
+            let status = print_no_answer(out)?;
+            refused(err, of_module, &tried.refusal, line.as_slice())?;
+            Ok(status)
+        }
+        Err(_) => memory(err),
+    }
+}
+
+/// Prints that no certificates are made; and if that is wanted, the first refusal with some.
+fn print_tried<O: Write, E: Write>(
+    alloc: Global,
+    of_module: &Module,
+    tried: &Refused,
+    why: Why,
+    out: &mut O,
+    err: &mut E,
+) -> io::Result<u8>
+    requires plain { IsAccepted of_module.now (plain of_module.now) → ⊥ }
+    requires refused { IsRefusedWith of_module.now tried.now }
+    ensures { IfOk result (Says (OfMade why of_module.now) (O.contents out.old) (O.contents out.new) (E.contents err.old) (E.contents err.new)) }
+{
+    match why {
+        Why::Wanted => print_refused(alloc, of_module, tried, out, err),
+        Why::NotWanted => print_no_answer(out),
+    }
+}
+
+/// Prints why no certificates are made.
+fn print_unmade<O: Write, E: Write>(
+    alloc: Global,
+    unmade: &NotMade,
+    why: Why,
+    out: &mut O,
+    err: &mut E,
+) -> io::Result<u8>
+    requires none { unmade.now.fault ≡ fault.NoAnswer → IsAccepted unmade.now.of_module (plain unmade.now.of_module) → ⊥ }
+    requires layout { IfLayout unmade.now.fault (IsLayoutFault unmade.now.of_module) }
+    requires refused { IfSome unmade.now.refused (IsRefusedWith unmade.now.of_module) }
+    ensures { IfOk result (Says (OfMade why unmade.now.of_module) (O.contents out.old) (O.contents out.new) (E.contents err.old) (E.contents err.new)) }
+{
+    match (unmade.fault, &unmade.refused) {
+        (MakeFault::Layout(fault), _) => no_layouts(err, &unmade.of_module, fault),
+        (MakeFault::Memory, _) => memory(err),
+        (MakeFault::NoAnswer, Some(tried)) => {
+            print_tried(alloc, &unmade.of_module, tried, why, out, err)
+        }
+        (MakeFault::NoAnswer, _) => print_no_answer(out),
+    }
+}
+
+/// Makes certificates of a module.
+fn make_of<O: Write, E: Write>(
+    alloc: Global,
+    of_module: Module,
+    why: Why,
+    out: &mut O,
+    err: &mut E,
+) -> io::Result<u8>
+    ensures { IfOk result (Says (OfMade why of_module) (O.contents out.old) (O.contents out.new) (E.contents err.old) (E.contents err.new)) }
+{
+    match make(alloc, of_module) {
+        Ok(accepted) => {
+            let status = print_made(alloc, &accepted, why, out, err);
+            drop(accepted);
+            status
+        }
+        Err(unmade) => {
+            let status = print_unmade(alloc, &unmade, why, out, err);
+            drop(unmade);
+            status
+        }
+    }
+}
+
+/// Makes certificates of the module of a line. The first fault counts: of the path, then of its text, then of its layouts.
+pub fn make_file<O: Write, E: Write>(
+    alloc: Global,
+    asked: MakeLine<'_>,
+    files: &[Option<Vec<u8>>],
+    out: &mut O,
+    err: &mut E,
+) -> io::Result<u8>
+    ensures { IfOk result (Says (OfMake asked.entry.why asked.entry.module_path.now (spec.file_at files.now 0)) (O.contents out.old) (O.contents out.new) (E.contents err.old) (E.contents err.new)) }
+{
+    match module_in(alloc, asked.module_path, files) {
+        Ok(of_module) => make_of(alloc, of_module, asked.why, out, err),
+        Err(fault) => unread(err, fault),
+    }
+}

@@ -1,0 +1,224 @@
+//! Certificates in which one section is replaced.
+use crate::faults::{Told, told_of_certificate};
+use crate::fronts::{Front, Fronts, NONE, Reader, cut_certificates, fronts_of};
+use crate::texts::{FOUR, HEAD, TWO, joined};
+use certificate::{CertFault, Certs, print_cert, read_cert, replace_section};
+use ir_ast::{FuncId, Module};
+use ir_text::read;
+use std::alloc::{AllocError, Global};
+use std::test::Fail;
+
+/// Certificates of `TWO` and `FOUR`.
+const CERTIFICATES: &str =
+    "cert 1\nfunction @two none\nblock %no\nblock %ok\n%x ref Node nonnull fresh\nend\nfunction @four may\nblock %no\nblock %ok\n%x ref Node nonnull fresh\nend\n";
+
+/// Another section of `FOUR`.
+const SECTION: &str =
+    "function @four none\nblock %no\n%x ref Node\nblock %ok\n%x ref Node nonnull\nend\n";
+
+/// The certificates with this section in the place of the old one.
+const REPLACED: &str =
+    "cert 1\nfunction @two none\nblock %no\nblock %ok\n%x ref Node nonnull fresh\nend\nfunction @four none\nblock %no\n%x ref Node\nblock %ok\n%x ref Node nonnull\nend\n";
+
+/// What comes of a section that is to replace the one of `FOUR`.
+#[derive(Drop)]
+enum SectionOutcome {
+    /// All certificates, as they are printed then.
+    Printed(Vec<u8>),
+    Refused(CertFault),
+    /// The module or its certificates are not read.
+    NotRead,
+}
+
+/// The number of the function `@four`.
+const NUMBER: u32 = 1;
+
+fn printed_with(
+    alloc: Global,
+    certs: &Certs,
+    module: &Module,
+    section: &[u8],
+) -> Result<SectionOutcome, AllocError> {
+    if certs.sections.as_slice().len() != 2 {
+        return Ok(SectionOutcome::NotRead);
+    }
+    match replace_section(alloc, certs, module, FuncId::new(NUMBER), section) {
+        Ok(certs) => Ok(SectionOutcome::Printed(print_cert(alloc, &certs, module)?)),
+        Err(fault) => Ok(SectionOutcome::Refused(fault)),
+    }
+}
+
+fn outcome_in(
+    alloc: Global,
+    module: &Module,
+    section: &[u8],
+) -> Result<SectionOutcome, AllocError> {
+    match read_cert(alloc, CERTIFICATES.as_bytes(), module) {
+        Ok(certs) => printed_with(alloc, &certs, module, section),
+        Err(_) => Ok(SectionOutcome::NotRead),
+    }
+}
+
+fn outcome_of(alloc: Global, section: &[u8]) -> Result<SectionOutcome, AllocError> {
+    let text = joined(alloc, [HEAD, TWO, FOUR].as_slice())?;
+    match read(alloc, text.as_slice()) {
+        Ok(module) => {
+            let outcome = outcome_in(alloc, &module, section);
+            drop(module);
+            outcome
+        }
+        Err(_) => Ok(SectionOutcome::NotRead),
+    }
+}
+
+fn is_printed(alloc: Global, section: &str, wanted: &str) -> Result<bool, AllocError> {
+    match outcome_of(alloc, section.as_bytes())? {
+        SectionOutcome::Printed(text) => Ok(text.as_slice() == wanted.as_bytes()),
+        _ => Ok(false),
+    }
+}
+
+/// The section with comments, an empty line and a name in quotes, and without its last line end.
+const SECTION_WITH_COMMENTS: &str =
+    " ; before\n\nfunction @\"four\" none ; names\nblock %no\n%x ref Node\nblock %ok\n%x ref Node nonnull\nend";
+
+/// Whether both texts of the section are put in the place of the old one.
+fn are_printed(alloc: Global) -> Result<(bool, bool), AllocError> {
+    Ok((
+        is_printed(alloc, SECTION, REPLACED)?,
+        is_printed(alloc, SECTION_WITH_COMMENTS, REPLACED)?,
+    ))
+}
+
+#[test]
+fn replaces_the_section_of_this_name(rt: HostRuntime) -> Result<(), Fail> {
+    assert_eq!(rt; are_printed(rt.alloc())?, (true, true));
+    Ok(())
+}
+
+/// The fault for which a section is refused, if it is.
+fn refusal_of(alloc: Global, section: &str) -> Result<Option<Told>, AllocError> {
+    match outcome_of(alloc, section.as_bytes())? {
+        SectionOutcome::Refused(fault) => Ok(Some(told_of_certificate(fault))),
+        SectionOutcome::Printed(_) | SectionOutcome::NotRead => Ok(None),
+    }
+}
+
+/// The faults of three sections.
+fn refusals(alloc: Global, sections: [&str; 3]) -> Result<[Option<Told>; 3], AllocError> {
+    let [first, second, third] = sections;
+    Ok([
+        refusal_of(alloc, first)?,
+        refusal_of(alloc, second)?,
+        refusal_of(alloc, third)?,
+    ])
+}
+
+/// Sections of another function, of one that is unknown, and of what is no name.
+const OTHER_NAMES: [&str; 3] = [
+    "function @two none\nblock %no\nblock %ok\nend\n",
+    "\nfunction @five none\nend\n",
+    "function four none\nblock %no\nblock %ok\nend\n",
+];
+
+#[test]
+fn refuses_a_section_of_another_name(rt: HostRuntime) -> Result<(), Fail> {
+    assert_eq!(rt;
+        refusals(rt.alloc(), OTHER_NAMES)?,
+        [
+            Some(("C1", 1, 10)),
+            Some(("C1", 2, 10)),
+            Some(("C1", 1, 10)),
+        ]
+    );
+    Ok(())
+}
+
+/// A section before another one, one with two ends, and one after the first line of certificates.
+const MORE_THAN_SECTIONS: [&str; 3] = [
+    "function @four may\nblock %no\nblock %ok\nend\nfunction @two none\nblock %no\nblock %ok\nend\n",
+    "function @four may\nblock %no\nend\nend\n",
+    "cert 1\nfunction @four may\nblock %no\nblock %ok\nend\n",
+];
+
+#[test]
+fn refuses_more_than_one_section(rt: HostRuntime) -> Result<(), Fail> {
+    assert_eq!(rt;
+        refusals(rt.alloc(), MORE_THAN_SECTIONS)?,
+        [Some(("C1", 5, 1)), Some(("C1", 4, 1)), Some(("C1", 1, 1)),]
+    );
+    Ok(())
+}
+
+/// A section of a block that is unknown, one without the last block, and one of a block twice.
+const OTHER_BLOCKS: [&str; 3] = [
+    "function @four may\nblock %no\nblock %yes\nend\n",
+    "function @four may\nblock %no\nend\n",
+    "function @four may\nblock %no\nblock %no\nblock %ok\nend\n",
+];
+
+#[test]
+fn refuses_blocks_that_are_unknown_or_missing(rt: HostRuntime) -> Result<(), Fail> {
+    assert_eq!(rt;
+        refusals(rt.alloc(), OTHER_BLOCKS)?,
+        [Some(("C3", 3, 7)), Some(("C5", 1, 2)), Some(("C4", 3, 7)),]
+    );
+    Ok(())
+}
+
+/// Reads sections of `FOUR`. Their parts are all sections once it is replaced.
+#[derive(Drop)]
+struct Sections<'a> {
+    alloc: Global,
+    certs: &'a Certs,
+    of_module: &'a Module,
+}
+
+impl<'a> Reader for Sections<'a> {
+    fn front(&self, text: &[u8]) -> Front {
+        if self.certs.sections.as_slice().len() != 2 {
+            return Front::Other;
+        }
+        let function = FuncId::new(NUMBER);
+        match replace_section(self.alloc, self.certs, self.of_module, function, text) {
+            Ok(certs) => Front::Read(certs.sections.as_slice().len()),
+            Err(fault) => cut_certificates(fault),
+        }
+    }
+}
+
+/// The fronts of a section of `FOUR` in a module.
+fn fronts_in(alloc: Global, of_module: &Module, section: &str) -> Fronts {
+    match read_cert(alloc, CERTIFICATES.as_bytes(), of_module) {
+        Ok(certs) => {
+            let reader = Sections {
+                alloc,
+                certs: &certs,
+                of_module,
+            };
+            fronts_of(&reader, section.as_bytes())
+        }
+        Err(_) => NONE,
+    }
+}
+
+/// The fronts of a section of `FOUR`.
+fn section_fronts(alloc: Global, section: &str) -> Result<Fronts, AllocError> {
+    let text = joined(alloc, [HEAD, TWO, FOUR].as_slice())?;
+    match read(alloc, text.as_slice()) {
+        Ok(of_module) => {
+            let fronts = fronts_in(alloc, &of_module, section);
+            drop(of_module);
+            Ok(fronts)
+        }
+        Err(_) => Ok(NONE),
+    }
+}
+
+// Without its last line end it is whole.
+#[test]
+fn refuses_each_front_of_a_section(rt: HostRuntime) -> Result<(), Fail> {
+    let fronts = section_fronts(rt.alloc(), SECTION)?;
+    assert_eq!(rt; fronts, ([0, 0, 1, 0, 0, 0, 0, 0, 0], 75, 0));
+    Ok(())
+}

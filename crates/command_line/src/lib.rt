@@ -1,0 +1,11 @@
+//! The command line: its grammar, and what a line asks for.
+#![tactic(auto)]
+
+mod asked;
+mod help;
+mod reader;
+
+pub use asked::{
+    CheckLine, Line, LineFault, MakeLine, RecheckLine, ReplayLine, RunLine, SoakLine, Why,
+};
+pub use reader::line;

@@ -1,0 +1,2 @@
+pub mod Rechecks
+pub mod EditedFiles

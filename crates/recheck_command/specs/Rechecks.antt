@@ -1,0 +1,95 @@
+-- The lines that a session is printed as while it is edited.
+use Rattle.std.specs.Prelude.{◌≡◌, ◌≢◌, ◌+◌, ◌++◌, ℕ, List, [], ◌∷◌, length, codes}
+use Rattle.std.specs.Fmt.{decimal}
+use Rattle.ir_ast.specs.declared.module.Module.{Module}
+use Rattle.ir_text.specs.declared.read_fault.ReadFault.{ReadFault}
+use Rattle.ir_text.specs.declared.read_fault.ReadFault.TheVariants as read
+use Rattle.certificate.specs.declared.fault.CertFault.{CertFault}
+use Rattle.certificate.specs.declared.fault.CertFault.TheVariants as cert
+use Rattle.certs.specs.declared.section.Section.{Section}
+use Rattle.edit_text.specs.declared.edit.Edit.{Edit}
+use Rattle.block_rules.specs.declared.block_fault.Refusal.{Refusal}
+use Rattle.module_check.specs.Accepted.{IsAccepted, IsFirstRefusal}
+use Rattle.module_check.specs.declared.verdict.Verdict.{Verdict}
+use Rattle.module_check.specs.declared.verdict.Verdict.TheVariants.{Layout}
+use Rattle.recheck.specs.Edits.{IsEdited, IsEditFault, module_in}
+use Rattle.recheck.specs.Session.{State}
+use Rattle.recheck.specs.declared.edit_fault.EditFault.{EditFault}
+use Rattle.recheck.specs.declared.edit_fault.EditFault.TheVariants as edit
+use Rattle.reports.specs.Report.{Answer, line_of, no, no_memory, of_layout_fault, yes}
+
+-- ---- no session
+
+-- why no session of a module begins
+abbrev pub of_begin_fault : Module → Verdict → Answer
+of_begin_fault m (Layout fault) = of_layout_fault m fault
+of_begin_fault m _ = no_memory
+
+-- ---- faults by their codes
+
+-- the code of a fault in the text of a module
+abbrev pub read_code : ReadFault → List ℕ
+read_code (read.BadByte at) = codes "L1"
+read_code (read.Unfinished at) = codes "L2"
+read_code (read.Unexpected at) = codes "L3"
+read_code (read.DefinedTwice at) = codes "L4"
+read_code (read.NotDefined at) = codes "L5"
+read_code (read.OutOfRange at) = codes "L6"
+read_code (read.LeftOut at word) = codes "L7"
+read_code (read.Limit at) = codes "L8"
+read_code (read.WrongNumber at) = codes "L9"
+read_code read.Memory = codes "memory"
+
+-- the code of a fault in the text of certificates
+abbrev pub cert_code : CertFault → List ℕ
+cert_code (cert.Syntax at) = codes "C1"
+cert_code (cert.Version at) = codes "C2"
+cert_code (cert.UnknownName at) = codes "C3"
+cert_code (cert.ListedTwice at) = codes "C4"
+cert_code (cert.Missing func) = codes "C5"
+cert_code (cert.MissingBlock func block) = codes "C5"
+cert_code cert.Memory = codes "memory"
+
+-- the code of the fault for which an edit is refused
+abbrev pub edit_code : EditFault → List ℕ
+edit_code edit.NoFunction = codes "L5"
+edit_code edit.NoSection = codes "C3"
+edit_code edit.ShapesWanted = codes "C2"
+edit_code (edit.Code fault) = read_code fault
+edit_code (edit.Cert fault) = cert_code fault
+edit_code edit.Memory = codes "memory"
+
+-- ---- lines
+
+-- the line of an edit that is taken: its number, how many functions it concerns, and the verdict after it
+abbrev pub taken_text : (number rechecked : ℕ) → (verdict : Answer) → List ℕ
+taken_text number rechecked verdict = decimal number ++ codes " rechecked " ++ decimal rechecked ++ 32 ∷ verdict.text
+
+-- the line of an edit that is refused
+abbrev pub refused_text : (number : ℕ) → EditFault → List ℕ
+refused_text number fault = decimal number ++ codes " refused " ++ edit_code fault ++ 10 ∷ []
+
+-- ---- sessions
+
+-- a session begins with this module and these certificates
+pub record IsBegun (m : Module) (certs : List Section) (s : State) : Type 0 where
+  pub of_module : module_in s ≡ m
+  pub of_certs : s.certs.sections ≡ certs
+  pub none_checked : s.rechecked ≡ 0
+
+-- what is printed of the verdict on a session: that its module is accepted, or its first refusal
+pub data OfSession (s : State) : Answer → Type 0 where
+  session_accepted : IsAccepted (module_in s) s.certs.sections → OfSession s (yes (length (module_in s).functions))
+  session_refused : (refusal : Refusal) → IsFirstRefusal (module_in s) s.certs.sections refusal
+      → OfSession s (no (module_in s) (line_of s.certs.sections (module_in s) refusal.func refusal.detail) refusal)
+
+-- the session after the edit of this number, and the line that is printed of it: the edit is taken; or it is refused, and the session stays
+pub data OfEdit (number : ℕ) (s : State) (e : Edit) : (t : State) → (line : List ℕ) → Type 0 where
+  edit_taken : (t : State) (verdict : Answer) → IsEdited s e t → OfSession t verdict → OfEdit number s e t (taken_text number t.rechecked verdict)
+  edit_refused : (fault : EditFault) → fault ≢ edit.Memory → IsEditFault s e fault → OfEdit number s e s (refused_text number fault)
+
+-- the session after edits, the first of which has this number, and the lines that are printed of them
+abbrev pub OfEdits : (number : ℕ) → State → List Edit → (t : State) → (lines : List ℕ) → Type 0
+OfEdits number s [] t lines = (s ≡ t) × (lines ≡ [])
+OfEdits number s (e ∷ edits) t lines =
+    (next : State) × (line : List ℕ) × (rest : List ℕ) × OfEdit number s e next line × OfEdits (number + 1) next edits t rest × (lines ≡ line ++ rest)

@@ -1,0 +1,7 @@
+//! The command `recheck`.
+#![tactic(auto)]
+
+mod codes;
+mod rechecking;
+
+pub use rechecking::recheck_files;

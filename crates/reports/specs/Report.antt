@@ -1,0 +1,157 @@
+-- The lines that the check's verdicts and the faults of its texts are printed as, and the status that the program then ends with.
+use Rattle.std.specs.Prelude.{◌≡◌, ◌++◌, ℕ, List, [], ◌∷◌, Option, Some, None, slice_get, option_and_then, codes}
+use Rattle.std.specs.Fmt.{decimal}
+use Rattle.std.specs.Io.KnownBytes.{Appends}
+use Rattle.ir_ast.specs.declared.module.Module.{Module}
+use Rattle.ir_tokens.specs.declared.position.Position.{Position}
+use Rattle.ir_text.specs.declared.read_fault.ReadFault.{ReadFault}
+use Rattle.ir_text.specs.declared.read_fault.ReadFault.TheVariants as read
+use Rattle.layout.specs.declared.fault.LayoutFault.{LayoutFault}
+use Rattle.layout.specs.declared.fault.LayoutFault.TheVariants as layout
+use Rattle.certificate.specs.Print.{line_shown}
+use Rattle.certificate.specs.declared.fault.CertFault.{CertFault}
+use Rattle.certificate.specs.declared.fault.CertFault.TheVariants as cert
+use Rattle.trace_text.specs.declared.fault.TraceFault.{TraceFault}
+use Rattle.trace_text.specs.declared.fault.TraceFault.TheVariants as trace
+use Rattle.certs.specs.declared.section.Section.{Section}
+use Rattle.block_rules.specs.declared.block_fault.Detail.{Detail}
+use Rattle.block_rules.specs.declared.block_fault.Refusal.{Refusal}
+use Rattle.ir_print.specs.Names.{key_text}
+use Rattle.name_text.specs.Names.{name_text}
+use Rattle.name_text.specs.declared.blank.Blank.TheVariants as blank
+use Rattle.block_rules.specs.RuleNames.{rule_name}
+
+-- ---- names
+
+-- the name of a function of the module
+abbrev pub name_of_function : Module → (func : ℕ) → Option (List ℕ)
+name_of_function m func = option_and_then (λ function. slice_get m.symbols function.symbol) (slice_get m.functions func)
+
+-- the name of a block of a function of the module
+abbrev pub name_of_block : Module → (func block : ℕ) → Option (List ℕ)
+name_of_block m func block =
+    option_and_then (λ function. option_and_then (λ block. slice_get function.locals block.label) (slice_get function.blocks block))
+    (slice_get m.functions func)
+
+-- the name of a named struct of the module
+abbrev pub name_of_struct : Module → (number : ℕ) → Option (List ℕ)
+name_of_struct m number = option_and_then (λ named. slice_get m.struct_names named.name) (slice_get m.structs number)
+
+-- a name, if there is one
+abbrev pub found_name : Option (List ℕ) → List ℕ
+found_name None = []
+found_name (Some name) = name_text blank.Kept name
+
+-- what has a key, if there is one
+abbrev pub found_key : Option (List ℕ) → List ℕ
+found_key None = []
+found_key (Some key) = key_text key
+
+-- ---- answers
+
+-- what is printed, and the status with which the program ends after it
+pub record Answer : Type 0 where
+  pub text : List ℕ
+  pub status : ℕ
+
+-- a writer was given this text, and the status is this one
+abbrev pub IsTold : (old new : Option (List ℕ)) → (status : ℕ) → Answer → Type 0
+IsTold old new status answer = (status ≡ answer.status) × Appends old new answer.text
+
+-- a line for something that is not read, not laid out or not begun
+abbrev pub unread : (line : List ℕ) → Answer
+unread line = record { text = codes "error " ++ line ++ 10 ∷ []; status = 2 }
+
+-- a fault with its place
+abbrev pub fault_at : (code : List ℕ) → Position → Answer
+fault_at code at = unread (code ++ 32 ∷ decimal at.line ++ 58 ∷ decimal at.column)
+
+-- out of memory
+abbrev pub no_memory : Answer
+no_memory = record { text = codes "error memory" ++ 10 ∷ []; status = 3 }
+
+-- a file that cannot be read
+abbrev pub no_file : (path : List ℕ) → Answer
+no_file path = record { text = codes "error file " ++ path ++ 10 ∷ []; status = 4 }
+
+-- a text that is no module
+abbrev pub of_read_fault : ReadFault → Answer
+of_read_fault read.Memory = no_memory
+of_read_fault (read.BadByte at) = fault_at (codes "L1") at
+of_read_fault (read.Unfinished at) = fault_at (codes "L2") at
+of_read_fault (read.Unexpected at) = fault_at (codes "L3") at
+of_read_fault (read.DefinedTwice at) = fault_at (codes "L4") at
+of_read_fault (read.NotDefined at) = fault_at (codes "L5") at
+of_read_fault (read.OutOfRange at) = fault_at (codes "L6") at
+of_read_fault (read.LeftOut at word) = unread (codes "L7 " ++ decimal at.line ++ 58 ∷ decimal at.column ++ 32 ∷ word)
+of_read_fault (read.Limit at) = fault_at (codes "L8") at
+of_read_fault (read.WrongNumber at) = fault_at (codes "L9") at
+
+-- a text that is no certificate of the module
+abbrev pub of_cert_fault : Module → CertFault → Answer
+of_cert_fault m (cert.Syntax at) = fault_at (codes "C1") at
+of_cert_fault m (cert.Version at) = fault_at (codes "C2") at
+of_cert_fault m (cert.UnknownName at) = fault_at (codes "C3") at
+of_cert_fault m (cert.ListedTwice at) = fault_at (codes "C4") at
+of_cert_fault m (cert.Missing func) = unread (codes "C5 @" ++ found_name (name_of_function m func))
+of_cert_fault m (cert.MissingBlock func block) = unread (codes "C5 @" ++ found_name (name_of_function m func) ++ codes " %" ++ found_key (name_of_block m func block))
+of_cert_fault m cert.Memory = no_memory
+
+-- a module that has no layouts
+abbrev pub of_layout_fault : Module → LayoutFault → Answer
+of_layout_fault m (layout.HoldsItself number) = unread (codes "Y1 " ++ found_name (name_of_struct m number))
+of_layout_fault m (layout.TooManyWords number) = unread (codes "Y2 " ++ found_name (name_of_struct m number))
+of_layout_fault m (layout.NoSuchLayout number) = unread (codes "Y3")
+of_layout_fault m layout.ShapesWanted = unread (codes "Y5")
+of_layout_fault m layout.Memory = no_memory
+
+-- a text that is no text of edits; its one fault is C1
+abbrev pub of_edits_fault : CertFault → Answer
+of_edits_fault (cert.Syntax at) = fault_at (codes "C1") at
+of_edits_fault _ = no_memory
+
+-- a text that is no trace of the program
+abbrev pub of_trace_fault : TraceFault → Answer
+of_trace_fault (trace.Syntax at) = fault_at (codes "P1") at
+of_trace_fault (trace.NoThread at) = fault_at (codes "P2") at
+of_trace_fault (trace.TooManySteps at) = fault_at (codes "P3") at
+of_trace_fault trace.TooManyCells = unread (codes "Y4")
+of_trace_fault trace.Memory = no_memory
+
+-- ---- the check
+
+-- a module is accepted that defines this number of functions
+abbrev pub yes : (functions : ℕ) → Answer
+yes functions = record { text = codes "yes " ++ decimal functions ++ 10 ∷ []; status = 0 }
+
+-- the line of a certificate that a refusal names, if it names one
+abbrev pub line_of : List Section → Module → (func : ℕ) → Option Detail → List ℕ
+line_of certs m func None = []
+line_of certs m func (Some detail) = line_shown certs m func detail.target detail.line
+
+-- the target of an edge and the line that is not shown on it, if there are any
+abbrev pub detail_text : Module → (func : ℕ) → (line : List ℕ) → Option Detail → List ℕ
+detail_text m func line None = []
+detail_text m func line (Some detail) = codes " %" ++ found_key (name_of_block m func detail.target) ++ 32 ∷ line
+
+-- where a refused instruction is: its function, its block and its place there
+abbrev pub place_text : Module → Refusal → List ℕ
+place_text m refusal =
+    codes "@" ++ found_name (name_of_function m refusal.func) ++ codes " %" ++ found_key (name_of_block m refusal.func refusal.block) ++ 32 ∷ decimal refusal.instr
+
+-- an instruction is refused: where it is and the rule that it breaks
+abbrev pub no : Module → (line : List ℕ) → Refusal → Answer
+no m line refusal = record {
+  text = codes "no " ++ place_text m refusal ++ 32 ∷ rule_name refusal.rule ++ detail_text m refusal.func line refusal.detail ++ 10 ∷ [];
+  status = 1;
+}
+
+-- ---- the maker
+
+-- the text of certificates that are made
+abbrev pub made_text : (text : List ℕ) → Answer
+made_text text = record { text = text; status = 0 }
+
+-- no certificates are made
+abbrev pub no_answer : Answer
+no_answer = record { text = codes "no answer" ++ 10 ∷ []; status = 1 }

@@ -1,0 +1,20 @@
+//! What the files of a command are read as, and the lines that are printed of faults in them and of verdicts.
+#![tactic(auto)]
+
+mod faults;
+mod files;
+mod found;
+mod name;
+mod status;
+mod unreadable;
+mod verdicts;
+
+pub use faults::{memory, no_layouts};
+pub use files::{
+    Certified, Traced, Unread, edits_in, module_in, read_certified, read_traced, trace_in,
+};
+pub use status::{
+    STATUS_MEMORY, STATUS_NO, STATUS_UNREADABLE, STATUS_USAGE, STATUS_YES, status_of,
+};
+pub use unreadable::unread;
+pub use verdicts::{accepted, line_of_refusal, refused, report_verdict};

@@ -1,0 +1,138 @@
+//! How the check's verdicts are printed, each a line that goes to the standard output, and why a module is not accepted.
+ghost use Rattle.std.specs.Prelude.{◌≡◌, ◌∷◌, IfOk, OnOk};
+ghost use Rattle.std.specs.Io.KnownBytes.{Appends};
+ghost use Rattle.reports.specs.Report as spec;
+ghost use Rattle.reports.specs.Report.{IsTold};
+ghost use Rattle.block_rules.specs.RuleNames.{rule_name};
+ghost use Rattle.reports.specs.Said.{OfVerdict, Says};
+ghost use Rattle.module_check.specs.Accepted.{IsFirstRefusal, IsVerdictOf};
+
+use crate::faults::{memory, no_layouts};
+use crate::found::{name_of_block, name_of_function, write_found_local, write_found_name};
+use crate::status::{STATUS_NO, STATUS_YES};
+use block_rules::{Detail, Refusal, Rule};
+use certificate::print_line;
+use certs::Certs;
+use ir_ast::{FuncId, Module};
+use module_check::{NotAccepted, Verdict};
+use std::alloc::{AllocError, Global};
+use std::io;
+use std::io::Write;
+
+/// How many functions a module defines that is accepted: `yes 1`.
+pub fn accepted<W: Write>(out: &mut W, functions: usize) -> io::Result<u8>
+    ensures { IfOk result (λ status. IsTold (W.contents out.old) (W.contents out.new) status (spec.yes functions)) }
+{
+    writeln!(out, "yes {functions}")?;
+    Ok(STATUS_YES)
+}
+
+/// The target of an edge and the line of its certificate that is not shown on it, if there are any, as they come after
+/// a rule: ` %loop %p ref Node nonnull`.
+fn write_detail<W: Write>(
+    out: &mut W,
+    of_module: &Module,
+    func: FuncId,
+    detail: Option<Detail>,
+    line: &[u8],
+) -> io::Result<()>
+    ensures { OnOk result (Appends (W.contents out.old) (W.contents out.new) (spec.detail_text of_module.now func line.now detail)) }
+{
+    let Some(detail) = detail else {
+        return Ok(());
+    };
+    write!(out, " %")?;
+    write_found_local(out, name_of_block(of_module, func, detail.target))?;
+    write!(out, " ")?;
+    out.write_all(line)
+}
+
+/// The line of a certificate that a refusal names, as the certificates' text writes it; none is empty.
+pub fn line_of_refusal(
+    alloc: Global,
+    of_module: &Module,
+    certs: &Certs,
+    refusal: &Refusal,
+) -> Result<Vec<u8>, AllocError>
+    ensures { IfOk result (λ line. line.items ≡ spec.line_of certs.now.sections of_module.now refusal.now.func refusal.now.detail) }
+{
+    match refusal.detail {
+        Some(Detail { target, line }) => {
+            print_line(alloc, certs, of_module, refusal.func, target, line)
+        }
+        None => Ok(Vec::new(alloc)),
+    }
+}
+
+/// Writes where an instruction is: `@f %b 3`.
+fn write_place<W: Write>(out: &mut W, of_module: &Module, refusal: &Refusal) -> io::Result<()>
+    ensures { OnOk result (Appends (W.contents out.old) (W.contents out.new) (spec.place_text of_module.now refusal.now)) }
+{
+    write!(out, "@")?;
+    write_found_name(
+        out,
+        name_of_function(of_module, refusal.func.number() as usize),
+    )?;
+    write!(out, " %")?;
+    write_found_local(out, name_of_block(of_module, refusal.func, refusal.block))?;
+    write!(out, " {}", refusal.instr)
+}
+
+/// Writes the code of a rule after a blank.
+fn write_rule<W: Write>(out: &mut W, rule: Rule) -> io::Result<()>
+    ensures { OnOk result (Appends (W.contents out.old) (W.contents out.new) (32 ∷ rule_name rule)) }
+{
+    write!(out, " {rule}")
+}
+
+/// The first refused instruction, by its function, its block and its place there, and the rule that it breaks:
+/// `no @f %b 3 K6`. After K15 come the target and its line that is not shown.
+pub fn refused<W: Write>(
+    out: &mut W,
+    of_module: &Module,
+    refusal: &Refusal,
+    line: &[u8],
+) -> io::Result<u8>
+    ensures { IfOk result (λ status. IsTold (W.contents out.old) (W.contents out.new) status (spec.no of_module.now line.now refusal.now)) }
+{
+    write!(out, "no ")?;
+    write_place(out, of_module, refusal)?;
+    write_rule(out, refusal.rule)?;
+    write_detail(out, of_module, refusal.func, refusal.detail, line)?;
+    writeln!(out, "")?;
+    Ok(STATUS_NO)
+}
+
+/// Prints the first refusal of a module.
+fn report_refusal<O: Write, E: Write>(
+    alloc: Global,
+    answer: &NotAccepted,
+    refusal: &Refusal,
+    out: &mut O,
+    err: &mut E,
+) -> io::Result<u8>
+    requires { IsFirstRefusal answer.now.of_module answer.now.certs.sections refusal.now }
+    ensures { IfOk result (Says (OfVerdict answer.now.of_module answer.now.certs.sections) (O.contents out.old) (O.contents out.new) (E.contents err.old) (E.contents err.new)) }
+{
+    match line_of_refusal(alloc, &answer.of_module, &answer.certs, refusal) {
+        Ok(line) => refused(out, &answer.of_module, refusal, line.as_slice()),
+        Err(_) => memory(err),
+    }
+}
+
+/// Prints why a module is not accepted.
+pub fn report_verdict<O: Write, E: Write>(
+    alloc: Global,
+    answer: &NotAccepted,
+    out: &mut O,
+    err: &mut E,
+) -> io::Result<u8>
+    requires { IsVerdictOf answer.now.of_module answer.now.certs.sections answer.now.verdict }
+    ensures { IfOk result (Says (OfVerdict answer.now.of_module answer.now.certs.sections) (O.contents out.old) (O.contents out.new) (E.contents err.old) (E.contents err.new)) }
+{
+    match answer.verdict {
+        Verdict::Refused(refusal) => report_refusal(alloc, answer, &refusal, out, err),
+        Verdict::Layout(fault) => no_layouts(err, &answer.of_module, fault),
+        Verdict::Memory => memory(err),
+    }
+}

@@ -1,0 +1,59 @@
+-- What `replay`, `soak` and `run` say of their files.
+use Rattle.std.specs.Prelude.{◌≡◌, ◌≢◌, ℕ, List, Option}
+use Rattle.ir_ast.specs.declared.module.Module.{Module}
+use Rattle.layout.specs.Layouts.{LaidOut}
+use Rattle.certs.specs.declared.section.Section.{Section}
+use Rattle.module_check.specs.Accepted.{IsProgramCertified}
+use Rattle.trace_text.specs.declared.trace.Trace.{Trace}
+use Rattle.setups.specs.Setups.{HasNoFault, IsSetupFault}
+use Rattle.setups.specs.declared.setup_fault.SetupFault.{SetupFault}
+use Rattle.setups.specs.declared.setup_fault.SetupFault.TheVariants as setup
+use Rattle.replay.specs.Outcomes.{IsOutcome}
+use Rattle.replay.specs.Soaks.{IsSoakOutcome}
+use Rattle.replay.specs.declared.outcome.Outcome.{Outcome}
+use Rattle.replay.specs.declared.outcome.SoakOutcome.{SoakOutcome}
+use Rattle.serving.specs.declared.beside.Limits.{Limits}
+use Rattle.mutators.specs.Faults.{HasNoRunFault, IsRunFault}
+use Rattle.mutators.specs.Reports.{IsReport}
+use Rattle.mutators.specs.declared.report.RunReport.{RunReport}
+use Rattle.reports.specs.Files.{HasProgram, HasTrace, IsNoTrace, IsUntraced, of_unread}
+use Rattle.reports.specs.Said.{Said, OnOutput, OnError, OfVerdict}
+use Rattle.reports.specs.declared.files.Unread.{Unread}
+use Rattle.run_commands.specs.Runs.{of_outcome, of_setup_fault, of_soak}
+use Rattle.run_commands.specs.RunReport.{of_report}
+
+-- ---- replay and soak
+
+-- what `replay` says of a program and its trace: the outcome of the trace, the first thread that may not begin, or out of memory
+pub data OfTrace (p : LaidOut) (t : Trace) : Said → Type 0 where
+  came : (outcome : Outcome) → HasNoFault p t.setup → IsOutcome p t outcome → OfTrace p t (OnOutput (of_outcome outcome))
+  not_begun : (fault : SetupFault) → (fault ≢ setup.Memory → IsSetupFault p t.setup fault) → OfTrace p t (OnError (of_setup_fault fault))
+
+-- what `soak` says of them: the outcome of `seeds` seeds with `steps` steps each
+pub data OfSeeds (seeds steps : ℕ) (p : LaidOut) (t : Trace) : Said → Type 0 where
+  soaked : (outcome : SoakOutcome) → HasNoFault p t.setup → IsSoakOutcome p t.setup seeds steps outcome → OfSeeds seeds steps p t (OnOutput (of_soak seeds outcome))
+  not_started : (fault : SetupFault) → (fault ≢ setup.Memory → IsSetupFault p t.setup fault) → OfSeeds seeds steps p t (OnError (of_setup_fault fault))
+
+-- what is said of the files of a program and its trace, which have these paths, where this is said of them once they are read
+pub data OfRun (Run : LaidOut → Trace → Said → Type 0) (module_path trace_path : List ℕ) (first second : Option (List ℕ)) : Said → Type 0 where
+  not_traced : (unread : Unread) → IsUntraced module_path trace_path first second unread → OfRun Run module_path trace_path first second (OnError (of_unread unread))
+  of_traced : (p : LaidOut) (t : Trace) (said : Said) → HasProgram first p → HasTrace second p t → Run p t said → OfRun Run module_path trace_path first second said
+
+-- ---- run
+
+-- what `run` says of an accepted program with its certificates and of the threads with which a trace begins: how far they and the
+-- collector came in a run within the limits, the first thread that may not begin, or that memory was refused
+pub data OfThreads (limits : Limits) (p : LaidOut) (certs : List Section) (t : Trace) : Said → Type 0 where
+  ran : (report : RunReport) → HasNoRunFault p certs t.setup → IsReport p t.setup limits report → OfThreads limits p certs t (OnOutput (of_report report))
+  not_run : (fault : SetupFault) → (fault ≢ setup.Memory → IsRunFault p certs t.setup fault) → OfThreads limits p certs t (OnError (of_setup_fault fault))
+
+-- what it says of them and the file of the trace, which has this path
+pub data OfTraceFile (limits : Limits) (p : LaidOut) (certs : List Section) (path : List ℕ) (file : Option (List ℕ)) : Said → Type 0 where
+  no_trace : (unread : Unread) → IsNoTrace path file p unread → OfTraceFile limits p certs path file (OnError (of_unread unread))
+  of_trace : (t : Trace) (said : Said) → HasTrace file p t → OfThreads limits p certs t said → OfTraceFile limits p certs path file said
+
+-- what it says of a module, its certificates and the file of the trace: why they are not accepted, or what is said of the program
+pub data OfRunCerts (limits : Limits) (path : List ℕ) (file : Option (List ℕ)) (m : Module) (certs : List Section) : Said → Type 0 where
+  no_program : (said : Said) → OfVerdict m certs said → OfRunCerts limits path file m certs said
+  of_program : (p : LaidOut) (said : Said) → p.of_module ≡ m → IsProgramCertified p certs → OfTraceFile limits p certs path file said
+      → OfRunCerts limits path file m certs said
