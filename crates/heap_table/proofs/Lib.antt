@@ -8,3 +8,4 @@ pub mod Safepoints
 pub mod Stores
 pub mod Begins
 pub mod Ends
+pub mod OwnWords

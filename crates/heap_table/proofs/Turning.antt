@@ -12,6 +12,7 @@ use Rattle.colours.specs.Runs.{Event, ByCollector, turns_of, word_after, IsHeapR
 use Rattle.lemmas.specs.Bools.{yes_or_no}
 use Rattle.trace_sweep.specs.Turns.{turn_in, is_at_limit}
 use Rattle.trace_sweep.specs.Collecting as machine
+use Rattle.trace_sweep.specs.Cycles.{collector_after, LeadsOn}
 use Rattle.trace_sweep.specs.Stands.{StandsAfter, ExtendsLogs}
 use Rattle.trace_sweep.specs.Order.{turn_of-turn_in, moved-stands, asked-some}
 use Rattle.heap_rule.specs.View.{Share, OfCollector, grown}
@@ -107,11 +108,12 @@ fits_next s log share col n is heap h e =
 
 -- what the sweeper keeps is true after the step
 pub sweeper_next : (s : Setup) (log : List Turn) (share : Share) (token after : words.Holding) (col new : machine.Collecting) (turn : Turn) → token.setup ≡ s → share ≡ OfCollector log
-    → StandsAfter s log col → after ≡ record { table = token.table; setup = token.setup; share = grown (ByCollector turn) share } → Happens s share (ByCollector turn) → ExtendsLogs col turn new
-    → (after.share ≡ OfCollector (turns_in after.share)) × StandsAfter after.setup (turns_in after.share) new × ((c : Collection) → Collects after.setup (turns_in after.share) c → IsInRange after.setup c)
-sweeper_next s log share token after col new turn set is stands now h extends = (
+    → StandsAfter s log col → col ≡ collector_after s log → after ≡ record { table = token.table; setup = token.setup; share = grown (ByCollector turn) share } → Happens s share (ByCollector turn) → ExtendsLogs col turn new → LeadsOn col turn new
+    → (after.share ≡ OfCollector (turns_in after.share)) × StandsAfter after.setup (turns_in after.share) new × (new ≡ collector_after after.setup (turns_in after.share)) × ((c : Collection) → Collects after.setup (turns_in after.share) c → IsInRange after.setup c)
+sweeper_next s log share token after col new turn set is stands led now h extends leads = (
   share_is ∙ ap OfCollector (sym log_is),
   subst (λ (x : Setup). StandsAfter x (turns_in after.share) new) (sym setup_is) (subst (λ (l : List Turn). StandsAfter s l new) (sym log_is) (extends s log stands)),
+  subst (λ (x : Setup). new ≡ collector_after x (turns_in after.share)) (sym setup_is) (subst (λ (l : List Turn). new ≡ collector_after s l) (sym log_is) (leads s log led)),
   subst (λ (x : Setup). (c : Collection) → Collects x (turns_in after.share) c → IsInRange x c) (sym setup_is) (subst (λ (l : List Turn). (c : Collection) → Collects s l c → IsInRange s c) (sym log_is) range),
 )
   where

@@ -10,3 +10,4 @@ pub mod Writes
 pub mod Safepoints
 pub mod Opening
 pub mod Closing
+pub mod OwnWords

@@ -2,3 +2,4 @@ pub mod WordPlaces
 pub mod Newest
 mod ChainTurns
 mod CycleCounts
+pub mod Leading

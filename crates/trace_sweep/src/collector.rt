@@ -6,7 +6,7 @@ ghost use Rattle.colours.specs.Steps as steps;
 ghost use Rattle.trace_sweep.specs.Turns.{is_at_limit, next_reference, next_cell, pass_after_look, list_after, kept_list, afterwards};
 ghost use Rattle.trace_sweep.specs.Collecting.{plan, in_order, plan_of, begun, ask_of, turn_of, posted_by, moved, FitsNext, NamesCells, stored_by};
 ghost use Rattle.trace_sweep.specs.Stands.{StandsAfter, IsStepOn, ExtendsLogs, ExtendsRuns};
-ghost use Rattle.trace_sweep.specs.Cycles.{swept, HasSwept};
+ghost use Rattle.trace_sweep.specs.Cycles.{swept, collector_after, LeadsOn, HasSwept};
 ghost use Rattle.colours.specs.Runs.{Event, turns_of, word_after};
 ghost use Rattle.colours.specs.declared.place.Place.{Place};
 ghost use Rattle.trace_sweep.specs.Words.{reference_in};
@@ -99,6 +99,9 @@ impl<'a> Collector<'a> {
 
         // The step is the next one of the order after each log that led here.
         ensures collects { ExtendsLogs self.old result self.new }
+
+        // The collector of a log is that of the log with the step then.
+        ensures leads { LeadsOn self.old result self.new }
     {
         self.step(answer)
     }
@@ -132,8 +135,8 @@ impl<'a> Collector<'a> {
     pub fn cycles(&self) -> u64
         ensures count { result ≡ swept self.now.heap self.now.posted self.now.at }
 
-        // After each log that led here that many sweeps are over.
-        ensures swept { (s : Setup) (log : List Turn) → StandsAfter s log self.now → HasSwept s log result }
+        // After a log of which it is the collector that many sweeps are over.
+        ensures swept { (s : Setup) (log : List Turn) → StandsAfter s log self.now → self.now ≡ collector_after s log → HasSwept s log result }
     {
         let cycle = cycle_of(self.posted);
         match self.position {
