@@ -24,7 +24,7 @@ use Rattle.ir_ast.specs.declared.operand.Operand.{Operand}
 use Rattle.ir_ast.specs.declared.operand.Operand.TheVariants.{Constant as Written, Local}
 use Rattle.layout.specs.Layouts.{LaidOut}
 use Rattle.types.specs.ValueTypes.{target_of}
-use Rattle.shadow_stack.specs.Slots.{SlotTable, slot_of, is_among}
+use Rattle.shadow_stack.specs.Slots.{SlotTable, slot_of, is_opaque_address, is_among}
 use Rattle.certs.specs.declared.section.Section.{Section}
 use Rattle.facts.specs.Facts.{FactSet, end_slot}
 use Rattle.block_rules.specs.declared.rule.Rule.{Rule}
@@ -56,7 +56,7 @@ gives_root slots (Some v) = names_root slots (slot_of slots v)
 abbrev pub may_hold : Module → SlotTable → (result : Option ℕ) → (held : ℕ) → Bool
 may_hold m slots result held = is_integer (kind_of m held) || gives_root slots result
 
--- K2: an entry of a phi is a constant of its type, or a value to which the text gives that type; a slot or an address of a part is none
+-- K2: an entry of a phi is a constant of its type, or a value to which the text gives that type; a slot or an address is none
 abbrev pub is_entry : Function → (written v : ℕ) → Option LocalSort → Bool
 is_entry f written v (Some (Value given)) = given == written
 is_entry f written v _ = false
@@ -64,7 +64,7 @@ is_entry f written v _ = false
 -- by the operand
 abbrev pub may_come_in : Module → Function → SlotTable → (written : ℕ) → Operand → Bool
 may_come_in m f slots written (Written c) = constant_fits c (kind_of m written)
-may_come_in m f slots written (Local v) = is_entry f written v (slice_get f.sorts v) && not (is_some (slot_of slots v))
+may_come_in m f slots written (Local v) = is_entry f written v (slice_get f.sorts v) && not (is_some (slot_of slots v)) && not (is_opaque_address m slots written (Local v))
 may_come_in m f slots written _ = false
 
 -- each entry of a phi

@@ -14,15 +14,15 @@ use Rattle.ir_ast.specs.declared.instr.Instr.{Instr}
 use Rattle.ir_ast.specs.declared.memory.MemoryOp.TheVariants.{Alloca}
 use Rattle.ir_ast.specs.declared.module.Module.{Module}
 use Rattle.ir_ast.specs.declared.op.Op.{Op}
-use Rattle.ir_ast.specs.declared.op.Op.TheVariants.{Memory, Cast, Call}
+use Rattle.ir_ast.specs.declared.op.Op.TheVariants.{Memory, Element, Cast, Call}
 use Rattle.ir_ast.specs.declared.operand.Operand.{Operand}
-use Rattle.ir_ast.specs.declared.operand.Operand.TheVariants.{Local}
+use Rattle.ir_ast.specs.declared.operand.Operand.TheVariants.{Constant, Local, Global, CastGlobal}
 use Rattle.ir_ast.specs.declared.runtime.Runtime.{Runtime}
 use Rattle.ir_ast.specs.declared.runtime.Runtime.TheVariants.{GcRoot}
 use Rattle.shadow_stack.specs.declared.draft.Draft.{Draft}
 use Rattle.shadow_stack.specs.declared.draft.Origin.{Origin}
 use Rattle.shadow_stack.specs.declared.draft.Origin.TheVariants as origin
-use Rattle.shadow_stack.specs.Hops.{hops_nowhere, hops_slot}
+use Rattle.shadow_stack.specs.Hops.{hops_nowhere, hops_slot, hops_address}
 use Rattle.shadow_stack.specs.Slots.{slots_of, is_among, put, origin_of, noted_op, noted, noted_blocks, draft_of, origin_at, hop, hops, slot_at, names_of, is_reference_held, operand_slot, first_slot, slot_rooted, slot_rooted_by, with_root, with_roots, with_roots_of}
 use Rattle.types.specs.RuntimeCall.{runtime_called}
 use Rattle.certs.specs.RootNames.{is_among_roots, is_root, root_noted, roots_noted, roots_of_blocks, root_names}
@@ -41,19 +41,23 @@ allocated_on f n name other e = rw e refl
 -- a name's source is its origin, whose slot holds the source's type
 abbrev Agrees : (held : List ℕ) → Source → Origin → Type 0
 Agrees held Nowhere origin.Nowhere = Unit {0}
+Agrees held Nowhere origin.Address = Unit {0}
 Agrees held (Held written) (origin.Slot slot) = slice_get held slot ≡ Some written
 Agrees held (Same value) (origin.Same other) = value ≡ other
 Agrees held _ _ = ⊥
 
 agrees_more : (held : List ℕ) (written : ℕ) (s : Source) (o : Origin) → Agrees held s o → Agrees (held ++ written ∷ []) s o
 agrees_more held written Nowhere origin.Nowhere h = tt
+agrees_more held written Nowhere origin.Address h = tt
 agrees_more held written (Held w) (origin.Slot slot) h = get_front held (written ∷ []) slot w h
 agrees_more held written (Same v) (origin.Same w) h = h
 agrees_more held written Nowhere (origin.Slot slot) h = absurd h
 agrees_more held written Nowhere (origin.Same w) h = absurd h
 agrees_more held written (Held w) origin.Nowhere h = absurd h
+agrees_more held written (Held w) origin.Address h = absurd h
 agrees_more held written (Held w) (origin.Same v) h = absurd h
 agrees_more held written (Same v) origin.Nowhere h = absurd h
+agrees_more held written (Same v) origin.Address h = absurd h
 agrees_more held written (Same v) (origin.Slot slot) h = absurd h
 
 -- a name's source and origin, where an instruction of some name defines another
@@ -68,8 +72,10 @@ set_agrees value name held os s t o within new old = elim (cases_eq name value) 
     subst_at name within new same = let w : name < length os = omega (arith, same) in rw (get_or-set_same os name o origin.Nowhere w) new
 
 operand_agrees : (held : List ℕ) (operand : Operand) → Agrees held (source_of_operand operand) (origin_of operand)
+operand_agrees held (Constant c) = tt
 operand_agrees held (Local value) = refl
-operand_agrees held _ = tt
+operand_agrees held (Global symbol) = tt
+operand_agrees held (CastGlobal from symbol to) = tt
 
 put_length : (name : Option ℕ) (o : Origin) (os : List Origin) → length (put name o os) ≡ length os
 put_length None o os = refl
@@ -77,6 +83,7 @@ put_length (Some value) o os = length-set os value o
 
 noted_length : (name : Option ℕ) (op : Op) (d : Draft) → length (noted_op name op d).origins ≡ length d.origins
 noted_length name (Memory (Alloca held)) d = put_length name (origin.Slot (length d.held)) d.origins
+noted_length name (Element x) d = put_length name origin.Address d.origins
 noted_length name (Cast x) d = put_length name (origin_of x.operand) d.origins
 noted_length name _ d = refl
 
@@ -85,6 +92,8 @@ noted_agrees : (value : ℕ) (name : Option ℕ) (op : Op) (d : Draft) (s : Sour
 noted_agrees value None (Memory (Alloca held)) d s within h = agrees_more d.held held s (origin_at d.origins value) h
 noted_agrees value (Some name) (Memory (Alloca held)) d s within h =
     set_agrees value name (d.held ++ held ∷ []) d.origins (Held held) s (origin.Slot (length d.held)) within (get_end d.held held) (agrees_more d.held held s (origin_at d.origins value) h)
+noted_agrees value None (Element x) d s within h = h
+noted_agrees value (Some name) (Element x) d s within h = set_agrees value name d.held d.origins nowhere s origin.Address within tt h
 noted_agrees value None (Cast x) d s within h = h
 noted_agrees value (Some name) (Cast x) d s within h =
     set_agrees value name d.held d.origins (source_of_operand x.operand) s (origin_of x.operand) within (operand_agrees d.held x.operand) h
@@ -181,12 +190,16 @@ held_apart : (os : List Origin) (held : List ℕ) (written : ℕ) → Apart (rec
 held_apart os held written h = (h.0, λ i slot e. let less = h.1 i slot e in omega (arith, less, length-append held (written ∷ [])))
 
 no_slot : (operand : Operand) (slot : ℕ) → origin_of operand ≡ origin.Slot slot → ⊥
+no_slot (Constant c) slot e = cc
 no_slot (Local value) slot e = cc
-no_slot _ slot e = cc
+no_slot (Global symbol) slot e = cc
+no_slot (CastGlobal from symbol to) slot e = cc
 
 noted_apart : (name : Option ℕ) (op : Op) (d : Draft) → Apart d → Apart (noted_op name op d)
 noted_apart None (Memory (Alloca held)) d h = held_apart d.origins d.held held h
 noted_apart (Some name) (Memory (Alloca held)) d h = slot_apart d.origins d.held name held h
+noted_apart None (Element x) d h = h
+noted_apart (Some name) (Element x) d h = other_apart d.origins d.held name origin.Address (λ slot e. cc) h
 noted_apart None (Cast x) d h = h
 noted_apart (Some name) (Cast x) d h = other_apart d.origins d.held name (origin_of x.operand) (no_slot x.operand) h
 noted_apart name _ d h = h
@@ -262,25 +275,31 @@ module _ (m : Module) (f : Function) where
 
   leads_here : (value : ℕ) (s : Source) (o : Origin) → origin_at os value ≡ o → Agrees held s o → Leads (allocated_at value s) (slot_at o)
   leads_here value Nowhere origin.Nowhere e h = tt
+  leads_here value Nowhere origin.Address e h = tt
   leads_here value (Held w) (origin.Slot slot) e h = (h, e)
   leads_here value (Same v) (origin.Same w) e h = tt
   leads_here value Nowhere (origin.Slot slot) e h = absurd h
   leads_here value Nowhere (origin.Same w) e h = absurd h
   leads_here value (Held w) origin.Nowhere e h = absurd h
+  leads_here value (Held w) origin.Address e h = absurd h
   leads_here value (Held w) (origin.Same v) e h = absurd h
   leads_here value (Same v) origin.Nowhere e h = absurd h
+  leads_here value (Same v) origin.Address e h = absurd h
   leads_here value (Same v) (origin.Slot slot) e h = absurd h
 
   leads_on : (n value : ℕ) (s : Source) (o : Origin) → origin_at os value ≡ o → Agrees held s o → ((other : ℕ) → Leads (allocated_within f n other) (slot_at (hops os n (origin_at os other))))
       → Leads (allocated_by value s (λ other. allocated_within f n other)) (slot_at (hops os n (hop os o)))
   leads_on n value Nowhere origin.Nowhere e h more = rw (hops_nowhere os n) tt
+  leads_on n value Nowhere origin.Address e h more = rw (hops_address os n) tt
   leads_on n value (Held w) (origin.Slot slot) e h more = rw (hops_slot os n slot) (h, e)
   leads_on n value (Same v) (origin.Same w) e h more = rw (sym h) (more v)
   leads_on n value Nowhere (origin.Slot slot) e h more = absurd h
   leads_on n value Nowhere (origin.Same w) e h more = absurd h
   leads_on n value (Held w) origin.Nowhere e h more = absurd h
+  leads_on n value (Held w) origin.Address e h more = absurd h
   leads_on n value (Held w) (origin.Same v) e h more = absurd h
   leads_on n value (Same v) origin.Nowhere e h more = absurd h
+  leads_on n value (Same v) origin.Address e h more = absurd h
   leads_on n value (Same v) (origin.Slot slot) e h more = absurd h
 
   leads_within : (n value : ℕ) → Leads (allocated_within f n value) (slot_at (hops os n (origin_at os value)))

@@ -107,7 +107,8 @@ impl Copied for Block {
     }
 }
 
-fn copy_collector(
+/// The same name of a collector, if there is one.
+pub fn copy_collector(
     alloc: Global,
     collector: &Option<Items<u8>>,
 ) -> Result<Option<Items<u8>>, AllocError>

@@ -6,6 +6,6 @@ mod function;
 mod of_module;
 mod tables;
 
-pub use function::copy_function;
-pub use of_module::copy_module;
-pub use tables::{copy_names, copy_types};
+pub use function::{copy_collector, copy_function};
+pub use of_module::{Defined, copy_module, copy_shapes, joined};
+pub use tables::{Tables, copy_names, copy_tables, copy_types};

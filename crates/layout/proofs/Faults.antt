@@ -299,24 +299,24 @@ module _ (m : Module) (marks : List SizeMark) (fields : List ℕ) (settled : IsS
   pub is_fault : (ring : Option ℕ) (fault : LayoutFault) → RingFor ring fault → first_fault m marks fields ≡ Some fault → IsLayoutFault m (at_ring ring fault)
   is_fault ring fault rings e =
       cases (wants_shapes m) (position (struct_is_endless marks) m.structs) (position (struct_is_large marks) m.structs) (position (points_nowhere m marks fields) m.structs) refl refl refl refl fault rings e where
-    ring_or : (s : ℕ) (o : Option ℕ) → wants_shapes m ≡ false → IsFirstIfAny (StructHoldsItself m) o → IsFirst (HasNoEnd m) s → IsLayoutFault m (at_ring o (HoldsItself s))
-    ring_or s None shaped none first = (shaped, inr (none, first))
-    ring_or s (Some k) shaped found first = (shaped, inl found)
+        ring_or : (s : ℕ) (o : Option ℕ) → wants_shapes m ≡ false → IsFirstIfAny (StructHoldsItself m) o → IsFirst (HasNoEnd m) s → IsLayoutFault m (at_ring o (HoldsItself s))
+        ring_or s None shaped none first = (shaped, inr (none, first))
+        ring_or s (Some k) shaped found first = (shaped, inl found)
 
-    cases : (w : Bool) (a b c : Option ℕ) → wants_shapes m ≡ w → position (struct_is_endless marks) m.structs ≡ a → position (struct_is_large marks) m.structs ≡ b → position (points_nowhere m marks fields) m.structs ≡ c
-        → (fault : LayoutFault) → RingFor ring fault → (if w then Some ShapesWanted else fault_by a b c) ≡ Some fault → IsLayoutFault m (at_ring ring fault)
-    cases true a b c iw ia ib ic fault rings e = subst (λ f. IsLayoutFault m (at_ring ring f)) (some_same ShapesWanted fault e) iw
-    cases false (Some s) b c iw ia ib ic fault rings e =
-        subst (λ f. IsLayoutFault m (at_ring ring f)) (some_same (HoldsItself s) fault e) (ring_or s ring iw (rings s (sym (some_same (HoldsItself s) fault e))) (is_first m.structs (struct_is_endless marks) (HasNoEnd m) says_endless s ia))
-    cases false None (Some s) c iw ia ib ic fault rings e = subst (λ f. IsLayoutFault m (at_ring ring f)) (some_same (TooManyWords s) fault e)
-        (iw, is_none_of m.structs (struct_is_endless marks) (HasNoEnd m) says_endless ia, is_first m.structs (struct_is_large marks) (HasTooManyWords m) says_large s ib)
-    cases false None None (Some s) iw ia ib ic fault rings e = subst (λ f. IsLayoutFault m (at_ring ring f)) (some_same (NoSuchLayout s) fault e) (
-      iw,
-      is_none_of m.structs (struct_is_endless marks) (HasNoEnd m) says_endless ia,
-      is_none_of m.structs (struct_is_large marks) (HasTooManyWords m) says_large ib,
-      is_first m.structs (points_nowhere m marks fields) (PointsNowhere m) (says_nowhere (none_passes (struct_is_endless marks) m.structs ia) (none_passes (struct_is_large marks) m.structs ib)) s ic,
-    )
-    cases false None None None iw ia ib ic fault rings e = absurd cc
+        cases : (w : Bool) (a b c : Option ℕ) → wants_shapes m ≡ w → position (struct_is_endless marks) m.structs ≡ a → position (struct_is_large marks) m.structs ≡ b → position (points_nowhere m marks fields) m.structs ≡ c
+            → (fault : LayoutFault) → RingFor ring fault → (if w then Some ShapesWanted else fault_by a b c) ≡ Some fault → IsLayoutFault m (at_ring ring fault)
+        cases true a b c iw ia ib ic fault rings e = subst (λ f. IsLayoutFault m (at_ring ring f)) (some_same ShapesWanted fault e) iw
+        cases false (Some s) b c iw ia ib ic fault rings e =
+            subst (λ f. IsLayoutFault m (at_ring ring f)) (some_same (HoldsItself s) fault e) (ring_or s ring iw (rings s (sym (some_same (HoldsItself s) fault e))) (is_first m.structs (struct_is_endless marks) (HasNoEnd m) says_endless s ia))
+        cases false None (Some s) c iw ia ib ic fault rings e = subst (λ f. IsLayoutFault m (at_ring ring f)) (some_same (TooManyWords s) fault e)
+            (iw, is_none_of m.structs (struct_is_endless marks) (HasNoEnd m) says_endless ia, is_first m.structs (struct_is_large marks) (HasTooManyWords m) says_large s ib)
+        cases false None None (Some s) iw ia ib ic fault rings e = subst (λ f. IsLayoutFault m (at_ring ring f)) (some_same (NoSuchLayout s) fault e) (
+          iw,
+          is_none_of m.structs (struct_is_endless marks) (HasNoEnd m) says_endless ia,
+          is_none_of m.structs (struct_is_large marks) (HasTooManyWords m) says_large ib,
+          is_first m.structs (points_nowhere m marks fields) (PointsNowhere m) (says_nowhere (none_passes (struct_is_endless marks) m.structs ia) (none_passes (struct_is_large marks) m.structs ib)) s ic,
+        )
+        cases false None None None iw ia ib ic fault rings e = absurd cc
 
   -- there is a first struct that has no end
   endless_there : (s : ℕ) → HasNoEnd m s → (k : ℕ) × (position (struct_is_endless marks) m.structs ≡ Some k)

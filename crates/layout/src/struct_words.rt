@@ -168,7 +168,7 @@ fn first_nowhere(survey: &Survey, module: &Module, structs: &[StructType]) -> Op
 }
 
 /// Whether a type is `ptr`, and there are no shapes.
-fn wants_shapes(module: &Module) -> bool
+pub fn wants_shapes(module: &Module) -> bool
     ensures { result ≡ wants_shapes «module».now }
 {
     module.shapes.is_none() && module.types.find(IrType::Opaque).is_some()

@@ -44,7 +44,13 @@ fn entry_fits(scene: &FrameScene<'_>, written: TypeId, entry: Option<Operand>) -
     ensures { result ≡ entry_fits scene.now.program.now.of_module scene.now.function.now scene.now.slots.now written entry }
 {
     match entry {
-        Some(operand) => is_no_global(&operand) && is_typed(scene, written, &operand),
+        Some(operand) => {
+            is_no_global(&operand)
+                && is_typed(scene, written, &operand)
+                && !scene
+                    .slots
+                    .is_opaque_address(scene.of_module(), written, operand)
+        }
         None => true,
     }
 }

@@ -1,5 +1,5 @@
 -- What is put in the place of a function's code and section is what the edit asks for, and what is refused is refused for its first fault.
-use Rattle.std.proofs.Common.{◌≡◌, ◌≢◌, ◌⊎◌, inl, inr, ℕ, List, length, slice_get, Option, Some, None, Result, Ok, Err, refl, ap, sym, subst, ◌∙◌}
+use Rattle.std.proofs.Common.{◌≡◌, ◌≢◌, ◌⊎◌, inl, inr, ℕ, true, false, List, length, slice_get, Option, Some, None, Result, Ok, Err, refl, ap, sym, subst, ◌∙◌}
 use Rattle.std.specs.Prelude.{slice_set, IfOk, IfErr, OnOk, OnErr, IfSome}
 use Rattle.ir_ast.specs.declared.function.Function.{Function}
 use Rattle.ir_ast.specs.declared.module.Module.{Module}
@@ -14,19 +14,19 @@ use Rattle.certs.specs.declared.section.Section.{Section}
 use Rattle.certificate.specs.Anew.{IsSection}
 use Rattle.layout.specs.Functions.{laid_with}
 use Rattle.layout.specs.Grown.{LayoutsStay}
-use Rattle.layout.specs.Layouts.{LaidOut, AreLayouts, AreSizes}
+use Rattle.layout.specs.Layouts.{LaidOut, AreLayouts, AreSizes, wants_shapes}
 use Rattle.block_rules.specs.declared.block_fault.Refusal.{Refusal}
 use Rattle.answers.specs.Answers.{AreAnswers}
 use Rattle.answers.specs.KeptRows.{AreKept}
 use Rattle.edit_text.specs.declared.edit.Edit.{Edit}
 use Rattle.edit_text.specs.declared.edit.Edit.TheVariants as edit
-use Rattle.recheck.specs.Edits.{AreRead, IsReadAt, IsRead, IsEditedAt, IsEdited, HasSectionFault, HasCodeFault, IsFaultAt, IsEditFault, IsTaken, IsRefusedBy, code_fault, name_in, no_function, text_with}
+use Rattle.recheck.specs.Edits.{AreRead, IsCode, HasTextFault, IsReadAt, IsRead, IsEditedAt, IsEdited, HasSectionFault, HasCodeFault, IsFaultAt, IsEditFault, IsTaken, IsRefusedBy, code_fault, name_in, no_function, text_with}
 use Rattle.recheck.specs.Named.{function_named}
 use Rattle.recheck.specs.Put.{state, with_function, IsTextPut, IsBothPut, AreReady, IsKept}
 use Rattle.recheck.specs.Session.{IsAnswered}
 use Rattle.recheck.specs.Told.{rechecked_by}
 use Rattle.recheck.specs.declared.edit_fault.EditFault.{EditFault}
-use Rattle.recheck.specs.declared.edit_fault.EditFault.TheVariants.{Memory}
+use Rattle.recheck.specs.declared.edit_fault.EditFault.TheVariants.{Memory, ShapesWanted}
 use Rattle.recheck.specs.declared.kept.KeptWork.{KeptWork}
 use Rattle.std.proofs.lemmas.List.{length-set}
 use Rattle.recheck.proofs.Puts.{put_so}
@@ -36,6 +36,9 @@ use Rattle.recheck.proofs.Within.{code_differs}
 
 -- ---- code that is read as a module
 
+true_or_false : true ≡ false → ⊥
+true_or_false e = absurd cc
+
 -- the module with what was read has as many functions
 length_put : (func : ℕ) (f : Option Function) (fs : List Function) → length (put_function func f fs) ≡ length fs
 length_put func None fs = refl
@@ -44,48 +47,86 @@ length_put func (Some f) fs = length-set fs func f
 replaced_length : (m : Module) (func : ℕ) (code : Text) (n : Module) → IsReplaced m func code n → length n.functions ≡ length m.functions
 replaced_length m func code n is = ap (λ (x : Module). length x.functions) (sym is.2) ∙ length_put func (slice_get is.0.functions 0) m.functions
 
-module _ (m same_m : Module) (same : same_m ≡ m) (func : ℕ) (code : Text) where
-  pub of_code : (n : Module) → IsReplaced same_m func code n → IsReplaced m func code n
-  of_code n h = subst (λ (x : Module). IsReplaced x func code n) same h
+-- ---- the text of the code
 
-  pub to_code : (n : Module) → IsReplaced m func code n → IsReplaced same_m func code n
-  to_code n h = subst (λ (x : Module). IsReplaced x func code n) (sym same) h
-
-  of_code_fault : (f : ReadFault) → IsReplaceFault same_m func code f → IsReplaceFault m func code f
-  of_code_fault f h = subst (λ (x : Module). IsReplaceFault x func code f) same h
-
-  to_code_fault : (f : ReadFault) → IsReplaceFault m func code f → IsReplaceFault same_m func code f
-  to_code_fault f h = subst (λ (x : Module). IsReplaceFault x func code f) (sym same) h
-
+module _ (m : Module) (func : ℕ) (code : Text) where
+  -- the text is refused
   module _ (f : ReadFault) (e : EditFault) (is : e ≡ code_fault f) where
     -- what is refused is no code
-    pub code_taken : ((n : Module) → IsReplaced same_m func code n → Gives (Err f) (Ok n)) → (n : Module) → IsReplaced m func code n → e ≢ Memory → ⊥
-    code_taken only n h differs = ok_or_err n f (only n (to_code n h) (code_differs f e is differs))
+    pub text_taken : ((n : Module) → IsReplaced m func code n → Gives (Err f) (Ok n)) → (n : Module) → IsReplaced m func code n → e ≢ Memory → ⊥
+    text_taken only n h differs = ok_or_err n f (only n h (code_differs f e is differs))
 
     -- it has the fault
-    pub code_refused : (f ≢ read.Memory → IsReplaceFault same_m func code f) → e ≢ Memory → (g : ReadFault) × IsReplaceFault m func code g × (code_fault g ≡ e)
-    code_refused fault differs = (f, of_code_fault f (fault (code_differs f e is differs)), sym is)
+    pub text_refused : (f ≢ read.Memory → IsReplaceFault m func code f) → e ≢ Memory → HasTextFault m func code e
+    text_refused fault differs = inl (f, fault (code_differs f e is differs), sym is)
 
     -- and no other one
-    pub code_same : ((n : Module) → IsReplaced same_m func code n → Gives (Err f) (Ok n)) → ((g : ReadFault) → IsReplaceFault same_m func code g → Gives {X = Module} (Err f) (Err g))
-        → (text : Text) (x : EditFault) → HasCodeFault m func code text x → e ≢ Memory → e ≡ x
-    code_same only fails text x (inl h) differs =
-        let one : h.0 ≡ f = same_err {X = Module} h.0 f (fails h.0 (to_code_fault h.0 h.1) (code_differs f e is differs)) in
+    pub text_same : ((n : Module) → IsReplaced m func code n → Gives (Err f) (Ok n)) → ((g : ReadFault) → IsReplaceFault m func code g → Gives {X = Module} (Err f) (Err g))
+        → (x : EditFault) → HasTextFault m func code x → e ≢ Memory → e ≡ x
+    text_same only fails x (inl h) differs =
+        let one : h.0 ≡ f = same_err {X = Module} h.0 f (fails h.0 h.1 (code_differs f e is differs)) in
         is ∙ ap code_fault (sym one) ∙ h.2
-    code_same only fails text x (inr h) differs = absurd (code_taken only h.0 h.1 differs)
+    text_same only fails x (inr h) differs = absurd (text_taken only h.0 h.1 differs)
+
+  -- the text is read as this module
+  module _ (o : Module) (only : (n : Module) → IsReplaced m func code n → Gives (Ok o) (Ok n)) (fails : (f : ReadFault) → IsReplaceFault m func code f → Gives (Ok o) (Err f)) where
+    -- there is no other one
+    pub text_one : (n : Module) → IsReplaced m func code n → n ≡ o
+    text_one n h = same_ok {E = ReadFault} n o (only n h)
+
+    -- where shapes are wanted for it, there is no code
+    pub wanted_taken : wants_shapes o ≡ true → (n : Module) → IsCode m func code n → ⊥
+    wanted_taken wanted n h = let no : wants_shapes o ≡ false = subst (λ (x : Module). wants_shapes x ≡ false) (text_one n h.0) h.1 in absurd (true_or_false (sym wanted ∙ no))
+
+    -- and that is the fault
+    pub wanted_same : wants_shapes o ≡ true → (x : EditFault) → HasTextFault m func code x → ShapesWanted ≡ x
+    wanted_same wanted x (inl h) = absurd (err_or_ok o h.0 (fails h.0 h.1))
+    wanted_same wanted x (inr h) = h.2.1
+
+    -- where they are not, there is no fault
+    pub unwanted_unread : wants_shapes o ≡ false → (x : EditFault) → HasTextFault m func code x → ⊥
+    unwanted_unread unwanted x (inl h) = err_or_ok o h.0 (fails h.0 h.1)
+    unwanted_unread unwanted x (inr h) = true_or_false (sym h.2.0 ∙ ap wants_shapes (text_one h.0 h.1) ∙ unwanted)
+
+module _ (m same_m : Module) (same : same_m ≡ m) (func : ℕ) (code : Text) where
+  of_code : (n : Module) → IsCode same_m func code n → IsCode m func code n
+  of_code n h = subst (λ (x : Module). IsCode x func code n) same h
+
+  to_code : (n : Module) → IsCode m func code n → IsCode same_m func code n
+  to_code n h = subst (λ (x : Module). IsCode x func code n) (sym same) h
+
+  of_fault : (e : EditFault) → HasTextFault same_m func code e → HasTextFault m func code e
+  of_fault e h = subst (λ (x : Module). HasTextFault x func code e) same h
+
+  to_fault : (e : EditFault) → HasTextFault m func code e → HasTextFault same_m func code e
+  to_fault e h = subst (λ (x : Module). HasTextFault x func code e) (sym same) h
+
+  -- what is refused is no code
+  pub code_taken : (e : EditFault) → ((n : Module) → IsCode same_m func code n → e ≢ Memory → ⊥) → (n : Module) → IsCode m func code n → e ≢ Memory → ⊥
+  code_taken e only n h = only n (to_code n h)
+
+  -- it has the fault
+  pub code_refused : (e : EditFault) → (text : Text) → (e ≢ Memory → HasTextFault same_m func code e) → e ≢ Memory → HasCodeFault m func code text e
+  code_refused e text fault differs = inl (of_fault e (fault differs))
+
+  -- and no other one
+  pub code_same : (e : EditFault) → ((n : Module) → IsCode same_m func code n → e ≢ Memory → ⊥) → ((x : EditFault) → HasTextFault same_m func code x → e ≢ Memory → e ≡ x)
+      → (text : Text) (x : EditFault) → HasCodeFault m func code text x → e ≢ Memory → e ≡ x
+  code_same e only fails text x (inl h) differs = fails x (to_fault x h) differs
+  code_same e only fails text x (inr h) differs = absurd (only h.0 (to_code h.0 h.1) differs)
 
 -- this is the module of the code, which has no fault
 pub record IsTheCode (m : Module) (func : ℕ) (code : Text) (n : Module) : Type 0 where
-  pub is_read : IsReplaced m func code n
-  pub one : (o : Module) → IsReplaced m func code o → o ≡ n
-  pub unread : (f : ReadFault) → IsReplaceFault m func code f → ⊥
+  pub is_read : IsCode m func code n
+  pub one : (o : Module) → IsCode m func code o → o ≡ n
+  pub unread : (e : EditFault) → HasTextFault m func code e → ⊥
 
-pub the_code : (m same_m : Module) → same_m ≡ m → (func : ℕ) (code : Text) (n : Module) → IsReplaced same_m func code n → ((o : Module) → IsReplaced same_m func code o → Gives (Ok n) (Ok o))
-    → ((f : ReadFault) → IsReplaceFault same_m func code f → Gives (Ok n) (Err f)) → IsTheCode m func code n
+pub the_code : (m same_m : Module) → same_m ≡ m → (func : ℕ) (code : Text) (n : Module) → IsCode same_m func code n → ((o : Module) → IsCode same_m func code o → o ≡ n)
+    → ((e : EditFault) → HasTextFault same_m func code e → ⊥) → IsTheCode m func code n
 the_code m same_m same func code n found only fails = record {
   is_read = of_code m same_m same func code n found;
-  one = λ o h. same_ok {E = ReadFault} o n (only o (to_code m same_m same func code o h));
-  unread = λ f h. err_or_ok n f (fails f (to_code_fault m same_m same func code f h));
+  one = λ o h. only o (to_code m same_m same func code o h);
+  unread = λ e h. fails e (to_fault m same_m same func code e h);
 }
 
 -- ---- code that is read, with the section of a text
@@ -93,7 +134,7 @@ the_code m same_m same func code n found only fails = record {
 module _ (m : Module) (func : ℕ) (code text : Text) (n : Module) (is : IsTheCode m func code n) where
   -- a fault of the two is one of the section
   pub only_section : (e : EditFault) → HasCodeFault m func code text e → HasSectionFault n func text e
-  only_section e (inl h) = absurd (is.unread h.0 h.1)
+  only_section e (inl h) = absurd (is.unread e h)
   only_section e (inr h) = subst (λ (o : Module). HasSectionFault o func text e) (is.one h.0 h.1) h.2
 
   -- a fault of the section is one of the two
@@ -124,29 +165,43 @@ at_some P (Some y) x e h = let same : y ≡ x = cc in subst P same h
 
 module _ (m same_m : Module) (same : same_m ≡ m) (func : ℕ) (code : Text) where
   -- a function was read, so the module with it is the one of the code
-  pub the_place : (r : Result (Option Function) EditFault) (f : Function) → r ≡ Ok (Some f)
+  pub the_place : wants_shapes m ≡ false → (r : Result (Option Function) EditFault) (f : Function) → r ≡ Ok (Some f)
       → IfOk r (λ o. IfSome o (λ g. IsReplaced same_m func code (with_function same_m func g)))
       → ((n : Module) → IsReplaced same_m func code n → IfOk r (λ o. IfSome o (λ g. n ≡ with_function same_m func g)))
       → ((g : ReadFault) → IsReplaceFault same_m func code g → IsRefusedBy r (code_fault g)) → IsTheCode m func code (with_function m func f)
-  the_place (Err e) f is found one fails = absurd cc
-  the_place (Ok o) f is found one fails =
+  the_place unwanted (Err e) f is found one fails = absurd cc
+  the_place unwanted (Ok o) f is found one fails =
       let some : o ≡ Some f = cc in
       record {
-        is_read = subst (λ (x : Module). IsReplaced x func code (with_function x func f)) same (at_some (λ g. IsReplaced same_m func code (with_function same_m func g)) o f some found);
-        one = λ n h.
-            subst (λ (x : Module). n ≡ with_function x func f) same (at_some (λ g. n ≡ with_function same_m func g) o f some (one n (to_code m same_m same func code n h)));
-        unread = λ g h. fails g (to_code_fault m same_m same func code g h);
+        is_read = (subst (λ (x : Module). IsReplaced x func code (with_function x func f)) same (at_some (λ g. IsReplaced same_m func code (with_function same_m func g)) o f some found), unwanted);
+        one = λ n h. here o some one n h.0;
+        unread = unread o some one fails;
       }
+    where
+      -- there is no other module
+      here : (o : Option Function) → o ≡ Some f → ((n : Module) → IsReplaced same_m func code n → IfSome o (λ g. n ≡ with_function same_m func g)) → (n : Module) → IsReplaced m func code n → n ≡ with_function m func f
+      here o some one n h =
+          subst (λ (x : Module). n ≡ with_function x func f) same (at_some (λ g. n ≡ with_function same_m func g) o f some (one n (subst (λ (x : Module). IsReplaced x func code n) (sym same) h)))
+
+      unread : (o : Option Function) → o ≡ Some f → ((n : Module) → IsReplaced same_m func code n → IfSome o (λ g. n ≡ with_function same_m func g)) → ((g : ReadFault) → IsReplaceFault same_m func code g → ⊥)
+          → (e : EditFault) → HasTextFault m func code e → ⊥
+      unread o some one fails e (inl h) = fails h.0 (subst (λ (x : Module). IsReplaceFault x func code h.0) (sym same) h.1)
+      unread o some one fails e (inr h) = true_or_false (sym h.2.0 ∙ ap wants_shapes (here o some one h.0 h.1) ∙ unwanted)
 
   -- the code has the fault for which it is refused
-  pub within_fault : (e : EditFault) → (f : ReadFault) × IsReplaceFault same_m func code f × (code_fault f ≡ e) → (f : ReadFault) × IsReplaceFault m func code f × (code_fault f ≡ e)
-  within_fault e h = (h.0, of_code_fault m same_m same func code h.0 h.1, h.2)
+  pub within_fault : (e : EditFault) → (f : ReadFault) × IsReplaceFault same_m func code f × (code_fault f ≡ e) → HasTextFault m func code e
+  within_fault e h = inl (h.0, subst (λ (x : Module). IsReplaceFault x func code h.0) same h.1, h.2)
 
-  -- and no other one
+  -- and is none
+  pub within_none : (e : EditFault) → ((n : Module) → IsReplaced same_m func code n → e ≢ Memory → ⊥) → (n : Module) → IsReplaced m func code n → e ≢ Memory → ⊥
+  within_none e only n h = only n (subst (λ (x : Module). IsReplaced x func code n) (sym same) h)
+
+  -- and has no other one
   pub within_refused : (e : EditFault) → ((n : Module) → IsReplaced same_m func code n → e ≢ Memory → ⊥) → ((f : ReadFault) → IsReplaceFault same_m func code f → e ≢ Memory → e ≡ code_fault f)
       → (text : Text) (x : EditFault) → HasCodeFault m func code text x → e ≢ Memory → e ≡ x
-  within_refused e only fails text x (inl h) differs = fails h.0 (to_code_fault m same_m same func code h.0 h.1) differs ∙ h.2
-  within_refused e only fails text x (inr h) differs = absurd (only h.0 (to_code m same_m same func code h.0 h.1) differs)
+  within_refused e only fails text x (inl (inl h)) differs = fails h.0 (subst (λ (x : Module). IsReplaceFault x func code h.0) (sym same) h.1) differs ∙ h.2
+  within_refused e only fails text x (inl (inr h)) differs = absurd (within_none e only h.0 h.1 differs)
+  within_refused e only fails text x (inr h) differs = absurd (within_none e only h.0 h.1.0 differs)
 
 both_in_place : LayoutsStay → (p q : LaidOut) (certs others : List Section) (func : ℕ) (f : Function) (code text : Text) (count : ℕ)
     → q ≡ laid_with p (slice_set p.of_module.functions func f) → IsReplaced p.of_module func code (with_function p.of_module func f) → AreLayouts p.of_module p.layouts → AreSizes p.of_module p.sizes
@@ -166,7 +221,7 @@ place_put stay p q certs others func f code text (Ok count) e is_read laid sized
 place_put stay p q certs others func f code text (Err x) e is_read laid sized of_text = tt
 
 -- the faults for which it is refused
-pub place_fault : (m : Module) (func : ℕ) (code text : Text) (n : Module) (r : Result ℕ EditFault) → IsReplaced m func code n → IfErr r (λ e. e ≢ Memory → HasSectionFault n func text e)
+pub place_fault : (m : Module) (func : ℕ) (code text : Text) (n : Module) (r : Result ℕ EditFault) → IsCode m func code n → IfErr r (λ e. e ≢ Memory → HasSectionFault n func text e)
     → IfErr r (λ e. e ≢ Memory → HasCodeFault m func code text e)
 place_fault m func code text n (Ok count) is_read h = tt
 place_fault m func code text n (Err e) is_read h = λ differs. inr (n, is_read, h differs)
@@ -304,7 +359,7 @@ module _ (p : LaidOut) (certs : List Section) (func : ℕ) (e : Edit) where
     code_edited q others (Ok count) h n = (
       q.of_module,
       h.of_text.0,
-      of_read n q.of_module h.of_text.0 (h.of_code, h.of_text.1),
+      of_read n q.of_module h.of_text.0 ((h.of_code, h.laid_out.1), h.of_text.1),
       record { of_module = refl; laid_out = h.laid_out; sized = h.sized; certs = h.of_text.2.certs_are; rechecked = h.of_text.2.rechecked },
     )
     code_edited q others (Err x) h n = tt

@@ -1,5 +1,5 @@
 -- What an edit makes of a session, and which fault it has first.
-use Rattle.std.specs.Prelude.{◌≡◌, ◌≢◌, ◌⊎◌, ℕ, [], slice_get, slice_set, Option, Some, None, Result, Ok, Err}
+use Rattle.std.specs.Prelude.{◌≡◌, ◌≢◌, ◌⊎◌, ℕ, true, false, [], slice_get, slice_set, Option, Some, None, Result, Ok, Err}
 use Rattle.ir_ast.specs.declared.function.Function.{Function}
 use Rattle.ir_ast.specs.declared.module.Module.{Module}
 use Rattle.ir_tokens.specs.Bytes.{Text}
@@ -11,7 +11,7 @@ use Rattle.certificate.specs.Anew.{IsSection, IsSectionFault}
 use Rattle.certificate.specs.Print.{section_text}
 use Rattle.certificate.specs.declared.fault.CertFault.{CertFault}
 use Rattle.certificate.specs.declared.fault.CertFault.TheVariants as cert
-use Rattle.layout.specs.Layouts.{AreLayouts, AreSizes}
+use Rattle.layout.specs.Layouts.{AreLayouts, AreSizes, wants_shapes}
 use Rattle.edit_text.specs.declared.edit.Edit.{Edit}
 use Rattle.edit_text.specs.declared.edit.Edit.TheVariants as edit
 use Rattle.recheck.specs.Named.{function_named}
@@ -53,9 +53,13 @@ pub record IsPut (s : State) (func : ℕ) (m : Module) (section : Section) (t : 
   pub certs : t.certs.sections ≡ slice_set s.certs.sections func section
   pub rechecked : t.rechecked ≡ rechecked_by t.program.of_module t.certs.sections func (code_in s func) (section_in s func)
 
+-- a text of a function's code is read as this module, which wants no shapes
+abbrev pub IsCode : Module → (func : ℕ) → Text → (n : Module) → Type 0
+IsCode m func code n = IsReplaced m func code n × (wants_shapes n ≡ false)
+
 -- a text of a function's code is read as this module, and with it a text of its section as this section
 abbrev pub AreRead : Module → (func : ℕ) → (code text : Text) → (n : Module) → Section → Type 0
-AreRead m func code text n section = IsReplaced m func code n × IsSection text n func section
+AreRead m func code text n section = IsCode m func code n × IsSection text n func section
 
 -- The texts of an edit of one function are read as this module and this section. Where the edit gives no section, its text is that of the present section, printed with the present code.
 abbrev pub IsReadAt : State → (func : ℕ) → Edit → Module → Section → Type 0
@@ -113,10 +117,14 @@ no_function (edit.Both name code section) = fault.NoFunction
 abbrev pub HasSectionFault : Module → (func : ℕ) → Text → EditFault → Type 0
 HasSectionFault m func text e = (f : CertFault) × IsSectionFault text m func f × (section_fault f ≡ e)
 
+-- a text of a function's code has this fault; or it is read, and shapes are wanted for what is read
+abbrev pub HasTextFault : Module → (func : ℕ) → Text → EditFault → Type 0
+HasTextFault m func code e =
+    ((f : ReadFault) × IsReplaceFault m func code f × (code_fault f ≡ e)) ⊎ ((n : Module) × IsReplaced m func code n × (wants_shapes n ≡ true) × (fault.ShapesWanted ≡ e))
+
 -- the code of a function has this fault; or it has none, and the section with it has
 abbrev pub HasCodeFault : Module → (func : ℕ) → (code text : Text) → EditFault → Type 0
-HasCodeFault m func code text e =
-    ((f : ReadFault) × IsReplaceFault m func code f × (code_fault f ≡ e)) ⊎ ((n : Module) × IsReplaced m func code n × HasSectionFault n func text e)
+HasCodeFault m func code text e = HasTextFault m func code e ⊎ ((n : Module) × IsCode m func code n × HasSectionFault n func text e)
 
 -- the texts of an edit of one function have this fault first
 abbrev pub IsFaultAt : State → (func : ℕ) → Edit → EditFault → Type 0

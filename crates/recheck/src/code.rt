@@ -7,7 +7,7 @@ ghost use Rattle.ir_ast.specs.declared.module.Module.{Module as AModule};
 ghost use Rattle.ir_text.specs.Replaced.{IsReplaced, IsReplaceFault, tables_of};
 ghost use Rattle.ir_text.specs.declared.read_fault.ReadFault.{ReadFault as AReadFault};
 ghost use Rattle.layout.specs.declared.fault.LayoutFault.TheVariants as layout_fault;
-ghost use Rattle.recheck.specs.Edits.{AreRead, HasCodeFault, IsTaken, IsRefusedBy, code_fault};
+ghost use Rattle.recheck.specs.Edits.{AreRead, HasCodeFault, HasTextFault, IsCode, IsTaken, IsRefusedBy, code_fault};
 ghost use Rattle.recheck.specs.Put.{AreReady, IsBothPut, IsKept, with_function};
 ghost use Rattle.recheck.specs.declared.edit_fault.EditFault.{EditFault as AFault};
 ghost use Rattle.recheck.specs.declared.edit_fault.EditFault.TheVariants.{Memory};
@@ -20,7 +20,7 @@ use certs::Certs;
 use ir_ast::{FuncId, Function, Module};
 use ir_print_law::grown_law;
 use ir_text::{Tables, copy_first, copy_tables, name_of, read_function, replace};
-use layout::{LayoutFault, Program, layouts_stay_law};
+use layout::{LayoutFault, Program, layouts_stay_law, wants_shapes};
 use std::alloc::{AllocError, Global};
 
 /// Tables of a module for the reader of code: those that are ready, or else copies.
@@ -72,6 +72,30 @@ fn read_within(
     }
 }
 
+/// The module with the function of a text in the place of one of its own.
+fn read_code(
+    alloc: Global,
+    of_module: &Module,
+    func: FuncId,
+    code: &[u8],
+) -> Result<Module, EditFault>
+    requires { func < length of_module.now.functions }
+    ensures found { IfOk result (IsCode of_module.now func code.now) }
+    ensures one { (n : AModule) → IsCode of_module.now func code.now n → IfOk result (λ o. n ≡ o) }
+    ensures only { (n : AModule) → IsCode of_module.now func code.now n → IsTaken result }
+    ensures fault { IfErr result (λ e. e ≢ Memory → HasTextFault of_module.now func code.now e) }
+    ensures only_fault { (e : AFault) → HasTextFault of_module.now func code.now e → IsRefusedBy result e }
+{
+    let replaced = match replace(alloc, of_module, func, code) {
+        Ok(replaced) => replaced,
+        Err(fault) => return Err(EditFault::from(fault)),
+    };
+    if wants_shapes(&replaced) {
+        return Err(EditFault::ShapesWanted);
+    }
+    Ok(replaced)
+}
+
 /// The fault of an edit after which no layouts were made: only memory was refused.
 fn without_layouts(fault: LayoutFault) -> EditFault
     requires { fault ≡ layout_fault.Memory }
@@ -107,9 +131,9 @@ fn put_anew(
 {
     grown_law();
     layouts_stay_law();
-    let of_module = match replace(alloc, program.module(), func, code) {
+    let of_module = match read_code(alloc, program.module(), func, code) {
         Ok(of_module) => of_module,
-        Err(fault) => return Err(EditFault::from(fault)),
+        Err(fault) => return Err(fault),
     };
     let section = match read_text(alloc, &of_module, func, text) {
         Ok(section) => section,

@@ -15,6 +15,9 @@ pub enum EditFault {
     /// The first fault of the code, with its place in the code's own text.
     #[error(transparent)]
     Code(ReadFault),
+    /// The fault C2: the code writes the type `ptr`, and the certificates have no shapes.
+    #[error("C2: the code writes the type ptr, and the certificates have no shapes")]
+    ShapesWanted,
     /// The first fault of the section, with its place in the section's own text.
     #[error(transparent)]
     Cert(CertFault),

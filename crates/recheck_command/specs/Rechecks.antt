@@ -54,6 +54,7 @@ cert_code cert.Memory = codes "memory"
 abbrev pub edit_code : EditFault → List ℕ
 edit_code edit.NoFunction = codes "L5"
 edit_code edit.NoSection = codes "C3"
+edit_code edit.ShapesWanted = codes "C2"
 edit_code (edit.Code fault) = read_code fault
 edit_code (edit.Cert fault) = cert_code fault
 edit_code edit.Memory = codes "memory"

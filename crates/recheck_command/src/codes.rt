@@ -45,6 +45,7 @@ pub fn code_of_edit(fault: &EditFault) -> &'static str
     match fault {
         EditFault::NoFunction => "L5",
         EditFault::NoSection => "C3",
+        EditFault::ShapesWanted => "C2",
         EditFault::Code(fault) => code_of_module(fault),
         EditFault::Cert(fault) => code_of_certificate(*fault),
         EditFault::Memory => "memory",

@@ -4,9 +4,9 @@ use Rattle.std.proofs.lemmas.Option.{unwrap_or-slice_get}
 use Rattle.std.specs.Prelude.{map, Option, Some, None, is_some, slice_get, unwrap_or}
 use Rattle.lemmas.specs.Bools.{yes_or_no}
 use Rattle.shadow_stack.specs.declared.draft.Origin.{Origin}
-use Rattle.shadow_stack.specs.declared.draft.Origin.TheVariants.{Nowhere, Slot, Same}
-use Rattle.shadow_stack.specs.Hops.{hops_nowhere, hops_slot}
-use Rattle.shadow_stack.specs.Slots.{origin_at, NamesSlot, Given, Renamed, hop, hops, slot_at, names_of, NamesAreExact}
+use Rattle.shadow_stack.specs.declared.draft.Origin.TheVariants.{Nowhere, Slot, Address, Same}
+use Rattle.shadow_stack.specs.Hops.{hops_nowhere, hops_slot, hops_address}
+use Rattle.shadow_stack.specs.Slots.{origin_at, NamesSlot, Given, Renamed, hop, hops, slot_at, is_address_at, names_of, addresses_of, NamesAreExact}
 
 -- some turns, and then more
 hops_add : (origins : List Origin) (m n : ℕ) (o : Origin) → hops origins (m + n) o ≡ hops origins n (hops origins m o)
@@ -41,6 +41,7 @@ hops_none origins = map_itself origins
 hop_in_row : (origins : List Origin) (n : ℕ) (o : Origin) → hop (map (hops origins n) origins) o ≡ hops origins (suc n) o
 hop_in_row origins n Nowhere = sym (hops_nowhere origins n)
 hop_in_row origins n (Slot s) = sym (hops_slot origins n s)
+hop_in_row origins n Address = sym (hops_address origins n)
 hop_in_row origins n (Same v) =
     ap (λ d. slice_index_or (map (hops origins n) origins) v d) (sym (hops_nowhere origins n)) ∙ at_map (hops origins n) origins v
 
@@ -53,9 +54,40 @@ row_doubled origins row next n is_row is_next =
     ∙ map_same (λ o. hop (map (hops origins n) origins) (hops origins n o)) (hops origins (n + suc n)) origins
     (λ v. hop_in_row origins n (hops origins n (origin_at origins v)) ∙ sym (hops_add origins n (suc n) (origin_at origins v)))
 
--- whether a slot shows after k turns
+-- what an origin is, by a number: 0 is an address, and the others are slots
+abbrev end_at : Origin → Option ℕ
+end_at Nowhere = None
+end_at (Slot slot) = Some (suc slot)
+end_at Address = Some 0
+end_at (Same value) = None
+
+-- the slot of such a number
+abbrev slot_in : Option ℕ → Option ℕ
+slot_in None = None
+slot_in (Some zero) = None
+slot_in (Some (suc slot)) = Some slot
+
+-- whether such a number is an address
+abbrev is_address_in : Option ℕ → Bool
+is_address_in None = false
+is_address_in (Some zero) = true
+is_address_in (Some (suc slot)) = false
+
+slot_by_end : (o : Origin) → slot_at o ≡ slot_in (end_at o)
+slot_by_end Nowhere = refl
+slot_by_end (Slot slot) = refl
+slot_by_end Address = refl
+slot_by_end (Same value) = refl
+
+address_by_end : (o : Origin) → is_address_at o ≡ is_address_in (end_at o)
+address_by_end Nowhere = refl
+address_by_end (Slot slot) = refl
+address_by_end Address = refl
+address_by_end (Same value) = refl
+
+-- whether a slot or an address shows after k turns
 abbrev done : List Origin → ℕ → Origin → Bool
-done origins k o = is_some (slot_at (hops origins k o))
+done origins k o = is_some (end_at (hops origins k o))
 
 no_true : false ≡ true → ⊥
 no_true e = search (rules, e)
@@ -68,17 +100,18 @@ some_same : (t s : ℕ) → Some t ≡ Some s → t ≡ s
 some_same t s e = ap (λ w. unwrap_or w t) e
 
 -- what shows once stays
-slot_kept : (origins : List Origin) (i : ℕ) (o : Origin) (s : ℕ) → slot_at o ≡ Some s → slot_at (hops origins i o) ≡ Some s
-slot_kept origins i Nowhere s e = absurd (no_true (ap is_some e))
-slot_kept origins i (Slot t) s e = ap slot_at (hops_slot origins i t) ∙ e
-slot_kept origins i (Same v) s e = absurd (no_true (ap is_some e))
+end_kept : (origins : List Origin) (i : ℕ) (o : Origin) (s : ℕ) → end_at o ≡ Some s → end_at (hops origins i o) ≡ Some s
+end_kept origins i Nowhere s e = absurd (no_true (ap is_some e))
+end_kept origins i (Slot t) s e = ap end_at (hops_slot origins i t) ∙ e
+end_kept origins i Address s e = ap end_at (hops_address origins i) ∙ e
+end_kept origins i (Same v) s e = absurd (no_true (ap is_some e))
 
-shown_kept : (origins : List Origin) (k i : ℕ) (o : Origin) (s : ℕ) → slot_at (hops origins k o) ≡ Some s → slot_at (hops origins (k + i) o) ≡ Some s
-shown_kept origins k i o s e = ap slot_at (hops_add origins k i o) ∙ slot_kept origins i (hops origins k o) s e
+shown_kept : (origins : List Origin) (k i : ℕ) (o : Origin) (s : ℕ) → end_at (hops origins k o) ≡ Some s → end_at (hops origins (k + i) o) ≡ Some s
+shown_kept origins k i o s e = ap end_at (hops_add origins k i o) ∙ end_kept origins i (hops origins k o) s e
 
 done_kept : (origins : List Origin) (k i : ℕ) (o : Origin) → done origins k o ≡ true → done origins (k + i) o ≡ true
 done_kept origins k i o e =
-    let found : (s : ℕ) × (slot_at (hops origins k o) ≡ Some s) = is_some_value (slot_at (hops origins k o)) e in
+    let found : (s : ℕ) × (end_at (hops origins k o) ≡ Some s) = is_some_value (end_at (hops origins k o)) e in
     ap is_some (shown_kept origins k i o found.0 found.1)
 
 -- how many origins pass a test
@@ -139,7 +172,7 @@ done_next : (origins : List Origin) (k : ℕ) (o : Origin) → done origins k o 
 done_next origins k o e = let at : k + 1 ≡ suc k = omega arith in subst (λ n. done origins n o ≡ true) at (done_kept origins k 1 o e)
 
 nowhere_done : (origins : List Origin) (k : ℕ) (P : Type 0) → done origins k Nowhere ≡ true → P
-nowhere_done origins k P e = absurd (no_true (sym (ap (λ o. is_some (slot_at o)) (hops_nowhere origins k)) ∙ e))
+nowhere_done origins k P e = absurd (no_true (sym (ap (λ o. is_some (end_at o)) (hops_nowhere origins k)) ∙ e))
 
 progress : (origins : List Origin) (k : ℕ) → ((j : ℕ) × ((j < k) × Stable origins j)) ⊎ (k ≤ count (done origins k) origins)
 progress origins zero = inr (omega arith)
@@ -156,7 +189,8 @@ progress origins (suc k) =
 stays : (origins : List Origin) (j : ℕ) → Stable origins j → (i v : ℕ) (o : Origin) → origin_at origins v ≡ o → done origins (i + j) o ≡ true → done origins j o ≡ true
 stays origins j stable zero v o is e = subst (λ n. done origins n o ≡ true) (zero-add j) e
 stays origins j stable (suc i) v Nowhere is e = nowhere_done origins (suc i + j) (done origins j Nowhere ≡ true) e
-stays origins j stable (suc i) v (Slot s) is e = ap (λ o. is_some (slot_at o)) (hops_slot origins j s)
+stays origins j stable (suc i) v (Slot s) is e = ap (λ o. is_some (end_at o)) (hops_slot origins j s)
+stays origins j stable (suc i) v Address is e = ap (λ o. is_some (end_at o)) (hops_address origins j)
 stays origins j stable (suc i) v (Same w) is e =
     let at : suc i + j ≡ suc (i + j) = omega arith in
     let before : done origins j (origin_at origins w) ≡ true = stays origins j stable i w (origin_at origins w) refl (subst (λ n. done origins n (Same w) ≡ true) at e) in
@@ -181,26 +215,45 @@ none_or_same (Some s) b kept early = kept s refl
 none_or_same None None kept early = refl
 none_or_same None (Some s) kept early = absurd (no_true (early refl))
 
-settled : (origins : List Origin) (n v : ℕ) → length origins ≤ n → slot_at (hops origins n (origin_at origins v)) ≡ slot_at (hops origins (length origins) (origin_at origins v))
+settled : (origins : List Origin) (n v : ℕ) → length origins ≤ n → end_at (hops origins n (origin_at origins v)) ≡ end_at (hops origins (length origins) (origin_at origins v))
 settled origins n v h =
     let o : Origin = origin_at origins v in
     let on : length origins + (n - length origins) ≡ n = omega arith in
-    none_or_same (slot_at (hops origins (length origins) o)) (slot_at (hops origins n o))
-    (λ s e. subst (λ k. slot_at (hops origins k o) ≡ Some s) on (shown_kept origins (length origins) (n - length origins) o s e))
+    none_or_same (end_at (hops origins (length origins) o)) (end_at (hops origins n o))
+    (λ s e. subst (λ k. end_at (hops origins k o) ≡ Some s) on (shown_kept origins (length origins) (n - length origins) o s e))
     (shows_early origins n v h)
+
+slot_settled : (origins : List Origin) (n v : ℕ) → length origins ≤ n → slot_at (hops origins n (origin_at origins v)) ≡ slot_at (hops origins (length origins) (origin_at origins v))
+slot_settled origins n v h =
+    slot_by_end (hops origins n (origin_at origins v)) ∙ ap slot_in (settled origins n v h) ∙ sym (slot_by_end (hops origins (length origins) (origin_at origins v)))
+
+address_settled : (origins : List Origin) (n v : ℕ) → length origins ≤ n → is_address_at (hops origins n (origin_at origins v)) ≡ is_address_at (hops origins (length origins) (origin_at origins v))
+address_settled origins n v h =
+    address_by_end (hops origins n (origin_at origins v)) ∙ ap is_address_in (settled origins n v h) ∙ sym (address_by_end (hops origins (length origins) (origin_at origins v)))
+
+-- what the row shows of each name, where that stays from a turn on
+at_row : {B : Type 0} (f : Origin → B) (origins row : List Origin) (n m : ℕ) → row ≡ map (hops origins n) origins
+    → ((v : ℕ) → f (hops origins n (origin_at origins v)) ≡ f (hops origins m (origin_at origins v)))
+    → map f row ≡ map (λ o. f (hops origins m o)) origins
+at_row f origins row n m is_row same =
+    ap (λ r. map f r) is_row ∙ map_map (hops origins n) f origins ∙ map_same (λ o. f (hops origins n o)) (λ o. f (hops origins m o)) origins same
 
 -- the names as the row shows them
 pub names_at_row : (origins row : List Origin) (names : List (Option ℕ)) (n : ℕ) → length origins ≤ n → row ≡ map (hops origins n) origins → names ≡ map slot_at row → names ≡ names_of origins
-names_at_row origins row names n h is_row is_names =
-    is_names ∙ ap (λ r. map slot_at r) is_row ∙ map_map (hops origins n) slot_at origins
-    ∙ map_same (λ o. slot_at (hops origins n o)) (λ o. slot_at (hops origins (length origins) o)) origins (λ v. settled origins n v h)
+names_at_row origins row names n h is_row is_names = is_names ∙ at_row slot_at origins row n (length origins) is_row (λ v. slot_settled origins n v h)
+
+-- and whether each is an address
+pub addresses_at_row : (origins row : List Origin) (addresses : List Bool) (n : ℕ) → length origins ≤ n → row ≡ map (hops origins n) origins → addresses ≡ map is_address_at row → addresses ≡ addresses_of origins
+addresses_at_row origins row addresses n h is_row is_addresses = is_addresses ∙ at_row is_address_at origins row n (length origins) is_row (λ v. address_settled origins n v h)
 
 sound : (origins : List Origin) (k : ℕ) (o : Origin) (s : ℕ) → slot_at (hops origins k o) ≡ Some s → NamesSlot origins o s
 sound origins zero Nowhere s e = absurd (no_true (ap is_some e))
 sound origins zero (Slot t) s e = subst (λ u. NamesSlot origins (Slot t) u) (some_same t s e) (Given t)
+sound origins zero Address s e = absurd (no_true (ap is_some e))
 sound origins zero (Same v) s e = absurd (no_true (ap is_some e))
 sound origins (suc k) Nowhere s e = absurd (no_true (sym (ap (λ o. is_some (slot_at o)) (hops_nowhere origins k)) ∙ ap is_some e))
 sound origins (suc k) (Slot t) s e = subst (λ u. NamesSlot origins (Slot t) u) (some_same t s (sym (ap slot_at (hops_slot origins k t)) ∙ e)) (Given t)
+sound origins (suc k) Address s e = absurd (no_true (sym (ap (λ o. is_some (slot_at o)) (hops_address origins k)) ∙ ap is_some e))
 sound origins (suc k) (Same v) s e = Renamed v s (sound origins k (origin_at origins v) s e)
 
 complete : (origins : List Origin) (o : Origin) (s : ℕ) → NamesSlot origins o s → (k : ℕ) × (slot_at (hops origins k o) ≡ Some s)
@@ -213,12 +266,20 @@ name_at origins v =
     let none : None ≡ f Nowhere = sym (ap slot_at (hops_nowhere origins (length origins))) in
     unwrap_or-slice_get (names_of origins) v None ∙ ap (λ d. slice_index_or (map f origins) v d) none ∙ at_map f origins v
 
+-- a slot that shows once stays
+slot_kept : (origins : List Origin) (i : ℕ) (o : Origin) (s : ℕ) → slot_at o ≡ Some s → slot_at (hops origins i o) ≡ Some s
+slot_kept origins i Nowhere s e = absurd (no_true (ap is_some e))
+slot_kept origins i (Slot t) s e = ap slot_at (hops_slot origins i t) ∙ e
+slot_kept origins i Address s e = absurd (no_true (ap is_some e))
+slot_kept origins i (Same v) s e = absurd (no_true (ap is_some e))
+
 -- exactly the names that name a slot have one
 pub names_are_exact : (origins : List Origin) → NamesAreExact origins (names_of origins)
 names_are_exact origins v s = (
   (λ e. sound origins (length origins) (origin_at origins v) s (sym (name_at origins v) ∙ e)),
   (λ named.
       let found : (k : ℕ) × (slot_at (hops origins k (origin_at origins v)) ≡ Some s) = complete origins (origin_at origins v) s named in
-      let later : slot_at (hops origins (found.0 + length origins) (origin_at origins v)) ≡ Some s = shown_kept origins found.0 (length origins) (origin_at origins v) s found.1 in
-      name_at origins v ∙ sym (settled origins (found.0 + length origins) v (omega arith)) ∙ later),
+      let later : slot_at (hops origins (found.0 + length origins) (origin_at origins v)) ≡ Some s =
+      ap slot_at (hops_add origins found.0 (length origins) (origin_at origins v)) ∙ slot_kept origins (length origins) (hops origins found.0 (origin_at origins v)) s found.1 in
+      name_at origins v ∙ sym (slot_settled origins (found.0 + length origins) v (omega arith)) ∙ later),
 )

@@ -10,10 +10,12 @@ use std::alloc::{AllocError, Global};
 /// What a local name was defined as.
 #[derive(Clone, Copy)]
 pub enum Origin {
-    /// Nothing that can be a slot.
+    /// Neither a slot nor an address.
     Nowhere,
     /// By an alloca.
     Slot(SlotId),
+    /// By a getelementptr, or by a bitcast of a global.
+    Address,
     /// By a bitcast of this name.
     Same(ValueId),
 }
@@ -65,6 +67,7 @@ impl Draft {
                 self.held.push(*held)?;
                 self.put(instr.result, Origin::Slot(slot));
             }
+            Op::Element(_) => self.put(instr.result, Origin::Address),
             Op::Cast(cast) => self.put(instr.result, origin_of(cast.operand)),
             _ => {}
         }
@@ -87,7 +90,8 @@ fn origin_of(operand: Operand) -> Origin
     ensures { result ≡ origin_of operand }
 {
     match operand {
+        Operand::Constant(_) => Origin::Nowhere,
         Operand::Local(value) => Origin::Same(value),
-        _ => Origin::Nowhere,
+        Operand::Global(_) | Operand::CastGlobal { .. } => Origin::Address,
     }
 }

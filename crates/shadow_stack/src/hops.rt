@@ -1,15 +1,25 @@
 ghost use Rattle.std.specs.Prelude.{◌≡◌, map, IfOk};
-ghost use Rattle.shadow_stack.specs.Slots.{hop, slot_at, names_of, origin_at, NamesAreExact};
+ghost use Rattle.shadow_stack.specs.Slots.{hop, slot_at, is_address_at, names_of, addresses_of, origin_at, NamesAreExact};
 
 use crate::draft::Origin;
 use crate::slot_id::SlotId;
 use items::Items;
 use std::alloc::{AllocError, Global};
 
-/// The slot of each name. The way that is followed for each name doubles in each turn.
-pub fn names_of(alloc: Global, origins: &[Origin]) -> Result<Items<Option<SlotId>>, AllocError>
-    ensures names { IfOk result (λ names. names ≡ names_of origins.now) }
-    ensures exact { IfOk result (λ names. NamesAreExact origins.now names) }
+/// What the local names of a function name.
+#[derive(Drop)]
+pub struct Named {
+    /// The slot of each name, if it names one.
+    pub slots: Items<Option<SlotId>>,
+    /// Whether each name is an address.
+    pub addresses: Items<bool>,
+}
+
+/// The slot of each name, and whether it is an address. The way that is followed for each name doubles in each turn.
+pub fn named_by(alloc: Global, origins: &[Origin]) -> Result<Named, AllocError>
+    ensures slots { IfOk result (λ named. named.slots ≡ names_of origins.now) }
+    ensures addresses { IfOk result (λ named. named.addresses ≡ addresses_of origins.now) }
+    ensures exact { IfOk result (λ named. NamesAreExact origins.now named.slots) }
 {
     let mut row = Vec::from_slice(alloc, origins)?;
     let mut reach: u128 = 1;
@@ -17,8 +27,12 @@ pub fn names_of(alloc: Global, origins: &[Origin]) -> Result<Items<Option<SlotId
         row = doubled(alloc, row.as_slice())?;
         reach *= 2;
     }
-    let names = slots_at(alloc, row.as_slice())?;
-    Ok(Items::from_vec(names))
+    let slots = slots_at(alloc, row.as_slice())?;
+    let addresses = addresses_at(alloc, row.as_slice())?;
+    Ok(Named {
+        slots: Items::from_vec(slots),
+        addresses: Items::from_vec(addresses),
+    })
 }
 
 fn doubled(alloc: Global, row: &[Origin]) -> Result<Vec<Origin>, AllocError>
@@ -31,6 +45,14 @@ fn slots_at(alloc: Global, row: &[Origin]) -> Result<Vec<Option<SlotId>>, AllocE
     ensures { IfOk result (λ slots. slots.items ≡ map slot_at row.now) }
 {
     row.iter().map(|origin| slot_at(*origin)).collect(alloc)
+}
+
+fn addresses_at(alloc: Global, row: &[Origin]) -> Result<Vec<bool>, AllocError>
+    ensures { IfOk result (λ addresses. addresses.items ≡ map is_address_at row.now) }
+{
+    row.iter()
+        .map(|origin| is_address_at(*origin))
+        .collect(alloc)
 }
 
 fn hop(row: &[Origin], origin: Origin) -> Origin
@@ -52,4 +74,10 @@ fn slot_at(origin: Origin) -> Option<SlotId>
         Origin::Slot(slot) => Some(slot),
         _ => None,
     }
+}
+
+fn is_address_at(origin: Origin) -> bool
+    ensures { result ≡ is_address_at origin }
+{
+    matches!(origin, Origin::Address)
 }

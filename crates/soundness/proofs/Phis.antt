@@ -11,7 +11,7 @@ use Rattle.ir_ast.specs.declared.module.Module.{Module}
 use Rattle.ir_ast.specs.declared.operand.Operand.{Operand}
 use Rattle.ir_ast.specs.declared.operand.Operand.TheVariants as operand
 use Rattle.types.specs.ValueTypes.{is_value_of, target_of}
-use Rattle.shadow_stack.specs.Slots.{SlotTable, slot_of}
+use Rattle.shadow_stack.specs.Slots.{SlotTable, slot_of, is_opaque_address}
 use Rattle.block_rules.specs.declared.rule.Rule.{Rule}
 use Rattle.block_rules.specs.declared.rule.Rule.TheVariants.{K2, K16}
 use Rattle.block_rules.specs.declared.standing.Standing.{Standing}
@@ -47,12 +47,13 @@ module _ (m : Module) (f : Function) (table : SlotTable) where
   value_typed written v (Some (sort.Element block place)) e = absurd cc
   value_typed written v (Some (sort.Block block)) e = absurd cc
 
-  -- an entry that the rules let come in has the written type, and is no global
+  -- an entry that the rules let come in has the written type, and is no address
   operand_typed : (written : ℕ) (x : Operand) → may_come_in m f table written x ≡ true → j.entry_fits m f table written (Some x) ≡ true
   operand_typed written (operand.Constant c) e = constant_passes m written c e
   operand_typed written (operand.Local v) e =
-      let b = and_parts (is_entry f written v (slice_get f.sorts v)) (not (is_some (slot_of table v))) e in
-      rw (value_typed written v (slice_get f.sorts v) b.0, none_of (slot_of table v) b.1) refl
+      let all = and_parts (is_entry f written v (slice_get f.sorts v) && not (is_some (slot_of table v))) (not (is_opaque_address m table written (operand.Local v))) e in
+      let b = and_parts (is_entry f written v (slice_get f.sorts v)) (not (is_some (slot_of table v))) all.0 in
+      rw (value_typed written v (slice_get f.sorts v) b.0, none_of (slot_of table v) b.1, all.1) refl
   operand_typed written (operand.Global g) e = absurd cc
   operand_typed written (operand.CastGlobal from g to) e = absurd cc
 

@@ -5,7 +5,6 @@ use Rattle.std.specs.List.{Contains}
 use Rattle.lemmas.specs.Numbers.{test_true}
 use Rattle.lemmas.specs.Bools.{or_parts}
 use Rattle.ir_ast.specs.declared.block.Block.{Block}
-use Rattle.ir_ast.specs.declared.casts.Cast.{Cast}
 use Rattle.ir_ast.specs.declared.function.Function.{Function}
 use Rattle.ir_ast.specs.declared.instr.Instr.{Instr}
 use Rattle.ir_ast.specs.declared.module.Module.{Module}
@@ -16,9 +15,9 @@ use Rattle.ir_ast.specs.declared.operand.Operand.{Operand}
 use Rattle.ir_ast.specs.declared.operand.Operand.TheVariants as operand
 use Rattle.shadow_stack.specs.declared.draft.Draft.{Draft}
 use Rattle.shadow_stack.specs.declared.draft.Origin.{Origin}
-use Rattle.shadow_stack.specs.declared.draft.Origin.TheVariants.{Nowhere, Slot, Same}
+use Rattle.shadow_stack.specs.declared.draft.Origin.TheVariants.{Nowhere, Slot, Address, Same}
 use Rattle.shadow_stack.specs.Hops.{hops_slot}
-use Rattle.shadow_stack.specs.Slots.{SlotTable, slots_of, slot_of, held_type, is_among, is_reference_held, origin_of, origin_at, hops, slot_at, noted_op, noted, noted_blocks, draft_of}
+use Rattle.shadow_stack.specs.Slots.{SlotTable, slots_of, slot_of, held_type, is_among, is_reference_held, origin_of, origin_at, hops, slot_at, put, noted_op, noted, noted_blocks, draft_of}
 use Rattle.block_rules.specs.Rules.{may_hold, names_root}
 use Rattle.block_rules.specs.TypeKinds.{kind_of, is_integer}
 use Rattle.machine.specs.declared.value.Value.{Value}
@@ -75,14 +74,16 @@ module _ (P : (name held : ℕ) → Type 0) where
       (λ same lt e. let n : length draft.held ≡ s = cc in (held, subst (λ i. slice_get (draft.held ++ held ∷ []) i ≡ Some held) n (last_there draft.held held), is w (ap Some same)))
       (λ ne e. let c = comes w s e in (c.0, still_there draft.held held s c.0 c.1, c.2)) (λ e. absurd cc)
 
-  comes_cast : (result : Option ℕ) (x : Cast) (draft : Draft) → Comes draft → Comes (noted_op result (op.Cast x) draft)
-  comes_cast None x draft comes = comes
-  comes_cast (Some v) x draft comes = λ w s. at_set (λ o. o ≡ Slot s → (t : ℕ) × (slice_get draft.held s ≡ Some t) × P w t) draft.origins v w (origin_of x.operand) Nowhere
-      (λ same lt e. absurd (no_new x.operand s e)) (λ ne e. comes w s e) (λ e. absurd cc)
+  -- what is defined as no slot leaves them
+  comes_other : (result : Option ℕ) (origin : Origin) (draft : Draft) → ((s : ℕ) → origin ≡ Slot s → ⊥) → Comes draft → Comes (record { origins = put result origin draft.origins; held = draft.held })
+  comes_other None origin draft other comes = comes
+  comes_other (Some v) origin draft other comes = λ w s. at_set (λ o. o ≡ Slot s → (t : ℕ) × (slice_get draft.held s ≡ Some t) × P w t) draft.origins v w origin Nowhere
+      (λ same lt e. absurd (other s e)) (λ ne e. comes w s e) (λ e. absurd cc)
 
   comes_op : (result : Option ℕ) (x : Op) (draft : Draft) → AllocaIs P result x → Comes draft → Comes (noted_op result x draft)
   comes_op result (op.Memory (memory.Alloca held)) draft is comes = comes_alloca result held draft is comes
-  comes_op result (op.Cast x) draft is comes = comes_cast result x draft comes
+  comes_op result (op.Element x) draft is comes = comes_other result Address draft (λ s e. absurd cc) comes
+  comes_op result (op.Cast x) draft is comes = comes_other result (origin_of x.operand) draft (no_new x.operand) comes
   comes_op result _ draft is comes = comes
 
   comes_all : (instrs : List Instr) (draft : Draft) → AllNamed P instrs → Comes draft → Comes (noted instrs draft)
@@ -103,11 +104,13 @@ hops_from : (origins : List Origin) (n w : ℕ) (o : Origin) (s : ℕ) → origi
 hops_from origins zero w o s is e = (w, is ∙ e)
 hops_from origins (suc n) w Nowhere s is e = hops_from origins n w Nowhere s is e
 hops_from origins (suc n) w (Slot t) s is e = hops_from origins n w (Slot t) s is e
+hops_from origins (suc n) w Address s is e = hops_from origins n w Address s is e
 hops_from origins (suc n) w (Same v) s is e = hops_from origins n v (origin_at origins v) s refl e
 
 slot_at_is : (o : Origin) (s : ℕ) → slot_at o ≡ Some s → o ≡ Slot s
 slot_at_is Nowhere s e = absurd cc
 slot_at_is (Slot t) s e = let z : t ≡ s = cc in ap Slot z
+slot_at_is Address s e = absurd cc
 slot_at_is (Same v) s e = absurd cc
 
 of_name : (g : Origin → Option ℕ) (origins : List Origin) (v s : ℕ) → unwrap_or (slice_get (map g origins) v) None ≡ Some s → g (origin_at origins v) ≡ Some s

@@ -10,58 +10,58 @@ use Rattle.recheck.proofs.code.put_anew.Goals as goal
 -- ---- the code is refused
 
 pub returns-in-Err-clause-fault : goal.returns-in-Err-clause-fault
-returns-in-Err-clause-fault c = λ differs. inl (code_refused c.args.program.now.of_module c.module.result.now c.module.ensures.of_module c.args.func c.args.code.now c.in-Err.fault c.from.result c.from.ensures c.in-Err.ensures.fault differs)
+returns-in-Err-clause-fault c = λ differs. code_refused c.args.program.now.of_module c.module.result.now c.module.ensures.of_module c.args.func c.args.code.now c.in-Err.fault c.args.text.now c.in-Err.ensures.fault differs
 
 pub returns-in-Err-clause-only : goal.returns-in-Err-clause-only
-returns-in-Err-clause-only c = λ n section is. code_taken c.args.program.now.of_module c.module.result.now c.module.ensures.of_module c.args.func c.args.code.now c.in-Err.fault c.from.result c.from.ensures c.in-Err.ensures.only n is.0
+returns-in-Err-clause-only c = λ n section is. code_taken c.args.program.now.of_module c.module.result.now c.module.ensures.of_module c.args.func c.args.code.now c.in-Err.fault c.in-Err.ensures.only n is.0
 
 pub returns-in-Err-clause-only_fault : goal.returns-in-Err-clause-only_fault
-returns-in-Err-clause-only_fault c = code_same c.args.program.now.of_module c.module.result.now c.module.ensures.of_module c.args.func c.args.code.now c.in-Err.fault c.from.result c.from.ensures c.in-Err.ensures.only c.in-Err.ensures.only_fault c.args.text.now
+returns-in-Err-clause-only_fault c = code_same c.args.program.now.of_module c.module.result.now c.module.ensures.of_module c.args.func c.args.code.now c.in-Err.fault c.in-Err.ensures.only c.in-Err.ensures.only_fault c.args.text.now
 
 -- ---- the section is refused
 
 pub returns-in-Err-read_text-clause-fault : goal.returns-in-Err-read_text-clause-fault
 returns-in-Err-read_text-clause-fault c =
-    let read = the_code c.args.program.now.of_module c.module.result.now c.module.ensures.of_module c.args.func c.args.code.now c.in-Ok.of_module c.in-Ok.ensures.found c.in-Ok.ensures.only c.in-Ok.ensures.only_fault in
+    let read = the_code c.args.program.now.of_module c.module.result.now c.module.ensures.of_module c.args.func c.args.code.now c.in-Ok.of_module c.in-Ok.ensures.found c.in-Ok.ensures.one c.in-Ok.ensures.only_fault in
     λ differs. section_of_code c.args.program.now.of_module c.args.func c.args.code.now c.args.text.now c.in-Ok.of_module read c.in-Err-read_text.fault (c.in-Err-read_text.ensures.fault differs)
 
 pub returns-in-Err-read_text-clause-only : goal.returns-in-Err-read_text-clause-only
 returns-in-Err-read_text-clause-only c =
-    let read = the_code c.args.program.now.of_module c.module.result.now c.module.ensures.of_module c.args.func c.args.code.now c.in-Ok.of_module c.in-Ok.ensures.found c.in-Ok.ensures.only c.in-Ok.ensures.only_fault in
+    let read = the_code c.args.program.now.of_module c.module.result.now c.module.ensures.of_module c.args.func c.args.code.now c.in-Ok.of_module c.in-Ok.ensures.found c.in-Ok.ensures.one c.in-Ok.ensures.only_fault in
     λ n section is. c.in-Err-read_text.ensures.only section (with_code c.args.program.now.of_module c.args.func c.args.code.now c.args.text.now c.in-Ok.of_module read n section is)
 
 pub returns-in-Err-read_text-clause-only_fault : goal.returns-in-Err-read_text-clause-only_fault
 returns-in-Err-read_text-clause-only_fault c =
-    let read = the_code c.args.program.now.of_module c.module.result.now c.module.ensures.of_module c.args.func c.args.code.now c.in-Ok.of_module c.in-Ok.ensures.found c.in-Ok.ensures.only c.in-Ok.ensures.only_fault in
+    let read = the_code c.args.program.now.of_module c.module.result.now c.module.ensures.of_module c.args.func c.args.code.now c.in-Ok.of_module c.in-Ok.ensures.found c.in-Ok.ensures.one c.in-Ok.ensures.only_fault in
     λ e h. c.in-Err-read_text.ensures.only_fault e (only_section c.args.program.now.of_module c.args.func c.args.code.now c.args.text.now c.in-Ok.of_module read e h)
 
 -- ---- there are no layouts
 
 pub without_layouts-requires : goal.without_layouts-requires
 without_layouts-requires c =
-    let read = the_code c.args.program.now.of_module c.module.result.now c.module.ensures.of_module c.args.func c.args.code.now c.in-Ok.of_module c.in-Ok.ensures.found c.in-Ok.ensures.only c.in-Ok.ensures.only_fault in
+    let read = the_code c.args.program.now.of_module c.module.result.now c.module.ensures.of_module c.args.func c.args.code.now c.in-Ok.of_module c.in-Ok.ensures.found c.in-Ok.ensures.one c.in-Ok.ensures.only_fault in
     let laid = subst (λ (m : Module). AreLayouts m c.args.program.now.layouts) c.module.ensures.of_module c.module.ensures.laid_out in
     c.in-Err-new.ensures.refused_only_so c.args.program.now.layouts
-    (layouts_of_replaced c.grown_law.ensures c.layouts_stay_law.ensures c.args.program.now.of_module c.args.func c.args.code.now c.in-Ok.of_module c.args.program.now.layouts read.is_read laid)
+    (layouts_of_replaced c.grown_law.ensures c.layouts_stay_law.ensures c.args.program.now.of_module c.args.func c.args.code.now c.in-Ok.of_module c.args.program.now.layouts read.is_read.0 read.is_read.1 laid)
 
 pub returns-in-Err-new-clause-only_fault : goal.returns-in-Err-new-clause-only_fault
 returns-in-Err-new-clause-only_fault c =
-    let read = the_code c.args.program.now.of_module c.module.result.now c.module.ensures.of_module c.args.func c.args.code.now c.in-Ok.of_module c.in-Ok.ensures.found c.in-Ok.ensures.only c.in-Ok.ensures.only_fault in
+    let read = the_code c.args.program.now.of_module c.module.result.now c.module.ensures.of_module c.args.func c.args.code.now c.in-Ok.of_module c.in-Ok.ensures.found c.in-Ok.ensures.one c.in-Ok.ensures.only_fault in
     λ e h. absurd (c.in-Ok-read_text.ensures.only_fault e (only_section c.args.program.now.of_module c.args.func c.args.code.now c.args.text.now c.in-Ok.of_module read e h))
 
 -- ---- it is taken, or memory runs out
 
 pub returns-in-Ok-answer_all-clause-put : goal.returns-in-Ok-answer_all-clause-put
 returns-in-Ok-answer_all-clause-put c =
-    let read = the_code c.args.program.now.of_module c.module.result.now c.module.ensures.of_module c.args.func c.args.code.now c.in-Ok.of_module c.in-Ok.ensures.found c.in-Ok.ensures.only c.in-Ok.ensures.only_fault in
+    let read = the_code c.args.program.now.of_module c.module.result.now c.module.ensures.of_module c.args.func c.args.code.now c.in-Ok.of_module c.in-Ok.ensures.found c.in-Ok.ensures.one c.in-Ok.ensures.only_fault in
     both_anew c.args.program.now c.in-Ok-new.anew c.args.certs.now.sections c.replace-past.new.self.sections c.args.func c.function_at-old.result.now c.replace-past.result c.in-Ok-read_text.section c.in-Ok.of_module c.args.code.now c.args.text.now c.in-Ok-answer_all.count
-    read.is_read c.in-Ok-read_text.ensures.found c.in-Ok-new.ensures.found c.replace-past.ensures.new
+    read.is_read.0 c.in-Ok-read_text.ensures.found c.in-Ok-new.ensures.found c.replace-past.ensures.new
     (subst (λ (m : Module). slice_get m.functions c.args.func ≡ Some c.function_at-old.result.now) c.module-2.ensures.of_module c.function_at-old.ensures)
     c.replace-past.ensures.given_back c.in-Ok-answer_all.ensures.count
 
 pub returns-in-Ok-answer_all-clause-only_fault : goal.returns-in-Ok-answer_all-clause-only_fault
 returns-in-Ok-answer_all-clause-only_fault c =
-    let read = the_code c.args.program.now.of_module c.module.result.now c.module.ensures.of_module c.args.func c.args.code.now c.in-Ok.of_module c.in-Ok.ensures.found c.in-Ok.ensures.only c.in-Ok.ensures.only_fault in
+    let read = the_code c.args.program.now.of_module c.module.result.now c.module.ensures.of_module c.args.func c.args.code.now c.in-Ok.of_module c.in-Ok.ensures.found c.in-Ok.ensures.one c.in-Ok.ensures.only_fault in
     λ e h. c.in-Ok-read_text.ensures.only_fault e (only_section c.args.program.now.of_module c.args.func c.args.code.now c.args.text.now c.in-Ok.of_module read e h)
 
 pub replace-requires-in-Err-answer_all : goal.replace-requires-in-Err-answer_all

@@ -1,7 +1,7 @@
 use Rattle.std.proofs.Common.{◌≡◌, ℕ, suc, ◌+◌, ◌-◌, ◌*◌, map, arith, sym, ◌∙◌, subst, ap}
-use Rattle.shadow_stack.specs.Slots.{hops, hop, slot_at, names_of, NamesAreExact}
-use Rattle.shadow_stack.proofs.Turns.{row_doubled, names_at_row, names_are_exact, hops_none}
-use Rattle.shadow_stack.proofs.hops.names_of.Goals as goal
+use Rattle.shadow_stack.specs.Slots.{hops, hop, slot_at, is_address_at, names_of, NamesAreExact}
+use Rattle.shadow_stack.proofs.Turns.{row_doubled, names_at_row, addresses_at_row, names_are_exact, hops_none}
+use Rattle.shadow_stack.proofs.hops.named_by.Goals as goal
 
 pub loop-reach-init : goal.loop-reach-init
 loop-reach-init c = record { positive = omega arith; row = c.in_ok-row.ensures.items ∙ hops_none c.args.origins.now }
@@ -18,13 +18,18 @@ loop-reach-preserved c =
           (c.in_ok-row-2.ensures ∙ ap (λ r. map (hop r) r) c.as_slice.ensures.value));
     }
 
-pub returns-clause-names : goal.returns-clause-names
-returns-clause-names c =
+pub returns-clause-slots : goal.returns-clause-slots
+returns-clause-slots c =
     names_at_row c.args.origins.now c.loop-reach.row.items c.from_vec.result (c.loop-reach.reach - 1) (omega (arith, c.loop-reach-test.false)) c.loop-reach.invariant.row
-    (c.from_vec.ensures ∙ c.in_ok-names.ensures ∙ ap (map slot_at) c.as_slice-2.ensures.value)
+    (c.from_vec.ensures ∙ c.in_ok-slots.ensures ∙ ap (map slot_at) c.as_slice-2.ensures.value)
+
+pub returns-clause-addresses : goal.returns-clause-addresses
+returns-clause-addresses c =
+    addresses_at_row c.args.origins.now c.loop-reach.row.items c.from_vec-2.result (c.loop-reach.reach - 1) (omega (arith, c.loop-reach-test.false)) c.loop-reach.invariant.row
+    (c.from_vec-2.ensures ∙ c.in_ok-addresses.ensures ∙ ap (map is_address_at) c.as_slice-3.ensures.value)
 
 pub returns-clause-exact : goal.returns-clause-exact
 returns-clause-exact c =
     let is_names : c.from_vec.result ≡ names_of c.args.origins.now = names_at_row c.args.origins.now c.loop-reach.row.items c.from_vec.result (c.loop-reach.reach - 1) (omega (arith, c.loop-reach-test.false)) c.loop-reach.invariant.row
-    (c.from_vec.ensures ∙ c.in_ok-names.ensures ∙ ap (map slot_at) c.as_slice-2.ensures.value) in
+    (c.from_vec.ensures ∙ c.in_ok-slots.ensures ∙ ap (map slot_at) c.as_slice-2.ensures.value) in
     subst (λ names. NamesAreExact c.args.origins.now names) (sym is_names) (names_are_exact c.args.origins.now)

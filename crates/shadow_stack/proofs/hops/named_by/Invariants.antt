@@ -1,7 +1,7 @@
 use Rattle.std.proofs.Common.{◌≡◌, ◌+◌, ◌-◌, ◌<◌, length}
 use Rattle.std.specs.Prelude.{map}
 use Rattle.shadow_stack.specs.Slots.{hops}
-use Rattle.shadow_stack.proofs.hops.names_of.Given as goal
+use Rattle.shadow_stack.proofs.hops.named_by.Given as goal
 
 -- the row shows what is `reach` - 1 bitcasts back
 abbrev pub invariant-loop-reach : goal.invariant-loop-reach
