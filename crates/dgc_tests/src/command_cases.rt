@@ -69,7 +69,8 @@ pub fn write_cases<O: Write>(
     rt: &(impl Runtime + AllocGlobal + Threads + Sync),
     out: &mut O,
 ) -> Result<(), RowFailure> {
-    long_text(rt)?.write(out, "refuses_a_long_text")?;
+    write!(out, "refuses_a_long_text")?;
+    long_text(rt)?.write(out)?;
     let (first, second) = (status_without_error(rt), status_without_output(rt)?);
     writeln!(out, "ends_with_a_failed_write: {first} {second}")?;
     Ok(())

@@ -38,6 +38,19 @@ struct Tally {
     different: u32,
 }
 
+/// Runs the command of a row with these words after it. Returns whether it prints what is wanted, and writes what differs.
+fn compare_with<O: Write>(
+    rt: &(impl Runtime + AllocGlobal + Threads + Sync),
+    name: &str,
+    row: &CommandRow,
+    more: &[&str],
+    out: &mut O,
+) -> Result<bool, RowFailure> {
+    let printed = row.printed(rt, more)?;
+    let is_alike = printed.compare(out, name, row.wanted())?;
+    Ok(is_alike)
+}
+
 /// Runs the command of a row, and a check once more by three workers, and once more with a certificate that is made if the
 /// module is accepted. Returns whether each prints what is wanted, and writes what differs.
 fn compare_row<O: Write>(
@@ -46,13 +59,12 @@ fn compare_row<O: Write>(
     out: &mut O,
 ) -> Result<bool, RowFailure> {
     let row = CommandRow::read(rt, name)?;
-    let printed = row.printed(rt, [].as_slice())?;
-    let is_alike = printed.compare(out, name, row.wanted())?;
+    let is_alike = compare_with(rt, name, &row, [].as_slice(), out)?;
     if !row.is_plain_check() {
         return Ok(is_alike);
     }
-    let printed = row.printed(rt, ["--workers", "3"].as_slice())?;
-    let is_alike_by_three = printed.compare(out, name, row.wanted())?;
+    let by_three = ["--workers", "3"];
+    let is_alike_by_three = compare_with(rt, name, &row, by_three.as_slice(), out)?;
     if !row.is_accepted() {
         return Ok(is_alike && is_alike_by_three);
     }

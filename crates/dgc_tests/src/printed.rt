@@ -25,13 +25,19 @@ fn status_in(text: &str) -> Result<u8, RowFailure> {
     }
 }
 
+/// Reads the file `status` of a folder.
+fn status_at(rt: &(impl Runtime + AllocGlobal), folder: &str) -> Result<u8, RowFailure> {
+    let path = format!(in rt.alloc(); "{folder}/status")?;
+    let status = fs::read_to_string(rt, path.as_str())?;
+    status_in(status.as_str())
+}
+
 impl Printed {
     /// Reads the files `status`, `stdout` and `stderr` of a folder.
     pub fn read(rt: &(impl Runtime + AllocGlobal), folder: &str) -> Result<Printed, RowFailure> {
         let alloc = rt.alloc();
-        let status = fs::read_to_string(rt, format!(in alloc; "{folder}/status")?.as_str())?;
         Ok(Printed {
-            status: status_in(status.as_str())?,
+            status: status_at(rt, folder)?,
             out: fs::read(rt, format!(in alloc; "{folder}/stdout")?.as_str())?,
             err: fs::read(rt, format!(in alloc; "{folder}/stderr")?.as_str())?,
         })
@@ -61,9 +67,9 @@ impl Printed {
             && self.err.as_slice() == other.err.as_slice()
     }
 
-    /// Writes a line with this name, the status and both outputs.
-    pub fn write<W: Write>(&self, out: &mut W, name: &str) -> io::Result<()> {
-        write!(out, "{name}: {} '", self.status)?;
+    /// Writes the status and both outputs after a name, and ends the line.
+    pub fn write<W: Write>(&self, out: &mut W) -> io::Result<()> {
+        write!(out, ": {} '", self.status)?;
         write_front(out, self.out.as_slice())?;
         write!(out, "' '")?;
         write_front(out, self.err.as_slice())?;

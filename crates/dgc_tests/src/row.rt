@@ -32,17 +32,24 @@ fn bytes_of(rt: &(impl Runtime + AllocGlobal), path: &str) -> Result<Option<Vec<
     }
 }
 
+/// The words of the command line of the row in a folder, the program's name first.
+fn words_of(rt: &(impl Runtime + AllocGlobal), folder: &str) -> Result<Vec<String>, RowFailure> {
+    let alloc = rt.alloc();
+    let args = fs::read_to_string(rt, format!(in alloc; "{folder}/args")?.as_str())?;
+    let mut words = Vec::new(alloc);
+    words.push("dgc".to_owned(alloc)?)?;
+    for word in args.lines() {
+        words.push(word.to_owned(alloc)?)?;
+    }
+    Ok(words)
+}
+
 impl CommandRow {
     /// Reads the row of this name.
     pub fn read(rt: &(impl Runtime + AllocGlobal), name: &str) -> Result<CommandRow, RowFailure> {
         let alloc = rt.alloc();
         let folder = format!(in alloc; "rows/{name}")?;
-        let args = fs::read_to_string(rt, format!(in alloc; "{folder}/args")?.as_str())?;
-        let mut words = Vec::new(alloc);
-        words.push("dgc".to_owned(alloc)?)?;
-        for word in args.lines() {
-            words.push(word.to_owned(alloc)?)?;
-        }
+        let words = words_of(rt, folder.as_str())?;
         let wanted = Printed::read(rt, folder.as_str())?;
         Ok(CommandRow {
             folder,
@@ -114,9 +121,8 @@ impl CommandRow {
         if made.status != STATUS_YES {
             return Ok(made);
         }
-        let path = format!(in alloc; "{}/{module_path}", self.folder)?;
         let mut files = Vec::new(alloc);
-        files.push(bytes_of(rt, path.as_str())?)?;
+        files.push(self.bytes_at(rt, module_path)?)?;
         files.push(Some(made.out))?;
         let line = Line::Check(CheckLine {
             module_path,
@@ -124,6 +130,16 @@ impl CommandRow {
             workers: 1,
         });
         Ok(printed_of(rt, &line, files.as_slice()))
+    }
+
+    /// The bytes of the file at this path of the row's folder, if it can be read.
+    fn bytes_at(
+        &self,
+        rt: &(impl Runtime + AllocGlobal),
+        path: &str,
+    ) -> Result<Option<Vec<u8>>, RowFailure> {
+        let path = format!(in rt.alloc(); "{}/{path}", self.folder)?;
+        bytes_of(rt, path.as_str())
     }
 
     /// Runs the command of a line that is accepted.
@@ -137,8 +153,7 @@ impl CommandRow {
         let alloc = rt.alloc();
         let mut files = Vec::new(alloc);
         for path in line.paths(alloc)? {
-            let path = format!(in alloc; "{}/{path}", self.folder)?;
-            files.push(bytes_of(rt, path.as_str())?)?;
+            files.push(self.bytes_at(rt, path)?)?;
         }
         Ok(printed_of(rt, line, files.as_slice()))
     }

@@ -111,9 +111,10 @@ fn write_checks<O: Write>(
     files: &[Option<Vec<u8>>],
 ) -> io::Result<()> {
     for workers in workers {
+        write!(out, "{name} by {workers}")?;
         match checked(rt, workers, files) {
-            Some(printed) => printed.write(out, name)?,
-            None => writeln!(out, "{name}: no line")?,
+            Some(printed) => printed.write(out)?,
+            None => writeln!(out, ": no line")?,
         }
     }
     Ok(())
