@@ -1,12 +1,14 @@
 -- Following names back along bitcasts: more turns than there are names show nothing new.
 use Rattle.std.proofs.Common.{◌≡◌, ◌<◌, ◌≤◌, ℕ, zero, suc, ◌+◌, ◌-◌, Bool, true, false, List, [], ◌∷◌, length, slice_index_or, refl, ap, sym, ◌∙◌, subst, arith, rules, inl, inr, ◌⊎◌, zero-add}
 use Rattle.std.proofs.lemmas.Option.{unwrap_or-slice_get}
-use Rattle.std.specs.Prelude.{map, Option, Some, None, is_some, slice_get, unwrap_or}
-use Rattle.lemmas.specs.Bools.{yes_or_no}
+use Rattle.std.specs.List.{list_any}
+use Rattle.std.specs.Prelude.{◌||◌, map, Option, Some, None, is_some, slice_get, unwrap_or}
+use Rattle.std.proofs.lemmas.Bool.{cases_lt}
+use Rattle.lemmas.specs.Bools.{yes_or_no, or_neither}
 use Rattle.shadow_stack.specs.declared.draft.Origin.{Origin}
 use Rattle.shadow_stack.specs.declared.draft.Origin.TheVariants.{Nowhere, Slot, Address, Same}
 use Rattle.shadow_stack.specs.Hops.{hops_nowhere, hops_slot, hops_address}
-use Rattle.shadow_stack.specs.Slots.{origin_at, NamesSlot, Given, Renamed, hop, hops, slot_at, is_address_at, names_of, addresses_of, NamesAreExact}
+use Rattle.shadow_stack.specs.Slots.{origin_at, NamesSlot, Given, Renamed, hop, hops, is_same, slot_at, is_address_at, names_of, addresses_of, NamesAreExact}
 
 -- some turns, and then more
 hops_add : (origins : List Origin) (m n : ℕ) (o : Origin) → hops origins (m + n) o ≡ hops origins n (hops origins m o)
@@ -231,6 +233,37 @@ address_settled : (origins : List Origin) (n v : ℕ) → length origins ≤ n �
 address_settled origins n v h =
     address_by_end (hops origins n (origin_at origins v)) ∙ ap is_address_in (settled origins n v h) ∙ sym (address_by_end (hops origins (length origins) (origin_at origins v)))
 
+-- what is no bitcast stays, however many turns there are
+ended : (origins : List Origin) (k : ℕ) (o : Origin) → is_same o ≡ false → hops origins k o ≡ o
+ended origins k Nowhere e = hops_nowhere origins k
+ended origins k (Slot slot) e = hops_slot origins k slot
+ended origins k Address e = hops_address origins k
+ended origins k (Same value) e = absurd (no_true (sym e))
+
+-- no origin of a row is a bitcast, nor what is past its end
+none_same : (row : List Origin) (v : ℕ) → list_any is_same row ≡ false → is_same (origin_at row v) ≡ false
+none_same [] v e = refl
+none_same (o ∷ row) zero e = (or_neither (is_same o) (list_any is_same row) e).0
+none_same (o ∷ row) (suc v) e = none_same row v (or_neither (is_same o) (list_any is_same row) e).1
+
+-- after this number of turns no name is a bitcast, or there were as many turns as there are names
+abbrev pub IsSettled : (origins row : List Origin) → (n : ℕ) → Type 0
+IsSettled origins row n = (length origins ≤ n) ⊎ (list_any is_same row ≡ false)
+
+-- a row after which no turn is made is settled
+pub settled_at : (origins row shown : List Origin) → shown ≡ row → (reach : ℕ) → 0 < reach → (length origins < reach) ⊎ (list_any is_same shown ≡ false) → IsSettled origins row (reach - 1)
+settled_at origins row shown is reach positive (inl h) = inl (omega (arith, h))
+settled_at origins row shown is reach positive (inr h) = inr (sym (ap (list_any is_same) is) ∙ h)
+
+-- where no name is a bitcast, more turns show the same
+rest : (origins row : List Origin) (n v : ℕ) → n ≤ length origins → row ≡ map (hops origins n) origins → list_any is_same row ≡ false
+    → hops origins n (origin_at origins v) ≡ hops origins (length origins) (origin_at origins v)
+rest origins row n v h is_row none =
+    let at : origin_at row v ≡ hops origins n (origin_at origins v) = ap (λ r. origin_at r v) is_row ∙ ap (λ d. slice_index_or (map (hops origins n) origins) v d) (sym (hops_nowhere origins n)) ∙ at_map (hops origins n) origins v in
+    let still : is_same (hops origins n (origin_at origins v)) ≡ false = sym (ap is_same at) ∙ none_same row v none in
+    let on : n + (length origins - n) ≡ length origins = omega (arith, h) in
+    sym (ap (λ k. hops origins k (origin_at origins v)) (sym on) ∙ hops_add origins n (length origins - n) (origin_at origins v) ∙ ended origins (length origins - n) (hops origins n (origin_at origins v)) still)
+
 -- what the row shows of each name, where that stays from a turn on
 at_row : {B : Type 0} (f : Origin → B) (origins row : List Origin) (n m : ℕ) → row ≡ map (hops origins n) origins
     → ((v : ℕ) → f (hops origins n (origin_at origins v)) ≡ f (hops origins m (origin_at origins v)))
@@ -238,13 +271,22 @@ at_row : {B : Type 0} (f : Origin → B) (origins row : List Origin) (n m : ℕ)
 at_row f origins row n m is_row same =
     ap (λ r. map f r) is_row ∙ map_map (hops origins n) f origins ∙ map_same (λ o. f (hops origins n o)) (λ o. f (hops origins m o)) origins same
 
+-- a row that is settled shows what as many turns as there are names show
+at_settled : {B : Type 0} (f : Origin → B) (origins row : List Origin) (n : ℕ) → ((v : ℕ) → length origins ≤ n → f (hops origins n (origin_at origins v)) ≡ f (hops origins (length origins) (origin_at origins v)))
+    → IsSettled origins row n → row ≡ map (hops origins n) origins → map f row ≡ map (λ o. f (hops origins (length origins) o)) origins
+at_settled f origins row n late (inl h) is_row = at_row f origins row n (length origins) is_row (λ v. late v h)
+at_settled f origins row n late (inr none) is_row = at_row f origins row n (length origins) is_row (λ v. elim (cases_lt n (length origins)) [
+  | inl less ↦ ap f (rest origins row n v (omega (arith, less)) is_row none)
+  | inr more ↦ late v more
+])
+
 -- the names as the row shows them
-pub names_at_row : (origins row : List Origin) (names : List (Option ℕ)) (n : ℕ) → length origins ≤ n → row ≡ map (hops origins n) origins → names ≡ map slot_at row → names ≡ names_of origins
-names_at_row origins row names n h is_row is_names = is_names ∙ at_row slot_at origins row n (length origins) is_row (λ v. slot_settled origins n v h)
+pub names_at_row : (origins row : List Origin) (names : List (Option ℕ)) (n : ℕ) → IsSettled origins row n → row ≡ map (hops origins n) origins → names ≡ map slot_at row → names ≡ names_of origins
+names_at_row origins row names n h is_row is_names = is_names ∙ at_settled slot_at origins row n (λ v. slot_settled origins n v) h is_row
 
 -- and whether each is an address
-pub addresses_at_row : (origins row : List Origin) (addresses : List Bool) (n : ℕ) → length origins ≤ n → row ≡ map (hops origins n) origins → addresses ≡ map is_address_at row → addresses ≡ addresses_of origins
-addresses_at_row origins row addresses n h is_row is_addresses = is_addresses ∙ at_row is_address_at origins row n (length origins) is_row (λ v. address_settled origins n v h)
+pub addresses_at_row : (origins row : List Origin) (addresses : List Bool) (n : ℕ) → IsSettled origins row n → row ≡ map (hops origins n) origins → addresses ≡ map is_address_at row → addresses ≡ addresses_of origins
+addresses_at_row origins row addresses n h is_row is_addresses = is_addresses ∙ at_settled is_address_at origins row n (λ v. address_settled origins n v) h is_row
 
 sound : (origins : List Origin) (k : ℕ) (o : Origin) (s : ℕ) → slot_at (hops origins k o) ≡ Some s → NamesSlot origins o s
 sound origins zero Nowhere s e = absurd (no_true (ap is_some e))

@@ -1,5 +1,6 @@
-ghost use Rattle.std.specs.Prelude.{◌≡◌, map, IfOk};
-ghost use Rattle.shadow_stack.specs.Slots.{hop, slot_at, is_address_at, names_of, addresses_of, origin_at, NamesAreExact};
+ghost use Rattle.std.specs.Prelude.{◌≡◌, ◌≤◌, ◌<◌, ◌⊎◌, true, false, map, IfOk};
+ghost use Rattle.std.specs.List.{list_any};
+ghost use Rattle.shadow_stack.specs.Slots.{hop, is_same, slot_at, is_address_at, names_of, addresses_of, origin_at, NamesAreExact};
 
 use crate::draft::Origin;
 use crate::slot_id::SlotId;
@@ -15,7 +16,8 @@ pub struct Named {
     pub addresses: Items<bool>,
 }
 
-/// The slot of each name, and whether it is an address. The way that is followed for each name doubles in each turn.
+/// The slot of each name, and whether it is an address. The way that is followed for each name doubles in each turn, until no name is a
+/// bitcast of another one, or only those that are bitcasts of themselves.
 pub fn named_by(alloc: Global, origins: &[Origin]) -> Result<Named, AllocError>
     ensures slots { IfOk result (λ named. named.slots ≡ names_of origins.now) }
     ensures addresses { IfOk result (λ named. named.addresses ≡ addresses_of origins.now) }
@@ -23,7 +25,7 @@ pub fn named_by(alloc: Global, origins: &[Origin]) -> Result<Named, AllocError>
 {
     let mut row = Vec::from_slice(alloc, origins)?;
     let mut reach: u128 = 1;
-    while reach <= origins.len() as u128 {
+    while goes_on(row.as_slice(), reach, origins.len()) {
         row = doubled(alloc, row.as_slice())?;
         reach *= 2;
     }
@@ -33,6 +35,27 @@ pub fn named_by(alloc: Global, origins: &[Origin]) -> Result<Named, AllocError>
         slots: Items::from_vec(slots),
         addresses: Items::from_vec(addresses),
     })
+}
+
+/// Whether another turn may show more: fewer turns were made than there are names, and some name is a bitcast of another one.
+fn goes_on(row: &[Origin], reach: u128, names: usize) -> bool
+    ensures on { result ≡ true → reach ≤ names }
+    ensures settled { result ≡ false → (names < reach) ⊎ (list_any is_same row.now ≡ false) }
+{
+    reach <= names as u128 && some_same(row)
+}
+
+/// Whether some name is a bitcast of another one.
+fn some_same(row: &[Origin]) -> bool
+    ensures { result ≡ list_any is_same row.now }
+{
+    row.iter().any(|origin| is_same(*origin))
+}
+
+fn is_same(origin: Origin) -> bool
+    ensures { result ≡ is_same origin }
+{
+    matches!(origin, Origin::Same(_))
 }
 
 fn doubled(alloc: Global, row: &[Origin]) -> Result<Vec<Origin>, AllocError>
