@@ -8,4 +8,4 @@ mod tables;
 
 pub use function::{copy_collector, copy_function};
 pub use of_module::{Defined, copy_module, copy_shapes, joined};
-pub use tables::{Tables, copy_names, copy_tables, copy_types};
+pub use tables::{Tables, copy_names, copy_tables};

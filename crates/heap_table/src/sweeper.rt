@@ -1,6 +1,6 @@
 ghost use Rattle.std.specs.Prelude.{◌≡◌, ◌+◌, ◌≤◌, ◌^◌, ◌∷◌, IfSome, IfNone};
 ghost use Rattle.colours.specs.Colours.{cycle_of};
-ghost use Rattle.colours.specs.Collector.{posted_of};
+ghost use Rattle.colours.specs.Collector.{Posting, posted_of, Collects};
 ghost use Rattle.colours.specs.Runs.{ByCollector};
 ghost use Rattle.heap_rule.specs.View.{OfCollector};
 ghost use Rattle.heap_rule.specs.Rule.{Happens};
@@ -43,7 +43,8 @@ impl<'a> Sweeper<'a> {
         ensures log { IfSome result (λ turn. IsNowAt self.old (turn ∷ self.old.log) self.new) }
         // It is a step of a run in which the log was the collector's share.
         ensures happens { IfSome result (λ turn. Happens self.old.setup (OfCollector self.old.log) (ByCollector turn)) }
-        ensures limit { IfNone result ((self.new ≡ self.old) × (2 ^ 60 ≤ cycle_of (posted_of self.old.log + 1))) }
+        // There is none where the next stage would be one past the last cycle, and the collector is where it is posted.
+        ensures limit { IfNone result ((self.new ≡ self.old) × Collects self.old.setup self.old.log Posting × (2 ^ 60 ≤ cycle_of (posted_of self.old.log + 1))) }
     {
         let ask = self.collector.ask()?;
         let collector = &self.collector;

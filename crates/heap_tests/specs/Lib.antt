@@ -1,1 +1,2 @@
 pub mod Coloured
+pub mod Rootless

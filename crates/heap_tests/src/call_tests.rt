@@ -1,4 +1,7 @@
 //! The calls of a thread on the heap: each step that they ask for.
+ghost use Rattle.std.specs.Prelude.{◌≤◌};
+
+use crate::parts::is_ask;
 use colours::{Ask, Colour, DONE, Op, Place, claim_at, colour, mark_at};
 use handshake::{Safepoint, answer_safepoint};
 
@@ -9,35 +12,37 @@ fn values_at(stage: u8) -> (u64, u64) {
 
 #[test]
 fn marks_and_claims_of_the_first_stages(rt: HostRuntime) {
-    for (stage, mark, claim) in [
-        (0, 0, 1),
-        (1, 2, 1),
-        (2, 2, 1),
-        (3, 2, 3),
-        (4, 4, 3),
-        (6, 4, 5),
-    ] {
-        assert_eq!(rt; values_at(stage), (mark, claim), "at stage {stage}");
+    assert_eq!(rt;
+        [0, 1, 2, 3, 4, 6].map(values_at),
+        [(0, 1), (2, 1), (2, 1), (2, 3), (4, 3), (4, 5)]
+    );
+}
+
+/// The name of a word's colour in the second cycle.
+fn name_of(word: u64) -> &'static str
+    requires { word ≤ 5 }
+{
+    match colour(word, 2) {
+        Colour::Blue => "blue",
+        Colour::White => "white",
+        Colour::Grey => "grey",
+        Colour::Black => "black",
     }
 }
 
 #[test]
 fn colours_of_the_second_cycle(rt: HostRuntime) {
-    for (word, named) in [
-        (0, Colour::Blue),
-        (3, Colour::White),
-        (4, Colour::Grey),
-        (5, Colour::Black),
-    ] {
-        assert_eq!(rt; colour(word, 2), named);
-    }
+    assert_eq!(rt;
+        [name_of(0), name_of(3), name_of(4), name_of(5)],
+        ["blue", "white", "grey", "black"]
+    );
 }
 
 /// Whether a call asks for these operations, one after the other, and for none after them, where each finds the number beside it.
 #[tactic(auto, using(crate::proofs::HeapTokens::small_fits))]
 fn asks_for(op: &mut Op, operations: &[(Ask, u32)]) -> bool {
     for (ask, found) in operations {
-        if op.ask() != Some(*ask) {
+        if !is_ask(op.ask(), *ask) {
             return false;
         }
         op.took(u64::from(*found));
@@ -110,7 +115,7 @@ fn a_late_thread_looks_twice(rt: HostRuntime) {
 /// Whether a safepoint asks for these operations, and for none after them.
 fn safepoint_asks_for(point: &mut Safepoint<'_>, operations: &[(Ask, u32)]) -> bool {
     for (ask, found) in operations {
-        if point.ask() != Some(*ask) {
+        if !is_ask(point.ask(), *ask) {
             return false;
         }
         point.took(u64::from(*found));

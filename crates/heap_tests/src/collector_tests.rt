@@ -1,10 +1,11 @@
 //! The collector over one cell: its first turns.
 use crate::cycles::FIRST_TURNS;
-use colours::{Ask, Place};
-use items::Items;
-use pools::{LayoutId, Layouts, Pools, WordKind};
+use crate::opening::{ground, one_reference};
+use crate::parts::is_turn;
+use colours::{Ask, Place, Turn};
+use std::alloc::Global;
 use std::test::Fail;
-use trace_sweep::{Collector, Motion, Words};
+use trace_sweep::{Collector, Words};
 
 /// Words of which each colour holds the same number, and each other word is null.
 #[derive(Drop)]
@@ -46,23 +47,32 @@ fn colours_after(colours: (u32, u32), place: Place, stored: Option<u64>) -> (u32
     }
 }
 
+/// Whether these are the next turns of a collector over one cell.
+fn makes(collector: &mut Collector<'_>, turns: &[Turn]) -> bool {
+    let mut colours = (1, 0);
+    for turn in turns {
+        let number = next_word(collector.ask(), colours);
+        let Some(motion) = collector.next(&Coloured { number }) else {
+            return false;
+        };
+        if !is_turn(Some(motion.turn), *turn) {
+            return false;
+        }
+        colours = colours_after(colours, motion.place, motion.stored);
+    }
+    true
+}
+
+/// Whether it makes the first ones, and how many sweeps have looked at their last cell then.
+fn makes_first_turns(alloc: Global) -> Result<(bool, u64), Fail> {
+    let (layouts, pools) = ground(alloc, 1)?;
+    let globals = one_reference();
+    let mut collector = Collector::new(&pools, &layouts, &globals, 0);
+    Ok((makes(&mut collector, &FIRST_TURNS), collector.cycles()))
+}
+
 #[test]
 fn first_turns_over_one_blue_cell(rt: HostRuntime) -> Result<(), Fail> {
-    let alloc = rt.alloc();
-    let mut layouts = Layouts::new(alloc);
-    layouts.push(Items::new(alloc))?;
-    let pools = Pools::new(alloc, &layouts, &[1])?;
-    let globals = [WordKind::Reference(LayoutId::new(0))];
-    let mut collector = Collector::new(&pools, &layouts, &globals, 0);
-    let mut colours = (1, 0);
-    for turn in FIRST_TURNS {
-        let number = next_word(collector.ask(), colours);
-        let motion = collector.next(&Coloured { number });
-        assert_eq!(rt; motion.map(|motion| motion.turn), Some(turn));
-        if let Some(Motion { place, stored, .. }) = motion {
-            colours = colours_after(colours, place, stored);
-        }
-    }
-    assert_eq!(rt; collector.cycles(), 1);
+    assert_eq!(rt; makes_first_turns(rt.alloc())?, (true, 1));
     Ok(())
 }

@@ -5,6 +5,7 @@ ghost use Rattle.pools.specs.declared.word_kind.WordKind.TheVariants.{Reference}
 ghost use Rattle.heap_table.specs.Holders.{MayCall};
 ghost use Rattle.heap_table.specs.Sweepers.{IsSweeperOf};
 
+use crate::parts::is_turn;
 use crate::steps::{answer, global, keep_a_cell, take, take_two};
 use colours::Turn;
 use heap_table::{Heap, Mutator, Sweeper};
@@ -62,7 +63,7 @@ pub fn answered_turns_are(
     ensures sweeper { IsSweeperOf heap.now sweeper.new }
 {
     for turn in turns {
-        if sweeper.turn(heap).as_ref() != Some(turn) {
+        if !is_turn(sweeper.turn(heap), *turn) {
             return false;
         }
         answer(heap, me);

@@ -13,6 +13,10 @@ mod late;
 #[cfg(test)]
 mod opening;
 #[cfg(test)]
+mod parts;
+#[cfg(test)]
+mod starved;
+#[cfg(test)]
 mod steps;
 #[cfg(test)]
 mod tests;

@@ -122,6 +122,7 @@ pub fn last_token(heap: &Heap<'_>, mutators: &mut Vec<Mutator>) -> Option<Mutato
     requires tokens { AreNew heap.now 0 mutators.old.items }
     ensures tokens { AreNew heap.now 0 mutators.new.items }
     ensures token { IfSome result (MayCall heap.now) }
+    ensures log { IfSome result (λ token. token.log ≡ []) }
 {
     let token = mutators.pop()?;
     Some(token)

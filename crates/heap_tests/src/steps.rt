@@ -2,11 +2,13 @@
 ghost use Rattle.std.specs.Prelude.{◌≡◌, ◌<◌, [], ◌∷◌, length, Some, IfOk};
 ghost use Rattle.pools.specs.Heap.{kind_of};
 ghost use Rattle.pools.specs.declared.word_kind.WordKind.TheVariants.{Reference};
+ghost use Rattle.heap_table.specs.Closing.{AreOf};
 ghost use Rattle.heap_table.specs.Holders.{IsOf, MayCall, MayBegin};
 ghost use Rattle.heap_table.specs.Opening.{AreNew};
 ghost use Rattle.heap_table.specs.Sweepers.{IsSweeperOf};
 
 use crate::opening::the_layout;
+use crate::parts::is_turn;
 use colours::Turn;
 use heap_table::{Closed, Heap, Mutator, Sweeper};
 use std::alloc::Global;
@@ -117,7 +119,7 @@ pub fn are_looks(heap: &Heap<'_>, sweeper: &mut Sweeper<'_>, turns: u32) -> bool
     ensures { IsSweeperOf heap.now sweeper.new }
 {
     for _ in 0..turns {
-        if sweeper.turn(heap) != Some(Turn::ReadStage(0, 0)) {
+        if !matches!(sweeper.turn(heap), Some(Turn::ReadStage(0, 0))) {
             return false;
         }
     }
@@ -130,7 +132,7 @@ pub fn turns_are(heap: &Heap<'_>, sweeper: &mut Sweeper<'_>, turns: &[Turn]) -> 
     ensures { IsSweeperOf heap.now sweeper.new }
 {
     for turn in turns {
-        if sweeper.turn(heap).as_ref() != Some(turn) {
+        if !is_turn(sweeper.turn(heap), *turn) {
             return false;
         }
     }
@@ -171,22 +173,28 @@ pub fn close_one<'a>(
     Ok(heap.close(mutators, sweeper))
 }
 
+/// Two tokens in a list.
+fn listed(alloc: Global, heap: &Heap<'_>, tokens: (Mutator, Mutator)) -> Result<Vec<Mutator>, Fail>
+    requires first { IsOf heap.now tokens.0 }
+    requires second { IsOf heap.now tokens.1 }
+    ensures { IfOk result (λ list. AreOf heap.now list.items) }
+{
+    Ok(vec![in alloc; tokens.0, tokens.1]?)
+}
+
 /// Gives back the words of a heap of two threads.
 pub fn close_two<'a>(
     alloc: Global,
     heap: Heap<'a>,
-    first: Mutator,
-    second: Mutator,
+    tokens: (Mutator, Mutator),
     sweeper: Sweeper<'_>,
 ) -> Result<Closed<'a>, Fail>
-    requires first { IsOf heap first }
-    requires second { IsOf heap second }
+    requires first { IsOf heap tokens.0 }
+    requires second { IsOf heap tokens.1 }
     requires sweeper { IsSweeperOf heap sweeper }
     ensures { IfOk result (λ closed. closed.setup ≡ heap.entry.setup) }
 {
-    let mut mutators = Vec::new(alloc);
-    mutators.push(first)?;
-    mutators.push(second)?;
+    let mutators = listed(alloc, &heap, tokens)?;
     Ok(heap.close(mutators, sweeper))
 }
 

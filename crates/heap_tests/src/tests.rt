@@ -8,8 +8,8 @@ ghost use Rattle.heap_table.specs.Sweepers.{IsSweeperOf};
 use crate::cycles::{FIRST_TURNS, first_cycle, second_cycle, take_all};
 use crate::late::read_late;
 use crate::opening::{
-    ground, last_token, late_token, no_globals, one_layout, one_reference, open, pool_of,
-    present_and_late, two_references, two_tokens,
+    ground, last_token, late_token, no_globals, one_reference, open, present_and_late,
+    two_references, two_tokens,
 };
 use crate::steps::{
     are_looks, begin_and_take, close_new, close_one, close_two, colours_of, finish, global,
@@ -23,38 +23,59 @@ use std::alloc::Global;
 use std::test::Fail;
 use std::thread::Threads;
 
-/// Two threads take a cell each and keep it in a global each. Returns each cell, and what its global holds then.
-fn kept_by_two(
-    rt: &impl Threads,
-    heap: &Heap<'_>,
-    mutators: &mut Vec<Mutator>,
-) -> Option<((u32, u64), (u32, u64))>
+/// Whether each of two globals holds the cell that its thread wrote to it, and the cells in their order.
+type Kept = ([bool; 2], [u32; 2]);
+
+/// Two threads take a cell each and keep it in a global each.
+fn kept_by_two(rt: &impl Threads, heap: &Heap<'_>, mutators: &mut Vec<Mutator>) -> Option<Kept>
     requires present { heap.now.setup.late ≡ [] }
     requires layout { 0 < length heap.now.setup.pools }
     requires globals { heap.now.setup.globals ≡ Reference 0 ∷ Reference 0 ∷ [] }
     requires tokens { AreNew heap.now 0 mutators.old.items }
 {
     let (mut first, mut second) = two_tokens(heap, mutators)?;
-    Some(keep_two(rt, heap, &mut first, &mut second))
+    let ((one, in_one), (other, in_other)) = keep_two(rt, heap, &mut first, &mut second);
+    Some((
+        [u64::from(one) == in_one, u64::from(other) == in_other],
+        [one.min(other), one.max(other)],
+    ))
+}
+
+/// Opens a heap for that.
+fn kept(
+    rt: &impl Threads,
+    alloc: Global,
+    layouts: &Layouts,
+    pools: &Pools,
+) -> Result<Option<Kept>, Fail>
+    requires layouts { layouts.now ≡ [] ∷ [] }
+    requires pools { 0 < length pools.now }
+{
+    let globals = two_references();
+    let (heap, mut mutators, _sweeper) = open(alloc, layouts, pools, &globals, 2, &[])?;
+    Ok(kept_by_two(rt, &heap, &mut mutators))
+}
+
+/// On a pool of two cells.
+fn kept_of_two_cells(rt: &impl Threads, alloc: Global) -> Result<Option<Kept>, Fail> {
+    let (layouts, pools) = ground(alloc, 2)?;
+    kept(rt, alloc, &layouts, &pools)
 }
 
 #[test]
 fn two_threads_read_what_they_wrote(rt: HostRuntime) -> Result<(), Fail> {
-    let alloc = rt.alloc();
-    let layouts = one_layout(alloc)?;
-    let pools = pool_of(alloc, &layouts, 2)?;
-    let globals = two_references();
-    let (heap, mut mutators, _sweeper) = open(alloc, &layouts, &pools, &globals, 2, &[])?;
-    let kept = kept_by_two(&rt, &heap, &mut mutators);
-    let (one, other) = kept.expect(&rt, "two tokens");
-    assert_eq!(rt; u64::from(one.0), one.1);
-    assert_eq!(rt; u64::from(other.0), other.1);
-    assert_eq!(rt; (one.0.min(other.0), one.0.max(other.0)), (1, 2));
+    assert_eq!(rt;
+        kept_of_two_cells(&rt, rt.alloc())?,
+        Some(([true, true], [1, 2]))
+    );
     Ok(())
 }
 
 /// What a token reads before and after another one keeps a cell, and between them what that one got.
-fn read_beside(heap: &Heap<'_>, mutators: &mut Vec<Mutator>) -> Option<(u64, (u32, u64), u64)>
+type ReadBeside = (u64, (u32, u64), u64);
+
+/// A token reads a global around another one's write to it.
+fn read_beside(heap: &Heap<'_>, mutators: &mut Vec<Mutator>) -> Option<ReadBeside>
     requires present { heap.now.setup.late ≡ [] }
     requires layout { 0 < length heap.now.setup.pools }
     requires globals { heap.now.setup.globals ≡ Reference 0 ∷ [] }
@@ -68,14 +89,25 @@ fn read_beside(heap: &Heap<'_>, mutators: &mut Vec<Mutator>) -> Option<(u64, (u3
     ))
 }
 
+/// Opens a heap for that.
+fn beside(alloc: Global, layouts: &Layouts, pools: &Pools) -> Result<Option<ReadBeside>, Fail>
+    requires layouts { layouts.now ≡ [] ∷ [] }
+    requires pools { 0 < length pools.now }
+{
+    let globals = one_reference();
+    let (heap, mut mutators, _sweeper) = open(alloc, layouts, pools, &globals, 2, &[])?;
+    Ok(read_beside(&heap, &mut mutators))
+}
+
+/// On a pool of one cell.
+fn beside_of_one_cell(alloc: Global) -> Result<Option<ReadBeside>, Fail> {
+    let (layouts, pools) = ground(alloc, 1)?;
+    beside(alloc, &layouts, &pools)
+}
+
 #[test]
 fn a_token_reads_what_another_one_wrote_since(rt: HostRuntime) -> Result<(), Fail> {
-    let alloc = rt.alloc();
-    let layouts = one_layout(alloc)?;
-    let pools = pool_of(alloc, &layouts, 1)?;
-    let globals = one_reference();
-    let (heap, mut mutators, _sweeper) = open(alloc, &layouts, &pools, &globals, 2, &[])?;
-    assert_eq!(rt; read_beside(&heap, &mut mutators), Some((0, (1, 1), 1)));
+    assert_eq!(rt; beside_of_one_cell(rt.alloc())?, Some((0, (1, 1), 1)));
     Ok(())
 }
 
@@ -99,23 +131,62 @@ fn taken_by_two(
     taken
 }
 
+/// Those cells; the posted stage and those of the threads; and the colours.
+type Shared = ([u32; 4], (u64, [u64; 2]), [u64; 3]);
+
+/// Lets them take, and closes the heap.
+fn share_and_close(
+    rt: &impl Threads,
+    alloc: Global,
+    heap: Heap<'_>,
+    mut threads: (Mutator, Mutator),
+    sweeper: Sweeper<'_>,
+) -> Result<Shared, Fail>
+    requires first { MayCall heap threads.0 }
+    requires second { MayCall heap threads.1 }
+    requires sweeper { IsSweeperOf heap sweeper }
+    requires pools { heap.setup.pools ≡ 2 ∷ [] }
+    requires threads { heap.setup.threads ≡ 2 }
+{
+    let taken = taken_by_two(rt, &heap, &mut threads.0, &mut threads.1);
+    let closed = close_two(alloc, heap, threads, sweeper)?;
+    Ok((
+        taken,
+        (closed.posted(), stages_of_two(&closed)),
+        colours_of(&closed),
+    ))
+}
+
+/// Opens a heap for that.
+fn shared(
+    rt: &impl Threads,
+    alloc: Global,
+    layouts: &Layouts,
+    pools: &Pools,
+) -> Result<Shared, Fail>
+    requires layouts { layouts.now ≡ [] ∷ [] }
+    requires pools { pools.now ≡ 2 ∷ [] }
+{
+    let globals = no_globals();
+    let (heap, mut mutators, sweeper) = open(alloc, layouts, pools, &globals, 2, &[])?;
+    match two_tokens(&heap, &mut mutators) {
+        Some(threads) => share_and_close(rt, alloc, heap, threads, sweeper),
+        None => Err(Fail::new("two tokens")),
+    }
+}
+
+/// On a pool of two cells.
+fn shared_of_two_cells(rt: &impl Threads, alloc: Global) -> Result<Shared, Fail> {
+    let (layouts, pools) = ground(alloc, 2)?;
+    shared(rt, alloc, &layouts, &pools)
+}
+
 #[test]
 fn two_threads_share_two_cells(rt: HostRuntime) -> Result<(), Fail> {
-    let alloc = rt.alloc();
-    let layouts = one_layout(alloc)?;
-    let pools = pool_of(alloc, &layouts, 2)?;
-    let globals = no_globals();
-    let (heap, mut mutators, sweeper) = open(alloc, &layouts, &pools, &globals, 2, &[])?;
-    let tokens = two_tokens(&heap, &mut mutators);
-    let (mut first, mut second) = tokens.expect(&rt, "two tokens");
-    let taken = taken_by_two(&rt, &heap, &mut first, &mut second);
-    assert_eq!(rt; taken, [0, 0, 1, 2]);
-    let closed = close_two(alloc, heap, first, second, sweeper)?;
     assert_eq!(rt;
-        (closed.posted(), stages_of_two(&closed)),
-        (0, [DONE, DONE])
+        shared_of_two_cells(&rt, rt.alloc())?,
+        ([0, 0, 1, 2], (0, [DONE, DONE]), [1, 1, 1])
     );
-    assert_eq!(rt; colours_of(&closed), [1, 1, 1]);
     Ok(())
 }
 
@@ -158,13 +229,18 @@ fn waited(alloc: Global, layouts: &Layouts, pools: &Pools) -> Result<Waited, Fai
     Ok(wait_and_close(heap, mutators, sweeper))
 }
 
+/// On a pool of two cells.
+fn waited_of_two_cells(alloc: Global) -> Result<Waited, Fail> {
+    let (layouts, pools) = ground(alloc, 2)?;
+    waited(alloc, &layouts, &pools)
+}
+
 #[test]
 fn a_thread_without_a_call_holds_up_no_turn(rt: HostRuntime) -> Result<(), Fail> {
-    let (layouts, pools) = ground(rt.alloc(), 2)?;
-    let (looks, stages, colours) = waited(rt.alloc(), &layouts, &pools)?;
-    assert_eq!(rt; looks, (true, 0));
-    assert_eq!(rt; stages, (1, 0));
-    assert_eq!(rt; colours, [1, 0, 0]);
+    assert_eq!(rt;
+        waited_of_two_cells(rt.alloc())?,
+        ((true, 0), (1, 0), [1, 0, 0])
+    );
     Ok(())
 }
 
@@ -191,46 +267,100 @@ fn two_cycles(heap: &Heap<'_>, me: &mut Mutator, sweeper: &mut Sweeper<'_>) -> (
     made
 }
 
-#[test]
-fn a_cycle_frees_the_cell_that_nothing_names(rt: HostRuntime) -> Result<(), Fail> {
-    let alloc = rt.alloc();
-    let layouts = one_layout(alloc)?;
-    let pools = pool_of(alloc, &layouts, 2)?;
-    let globals = one_reference();
-    let (heap, mut mutators, mut sweeper) = open(alloc, &layouts, &pools, &globals, 1, &[])?;
-    let mut me = last_token(&heap, &mut mutators).expect(&rt, "a token");
-    let (taken, (first, second)) = two_cycles(&heap, &mut me, &mut sweeper);
-    assert_eq!(rt; taken, [1, 2, 0]);
-    assert_eq!(rt; first, Some(([0, 1], [0, 2, 0])));
-    assert_eq!(rt; second, ([1, 2], 1));
+/// The cells that were taken, what came of the cycles, and the posted stage and the colours at the end.
+type CycleEnd = (([u32; 3], Cycles), (u64, [u64; 3]));
+
+/// What comes of a new heap of one thread under two cycles.
+fn cycle_and_close(
+    alloc: Global,
+    heap: Heap<'_>,
+    mut me: Mutator,
+    mut sweeper: Sweeper<'_>,
+) -> Result<CycleEnd, Fail>
+    requires token { MayCall heap me }
+    requires sweeper { IsSweeperOf heap sweeper }
+    requires pools { heap.setup.pools ≡ 2 ∷ [] }
+    requires globals { heap.setup.globals ≡ Reference 0 ∷ [] }
+{
+    let made = two_cycles(&heap, &mut me, &mut sweeper);
     let closed = close_one(alloc, heap, me, sweeper)?;
-    assert_eq!(rt; (closed.posted(), colours_of(&closed)), (6, [5, 5, 0]));
-    Ok(())
+    Ok((made, (closed.posted(), colours_of(&closed))))
+}
+
+/// Opens that heap.
+fn cycled(alloc: Global, layouts: &Layouts, pools: &Pools) -> Result<CycleEnd, Fail>
+    requires layouts { layouts.now ≡ [] ∷ [] }
+    requires pools { pools.now ≡ 2 ∷ [] }
+{
+    let globals = one_reference();
+    let (heap, mut mutators, sweeper) = open(alloc, layouts, pools, &globals, 1, &[])?;
+    match last_token(&heap, &mut mutators) {
+        Some(me) => cycle_and_close(alloc, heap, me, sweeper),
+        None => Err(Fail::new("a token")),
+    }
+}
+
+/// On a pool of two cells.
+fn cycled_of_two_cells(alloc: Global) -> Result<CycleEnd, Fail> {
+    let (layouts, pools) = ground(alloc, 2)?;
+    cycled(alloc, &layouts, &pools)
 }
 
 #[test]
-fn first_turns_without_threads(rt: HostRuntime) -> Result<(), Fail> {
-    let alloc = rt.alloc();
-    let layouts = one_layout(alloc)?;
-    let pools = pool_of(alloc, &layouts, 1)?;
-    let globals = one_reference();
-    let (heap, mutators, mut sweeper) = open(alloc, &layouts, &pools, &globals, 0, &[])?;
-    assert!(rt; turns_are(&heap, &mut sweeper, &FIRST_TURNS));
-    let closed = close_new(heap, mutators, sweeper);
+fn a_cycle_frees_the_cell_that_nothing_names(rt: HostRuntime) -> Result<(), Fail> {
     assert_eq!(rt;
-        (closed.posted(), closed.colour(0), closed.word(0, 0)),
-        (4, 3, 0)
+        cycled_of_two_cells(rt.alloc())?,
+        (
+            ([1, 2, 0], (Some(([0, 1], [0, 2, 0])), ([1, 2], 1))),
+            (6, [5, 5, 0])
+        )
     );
     Ok(())
 }
 
+/// Whether the first turns are made as they are listed; and the posted stage, the colour of the globals' cell and the global at the end.
+type FirstTurns = (bool, (u64, u64, u64));
+
+/// What comes of a new heap without a thread under these turns.
+fn turn_and_close(heap: Heap<'_>, mutators: Vec<Mutator>, mut sweeper: Sweeper<'_>) -> FirstTurns
+    requires tokens { AreNew heap 0 mutators.items }
+    requires sweeper { IsSweeperOf heap sweeper }
+    requires globals { heap.setup.globals ≡ Reference 0 ∷ [] }
+{
+    let are_first = turns_are(&heap, &mut sweeper, &FIRST_TURNS);
+    let closed = close_new(heap, mutators, sweeper);
+    (
+        are_first,
+        (closed.posted(), closed.colour(0), closed.word(0, 0)),
+    )
+}
+
+/// Opens that heap.
+fn turned(alloc: Global, layouts: &Layouts, pools: &Pools) -> Result<FirstTurns, Fail>
+    requires layouts { layouts.now ≡ [] ∷ [] }
+{
+    let globals = one_reference();
+    let (heap, mutators, sweeper) = open(alloc, layouts, pools, &globals, 0, &[])?;
+    Ok(turn_and_close(heap, mutators, sweeper))
+}
+
+/// On a pool of one cell.
+fn turned_of_one_cell(alloc: Global) -> Result<FirstTurns, Fail> {
+    let (layouts, pools) = ground(alloc, 1)?;
+    turned(alloc, &layouts, &pools)
+}
+
+#[test]
+fn first_turns_without_threads(rt: HostRuntime) -> Result<(), Fail> {
+    assert_eq!(rt; turned_of_one_cell(rt.alloc())?, (true, (4, 3, 0)));
+    Ok(())
+}
+
+/// The first cell, whether there was a question each time, and the last three cells.
+type TakenAround = (u32, [bool; 3], ([u32; 2], u32));
+
 /// The only thread takes a cell, answers three stages, each after four turns, and after the rest of the cycle tries three times.
-/// Returns the first cell, whether there was a question each time, and the last three cells.
-fn taken_around_a_cycle(
-    heap: &Heap<'_>,
-    me: &mut Mutator,
-    sweeper: &mut Sweeper<'_>,
-) -> (u32, [bool; 3], ([u32; 2], u32))
+fn taken_around_a_cycle(heap: &Heap<'_>, me: &mut Mutator, sweeper: &mut Sweeper<'_>) -> TakenAround
     requires token { MayCall heap.now me.old }
     requires sweeper { IsSweeperOf heap.now sweeper.old }
     requires layout { 0 < length heap.now.setup.pools }
@@ -245,17 +375,34 @@ fn taken_around_a_cycle(
     (first, answered, (take_two(heap, me), take(heap, me)))
 }
 
+/// Opens a heap for that.
+fn taken_around(
+    alloc: Global,
+    layouts: &Layouts,
+    pools: &Pools,
+) -> Result<Option<TakenAround>, Fail>
+    requires layouts { layouts.now ≡ [] ∷ [] }
+    requires pools { 0 < length pools.now }
+{
+    let globals = no_globals();
+    let (heap, mut mutators, mut sweeper) = open(alloc, layouts, pools, &globals, 1, &[])?;
+    let Some(mut me) = last_token(&heap, &mut mutators) else {
+        return Ok(None);
+    };
+    Ok(Some(taken_around_a_cycle(&heap, &mut me, &mut sweeper)))
+}
+
+/// On a pool of two cells.
+fn taken_of_two_cells(alloc: Global) -> Result<Option<TakenAround>, Fail> {
+    let (layouts, pools) = ground(alloc, 2)?;
+    taken_around(alloc, &layouts, &pools)
+}
+
 #[test]
 fn tries_begin_after_the_cell_won_last(rt: HostRuntime) -> Result<(), Fail> {
-    let alloc = rt.alloc();
-    let layouts = one_layout(alloc)?;
-    let pools = pool_of(alloc, &layouts, 2)?;
-    let globals = no_globals();
-    let (heap, mut mutators, mut sweeper) = open(alloc, &layouts, &pools, &globals, 1, &[])?;
-    let mut me = last_token(&heap, &mut mutators).expect(&rt, "a token");
     assert_eq!(rt;
-        taken_around_a_cycle(&heap, &mut me, &mut sweeper),
-        (1, [true, true, true], ([2, 1], 0))
+        taken_of_two_cells(rt.alloc())?,
+        Some((1, [true, true, true], ([2, 1], 0)))
     );
     Ok(())
 }
@@ -287,35 +434,38 @@ fn begun_late(alloc: Global, layouts: &Layouts, pools: &Pools) -> Result<Option<
     Ok(begin_after_turns(&heap, &mut mutators, &mut sweeper))
 }
 
+/// On a pool of one cell.
+fn begun_of_one_cell(alloc: Global) -> Result<Option<(u64, u32)>, Fail> {
+    let (layouts, pools) = ground(alloc, 1)?;
+    begun_late(alloc, &layouts, &pools)
+}
+
 #[test]
 fn a_late_thread_begins_at_the_posted_stage(rt: HostRuntime) -> Result<(), Fail> {
-    let (layouts, pools) = ground(rt.alloc(), 1)?;
-    let begun = begun_late(rt.alloc(), &layouts, &pools)?;
-    assert_eq!(rt; begun, Some((2, 1)));
+    assert_eq!(rt; begun_of_one_cell(rt.alloc())?, Some((2, 1)));
     Ok(())
 }
 
 /// What `read_late` returns; and the stages of a heap after it: the posted one, and those of the two threads.
 type LateRead = ((u32, Option<(u64, u64)>), (u64, [u64; 2]));
 
-/// Lets the late thread read, and closes the heap.
+/// Lets the late thread, the second one, read, and closes the heap.
 fn read_and_close(
     rt: &impl Threads,
     alloc: Global,
     heap: Heap<'_>,
-    mut first: Mutator,
-    mut late: Mutator,
+    mut threads: (Mutator, Mutator),
     mut sweeper: Sweeper<'_>,
 ) -> Result<LateRead, Fail>
-    requires first { MayCall heap first }
-    requires late { MayBegin heap late }
+    requires first { MayCall heap threads.0 }
+    requires late { MayBegin heap threads.1 }
     requires sweeper { IsSweeperOf heap sweeper }
     requires layout { 0 < length heap.setup.pools }
     requires globals { heap.setup.globals ≡ Reference 0 ∷ [] }
     requires threads { heap.setup.threads ≡ 2 }
 {
-    let read = read_late(rt, &heap, &mut first, &mut late, &mut sweeper);
-    let closed = close_two(alloc, heap, first, late, sweeper)?;
+    let read = read_late(rt, &heap, &mut threads.0, &mut threads.1, &mut sweeper);
+    let closed = close_two(alloc, heap, threads, sweeper)?;
     Ok((read, (closed.posted(), stages_of_two(&closed))))
 }
 
@@ -332,21 +482,34 @@ fn read_on_a_new_heap(
     let globals = one_reference();
     let opened = open(alloc, layouts, pools, &globals, 2, &[false, true]);
     let (heap, mut mutators, sweeper) = opened?;
-    let Some((first, late)) = present_and_late(&heap, &mut mutators) else {
-        return Err(Fail::new("two tokens"));
-    };
-    read_and_close(rt, alloc, heap, first, late, sweeper)
+    match present_and_late(&heap, &mut mutators) {
+        Some(threads) => read_and_close(rt, alloc, heap, threads, sweeper),
+        None => Err(Fail::new("two tokens")),
+    }
+}
+
+/// On a pool of two cells.
+fn read_of_two_cells(rt: &impl Threads, alloc: Global) -> Result<LateRead, Fail> {
+    let (layouts, pools) = ground(alloc, 2)?;
+    read_on_a_new_heap(rt, alloc, &layouts, &pools)
+}
+
+/// The cell, what was read, and the stages of the threads, where the late one has begun at one that was posted behind a whole cycle.
+fn read_behind_a_cycle(read: LateRead) -> Option<(u32, u64, [u64; 2])> {
+    let ((cell, seen), (posted, stages)) = read;
+    let (stage, found) = seen?;
+    // A cycle takes 23 turns before the late thread has begun, and the next one posts stage 4.
+    if stage < 4 || posted < stage {
+        return None;
+    }
+    Some((cell, found, stages))
 }
 
 #[test]
 fn a_late_thread_reads_what_another_one_wrote(rt: HostRuntime) -> Result<(), Fail> {
-    let (layouts, pools) = ground(rt.alloc(), 2)?;
-    let ((cell, seen), (posted, stages)) = read_on_a_new_heap(&rt, rt.alloc(), &layouts, &pools)?;
-    let (stage, found) = seen.expect(&rt, "it has begun");
-    assert_eq!(rt; (cell, found), (1, 1));
-    // A cycle takes 23 turns before the late thread has begun, and the next one posts stage 4.
-    assert!(rt; stage >= 4);
-    assert!(rt; posted >= stage);
-    assert_eq!(rt; stages, [DONE, DONE]);
+    assert_eq!(rt;
+        read_behind_a_cycle(read_of_two_cells(&rt, rt.alloc())?),
+        Some((1, 1, [DONE, DONE]))
+    );
     Ok(())
 }

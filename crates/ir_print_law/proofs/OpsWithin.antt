@@ -26,7 +26,7 @@ use Rattle.ir_print_law.specs.Elements.{IsElement, IsElementWithin}
 use Rattle.ir_print_law.specs.ModuleNames.{HasModuleNames}
 use Rattle.ir_print_law.specs.PartsWithin.{HasType, HasValue, HasBlock, HasResult}
 use Rattle.ir_print_law.specs.Printable.{IsOp, IsInstr, IsIncoming, IsPhi, AreCases, IsEnd, IsBlock}
-use Rattle.ir_print_law.specs.Shapes.{Integer, Pointer, bits_of_shape}
+use Rattle.ir_print_law.specs.Shapes.{bits_of_shape}
 use Rattle.ir_print_law.specs.Within.{IsOpWithin, IsInstrWithin, IsIncomingWithin, IsPhiWithin, IsCaseWithin, IsEndWithin, IsBlockWithin}
 use Rattle.ir_print_law.proofs.DefinedWithin.{AreDefinedWithin, AreLocalValues}
 use Rattle.ir_print_law.proofs.PartsWithin.{Wide, wide_module, wide, all_wide, callee_within, block_within, target_within, type_within, operand_within, argument_within, arguments_within, pair_within, converted_within, returned_within}

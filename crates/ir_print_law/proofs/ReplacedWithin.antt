@@ -9,8 +9,9 @@ use Rattle.ir_ast.specs.declared.items_of_module.Global.{Global}
 use Rattle.ir_ast.specs.declared.items_of_module.StructType.{StructType}
 use Rattle.ir_ast.specs.declared.module.Module.{Module}
 use Rattle.ir_tokens.specs.Bytes.{Text}
-use Rattle.ir_text.specs.Anew.{start_anew, anew}
-use Rattle.ir_text.specs.Replaced.{tables_of, name_in, with_replacement, IsReplaced}
+use Rattle.function_text.specs.Anew.{start_anew, anew}
+use Rattle.copies.specs.Tables.{tables_of}
+use Rattle.function_text.specs.Replaced.{name_in, with_replacement, IsReplaced}
 use Rattle.name_text.specs.Readings.{AreBytes}
 use Rattle.ir_print_law.specs.ModuleNames.{HasModuleNames}
 use Rattle.ir_print_law.specs.PartsWithin.{HasSymbol}

@@ -3,7 +3,7 @@ use Rattle.std.specs.Prelude.{◌≡◌, ℕ, Option, Some, None, slice_get, unw
 use Rattle.ir_ast.specs.declared.ir_type.IrType.{IrType}
 use Rattle.ir_ast.specs.declared.module.Module.{Module}
 use Rattle.ir_tokens.specs.Bytes.{Text}
-use Rattle.ir_text.specs.Replaced.{IsReplaced}
+use Rattle.function_text.specs.Replaced.{IsReplaced}
 
 -- the struct that a name means, if it means one
 abbrev pub struct_meant : Module → (name : ℕ) → Option ℕ

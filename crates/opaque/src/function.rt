@@ -1,5 +1,5 @@
 //! Functions with the new numbers of their types.
-ghost use Rattle.std.specs.Prelude.{◌≡◌, map, IfOk};
+ghost use Rattle.std.specs.Prelude.{◌≡◌, IfOk};
 ghost use Rattle.opaque.specs.Opaque as spec;
 
 use crate::made_opaque::{MadeOpaque, all_opaque};
@@ -10,23 +10,17 @@ use ir_ast::{Block, End, Function, Incoming, LocalSort, Parameter, Phi, TypeId};
 use items::Items;
 use std::alloc::{AllocError, Global};
 
-fn opaque_incoming(incoming: Incoming) -> Incoming
-    ensures { result ≡ spec.opaque_incoming incoming }
-{
-    Incoming {
-        operand: opaque_operand(incoming.operand),
-        from: incoming.from,
-    }
-}
+impl MadeOpaque for Incoming {
+    ghost use Rattle.opaque.specs.Opaque.{opaque_incoming};
 
-fn all_incoming(alloc: Global, incoming: &[Incoming]) -> Result<Items<Incoming>, AllocError>
-    ensures { IfOk result (λ made. made ≡ map spec.opaque_incoming incoming.now) }
-{
-    let made = incoming
-        .iter()
-        .map(|entry| opaque_incoming(*entry))
-        .collect(alloc)?;
-    Ok(Items::from_vec(made))
+    ghost opaque = { λ _. opaque_incoming };
+
+    fn made_opaque(&self, _alloc: Global, _numbers: &[TypeId]) -> Result<Incoming, AllocError> {
+        Ok(Incoming {
+            operand: opaque_operand(self.operand),
+            from: self.from,
+        })
+    }
 }
 
 impl MadeOpaque for Phi {
@@ -38,7 +32,7 @@ impl MadeOpaque for Phi {
         Ok(Phi {
             value: self.value,
             written: new_number(numbers, self.written),
-            incoming: all_incoming(alloc, self.incoming.as_slice())?,
+            incoming: all_opaque(alloc, numbers, self.incoming.as_slice())?,
         })
     }
 }
@@ -94,45 +88,31 @@ impl MadeOpaque for Block {
     }
 }
 
-fn opaque_parameters(
-    alloc: Global,
-    numbers: &[TypeId],
-    parameters: &[Parameter],
-) -> Result<Items<Parameter>, AllocError>
-    ensures { IfOk result (λ made. made ≡ map (spec.opaque_parameter numbers.now) parameters.now) }
-{
-    let made = parameters
-        .iter()
-        .map(|parameter| Parameter {
-            written: new_number(numbers, parameter.written),
-            value: parameter.value,
-        })
-        .collect(alloc)?;
-    Ok(Items::from_vec(made))
-}
+impl MadeOpaque for Parameter {
+    ghost use Rattle.opaque.specs.Opaque.{opaque_parameter};
 
-fn opaque_sort(numbers: &[TypeId], sort: LocalSort) -> LocalSort
-    ensures { result ≡ spec.opaque_sort numbers.now sort }
-{
-    match sort {
-        LocalSort::Value(written) => LocalSort::Value(new_number(numbers, written)),
-        LocalSort::Slot(held) => LocalSort::Slot(new_number(numbers, held)),
-        other => other,
+    ghost opaque = { opaque_parameter };
+
+    fn made_opaque(&self, _alloc: Global, numbers: &[TypeId]) -> Result<Parameter, AllocError> {
+        Ok(Parameter {
+            written: new_number(numbers, self.written),
+            value: self.value,
+        })
     }
 }
 
-fn opaque_sorts(
-    alloc: Global,
-    numbers: &[TypeId],
-    sorts: &[LocalSort],
-) -> Result<Items<LocalSort>, AllocError>
-    ensures { IfOk result (λ made. made ≡ map (spec.opaque_sort numbers.now) sorts.now) }
-{
-    let made = sorts
-        .iter()
-        .map(|sort| opaque_sort(numbers, *sort))
-        .collect(alloc)?;
-    Ok(Items::from_vec(made))
+impl MadeOpaque for LocalSort {
+    ghost use Rattle.opaque.specs.Opaque.{opaque_sort};
+
+    ghost opaque = { opaque_sort };
+
+    fn made_opaque(&self, _alloc: Global, numbers: &[TypeId]) -> Result<LocalSort, AllocError> {
+        match *self {
+            LocalSort::Value(written) => Ok(LocalSort::Value(new_number(numbers, written))),
+            LocalSort::Slot(held) => Ok(LocalSort::Slot(new_number(numbers, held))),
+            other => Ok(other),
+        }
+    }
 }
 
 impl MadeOpaque for Function {
@@ -143,8 +123,8 @@ impl MadeOpaque for Function {
     fn made_opaque(&self, alloc: Global, numbers: &[TypeId]) -> Result<Function, AllocError> {
         let collector = copy_collector(alloc, &self.collector)?;
         let locals = copy_names(alloc, &self.locals)?;
-        let parameters = opaque_parameters(alloc, numbers, self.parameters.as_slice())?;
-        let sorts = opaque_sorts(alloc, numbers, self.sorts.as_slice())?;
+        let parameters = all_opaque(alloc, numbers, self.parameters.as_slice())?;
+        let sorts = all_opaque(alloc, numbers, self.sorts.as_slice())?;
         let blocks = all_opaque(alloc, numbers, self.blocks.as_slice())?;
         Ok(Function {
             symbol: self.symbol,

@@ -7,8 +7,7 @@ ghost use Rattle.opaque.specs.Opaque.{opaque_module};
 use crate::made_opaque::{MadeOpaque, all_opaque};
 use crate::type_numbers::{Renumbered, new_number, opaque_types};
 use copies::{Defined, Tables, copy_shapes, copy_tables, joined};
-use ir_ast::{Declare, Module, StructType, TypeId};
-use items::Items;
+use ir_ast::{Declare, Global as GlobalWord, Module, StructType, TypeId};
 use std::alloc::{AllocError, Global};
 
 impl MadeOpaque for StructType {
@@ -24,18 +23,14 @@ impl MadeOpaque for StructType {
     }
 }
 
-fn opaque_parameters(
-    alloc: Global,
-    numbers: &[TypeId],
-    parameters: &[TypeId],
-) -> Result<Items<TypeId>, AllocError>
-    ensures { IfOk result (λ made. made ≡ map (spec.new_number numbers.now) parameters.now) }
-{
-    let made = parameters
-        .iter()
-        .map(|written| new_number(numbers, *written))
-        .collect(alloc)?;
-    Ok(Items::from_vec(made))
+impl MadeOpaque for TypeId {
+    ghost use Rattle.opaque.specs.Opaque.{new_number};
+
+    ghost opaque = { new_number };
+
+    fn made_opaque(&self, _alloc: Global, numbers: &[TypeId]) -> Result<TypeId, AllocError> {
+        Ok(new_number(numbers, *self))
+    }
 }
 
 impl MadeOpaque for Declare {
@@ -48,28 +43,24 @@ impl MadeOpaque for Declare {
             symbol: self.symbol,
             runtime: self.runtime,
             returned: new_number(numbers, self.returned),
-            parameters: opaque_parameters(alloc, numbers, self.parameters.as_slice())?,
+            parameters: all_opaque(alloc, numbers, self.parameters.as_slice())?,
         })
     }
 }
 
-fn opaque_globals(
-    alloc: Global,
-    numbers: &[TypeId],
-    globals: &[ir_ast::Global],
-) -> Result<Items<ir_ast::Global>, AllocError>
-    ensures { IfOk result (λ made. made ≡ map (spec.opaque_global numbers.now) globals.now) }
-{
-    let made = globals
-        .iter()
-        .map(|global| ir_ast::Global {
-            symbol: global.symbol,
-            is_constant: global.is_constant,
-            held: new_number(numbers, global.held),
-            initial: global.initial,
+impl MadeOpaque for GlobalWord {
+    ghost use Rattle.opaque.specs.Opaque.{opaque_global};
+
+    ghost opaque = { opaque_global };
+
+    fn made_opaque(&self, _alloc: Global, numbers: &[TypeId]) -> Result<GlobalWord, AllocError> {
+        Ok(GlobalWord {
+            symbol: self.symbol,
+            is_constant: self.is_constant,
+            held: new_number(numbers, self.held),
+            initial: self.initial,
         })
-        .collect(alloc)?;
-    Ok(Items::from_vec(made))
+    }
 }
 
 fn opaque_defined(
@@ -83,7 +74,7 @@ fn opaque_defined(
     ensures functions { IfOk result (λ made. made.functions ≡ map (spec.opaque_function numbers.now) of_module.now.functions) }
 {
     let structs = all_opaque(alloc, numbers, of_module.structs.as_slice())?;
-    let globals = opaque_globals(alloc, numbers, of_module.globals.as_slice())?;
+    let globals = all_opaque(alloc, numbers, of_module.globals.as_slice())?;
     let declares = all_opaque(alloc, numbers, of_module.declares.as_slice())?;
     let functions = all_opaque(alloc, numbers, of_module.functions.as_slice())?;
     Ok(Defined {

@@ -1,13 +1,12 @@
 //! Instructions with the new numbers of their types.
-ghost use Rattle.std.specs.Prelude.{◌≡◌, map, IfOk};
+ghost use Rattle.std.specs.Prelude.{◌≡◌, IfOk};
 ghost use Rattle.opaque.specs.Opaque as spec;
 
-use crate::made_opaque::MadeOpaque;
+use crate::made_opaque::{MadeOpaque, all_opaque};
 use crate::type_numbers::new_number;
 use ir_ast::{
     Argument, Call, Cast, Choice, Element, Instr, MemoryOp, NumberOp, Op, Operand, TypeId,
 };
-use items::Items;
 use std::alloc::{AllocError, Global};
 
 /// A bitcast of a global is the global.
@@ -29,18 +28,14 @@ pub fn opaque_argument(numbers: &[TypeId], argument: Argument) -> Argument
     }
 }
 
-fn opaque_arguments(
-    alloc: Global,
-    numbers: &[TypeId],
-    arguments: &[Argument],
-) -> Result<Items<Argument>, AllocError>
-    ensures { IfOk result (λ made. made ≡ map (spec.opaque_argument numbers.now) arguments.now) }
-{
-    let made = arguments
-        .iter()
-        .map(|argument| opaque_argument(numbers, *argument))
-        .collect(alloc)?;
-    Ok(Items::from_vec(made))
+impl MadeOpaque for Argument {
+    ghost use Rattle.opaque.specs.Opaque.{opaque_argument};
+
+    ghost opaque = { opaque_argument };
+
+    fn made_opaque(&self, _alloc: Global, numbers: &[TypeId]) -> Result<Argument, AllocError> {
+        Ok(opaque_argument(numbers, *self))
+    }
 }
 
 fn opaque_number(numbers: &[TypeId], op: NumberOp) -> NumberOp
@@ -122,7 +117,7 @@ fn opaque_element(
         source: new_number(numbers, element.source),
         base_type: new_number(numbers, element.base_type),
         base: opaque_operand(element.base),
-        indices: opaque_arguments(alloc, numbers, element.indices.as_slice())?,
+        indices: all_opaque(alloc, numbers, element.indices.as_slice())?,
     })
 }
 
@@ -154,7 +149,7 @@ fn opaque_call(alloc: Global, numbers: &[TypeId], call: &Call) -> Result<Call, A
     Ok(Call {
         returned: new_number(numbers, call.returned),
         callee: call.callee,
-        arguments: opaque_arguments(alloc, numbers, call.arguments.as_slice())?,
+        arguments: all_opaque(alloc, numbers, call.arguments.as_slice())?,
     })
 }
 

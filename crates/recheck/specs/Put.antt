@@ -3,8 +3,9 @@ use Rattle.std.specs.Prelude.{◌≡◌, ◌≢◌, ℕ, List, slice_get, slice_
 use Rattle.ir_ast.specs.declared.function.Function.{Function}
 use Rattle.ir_ast.specs.declared.module.Module.{Module}
 use Rattle.ir_tokens.specs.Bytes.{Text}
-use Rattle.ir_text.specs.Replaced.{IsReplaced, tables_of}
-use Rattle.ir_text.specs.declared.anew.Tables.{Tables}
+use Rattle.copies.specs.Tables.{tables_of}
+use Rattle.function_text.specs.Replaced.{IsReplaced}
+use Rattle.copies.specs.declared.tables.Tables.{Tables}
 use Rattle.certs.specs.declared.section.Section.{Section}
 use Rattle.certificate.specs.Anew.{IsSection}
 use Rattle.layout.specs.Functions.{with_functions, laid_with}

@@ -1,5 +1,5 @@
 use answers::KeptFunctions;
-use ir_text::Tables;
+use copies::Tables;
 
 /// What a session keeps beside its program and its certificates.
 #[derive(Drop)]

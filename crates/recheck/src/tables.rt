@@ -1,8 +1,8 @@
 //! Whether a text has added to the tables of its module.
 ghost use Rattle.std.specs.Prelude.{◌≡◌, true};
 
+use copies::Tables;
 use ir_ast::{Module, Names, TypeId, Types};
-use ir_text::Tables;
 use pools::LayoutId;
 
 fn same_types(one: &Types, other: &Types) -> bool

@@ -38,10 +38,9 @@ pub record IsWholeShare (s : Setup) (m : Machine) (thread : ℕ) (start : m.Stat
   pub ended : HasEnded s thread share
 
 -- what a thread of a real run leaves. Where it returned or ended: a whole share. Where it stopped or found no memory: a
--- beginning of one, with at most the finishing step at its end. Where a late thread never began: whole tries
+-- beginning of one between two calls, with the finishing step at its end. Where a late thread never began: whole tries
 pub data Left (s : Setup) (m : Machine) (thread : ℕ) (start : m.State) : List Step → Type 0 where
   whole : (log : List Step) (state : m.State) → IsWholeShare s m thread start log state → Left s m thread start log
-  cut : (log : List Step) (state : m.State) → IsRealShare s m thread start log state → Left s m thread start log
   finished : (log : List Step) (state : m.State) → IsRealShare s m thread start log state → phase_of s thread log ≡ Ready → Left s m thread start (StoreStage done [] ∷ log)
   absent : (log : List Step) (state : m.State) → IsRealShare s m thread start log state → phase_of s thread log ≡ Absent → Left s m thread start log
 

@@ -3,7 +3,6 @@ use Rattle.std.proofs.Common.{◌≡◌, ◌≢◌, ℕ, None, List, sym, ap, su
 use Rattle.std.specs.Prelude.{IsTrue}
 use Rattle.lemmas.specs.Lists.{IsIn}
 use Rattle.pools.specs.Heap.{kind_of}
-use Rattle.pools.specs.declared.word_kind.WordKind.TheVariants as kind
 use Rattle.pools.specs.Layouts.{is_reference_kind}
 use Rattle.colours.specs.Steps.{Step}
 use Rattle.colours.specs.Mutator.{Ready, phase_of, MayUse, MayStore, IsPossibleLog, Fresh}

@@ -1,8 +1,8 @@
 -- A local step, and the ends of a served thread.
-use Rattle.std.proofs.Common.{◌≡◌, ◌≢◌, ℕ, suc, ◌≤◌, ◌^◌, inl, inr, ◌⊎◌, Some, List, [], ◌∷◌, refl, sym, ap, subst, ◌∙◌, arith}
+use Rattle.std.proofs.Common.{◌≡◌, ◌≢◌, ℕ, suc, ◌≤◌, ◌^◌, inl, inr, ◌⊎◌, Some, [], ◌∷◌, refl, sym, ap, subst, ◌∙◌, arith}
 use Rattle.pools.specs.Heap.{Setup, cells}
 use Rattle.colours.specs.Colours.{done}
-use Rattle.colours.specs.Steps.{Step, StoreStage}
+use Rattle.colours.specs.Steps.{StoreStage}
 use Rattle.colours.specs.Mutator.{Ready, Ended, phase_of}
 use Rattle.runs.specs.Machine.{Reference, Action, Machine, Answer, Done, Answered}
 use Rattle.runs.specs.Machine as machine
@@ -13,8 +13,8 @@ use Rattle.moves.specs.Calls.{action_of}
 use Rattle.moves.specs.declared.call.Call.{Call}
 use Rattle.moves.specs.declared.call.Call.TheVariants as call
 use Rattle.heap_words.specs.Tokens.{Shared}
-use Rattle.heap_table.specs.Holders.{Holder, MayCall, IsNow, with_log}
-use Rattle.serving.specs.Serving.{Serves, MayServe, IsServed, WentOn, IsLeft}
+use Rattle.heap_table.specs.Holders.{Holder, MayCall}
+use Rattle.serving.specs.Serving.{Serves, MayServe, IsServed, WentOn, StaysReady}
 use Rattle.serving.proofs.UnderWay.{Over, begins, last, works, ends}
 use Rattle.serving.proofs.ReadServed.{at_most}
 
@@ -71,21 +71,19 @@ module _ (m : Machine) (start : m.State) (moves : ℕ) (t : Holder) (state : m.S
       over = last t.setup m t.thread start state machine.End moves t.log Ready _ (begins m start moves t state v machine.End ready e)
           (StoresStage done []) (StoreStage done []) refl (refl, refl) (refl, refl) tt Ended refl refl
 
-  -- and of one that is cut off
+  -- and of one that is stopped
   pub cut_off : Left t.setup m t.thread start (StoreStage done [] ∷ t.log)
   cut_off = finished t.log state v.real ready
 
--- a thread that could not take the answer is finished after its call
-pub left_there : (m : Machine) (heap : Shared) (t : Holder) (state : m.State) (after : Holder) (answer : Answer) (last : Holder) → IsServed m heap t state after answer → IsNow after (StoreStage done [] ∷ after.log) last → IsLeft m t state last
-left_there m heap t state after answer last served finish = record {
-  token = all ∙ ap (with_log t) (sym log_is);
-  left = λ start moves v. subst (λ (l : List Step). Left t.setup m t.thread start l) (sym log_is)
-      (subst (λ (x : Holder). Left x.setup m x.thread start (StoreStage done [] ∷ after.log)) served.token
-      (cut_off m start (suc moves) after (m.after_answer state answer) (served.goes start moves v) served.ready.ready));
+-- a thread that could not take the answer stays behind its call
+pub stays_behind : (m : Machine) (heap : Shared) (t : Holder) (state : m.State) (after : Holder) (answer : Answer) → IsServed m heap t state after answer → StaysReady m heap t state after
+stays_behind m heap t state after answer served = record {
+  token = served.token;
+  ready = served.ready;
+  reached = m.after_answer state answer;
+  serves = λ start moves v. let then = served.goes start moves v in record { careful = then.careful; real = then.real; long = let l = then.long in omega arith };
 }
-  where
-    all : last ≡ with_log t (StoreStage done [] ∷ after.log)
-    all = finish ∙ ap (λ (x : Holder). with_log x (StoreStage done [] ∷ after.log)) served.token
 
-    log_is : last.log ≡ StoreStage done [] ∷ after.log
-    log_is = ap (λ (x : Holder). x.log) all
+-- and one whose call was not made stays before it
+pub stays_before : (m : Machine) (Fits : Setup → m.State → Type 0) (heap : Shared) (t : Holder) (state : m.State) (after : Holder) → MayServe m Fits heap t state → after ≡ t → StaysReady m heap t state after
+stays_before m Fits heap t state after may same = subst (StaysReady m heap t state) (sym same) record { token = refl; ready = may.ready; reached = state; serves = λ start moves v. v }

@@ -6,8 +6,9 @@ use Rattle.colours.specs.Steps.{Step, StoreStage}
 use Rattle.runs.specs.Machine.{Machine, Answered, End}
 use Rattle.runs.specs.RealThreads.{IsWholeShare, Left, whole}
 use Rattle.heap_words.specs.Tokens.{Shared}
-use Rattle.heap_table.specs.Holders.{Holder, MayCall, IsNow}
-use Rattle.serving.specs.Serving.{Serves, WentOn, IsLeft}
+use Rattle.heap_table.specs.Holders.{Holder, MayCall, IsNow, with_log}
+use Rattle.serving.specs.Serving.{Serves, WentOn, StaysReady}
+use Rattle.serving.specs.declared.serving.ServingEnd.{ServingEnd}
 use Rattle.serving.specs.declared.serving.ServingEnd.TheVariants.{Ended}
 use Rattle.serving.specs.Endings.{IsFinishedAfter, EndsSo}
 use Rattle.serving.proofs.Endings.{ended, cut_off}
@@ -49,11 +50,33 @@ module _ (m : Machine) (Fits : Setup → m.State → Type 0) (heap : Shared) (fi
     pub left_whole : m.action state ≡ End → Left first.setup m first.thread start after.log
     left_whole e = whole after.log (m.after_answer state (Answered (Some done))) (ends_whole e).2
 
-    -- and one that was cut off
+    -- and one that was stopped
     pub left_cut : Left first.setup m first.thread start after.log
     left_cut = subst (λ (l : List Step). Left first.setup m first.thread start l) (sym log_is)
         (subst (λ (x : Holder). Left x.setup m x.thread start (StoreStage done [] ∷ token.log)) k.token_is (cut_off m start moves token state k.serves k.ready.ready))
 
-  -- where there was no memory
-  pub left_without : (after : Holder) → IsLeft m token state after → Left first.setup m first.thread start after.log
-  left_without after l = subst (λ (x : Holder). Left x.setup m x.thread start after.log) k.token_is (l.left start moves k.serves)
+  -- where there was no memory the thread is finished too
+  module _ (at : Holder) (stays : StaysReady m heap token state at) (after : Holder) (finished : IsNow at (StoreStage done [] ∷ at.log) after) where
+    log_then : after.log ≡ StoreStage done [] ∷ at.log
+    log_then = ap (λ (x : Holder). x.log) finished
+
+    serves_then : Serves m start moves at stays.reached
+    serves_then = stays.serves start moves k.serves
+
+    same_then : IsNow first at.log at
+    same_then = stays.token ∙ ap (λ (x : Holder). with_log x at.log) k.token_is
+
+    pub left_without : Left first.setup m first.thread start after.log
+    left_without = subst (λ (l : List Step). Left first.setup m first.thread start l) (sym log_then)
+        (subst (λ (x : Holder). Left x.setup m x.thread start (StoreStage done [] ∷ at.log)) same_then (cut_off m start moves at stays.reached serves_then stays.ready.ready))
+
+    pub ends_without : (reached : m.State) × IsFinishedAfter first.setup m first.thread start 0 reached after.log
+    ends_without = (
+      stays.reached,
+      subst (λ (x : Holder). IsFinishedAfter x.setup m x.thread start 0 stays.reached after.log) same_then
+          record { before = at.log; real = serves_then.real; long = omega arith; finished = log_then },
+    )
+
+-- it ends as it is told to
+pub told_so : (s : Setup) (m : Machine) (thread : ℕ) (start : m.State) (limit : ℕ) (end told : ServingEnd) (state : m.State) (log : List Step) → told ≡ end → EndsSo s m thread start limit end state log → EndsSo s m thread start limit told state log
+told_so s m thread start limit end told state log same so = subst (λ (e : ServingEnd). EndsSo s m thread start limit e state log) (sym same) so

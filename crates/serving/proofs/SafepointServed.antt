@@ -9,13 +9,12 @@ use Rattle.lemmas.specs.Lists.{IsIn}
 use Rattle.runs.specs.Machine.{Reference, Action, Machine, Answered}
 use Rattle.runs.specs.Machine as machine
 use Rattle.runs.specs.Moves.{ReadsPosted, Marks, StoresStage, null, cells_of}
-use Rattle.runs.specs.RealThreads.{Left, cut}
 use Rattle.moves.specs.Kinds.{AnswersByKind}
 use Rattle.moves.specs.Moving.{not_null}
 use Rattle.heap_words.specs.Tokens.{Shared}
 use Rattle.heap_table.specs.Holders.{Holder, MayCall, IsNow, with_log}
 use Rattle.heap_table.specs.Safepoints.{with_marks, before_answer, pushed, turned}
-use Rattle.serving.specs.Serving.{Serves, IsServed, IsLeft}
+use Rattle.serving.specs.Serving.{Serves, IsServed}
 use Rattle.serving.proofs.UnderWay.{Under, Over, begins, further, last, ends}
 use Rattle.serving.proofs.ReadServed.{at_most}
 
@@ -103,18 +102,6 @@ module _ (m : Machine) (heap : Shared) (t : Holder) (state : m.State) (call : Ma
         looks : MayUse t.setup t.log c → MayUse t.setup (ReadPosted posted ∷ t.log) c
         looks (inl z) = inl z
         looks (inr h) = inr (inr (tt, h))
-
-    -- without memory the thread stays there
-    pub safepoint_cut : IsLeft m t state polled
-    safepoint_cut = record {
-      token = poll ∙ ap (with_log t) (sym log_is);
-      left = λ start moves v. let u = looked m start moves t state v call.ready e posted other in
-          subst (λ (l : List Step). Left t.setup m t.thread start l) (sym log_is)
-          (cut (ReadPosted posted ∷ t.log) state record { share = u.share; asked = u.asked; no_births = u.no_births; steps = u.steps; leads_to = u.leads_to });
-    }
-      where
-        log_is : polled.log ≡ ReadPosted posted ∷ t.log
-        log_is = ap (λ (x : Holder). x.log) poll
 
     pub safepoint_answered : (after : Holder) (roots : List ℕ) → roots ≡ cells_of (m.roots state) → IsNow polled (StoreStage posted roots ∷ before_answer posted roots polled.log) after → MayCall heap after
         → IsServed m heap t state after (Answered (Some posted))

@@ -22,10 +22,11 @@ pub record IsAbsentAfter (s : Setup) (m : Machine) (thread : ℕ) (start : m.Sta
   pub long : moves ≤ length real.share
   pub absent : phase_of s thread log ≡ Absent
 
--- a thread that ended asked for its end in this state, and its share is whole. One that stopped, or never began, made at least as many moves as its limit says
+-- a thread that ended asked for its end in this state, and its share is whole. One that stopped, or never began, made at least as many
+-- moves as its limit says. One without memory is finished, as far as it came
 abbrev pub EndsSo : (s : Setup) (m : Machine) (thread : ℕ) (start : m.State) (limit : ℕ) → ServingEnd → (state : m.State) → List Step → Type 0
 EndsSo s m thread start limit Ended state log =
     (m.action state ≡ End) × IsFinishedAfter s m thread start 0 state log × IsWholeShare s m thread start log (m.after_answer state (Answered (Some done)))
 EndsSo s m thread start limit Stopped state log = IsFinishedAfter s m thread start limit state log
-EndsSo s m thread start limit Memory state log = Unit {0}
+EndsSo s m thread start limit Memory state log = (reached : m.State) × IsFinishedAfter s m thread start 0 reached log
 EndsSo s m thread start limit NeverBegan state log = IsAbsentAfter s m thread start limit log

@@ -1,12 +1,14 @@
 -- A thread of a machine that is served by the shared heap.
-use Rattle.std.specs.Prelude.{ℕ, suc, ◌≤◌, Bool, MatchBool, length}
+use Rattle.std.specs.Prelude.{ℕ, suc, ◌≤◌, ◌≡◌, Bool, MatchBool, IsTrue, List, length}
 use Rattle.pools.specs.Heap.{Setup}
-use Rattle.runs.specs.Machine.{Machine, Answer}
+use Rattle.runs.specs.Machine.{Machine, Answer, Reference}
+use Rattle.runs.specs.Moves.{cells_of}
 use Rattle.runs.specs.Promises.{IsCareful}
-use Rattle.runs.specs.RealThreads.{IsRealShare, Left}
+use Rattle.runs.specs.RealThreads.{IsRealShare}
 use Rattle.moves.specs.Kinds.{AnswersByKind}
 use Rattle.heap_words.specs.Tokens.{Shared}
 use Rattle.heap_table.specs.Holders.{Holder, MayCall, MayBegin, IsNow}
+use Rattle.serving.specs.declared.root_cells.RootCells.{RootCells}
 
 -- the thread may be served from this state on, which fits the heap: it is between two calls, or late and absent; it keeps to the
 -- discipline as long as answers are possible; and its log is that of what it did before it began
@@ -48,7 +50,13 @@ pub record WentOn (m : Machine) (Fits : Setup → m.State → Type 0) (heap : Sh
   pub fits : Fits after.setup next
   pub goes : (start : m.State) (moves : ℕ) → Serves m start moves before state → Serves m start (suc moves) after next
 
--- the thread was left there, finished or cut off
-pub record IsLeft (m : Machine) (before : Holder) (state : m.State) (after : Holder) : Type 0 where
+-- the thread found no memory, and is between two calls: before the one that it asked for, or after it
+pub record StaysReady (m : Machine) (heap : Shared) (before : Holder) (state : m.State) (after : Holder) : Type 0 where
   pub token : IsNow before after.log after
-  pub left : (start : m.State) (moves : ℕ) → Serves m start moves before state → Left before.setup m before.thread start after.log
+  pub ready : MayCall heap after
+  pub reached : m.State
+  pub serves : (start : m.State) (moves : ℕ) → Serves m start moves before state → Serves m start moves after reached
+
+-- a list that is current has the cells of these roots
+abbrev pub AreListed : RootCells → List Reference → Type 0
+AreListed list roots = IsTrue list.are_current → list.cells.items ≡ cells_of roots

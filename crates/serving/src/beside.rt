@@ -5,7 +5,7 @@ ghost use Rattle.colours.specs.declared.turn.Turn.{Turn};
 ghost use Rattle.runs.specs.Machine.{machine_of};
 ghost use Rattle.heap_table.specs.Sweepers.{IsSweeperOf, IsNowAt};
 ghost use Rattle.serving.specs.Jobs.{MayBegin, WasServed};
-ghost use Rattle.serving.specs.Turns.{MayBeginCycle};
+ghost use Rattle.serving.specs.Turns.{MayTurn};
 
 use crate::collecting::collect;
 use crate::serving::{ServingEnd, serve};
@@ -53,7 +53,7 @@ pub fn serve_beside<'a, T: Threads + Sync, R: Runner + Send, G: Gate + Sync>(
     ensures token { IsNowAt sweeper.old sweeper.new.log sweeper.new }
     ensures turns { (turns : List Turn) × (sweeper.new.log ≡ turns ++ sweeper.old.log) × (length turns ≡ result) }
     ensures limit { result ≤ limits.turns }
-    ensures first { 0 < limits.turns → MayBeginCycle sweeper.old.log → 0 < result }
+    ensures first { 0 < limits.turns → MayTurn sweeper.old.setup sweeper.old.log → 0 < result }
 {
     let ended = AtomicUsize::new(0);
     let threads = jobs.len();
@@ -123,7 +123,7 @@ fn collect_gated<'a, G: Gate>(
     ensures token { IsNowAt sweeper.old sweeper.new.log sweeper.new }
     ensures turns { (turns : List Turn) × (sweeper.new.log ≡ turns ++ sweeper.old.log) × (length turns ≡ result) }
     ensures limit { result ≤ limit }
-    ensures first { 0 < limit → MayBeginCycle sweeper.old.log → 0 < result }
+    ensures first { 0 < limit → MayTurn sweeper.old.setup sweeper.old.log → 0 < result }
 {
     gate.before(threads);
     let turns = collect(heap, sweeper, limit, ended, threads);

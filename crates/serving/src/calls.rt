@@ -1,14 +1,13 @@
-ghost use Rattle.std.specs.Prelude.{◌≡◌, ◌<◌, IfOk, OnErr};
-ghost use Rattle.pools.specs.Heap.{cells};
+ghost use Rattle.std.specs.Prelude.{◌≡◌, IfOk, OnErr};
 ghost use Rattle.runs.specs.Machine.{machine_of, Read, StorePlain, Write, Alloc, Safepoint};
-ghost use Rattle.runs.specs.Moves.{cells_of};
 ghost use Rattle.moves.specs.Calls.{answer_in};
-ghost use Rattle.serving.specs.Serving.{MayServe, IsServed, IsLeft};
+ghost use Rattle.serving.specs.Serving.{MayServe, IsServed, AreListed};
 
+use crate::root_cells::{RootCells, cell_of};
 use heap_table::{Heap, Mutator};
 use moves::{Answer, NULL, Reference, Runner};
 use pools::LayoutId;
-use std::alloc::{AllocError, Global};
+use std::alloc::AllocError;
 
 /// The read that a thread of this machine asks for.
 pub fn read_for<R: Runner>(
@@ -91,52 +90,26 @@ pub fn alloc_for<R: Runner>(
     })
 }
 
-/// The safepoint that it asks for. The roots are listed only where another stage is posted; a thread without memory is cut off
-/// there.
+/// The safepoint that it asks for. The roots are listed ahead of the look at the posted stage, since a thread that has found another
+/// stage there has to answer it. Without memory no step is made.
 pub fn safepoint_for<R: Runner>(
-    alloc: Global,
     heap: &Heap<'_>,
     me: &mut Mutator,
     machine: &R,
+    roots: &mut RootCells,
 ) -> Result<Answer, AllocError>
     requires asked { R.action machine.now ≡ Safepoint }
     requires may { MayServe (machine_of R.action R.after_answer R.roots) R.fits heap.now me.old machine.now }
+    requires listed { AreListed roots.old (R.roots machine.now) }
     ensures ok { IfOk result (λ answer. IsServed (machine_of R.action R.after_answer R.roots) heap.now me.old machine.now me.new (answer_in answer)) }
-    ensures err { OnErr result (IsLeft (machine_of R.action R.after_answer R.roots) me.old machine.now me.new) }
+    ensures err { OnErr result (me.new ≡ me.old) }
+    ensures listed { AreListed roots.new (R.roots machine.now) }
 {
     me.is_of_run();
+    roots.list(heap, me, machine)?;
     let Some(posted) = heap.poll(me) else {
         return Ok(Answer::Answered(None));
     };
-    let roots = root_cells(alloc, heap, me, machine)?;
-    heap.respond(me, posted, roots.as_slice());
+    heap.respond(me, posted, roots.cells.as_slice());
     Ok(Answer::Answered(Some(posted)))
-}
-
-/// The cells of the thread's roots.
-fn root_cells<R: Runner>(
-    alloc: Global,
-    heap: &Heap<'_>,
-    me: &Mutator,
-    machine: &R,
-) -> Result<Vec<u32>, AllocError>
-    requires same { me.now.setup ≡ heap.now.setup }
-    requires fits { R.fits me.now.setup machine.now }
-    ensures { IfOk result (λ cells. cells.items ≡ cells_of (R.roots machine.now)) }
-{
-    let roots = machine.root_references()?;
-    let mut cells = Vec::new(alloc);
-    for root in &roots {
-        cells.push(cell_of(heap, *root))?;
-    }
-    Ok(cells)
-}
-
-/// The number of a reference's cell.
-fn cell_of(heap: &Heap<'_>, at: Reference) -> u32
-    requires { at.cell < cells heap.now.setup }
-    ensures { result ≡ at.cell }
-{
-    heap.few_cells();
-    at.cell as u32
 }

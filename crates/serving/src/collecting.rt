@@ -1,7 +1,7 @@
 ghost use Rattle.std.specs.Prelude.{◌≡◌, ◌<◌, ◌≤◌, ◌++◌, List, length};
 ghost use Rattle.colours.specs.declared.turn.Turn.{Turn};
 ghost use Rattle.heap_table.specs.Sweepers.{IsSweeperOf, IsNowAt};
-ghost use Rattle.serving.specs.Turns.{MayBeginCycle};
+ghost use Rattle.serving.specs.Turns.{MayTurn};
 
 use heap_table::{Heap, Sweeper};
 use std::sync::atomic::{AtomicUsize, Ordering};
@@ -20,7 +20,7 @@ pub fn collect<'a>(
     ensures token { IsNowAt sweeper.old sweeper.new.log sweeper.new }
     ensures turns { (turns : List Turn) × (sweeper.new.log ≡ turns ++ sweeper.old.log) × (length turns ≡ result) }
     ensures limit { result ≤ limit }
-    ensures first { 0 < limit → MayBeginCycle sweeper.old.log → 0 < result }
+    ensures first { 0 < limit → MayTurn sweeper.old.setup sweeper.old.log → 0 < result }
 {
     for made in 0..limit {
         if sweeper.turn(heap).is_none() {

@@ -1,13 +1,16 @@
-ghost use Rattle.std.specs.Prelude.{◌≡◌, ◌≢◌, ◌<◌, ◌^◌, IfOk, OnOk, OnErr};
+ghost use Rattle.std.specs.Prelude.{◌≡◌, ◌≢◌, ◌<◌, ◌^◌, ◌∷◌, [], IfOk, OnOk, OnErr};
+ghost use Rattle.colours.specs.Colours.{done};
+ghost use Rattle.colours.specs.Steps.{StoreStage};
 ghost use Rattle.runs.specs.Machine.{machine_of, End};
 ghost use Rattle.runs.specs.RealThreads.{Left};
 ghost use Rattle.moves.specs.Calls.{answer_in};
-ghost use Rattle.heap_table.specs.Holders.{IsNow};
-ghost use Rattle.serving.specs.Serving.{MayBeServed, MayCallFirst, MayServe, IsServed, WentOn, IsLeft};
+ghost use Rattle.heap_table.specs.Holders.{IsNow, MayCall};
+ghost use Rattle.serving.specs.Serving.{MayBeServed, MayCallFirst, MayServe, IsServed, WentOn, StaysReady, AreListed};
 ghost use Rattle.serving.specs.Tries.{HasTried};
 ghost use Rattle.serving.specs.Endings.{EndsSo};
 
 use crate::calls::{alloc_for, read_for, safepoint_for, store_plain_for, write_for};
+use crate::root_cells::RootCells;
 use heap_table::{Heap, Mutator};
 use moves::{Answer, Call, Runner};
 use std::alloc::{AllocError, Global};
@@ -92,51 +95,62 @@ fn serve_begun<R: Runner>(
     ensures left { Left me.old.setup (machine_of R.action R.after_answer R.roots) me.old.thread machine.old me.new.log }
     ensures end { EndsSo me.old.setup (machine_of R.action R.after_answer R.roots) me.old.thread machine.old limit result machine.new me.new.log }
 {
+    let mut roots = RootCells::new(alloc);
     for _made in made..limit {
         if let Call::End = machine.call() {
-            heap.finish(me);
-            return ServingEnd::Ended;
+            return finished(heap, me, ServingEnd::Ended);
         }
-        if go_on(alloc, heap, me, machine).is_err() {
-            return ServingEnd::Memory;
+        if go_on(heap, me, machine, &mut roots).is_err() {
+            return finished(heap, me, ServingEnd::Memory);
         }
     }
-    heap.finish(me);
-    ServingEnd::Stopped
+    finished(heap, me, ServingEnd::Stopped)
 }
 
-/// Makes the call that the thread asks for, and hands it the answer. A thread that has no memory for the answer is finished.
+/// Finishes a thread that ends so.
+fn finished(heap: &Heap<'_>, me: &mut Mutator, end: ServingEnd) -> ServingEnd
+    requires { MayCall heap.now me.old }
+    ensures end { result ≡ end }
+    ensures log { IsNow me.old (StoreStage done [] ∷ me.old.log) me.new }
+{
+    heap.finish(me);
+    end
+}
+
+/// Makes the call that the thread asks for, and hands it the answer. Where there is no memory the thread is between two calls still.
 fn go_on<R: Runner>(
-    alloc: Global,
     heap: &Heap<'_>,
     me: &mut Mutator,
     machine: &mut R,
+    roots: &mut RootCells,
 ) -> Result<(), AllocError>
     requires may { MayServe (machine_of R.action R.after_answer R.roots) R.fits heap.now me.old machine.old }
     requires not_end { R.action machine.old ≢ End }
+    requires listed { AreListed roots.old (R.roots machine.old) }
     ensures ok { OnOk result (WentOn (machine_of R.action R.after_answer R.roots) R.fits heap.now me.old machine.old me.new machine.new) }
-    ensures err { OnErr result (IsLeft (machine_of R.action R.after_answer R.roots) me.old machine.old me.new) }
+    ensures err { OnErr result (StaysReady (machine_of R.action R.after_answer R.roots) heap.now me.old machine.old me.new) }
+    ensures listed { OnOk result (AreListed roots.new (R.roots machine.new)) }
 {
     heap.few_cells();
-    let answer = make_call(alloc, heap, me, machine)?;
-    if let Err(fault) = machine.answer(answer) {
-        heap.finish(me);
-        return Err(fault);
-    }
+    let answer = make_call(heap, me, machine, roots)?;
+    let after = machine.answer(answer)?;
+    roots.follow(after);
     Ok(())
 }
 
 /// Makes the call that the thread asks for.
 fn make_call<R: Runner>(
-    alloc: Global,
     heap: &Heap<'_>,
     me: &mut Mutator,
     machine: &R,
+    roots: &mut RootCells,
 ) -> Result<Answer, AllocError>
     requires may { MayServe (machine_of R.action R.after_answer R.roots) R.fits heap.now me.old machine.now }
     requires not_end { R.action machine.now ≢ End }
+    requires listed { AreListed roots.old (R.roots machine.now) }
     ensures ok { IfOk result (λ answer. IsServed (machine_of R.action R.after_answer R.roots) heap.now me.old machine.now me.new (answer_in answer)) }
-    ensures err { OnErr result (IsLeft (machine_of R.action R.after_answer R.roots) me.old machine.now me.new) }
+    ensures err { OnErr result (me.new ≡ me.old) }
+    ensures listed { AreListed roots.new (R.roots machine.now) }
 {
     me.is_of_run();
     match machine.call() {
@@ -147,7 +161,7 @@ fn make_call<R: Runner>(
         }
         Call::Write { base, word, value } => Ok(write_for(heap, me, machine, base, word, value)),
         Call::Alloc(layout) => Ok(alloc_for(heap, me, machine, layout)),
-        Call::Safepoint => safepoint_for(alloc, heap, me, machine),
+        Call::Safepoint => safepoint_for(heap, me, machine, roots),
         Call::End | Call::Wrong => unreachable!(),
     }
 }

@@ -1,0 +1,2 @@
+pub mod AnewLaws
+pub mod ReplacedLaws

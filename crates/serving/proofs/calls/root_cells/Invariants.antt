@@ -1,6 +1,0 @@
-use Rattle.std.proofs.Common.{◌≡◌, take}
-use Rattle.runs.specs.Moves.{cells_of}
-use Rattle.serving.proofs.calls.root_cells.Given as goal
-
-abbrev pub invariant-loop-root : goal.invariant-loop-root
-invariant-loop-root g l = l.cells.items ≡ cells_of (take l.root-index l.root-items)
