@@ -96,29 +96,38 @@ fn refusal_of(alloc: Global, edit: &str) -> Result<Option<Told>, AllocError> {
     }
 }
 
+/// The faults of five edits, if they are refused.
+type Refusals = (
+    Option<Told>,
+    Option<Told>,
+    Option<Told>,
+    Option<Told>,
+    Option<Told>,
+);
+
 /// What comes of another name, before what is missing and before the same name defined twice; of another item; of an item after
 /// the function; and of nothing at all.
-fn refusals(alloc: Global) -> Result<[Option<Told>; 5], AllocError> {
-    Ok([
+fn refusals(alloc: Global) -> Result<Refusals, AllocError> {
+    Ok((
         refusal_of(alloc, "define void @other() {\n")?,
         refusal_of(alloc, LAST)?,
         refusal_of(alloc, "@h = global i64 0\n")?,
         refusal_of(alloc, TWO_MIDDLES)?,
         refusal_of(alloc, "")?,
-    ])
+    ))
 }
 
 #[test]
 fn refuses_what_is_not_one_function_of_the_name(rt: HostRuntime) -> Result<(), Fail> {
     assert_eq!(rt;
         refusals(rt.alloc())?,
-        [
+        (
             Some(("L3", 1, 13)),
             Some(("L3", 1, 13)),
             Some(("L3", 1, 1)),
             Some(("L3", 5, 1)),
             Some(("L2", 1, 1)),
-        ]
+        )
     );
     Ok(())
 }
@@ -129,8 +138,11 @@ const STORES: &str = "define i64 @middle(i64 %a) {\nentry:\n  store i8* ";
 /// What comes after it.
 const ENDS: &str = ", i8** null\n  ret i64 %a\n}\n";
 
-/// The fault of an edit with this operand, if it is refused, and whether it is left out as this word.
-fn operand_refusal(alloc: Global, operand: &str) -> Result<Option<(Told, bool)>, AllocError> {
+/// The fault of an edit, if it is refused, and whether a form is left out that begins with the word of its operand.
+type OperandRefusal = Option<(Told, bool)>;
+
+/// What comes of an edit with this operand.
+fn operand_refusal(alloc: Global, operand: &str) -> Result<OperandRefusal, AllocError> {
     let edit = joined(alloc, [STORES, operand, ENDS].as_slice())?;
     match after_edit(alloc, edit.as_slice())? {
         Edited::Refused(fault) => Ok(Some((told_of_module(&fault), is_word(&fault, operand)))),
@@ -146,26 +158,34 @@ fn is_word(fault: &ReadFault, wanted: &str) -> bool {
     }
 }
 
+/// What comes of four edits.
+type OperandRefusals = (
+    OperandRefusal,
+    OperandRefusal,
+    OperandRefusal,
+    OperandRefusal,
+);
+
 /// What comes of functions before this one, of this one and of one after it, which are no operands, and of an unknown name.
-fn operand_refusals(alloc: Global) -> Result<[Option<(Told, bool)>; 4], AllocError> {
-    Ok([
+fn operand_refusals(alloc: Global) -> Result<OperandRefusals, AllocError> {
+    Ok((
         operand_refusal(alloc, "@first")?,
         operand_refusal(alloc, "@middle")?,
         operand_refusal(alloc, "@last")?,
         operand_refusal(alloc, "@nowhere")?,
-    ])
+    ))
 }
 
 #[test]
 fn judges_names_by_the_whole_module(rt: HostRuntime) -> Result<(), Fail> {
     assert_eq!(rt;
         operand_refusals(rt.alloc())?,
-        [
+        (
             Some((("L7", 3, 13), true)),
             Some((("L7", 3, 13), true)),
             Some((("L7", 3, 13), true)),
             Some((("L5", 3, 13), false)),
-        ]
+        )
     );
     Ok(())
 }

@@ -1,7 +1,7 @@
 //! Facts that blocks share.
 use facts::{Class, ClassId, Entry, Facts, Given, KeptFacts, Known, SlotFact, Test};
-use ir_ast::{Comparison, Constant, ValueId};
-use pools::LayoutId;
+use ir_ast::{Comparison, Constant, SymbolId, ValueId};
+use pools::{LayoutId, WordSet};
 use shadow_stack::SlotId;
 use std::alloc::{AllocError, Global};
 use std::test::Fail;
@@ -51,40 +51,55 @@ fn number() -> Known {
     }
 }
 
+/// Whether this is known of a value that is a reference.
+fn is_cell(known: Known, class: ClassId, layout: LayoutId, is_stale: bool) -> bool {
+    match known {
+        Known::Cell {
+            class: own_class,
+            layout: own_layout,
+            stale,
+        } => own_class == class && own_layout == layout && stale == is_stale,
+        _ => false,
+    }
+}
+
+/// Whether this is known of a value that is a number.
+fn is_number(known: Known, wanted: u32, limit: Option<u64>) -> bool {
+    match known {
+        Known::Number { bits, below } => bits == wanted && below == limit,
+        _ => false,
+    }
+}
+
+/// Whether this is known of a value that is an address.
+fn is_address(known: Known, wanted: ValueId, set: WordSet) -> bool {
+    match known {
+        Known::Address { base, words } => base == wanted && words == set,
+        _ => false,
+    }
+}
+
+/// Whether a value is the address of this global.
+fn is_global(known: Known, global: SymbolId) -> bool {
+    match known {
+        Known::GlobalAddress(own) => own == global,
+        _ => false,
+    }
+}
+
 /// Whether the same is known of two values.
 fn is_same_known(one: Known, other: Known) -> bool {
-    match (one, other) {
-        (Known::Nothing, Known::Nothing) | (Known::Null, Known::Null) => true,
-        (
-            Known::Number { bits, below },
-            Known::Number {
-                bits: other_bits,
-                below: other_below,
-            },
-        ) => bits == other_bits && below == other_below,
-        (
-            Known::Cell {
-                class,
-                layout,
-                stale,
-            },
-            Known::Cell {
-                class: other_class,
-                layout: other_layout,
-                stale: other_stale,
-            },
-        ) => class == other_class && layout == other_layout && stale == other_stale,
-        (
-            Known::Address { base, words },
-            Known::Address {
-                base: other_base,
-                words: other_words,
-            },
-        ) => base == other_base && words == other_words,
-        (Known::GlobalAddress(global), Known::GlobalAddress(other_global)) => {
-            global == other_global
-        }
-        _ => false,
+    match one {
+        Known::Nothing => matches!(other, Known::Nothing),
+        Known::Null => matches!(other, Known::Null),
+        Known::Number { bits, below } => is_number(other, bits, below),
+        Known::Cell {
+            class,
+            layout,
+            stale,
+        } => is_cell(other, class, layout, stale),
+        Known::Address { base, words } => is_address(other, base, words),
+        Known::GlobalAddress(global) => is_global(other, global),
     }
 }
 

@@ -75,8 +75,8 @@ fn tried(alloc: Global, text: &str, number: u64) -> Result<Option<Fate>, AllocEr
 }
 
 /// What comes of the deepest calls for which there is room, and of one more.
-fn depths(alloc: Global) -> Result<[Option<Fate>; 2], AllocError> {
-    Ok([tried(alloc, DOWN, 9_999)?, tried(alloc, DOWN, 10_000)?])
+fn depths(alloc: Global) -> Result<(Option<Fate>, Option<Fate>), AllocError> {
+    Ok((tried(alloc, DOWN, 9_999)?, tried(alloc, DOWN, 10_000)?))
 }
 
 // Four steps a level on the way down, three in the deepest, one for each return but the last. A call that has no room for its
@@ -85,17 +85,17 @@ fn depths(alloc: Global) -> Result<[Option<Fate>; 2], AllocError> {
 fn a_thread_has_ten_thousand_frames(rt: HostRuntime) -> Result<(), Fail> {
     assert_eq!(rt;
         depths(rt.alloc())?,
-        [
+        (
             Some((4 * 9_999 + 3 + 9_998, "end", 0)),
             Some((4 * 9_999 + 3, "end", 0)),
-        ]
+        )
     );
     Ok(())
 }
 
 /// What comes of an even number, and of an odd one.
-fn parities(alloc: Global) -> Result<[Option<Fate>; 2], AllocError> {
-    Ok([tried(alloc, PARITY, 1_000)?, tried(alloc, PARITY, 7)?])
+fn parities(alloc: Global) -> Result<(Option<Fate>, Option<Fate>), AllocError> {
+    Ok((tried(alloc, PARITY, 1_000)?, tried(alloc, PARITY, 7)?))
 }
 
 // A call, four steps a level on the way down, three in the deepest, a return for each of the others, the test of the result.
@@ -103,10 +103,10 @@ fn parities(alloc: Global) -> Result<[Option<Fate>; 2], AllocError> {
 fn functions_call_each_other(rt: HostRuntime) -> Result<(), Fail> {
     assert_eq!(rt;
         parities(rt.alloc())?,
-        [
+        (
             Some((1 + 4 * 1_000 + 3 + 1_000 + 2, "alloc", 0)),
             Some((1 + 4 * 7 + 3 + 7 + 2, "end", 0)),
-        ]
+        )
     );
     Ok(())
 }

@@ -104,14 +104,17 @@ fn refusal_of(alloc: Global, section: &str) -> Result<Option<Told>, AllocError> 
     }
 }
 
-/// The faults of three sections.
-fn refusals(alloc: Global, sections: [&str; 3]) -> Result<[Option<Told>; 3], AllocError> {
+/// The faults of three sections, if they are refused.
+type Refusals = (Option<Told>, Option<Told>, Option<Told>);
+
+/// The faults of these sections.
+fn refusals(alloc: Global, sections: [&str; 3]) -> Result<Refusals, AllocError> {
     let [first, second, third] = sections;
-    Ok([
+    Ok((
         refusal_of(alloc, first)?,
         refusal_of(alloc, second)?,
         refusal_of(alloc, third)?,
-    ])
+    ))
 }
 
 /// Sections of another function, of one that is unknown, and of what is no name.
@@ -125,11 +128,11 @@ const OTHER_NAMES: [&str; 3] = [
 fn refuses_a_section_of_another_name(rt: HostRuntime) -> Result<(), Fail> {
     assert_eq!(rt;
         refusals(rt.alloc(), OTHER_NAMES)?,
-        [
+        (
             Some(("C1", 1, 10)),
             Some(("C1", 2, 10)),
             Some(("C1", 1, 10)),
-        ]
+        )
     );
     Ok(())
 }
@@ -145,7 +148,7 @@ const MORE_THAN_SECTIONS: [&str; 3] = [
 fn refuses_more_than_one_section(rt: HostRuntime) -> Result<(), Fail> {
     assert_eq!(rt;
         refusals(rt.alloc(), MORE_THAN_SECTIONS)?,
-        [Some(("C1", 5, 1)), Some(("C1", 4, 1)), Some(("C1", 1, 1)),]
+        (Some(("C1", 5, 1)), Some(("C1", 4, 1)), Some(("C1", 1, 1)))
     );
     Ok(())
 }
@@ -161,7 +164,7 @@ const OTHER_BLOCKS: [&str; 3] = [
 fn refuses_blocks_that_are_unknown_or_missing(rt: HostRuntime) -> Result<(), Fail> {
     assert_eq!(rt;
         refusals(rt.alloc(), OTHER_BLOCKS)?,
-        [Some(("C3", 3, 7)), Some(("C5", 1, 2)), Some(("C4", 3, 7)),]
+        (Some(("C3", 3, 7)), Some(("C5", 1, 2)), Some(("C4", 3, 7)))
     );
     Ok(())
 }

@@ -1,6 +1,6 @@
 //! The grammar of the command line, and how a line is read.
 ghost use Rattle.std.specs.Prelude.{◌≡◌, IfOk, IfErr, IsOk, [], map, option_map, false, codes};
-ghost use Rattle.clap.specs.Words.{app_of, fault_of, first_of, found_of, new_app, rows_of, rule_of};
+ghost use Rattle.clap.specs.Words.{app_of, fault_of, first_of, found_of, new_app, rows_of, rule_of, with_rule};
 ghost use Rattle.clap.specs.declared.builder.command.Command.TheViews.{out-Command};
 ghost use Rattle.command_line.specs.Asked.{asked_by, HasWorkers};
 ghost use Rattle.command_line.specs.Grammar.{asked_in, asked_of, check_app, check_of, dgc_app, file_rule, files_app, flag_of, flag_rule, IsRefusalOf, limit_rule, make_app, make_of, module_app, number_of, number_rule, paths_in, recheck_app, recheck_of, replay_of, run_app, run_of, soak_app, soak_of, why_of, with_version_and_commands, workers_of, workers_rule};
@@ -137,12 +137,19 @@ fn soak_command<'a>(alloc: Global) -> Result<Command<'a>, AllocError>
         .arg(number(alloc, "steps", "S", STEPS))
 }
 
+/// `run` with its files.
+fn run_files<'a>(alloc: Global) -> Result<Command<'a>, AllocError>
+    ensures app { IfOk result (λ command. app_of command ≡ with_rule (files_app (codes "run") (codes "CERT")) (file_rule (codes "TRACE"))) }
+    ensures own { IfOk result (λ command. (out-Command command).has_globals ≡ false) }
+{
+    files_command(alloc, "run", "CERT", RUN)?.arg(file(alloc, "TRACE", RUN_TRACE))
+}
+
 fn run_command<'a>(alloc: Global) -> Result<Command<'a>, AllocError>
     ensures app { IfOk result (λ command. app_of command ≡ run_app) }
     ensures own { IfOk result (λ command. (out-Command command).has_globals ≡ false) }
 {
-    files_command(alloc, "run", "CERT", RUN)?
-        .arg(file(alloc, "TRACE", RUN_TRACE))?
+    run_files(alloc)?
         .arg(limit(alloc, "turns", "N", TURNS))?
         .arg(limit(alloc, "steps", "S", RUN_STEPS))
 }
