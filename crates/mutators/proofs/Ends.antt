@@ -25,7 +25,7 @@ use Rattle.serving.specs.declared.beside.Job.{Job}
 use Rattle.serving.specs.declared.beside.Limits.{Limits}
 use Rattle.serving.specs.Endings.{EndsSo}
 use Rattle.serving.specs.Jobs.{MayBegin, WasServed, token_of}
-use Rattle.serving.specs.Turns.{MayBeginCycle}
+use Rattle.serving.specs.Turns.{MayTurn}
 use Rattle.trace_text.specs.declared.trace.Setup.{Setup}
 use Rattle.mutators.specs.declared.thread_end.ThreadEnd.{ThreadEnd}
 use Rattle.mutators.specs.Jobs.{IsJobOf, AreJobs}
@@ -106,7 +106,7 @@ pub report : (p : LaidOut) (setup : Setup) (heap : Shared) (limits : Limits) (be
     → ((s : HeapSetup) (run : List Event) → IsHeapRun s run → KeptIsAlive s run)
     → ((s : HeapSetup) (run : List Event) (t : ℕ) (step : Step) → IsHeapRun s (ByThread t step ∷ run) → TouchesAlive s run t step)
     → heap.setup ≡ heap_of p setup → AreJobs p setup heap before → length before ≡ length setup.starts → length after ≡ length before → left ≡ after → WereServed limits.steps before after
-    → IsSweeperOf heap first → first.log ≡ [] → IsNowAt first last.log last → (made : List Turn) × (last.log ≡ made ++ first.log) × (length made ≡ turns) → turns ≤ limits.turns → (0 < limits.turns → MayBeginCycle first.log → 0 < turns)
+    → IsSweeperOf heap first → first.log ≡ [] → IsNowAt first last.log last → (made : List Turn) × (last.log ≡ made ++ first.log) × (length made ≡ turns) → turns ≤ limits.turns → (0 < limits.turns → MayTurn first.setup first.log → 0 < turns)
     → HasSwept last.setup last.log cycles → closing.EndsSo heap.setup (map token_of left) last closed → threads ≡ map end_of left
     → IsReport p setup limits (record { threads = threads; turns = turns; cycles = cycles })
 report p setup heap limits before after left first last closed threads turns cycles kept touched over are count same is each of none now made within least swept ends told =
@@ -123,6 +123,6 @@ report p setup heap limits before after left first last closed threads turns cyc
       threads = thread_ends p setup heap run limits.steps before after threads over same each are have (told ∙ ap (map end_of) is);
       turns = ap length (ends.collector ∙ made.1 ∙ ap (λ log. made.0 ++ log) none ∙ append-nil made.0) ∙ made.2;
       within = within;
-      first = λ some. least some (subst (λ (log : List Turn). MayBeginCycle log) (sym none) (omega arith));
+      first = λ some. least some (subst (λ (log : List Turn). MayTurn first.setup log) (sym none) (λ posting. omega arith));
       cycles = subst (λ log. HasSwept s log cycles) (sym ends.collector) (subst (λ (q : HeapSetup). HasSwept q last.log cycles) here swept);
     }

@@ -36,7 +36,8 @@ abbrev pub end_of : Job ProgramThread → ThreadEnd
 end_of job = told job.outcome (ending job.machine.program job.machine.state)
 
 -- What a thread left is what its function asks for from its beginning, as far as it came, and this is told of it. One that returned
--- or ended went to its end; one that stopped, or never began, made at least as many moves as the limit says.
+-- or ended went to its end; one that stopped, or never began, made at least as many moves as the limit says; one without memory is
+-- finished, as far as it came.
 pub record IsThreadEnd (p : LaidOut) (setup : Setup) (limit thread : ℕ) (log : List Step) (end : ThreadEnd) : Type 0 where
   pub left : Left (heap_of p setup) program_machine thread (starts_of p setup thread) log
   pub outcome : ServingEnd

@@ -7,7 +7,7 @@ ghost use Rattle.program_runner.specs.Heaps.{heap_of};
 ghost use Rattle.program_runner.specs.Kinds.{FitsThread};
 ghost use Rattle.program_runner.specs.Threads.{program_machine};
 ghost use Rattle.serving.specs.Jobs.{MayBegin, WasServed};
-ghost use Rattle.serving.specs.Turns.{MayBeginCycle};
+ghost use Rattle.serving.specs.Turns.{MayTurn};
 ghost use Rattle.setups.specs.Setups.{IsSetupOf};
 ghost use Rattle.setups.specs.declared.setup_fault.SetupFault.TheVariants as fault;
 ghost use Rattle.trace_text.specs.Arrivals.{is_late};
@@ -143,7 +143,7 @@ fn serve_programs<'a, 'b, T: Threads + Sync, G: Gate + Sync>(
     ensures token { IsNowAt sweeper.old sweeper.new.log sweeper.new }
     ensures turns { (turns : List Turn) × (sweeper.new.log ≡ turns ++ sweeper.old.log) × (length turns ≡ result) }
     ensures limit { result ≤ limits.turns }
-    ensures first { 0 < limits.turns → MayBeginCycle sweeper.old.log → 0 < result }
+    ensures first { 0 < limits.turns → MayTurn sweeper.old.setup sweeper.old.log → 0 < result }
 {
     serve_beside::<T, ProgramThread<'b>, G>(rt, alloc, heap, jobs, sweeper, limits, gate)
 }
