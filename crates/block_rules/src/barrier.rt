@@ -7,8 +7,8 @@ ghost use Rattle.block_rules.specs.Barriers.{is_own_place, needs_no_barrier, is_
 use crate::casts::casts_operand;
 use crate::conditions::first_failing;
 use crate::operands::{
-    is_available, is_based, is_current, is_no_slot, is_null, is_operand_current, is_typed, is_value,
-    known_of, place_known, slot_named,
+    is_available, is_based, is_current, is_no_slot, is_null, is_operand_current, is_typed,
+    is_value, known_of, place_known, slot_named,
 };
 use crate::places::{is_one_layout, load_known, loads_known, publish, stores_known};
 use crate::rule::Rule;
@@ -84,9 +84,7 @@ fn names_object(facts: &Facts, object: &Operand, place: &Known) -> bool
     ensures { result ≡ names_object facts.now object.now place.now }
 {
     let known = known_of(facts, object);
-    is_null(object)
-        || is_known_null(&known)
-        || lies_in_object(facts, &known, place)
+    is_null(object) || is_known_null(&known) || lies_in_object(facts, &known, place)
 }
 
 fn may_read(scene: &Scene, facts: &Facts, place: &Operand, known: &Known) -> bool
@@ -96,13 +94,7 @@ fn may_read(scene: &Scene, facts: &Facts, place: &Operand, known: &Known) -> boo
         || loads_known(scene.program, facts, TypeKind::AnyReference, known)
 }
 
-fn may_write(
-    scene: &Scene,
-    facts: &Facts,
-    value: &Operand,
-    place: &Operand,
-    known: &Known,
-) -> bool
+fn may_write(scene: &Scene, facts: &Facts, value: &Operand, place: &Operand, known: &Known) -> bool
     ensures { result ≡ may_write scene.now.program.now scene.now.slots.now facts.now value.now place.now known.now }
 {
     slot_named(scene.slots, place).is_some()
@@ -164,10 +156,7 @@ pub fn read_refusal(
             is_operand_current(facts, &object.operand) && is_current(facts, &at),
         ),
         (Rule::K4, is_based(facts, &place.operand, &at)),
-        (
-            Rule::K7,
-            names_object(facts, &object.operand, &at),
-        ),
+        (Rule::K7, names_object(facts, &object.operand, &at)),
         (
             Rule::K10,
             is_no_slot(scene.slots, &object.operand) && is_no_slot(scene.slots, &place.operand),
@@ -274,10 +263,7 @@ pub fn write_refusal(
                 && is_current(facts, &at),
         ),
         (Rule::K4, is_based(facts, &place.operand, &at)),
-        (
-            Rule::K7,
-            names_object(facts, &object.operand, &at),
-        ),
+        (Rule::K7, names_object(facts, &object.operand, &at)),
         (
             Rule::K10,
             is_no_slot(scene.slots, &value.operand)

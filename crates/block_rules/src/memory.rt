@@ -115,10 +115,7 @@ fn store_refusal(
             is_operand_current(facts, value) && is_current(facts, &at),
         ),
         (Rule::K4, is_based(facts, place, &at)),
-        (
-            Rule::K6,
-            needs_no_barrier(scene, facts, stored, place, &at),
-        ),
+        (Rule::K6, needs_no_barrier(scene, facts, stored, place, &at)),
         (Rule::K10, is_no_slot(scene.slots, value)),
         (Rule::K12, here.collected),
         (Rule::K19, casts_operand(scene.module(), place)),

@@ -248,7 +248,7 @@ module _ (heap : Setup) (p : LaidOut) (certs : List Section) (reaches : Bool) (f
     by (Address base words) is stores =
         let wants : ℕ → WantedWord = λ layout. r.wanted_by_store (kind_of p.of_module stored) in
         let fits_each : (class layout : ℕ) → known_at facts.values base ≡ Cell class layout false → (r.each_word (wants layout) p.layouts layout words ≡ true) × (r.fits_words p.layouts layout words (r.wanted_by_value (o.known_of facts x)) ≡ true) = λ class layout known. and_parts (r.each_word (wants layout) p.layouts layout words) (r.fits_words p.layouts layout words (r.wanted_by_value (o.known_of facts x)))
-            (subst (λ y. r.stores_base p (kind_of p.of_module stored) (o.known_of facts x) words y ≡ true) known stores) in
+        (subst (λ y. r.stores_base p (kind_of p.of_module stored) (o.known_of facts x) words y ≡ true) known stores) in
         let b = on_base heap p certs reaches f table guarded log fits cells facts frame h written place s base words is wants (λ class layout known. (fits_each class layout known).0) in
         let l = b.located in
         let each = fits_each b.class b.layout b.known in
