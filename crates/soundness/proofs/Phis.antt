@@ -1,6 +1,6 @@
 -- The phis of a certified block may take their entries.
 use Rattle.std.proofs.Common.{◌≡◌, ℕ, suc, List, [], ◌∷◌, refl, subst, true, false, Bool, Option, Some, None, is_some, slice_get}
-use Rattle.std.specs.Prelude.{◌||◌, ◌++◌, not, if◌then◌else◌}
+use Rattle.std.specs.Prelude.{◌||◌, ◌&&◌, ◌++◌, not, if◌then◌else◌}
 use Rattle.lemmas.specs.Bools.{and_parts}
 use Rattle.ir_ast.specs.declared.choices.Incoming.{Incoming}
 use Rattle.ir_ast.specs.declared.choices.Phi.{Phi}
