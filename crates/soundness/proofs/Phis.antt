@@ -49,7 +49,7 @@ module _ (m : Module) (f : Function) (table : SlotTable) where
 
   -- an entry that the rules let come in has the written type, and is no address
   operand_typed : (written : ℕ) (x : Operand) → may_come_in m f table written x ≡ true → j.entry_fits m f table written (Some x) ≡ true
-  operand_typed written (operand.Constant c) e = constant_passes m written c e
+  operand_typed written (operand.Constant c) e = rw (constant_passes m written c e) refl
   operand_typed written (operand.Local v) e =
       let all = and_parts (is_entry f written v (slice_get f.sorts v) && not (is_some (slot_of table v))) (not (is_opaque_address m table written (operand.Local v))) e in
       let b = and_parts (is_entry f written v (slice_get f.sorts v)) (not (is_some (slot_of table v))) all.0 in
