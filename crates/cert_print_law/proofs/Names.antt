@@ -1,5 +1,5 @@
 -- The names of a module that is read are found as what they name.
-use Rattle.std.proofs.Common.{◌≡◌, ℕ, ◌<◌, ◌^◌, true, List, length, Some, None, Option, is_some, slice_get, refl, ap, sym, subst, ◌∙◌, inl, inr, ◌⊎◌}
+use Rattle.std.proofs.Common.{◌≡◌, ◌<◌, ◌^◌, true, List, length, Some, None, Option, is_some, slice_get, refl, ap, sym, subst, ◌∙◌, inl, inr, ◌⊎◌}
 use Rattle.ir_ast.specs.declared.function.Function.{Function}
 use Rattle.ir_ast.specs.declared.function.LocalSort.{LocalSort}
 use Rattle.ir_ast.specs.declared.items_of_module.SymbolSort.{SymbolSort}

@@ -1,8 +1,9 @@
-//! Law of printed certificates: what is printed of the certificates of a module that is read is a text of them, if the
-//! module's names are short when they are printed.
+//! Laws of printed certificates and traces: what is printed of the certificates of a module that is read is a text of them,
+//! and its program meets what printed traces ask of names, if the module's names are short when they are printed.
 #![tactic(auto)]
 
 ghost use Rattle.cert_print_law.specs.Printed.{AreNamed, AreReadAgain};
+ghost use Rattle.cert_print_law.specs.PrintedTraces.{AreProgramsNamed, AreReadProgramsNamed};
 
 use certificate::cert_law;
 use ir_print_law::named_law;
@@ -14,5 +15,15 @@ pub fn printed_again_law()
     ensures again { AreReadAgain }
 {
     cert_law();
+    named_law();
+}
+
+/// In a module whose names mean its items, and are short when they are printed, each function and each layout is the one that
+/// has its name. So it is in each module that is read from bytes. By the contract of `print_trace`, what is printed of a trace of
+/// such a program is then a text of that trace.
+pub fn printed_traces_law()
+    ensures named { AreProgramsNamed }
+    ensures read { AreReadProgramsNamed }
+{
     named_law();
 }
