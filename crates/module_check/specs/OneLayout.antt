@@ -3,7 +3,7 @@ use Rattle.std.proofs.Common.{◌≡◌, ℕ, zero, suc, ◌+◌, List, [], ◌�
 use Rattle.ir_ast.specs.declared.module.Module.{Module}
 use Rattle.ir_ast.specs.declared.items_of_module.StructType.{StructType}
 use Rattle.pools.specs.declared.word_kind.WordKind.{WordKind}
-use Rattle.layout.specs.Words.{AreWords}
+use Rattle.layout.specs.Words.{AreWords, shapes_of}
 use Rattle.layout.specs.Layouts.{IsLayout, AreLayouts, AreLayoutsOf, IsSize, AreSizes}
 use Rattle.layout.specs.Rings.{one_list}
 

@@ -1,5 +1,5 @@
 //! Layouts of modules with opaque pointers.
-use crate::opening::{MISSING, MIXED, WORDS, Words, program_of, typed};
+use crate::opening::{MISSING, MIXED, StructWords, WORDS, program_of, typed};
 use layout::{LayoutFault, Program};
 use pools::{LayoutId, WordKind};
 use std::alloc::Global;
@@ -14,7 +14,10 @@ fn last_word(program: &Program) -> Option<u32> {
 }
 
 /// That number, or the fault in the layouts.
-fn laid_out(alloc: Global, words: Option<Words>) -> Result<Result<Option<u32>, LayoutFault>, Fail> {
+fn laid_out(
+    alloc: Global,
+    words: Option<StructWords>,
+) -> Result<Result<Option<u32>, LayoutFault>, Fail> {
     let of_module = typed(alloc, "")?;
     match program_of(alloc, &of_module, words)? {
         Ok(program) => Ok(Ok(last_word(&program))),

@@ -8,7 +8,7 @@ use std::test::Fail;
 
 /// What a thread asks for after its local steps and its alloc.
 #[derive(Clone, Copy, PartialEq, Eq)]
-enum Asked {
+enum Request {
     /// To read this word.
     Read(u32),
     /// To store at this word, without the barrier.
@@ -28,7 +28,7 @@ enum Asked {
 struct Case<'a> {
     text: &'a str,
     given: bool,
-    asked: Asked,
+    asked: Request,
 }
 
 /// A cell, or null.
@@ -40,23 +40,23 @@ fn given(cell: bool) -> Answer {
     }
 }
 
-fn asked(thread: &mut Thread<'_>, cell: bool) -> Result<Asked, Fail> {
+fn asked(thread: &mut Thread<'_>, cell: bool) -> Result<Request, Fail> {
     for _ in 0..20u32 {
         match thread.next() {
             Action::Local => thread.resume(Answer::Done)?,
             Action::Alloc(_) => thread.resume(given(cell))?,
-            Action::Read { word, .. } => return Ok(Asked::Read(word)),
-            Action::StorePlain { word, .. } => return Ok(Asked::Store(word)),
-            Action::Write { word, .. } => return Ok(Asked::Write(word)),
-            Action::Wrong => return Ok(Asked::Wrong),
-            Action::End => return Ok(Asked::End),
-            Action::Safepoint => return Ok(Asked::Other),
+            Action::Read { word, .. } => return Ok(Request::Read(word)),
+            Action::StorePlain { word, .. } => return Ok(Request::Store(word)),
+            Action::Write { word, .. } => return Ok(Request::Write(word)),
+            Action::Wrong => return Ok(Request::Wrong),
+            Action::End => return Ok(Request::End),
+            Action::Safepoint => return Ok(Request::Other),
         }
     }
-    Ok(Asked::Other)
+    Ok(Request::Other)
 }
 
-fn asked_in(alloc: Global, program: &Program, cell: bool) -> Result<Asked, Fail> {
+fn asked_in(alloc: Global, program: &Program, cell: bool) -> Result<Request, Fail> {
     if program.module().functions.is_empty() {
         return Err(Fail::new("a function"));
     }
@@ -69,7 +69,7 @@ fn asked_in(alloc: Global, program: &Program, cell: bool) -> Result<Asked, Fail>
     }
 }
 
-fn asked_by(alloc: Global, case: &Case) -> Result<Asked, Fail> {
+fn asked_by(alloc: Global, case: &Case) -> Result<Request, Fail> {
     let of_module = typed(alloc, case.text)?;
     match program_of(alloc, &of_module, Some(WORDS.as_slice()))? {
         Ok(program) => asked_in(alloc, &program, case.given),
@@ -94,52 +94,52 @@ const CASES: [Case; 9] = [
     Case {
         text: "define void @f() gc \"shadow-stack\" {\nentry:\n  %x = call i8* @dg_alloc(i32 0)\n  %v = load i64, i64* %x\n  ret void\n}\n",
         given: true,
-        asked: Asked::Read(0),
+        asked: Request::Read(0),
     },
     Case {
         text: "define void @f() gc \"shadow-stack\" {\nentry:\n  %x = call i8* @dg_alloc(i32 0)\n  store i64 5, i64* %x\n  ret void\n}\n",
         given: true,
-        asked: Asked::Store(0),
+        asked: Request::Store(0),
     },
     Case {
         text: "define void @f() gc \"shadow-stack\" {\nentry:\n  %x = call i8* @dg_alloc(i32 1)\n  call void @llvm.gcwrite(i8* null, i8* %x, i8** %x)\n  ret void\n}\n",
         given: true,
-        asked: Asked::Write(0),
+        asked: Request::Write(0),
     },
     // It is null.
     Case {
         text: "define void @f() gc \"shadow-stack\" {\nentry:\n  %x = call i8* @dg_alloc(i32 0)\n  %v = load i64, i64* %x\n  ret void\n}\n",
         given: false,
-        asked: Asked::Wrong,
+        asked: Request::Wrong,
     },
     // The word there is an integer.
     Case {
         text: "define void @f() gc \"shadow-stack\" {\nentry:\n  %x = call i8* @dg_alloc(i32 0)\n  %v = load %Node*, %Node** %x\n  ret void\n}\n",
         given: true,
-        asked: Asked::Wrong,
+        asked: Request::Wrong,
     },
     // A slot is no value.
     Case {
         text: "define void @f() gc \"shadow-stack\" {\nentry:\n  %s = alloca %Node*\n  call void @llvm.gcroot(i8** %s, i8* null)\n  %c = icmp eq %Node* %s, null\n  ret void\n}\n",
         given: true,
-        asked: Asked::Wrong,
+        asked: Request::Wrong,
     },
     // A slot of integers holds no reference.
     Case {
         text: "define void @f() gc \"shadow-stack\" {\nentry:\n  %i = alloca i64\n  %v = load %Node*, %Node** %i\n  ret void\n}\n",
         given: true,
-        asked: Asked::Wrong,
+        asked: Request::Wrong,
     },
     // An address enters no phi.
     Case {
         text: "define void @f() gc \"shadow-stack\" {\nentry:\n  %q = bitcast %Node** @g to i8*\n  br label %on\non:\n  %p = phi i8* [ %q, %entry ]\n  ret void\n}\n",
         given: true,
-        asked: Asked::Wrong,
+        asked: Request::Wrong,
     },
     Case {
         text: "define void @f() gc \"shadow-stack\" {\nentry:\n  %x = call i8* @dg_alloc(i32 0)\n  br label %on\non:\n  %p = phi i8* [ %x, %entry ]\n  ret void\n}\n",
         given: true,
-        asked: Asked::End,
+        asked: Request::End,
     },
 ];
 

@@ -14,7 +14,7 @@ pub const HEAD: &str =
     "%Node = type { i64, %Node* }\n%Box = type { %Node* }\n%Two = type { [2 x %Node*] }\n%Deep = type { i64, { %Node*, [2 x %Node*] }, %Node* }\n@g = global %Node* null\ndeclare i8* @dg_alloc(i32)\ndeclare void @dg_safepoint()\ndeclare void @llvm.gcroot(i8**, i8*)\ndeclare i8* @llvm.gcread(i8*, i8**)\ndeclare void @llvm.gcwrite(i8*, i8*, i8**)\n";
 
 /// What the words of each struct refer to: the number of a struct, or nothing.
-pub type Words<'a> = &'a [&'a [Option<u32>]];
+pub type StructWords<'a> = &'a [&'a [Option<u32>]];
 
 /// What the words of the structs of the head refer to, as its types say it.
 pub const WORDS: [&[Option<u32>]; 4] = [
@@ -55,7 +55,7 @@ fn row(alloc: Global, words: &[Option<u32>]) -> Result<Items<Option<LayoutId>>, 
     Ok(row)
 }
 
-fn rows(alloc: Global, words: Words) -> Result<Items<Items<Option<LayoutId>>>, AllocError> {
+fn rows(alloc: Global, words: StructWords) -> Result<Items<Items<Option<LayoutId>>>, AllocError> {
     let mut rows = Items::new(alloc);
     for words in words {
         rows.push(row(alloc, words)?)?;
@@ -102,7 +102,7 @@ fn roots(alloc: Global, of_module: &Module) -> Result<Items<RootShapes>, AllocEr
 }
 
 /// Shapes of a module: these of its structs, and the struct with the number 0 for all else.
-fn shapes(alloc: Global, of_module: &Module, words: Words) -> Result<Shapes, AllocError> {
+fn shapes(alloc: Global, of_module: &Module, words: StructWords) -> Result<Shapes, AllocError> {
     let words = rows(alloc, words)?;
     let globals = nodes(alloc, of_module.symbols.count())?;
     let roots = roots(alloc, of_module)?;
@@ -126,7 +126,7 @@ pub fn typed(alloc: Global, text: &str) -> Result<Module, Fail> {
 pub fn program_of(
     alloc: Global,
     of_module: &Module,
-    words: Option<Words>,
+    words: Option<StructWords>,
 ) -> Result<Result<Program, LayoutFault>, AllocError> {
     let mut opaque = opaque(alloc, of_module)?;
     if let Some(words) = words {

@@ -1,5 +1,5 @@
 //! The rules for opaque pointers.
-use crate::opening::{MIXED, WORDS, Words, program_of, typed};
+use crate::opening::{MIXED, StructWords, WORDS, program_of, typed};
 use block_check::check_function;
 use block_rules::{BlockFault, Rule};
 use certificate::read_cert;
@@ -10,19 +10,19 @@ use std::alloc::Global;
 use std::test::Fail;
 
 /// The place at which a function is refused, and the rule: the block, the instruction in it, and the rule.
-type Refused = Option<(u32, usize, Rule)>;
+type Outcome = Option<(u32, usize, Rule)>;
 
 /// A function with its section, what the words of the structs refer to, and where it is refused.
 #[derive(Clone, Copy)]
 struct Case<'a> {
     text: &'a str,
     certificate: &'a str,
-    words: Words<'a>,
-    refused: Refused,
+    words: StructWords<'a>,
+    refused: Outcome,
 }
 
 /// Where the first function of a program is refused.
-fn refused_in(alloc: Global, program: &Program, certs: &Certs) -> Result<Refused, Fail> {
+fn refused_in(alloc: Global, program: &Program, certs: &Certs) -> Result<Outcome, Fail> {
     if program.module().functions.is_empty() {
         return Err(Fail::new("a function"));
     }
@@ -44,7 +44,7 @@ fn certified(alloc: Global, of_module: &Module, certificate: &str) -> Result<Cer
 }
 
 /// Where the function of a case is refused.
-fn refused(alloc: Global, case: &Case) -> Result<Refused, Fail> {
+fn refused(alloc: Global, case: &Case) -> Result<Outcome, Fail> {
     let of_module = typed(alloc, case.text)?;
     let certs = certified(alloc, &of_module, case.certificate)?;
     match program_of(alloc, &of_module, Some(case.words))? {
@@ -138,7 +138,7 @@ fn references_as_places(rt: HostRuntime) -> Result<(), Fail> {
     Ok(())
 }
 
-/// Words of which one may be meant refer to one layout.
+/// StructWords of which one may be meant refer to one layout.
 const LAYOUTS: [Case; 6] = [
     // Both words refer to one layout, and the store wants the barrier.
     Case {
