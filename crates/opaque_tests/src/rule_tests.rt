@@ -138,7 +138,7 @@ fn references_as_places(rt: HostRuntime) -> Result<(), Fail> {
     Ok(())
 }
 
-/// StructWords of which one may be meant refer to one layout.
+/// Words of which one may be meant refer to one layout.
 const LAYOUTS: [Case; 6] = [
     // Both words refer to one layout, and the store wants the barrier.
     Case {
