@@ -81,12 +81,12 @@ module _ (m : Module) (func : ℕ) (code : Text) where
     -- and that is the fault
     pub wanted_same : wants_shapes o ≡ true → (x : EditFault) → HasTextFault m func code x → ShapesWanted ≡ x
     wanted_same wanted x (inl h) = absurd (err_or_ok o h.0 (fails h.0 h.1))
-    wanted_same wanted x (inr h) = h.2.1
+    wanted_same wanted x (inr h) = h.3
 
     -- where they are not, there is no fault
     pub unwanted_unread : wants_shapes o ≡ false → (x : EditFault) → HasTextFault m func code x → ⊥
     unwanted_unread unwanted x (inl h) = err_or_ok o h.0 (fails h.0 h.1)
-    unwanted_unread unwanted x (inr h) = true_or_false (sym h.2.0 ∙ ap wants_shapes (text_one h.0 h.1) ∙ unwanted)
+    unwanted_unread unwanted x (inr h) = true_or_false (sym h.2 ∙ ap wants_shapes (text_one h.0 h.1) ∙ unwanted)
 
 module _ (m same_m : Module) (same : same_m ≡ m) (func : ℕ) (code : Text) where
   of_code : (n : Module) → IsCode same_m func code n → IsCode m func code n
@@ -186,7 +186,7 @@ module _ (m same_m : Module) (same : same_m ≡ m) (func : ℕ) (code : Text) wh
       unread : (o : Option Function) → o ≡ Some f → ((n : Module) → IsReplaced same_m func code n → IfSome o (λ g. n ≡ with_function same_m func g)) → ((g : ReadFault) → IsReplaceFault same_m func code g → ⊥)
           → (e : EditFault) → HasTextFault m func code e → ⊥
       unread o some one fails e (inl h) = fails h.0 (subst (λ (x : Module). IsReplaceFault x func code h.0) (sym same) h.1)
-      unread o some one fails e (inr h) = true_or_false (sym h.2.0 ∙ ap wants_shapes (here o some one h.0 h.1) ∙ unwanted)
+      unread o some one fails e (inr h) = true_or_false (sym h.2 ∙ ap wants_shapes (here o some one h.0 h.1) ∙ unwanted)
 
   -- the code has the fault for which it is refused
   pub within_fault : (e : EditFault) → (f : ReadFault) × IsReplaceFault same_m func code f × (code_fault f ≡ e) → HasTextFault m func code e

@@ -64,13 +64,13 @@ returns-in-Ok-answer_all-clause-only_fault c =
     let read = the_code c.args.program.now.of_module c.module.result.now c.module.ensures.of_module c.args.func c.args.code.now c.in-Ok.of_module c.in-Ok.ensures.found c.in-Ok.ensures.one c.in-Ok.ensures.only_fault in
     λ e h. c.in-Ok-read_text.ensures.only_fault e (only_section c.args.program.now.of_module c.args.func c.args.code.now c.args.text.now c.in-Ok.of_module read e h)
 
-pub replace-requires-in-Err-answer_all : goal.replace-requires-in-Err-answer_all
-replace-requires-in-Err-answer_all c =
+pub replace-requires : goal.replace-requires
+replace-requires c =
     subst (λ (n : ℕ). c.args.func < n) (sym (as_many_sections c.args.certs.now.sections c.replace-past.new.self.sections c.args.func c.in-Ok-read_text.section c.replace-past.ensures.new)) c.requires.section
 
 pub returns-in-Err-answer_all-clause-kept : goal.returns-in-Err-answer_all-clause-kept
 returns-in-Err-answer_all-clause-kept c = (
   refl,
-  certs_back c.args.certs.now c.replace-past.new.self c.replace-in-Err-answer_all.new.self c.args.func c.replace-past.result c.in-Ok-read_text.section c.replace-past.ensures.new c.replace-past.ensures.given_back c.replace-in-Err-answer_all.ensures.new,
+  certs_back c.args.certs.now c.replace-past.new.self c.replace.new.self c.args.func c.replace-past.result c.in-Ok-read_text.section c.replace-past.ensures.new c.replace-past.ensures.given_back c.replace.ensures.new,
   ap (λ (functions : KeptFunctions). record c.args.kept.now { functions = functions }) c.in-Err-answer_all.ensures.kept,
 )
