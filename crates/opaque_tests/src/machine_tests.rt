@@ -79,12 +79,10 @@ fn asked_by(alloc: Global, case: &Case) -> Result<Request, Fail> {
 
 /// The place of the first of these cases in which something else is asked for, if there is one.
 fn first_other(alloc: Global, cases: &[Case]) -> Result<Option<usize>, Fail> {
-    let mut at = 0;
-    for case in cases {
+    for (at, case) in cases.iter().enumerate() {
         if asked_by(alloc, case)? != case.asked {
             return Ok(Some(at));
         }
-        at += 1;
     }
     Ok(None)
 }

@@ -55,12 +55,10 @@ fn refused(alloc: Global, case: &Case) -> Result<Outcome, Fail> {
 
 /// The place of the first of these cases that is answered otherwise, if there is one.
 fn first_other(alloc: Global, cases: &[Case]) -> Result<Option<usize>, Fail> {
-    let mut at = 0;
-    for case in cases {
+    for (at, case) in cases.iter().enumerate() {
         if refused(alloc, case)? != case.refused {
             return Ok(Some(at));
         }
-        at += 1;
     }
     Ok(None)
 }
