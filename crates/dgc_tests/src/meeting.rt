@@ -39,10 +39,10 @@ impl Meeting {
 
     /// How many pieces began, and then left once.
     fn have_left(&self) -> u32 {
-        let mut left = 0;
+        let mut left = 0u32;
         for calls in &self.calls {
             if calls.load(Ordering::SeqCst) == LEFT {
-                left += 1;
+                left = left.saturating_add(1);
             }
         }
         left

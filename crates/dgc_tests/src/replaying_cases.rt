@@ -2,7 +2,7 @@
 use crate::printed::write_front;
 use crate::row::printed_of;
 use crate::row_failure::RowFailure;
-use crate::texts::{FOUR, HEAD, PUBLISHER_AND_CLEARER, files_of, joined, text_of};
+use crate::texts::{FOUR, HEAD, PUBLISHER_AND_CLEARER, joined, text_of, two_files};
 use commands::{Line, ReplayLine};
 use ir_text::read;
 use layout::Program;
@@ -59,9 +59,7 @@ fn answer_to(
     functions: &str,
     trace: &str,
 ) -> Result<String, AllocError> {
-    let (functions, trace) = ([HEAD, functions], [trace]);
-    let texts = [functions.as_slice(), trace.as_slice()];
-    let files = files_of(rt.alloc(), texts.as_slice())?;
+    let files = two_files(rt.alloc(), functions, trace)?;
     let printed = printed_of(rt, &REPLAY, files.as_slice());
     text_of(rt.alloc(), printed.out.as_slice())
 }

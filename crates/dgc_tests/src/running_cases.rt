@@ -3,7 +3,7 @@ use crate::meeting::Meeting;
 use crate::printed::{Printed, write_up_to};
 use crate::row::printed_of;
 use crate::row_failure::RowFailure;
-use crate::texts::{FOUR, HEAD, PUBLISHER_AND_CLEARER, files_of, joined, text_of};
+use crate::texts::{FOUR, HEAD, PUBLISHER_AND_CLEARER, joined, text_of, two_files};
 use certificate::read_cert;
 use commands::{Line, RunLine, STATUS_YES};
 use ir_text::read;
@@ -63,13 +63,8 @@ fn printed_within(
         turns: limits.turns,
         steps: limits.steps,
     });
-    let (functions, certificates, trace) = ([HEAD, functions], [certificates], [trace]);
-    let texts = [
-        functions.as_slice(),
-        certificates.as_slice(),
-        trace.as_slice(),
-    ];
-    let files = files_of(rt.alloc(), texts.as_slice())?;
+    let mut files = two_files(rt.alloc(), functions, certificates)?;
+    files.push(Some(Vec::from_slice(rt.alloc(), trace.as_bytes())?))?;
     Ok(printed_of(rt, &line, files.as_slice()))
 }
 

@@ -30,6 +30,20 @@ pub(crate) fn text_of(alloc: Global, bytes: &[u8]) -> Result<String, AllocError>
     }
 }
 
+/// A file of the head and these functions, and one of this text.
+pub(crate) fn two_files(
+    alloc: Global,
+    functions: &str,
+    text: &str,
+) -> Result<Vec<Option<Vec<u8>>>, AllocError> {
+    let mut files = Vec::new(alloc);
+    let mut of_module = Vec::from_slice(alloc, HEAD.as_bytes())?;
+    of_module.extend_from_slice(functions.as_bytes())?;
+    files.push(Some(of_module))?;
+    files.push(Some(Vec::from_slice(alloc, text.as_bytes())?))?;
+    Ok(files)
+}
+
 /// A file for each of these lists of texts, which stand in it one after the other.
 pub(crate) fn files_of(
     alloc: Global,

@@ -3,7 +3,7 @@ use crate::meeting::Meeting;
 use crate::printed::Printed;
 use crate::row::printed_of;
 use crate::row_failure::RowFailure;
-use crate::texts::{HEAD, files_of};
+use crate::texts::{files_of, two_files};
 use certificate::read_cert;
 use commands::line;
 use ir_text::read;
@@ -97,9 +97,7 @@ fn certificates(alloc: Global) -> Result<String, AllocError> {
 fn many_files(alloc: Global) -> Result<Vec<Option<Vec<u8>>>, AllocError> {
     let functions = functions(alloc)?;
     let certificates = certificates(alloc)?;
-    let (functions, certificates) = ([HEAD, functions.as_str()], [certificates.as_str()]);
-    let texts = [functions.as_slice(), certificates.as_slice()];
-    files_of(alloc, texts.as_slice())
+    two_files(alloc, functions.as_str(), certificates.as_str())
 }
 
 /// Writes a line with what checks of these files by these numbers of workers print.
