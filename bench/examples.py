@@ -5,12 +5,11 @@
                          the same bytes, and exits with 1
 
 The gate runs each row and compares what it prints. So an example that equals a row is one that the program prints.
-Checked are docs/HELP.md, docs/RULES.md, docs/FRONT_ENDS.md, docs/WALKTHROUGH.md, README.md, the files of examples/, and the certificates, edits and
+Checked are docs/HELP.md, docs/FRONT_ENDS.md, docs/WALKTHROUGH.md, README.md, the files of examples/, and the certificates, edits and
 printed lines that stand as blocks in docs/CERTIFICATES.md, docs/EDITS.md, docs/TRACES.md and docs/TEXT.md. Not checked are lines within
-a paragraph, and blocks that show a form.
+a paragraph, and blocks that show a form. Those of docs/RULES.md are made from the rows (bench/rules.py).
 
-docs/RULES.md and docs/FRONT_ENDS.md are written in one form. An example is three blocks: the functions, the certificate, the printed line. After
-it sentences may say what is printed of a changed example, each thing in backquotes:
+docs/FRONT_ENDS.md is written in one form. An example is three blocks: the functions, the certificate, the printed line. After it sentences may say what is printed of a changed example, each thing in backquotes:
 
     With A in place of B the answer is C.           B, which is there once, becomes A
     With A below B the answer is C.                 the line A comes after the line B
@@ -181,8 +180,8 @@ def change_places(rows, where, head, example, text):
     return places
 
 
-def rules_places(rows, page):
-    """docs/RULES.md and docs/FRONT_ENDS.md: their examples, each of three blocks, and the sentences that change them."""
+def worked_places(rows, page):
+    """docs/FRONT_ENDS.md: its examples, each of three blocks, and the sentences that change them."""
     places, head, blocks, example = [], None, [], None
     for number, kind, text in pieces(page) + [(0, "words", "")]:
         where = f"{page}:{number}"
@@ -312,7 +311,7 @@ def form_places(rows, page):
 def main():
     argparse.ArgumentParser(description=__doc__.split("\n")[0]).parse_args()
     rows = read_rows()
-    places = help_places(rows) + rules_places(rows, "docs/RULES.md") + rules_places(rows, "docs/FRONT_ENDS.md")
+    places = help_places(rows) + worked_places(rows, "docs/FRONT_ENDS.md")
     for page in ("docs/WALKTHROUGH.md", "README.md"):
         places += story_places(rows, page)
     places += file_places(rows)

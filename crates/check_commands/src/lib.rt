@@ -1,8 +1,10 @@
-//! The commands `check` and `make`.
+//! The commands `check`, `make` and `explain`.
 #![tactic(auto)]
 
 mod checking;
+mod explaining;
 mod making;
 
 pub use checking::check_files;
+pub use explaining::explain_code;
 pub use making::make_file;

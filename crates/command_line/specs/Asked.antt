@@ -1,11 +1,11 @@
 -- What a command line asks for, and what becomes of an error of `clap`.
-use Rattle.std.specs.Prelude.{◌≤◌, ℕ, List, [], ◌∷◌, Bool, true, false, if◌then◌else◌}
+use Rattle.std.specs.Prelude.{◌≤◌, ℕ, List, [], ◌∷◌, Bool, true, false, Option, option_map, if◌then◌else◌}
 use Rattle.clap.specs.Words.{Text, kind_of}
 use Rattle.clap.specs.declared.error.Error.{Error}
 use Rattle.clap.specs.declared.error.kind.ErrorKind.{ErrorKind}
 use Rattle.clap.specs.declared.error.kind.ErrorKind.TheVariants.{OutOfMemory}
 use Rattle.command_line.specs.declared.asked.Line.{Line}
-use Rattle.command_line.specs.declared.asked.Line.TheVariants.{Check, Make, Recheck, Replay, Soak, Run}
+use Rattle.command_line.specs.declared.asked.Line.TheVariants.{Check, Make, Recheck, Replay, Soak, Run, Explain}
 use Rattle.command_line.specs.declared.asked.LineFault.{LineFault}
 use Rattle.command_line.specs.declared.asked.LineFault.TheVariants.{Memory, Words}
 use Rattle.command_line.specs.declared.asked.Why.{Why}
@@ -27,6 +27,7 @@ pub data Asked : Type 0 where
   replay : (module_path trace_path : Text) → Asked
   soak : (module_path trace_path : Text) (seeds steps : ℕ) → Asked
   run : (module_path certificate_path trace_path : Text) (turns steps : ℕ) → Asked
+  explain : (code : Option Text) → Asked
 
 -- what a line asks for, as plain text and numbers
 abbrev pub asked_by : Line → Asked
@@ -36,6 +37,7 @@ asked_by (Recheck line) = recheck line.module_path.now line.certificate_path.now
 asked_by (Replay line) = replay line.module_path.now line.trace_path.now
 asked_by (Soak line) = soak line.module_path.now line.trace_path.now line.seeds line.steps
 asked_by (Run line) = run line.module_path.now line.certificate_path.now line.trace_path.now line.turns line.steps
+asked_by (Explain line) = explain (option_map (λ code. code.now) line.code)
 
 -- the paths of the command's files, in the line's order
 abbrev pub paths_of : Asked → List Text
@@ -45,6 +47,7 @@ paths_of (recheck module_path certificate_path edits_path) = module_path ∷ cer
 paths_of (replay module_path trace_path) = module_path ∷ trace_path ∷ []
 paths_of (soak module_path trace_path seeds steps) = module_path ∷ trace_path ∷ []
 paths_of (run module_path certificate_path trace_path turns steps) = module_path ∷ certificate_path ∷ trace_path ∷ []
+paths_of (explain code) = []
 
 -- a check has from 1 to 64 workers
 abbrev pub HasWorkers : Asked → Type 0

@@ -6,7 +6,7 @@ use Rattle.std.specs.Str.Parse.{digits_value, without_leading_plus}
 use Rattle.clap.specs.Words.{App, IsAmong, Row, Rule, Text, fault_of, first_of, kind_of, new_app, new_rule, one_of, subcommand_of, with_rule, with_subcommand}
 use Rattle.clap.specs.declared.builder.action.ArgAction.TheVariants.{SetTrue}
 use Rattle.clap.specs.declared.builder.value_parser.ValueParser.TheVariants.{Signed}
-use Rattle.command_line.specs.Asked.{Asked, check, make, recheck, replay, soak, run}
+use Rattle.command_line.specs.Asked.{Asked, check, make, recheck, replay, soak, run, explain}
 use Rattle.command_line.specs.declared.asked.LineFault.{LineFault}
 use Rattle.command_line.specs.declared.asked.LineFault.TheVariants.{Memory, NoCommand, Words}
 use Rattle.command_line.specs.declared.asked.Why.{Why}
@@ -82,6 +82,10 @@ soak_app = with_rule (with_rule (files_app (codes "soak") (codes "TRACE")) (numb
 abbrev pub run_app : App
 run_app = with_rule (with_rule (with_rule (files_app (codes "run") (codes "CERT")) (file_rule (codes "TRACE"))) (limit_rule (codes "turns"))) (limit_rule (codes "steps"))
 
+-- explain [CODE]
+abbrev pub explain_app : App
+explain_app = with_rule (new_app (codes "explain")) (new_rule (codes "CODE"))
+
 -- a command that has a version, and needs a subcommand
 abbrev pub with_version_and_commands : App → App
 with_version_and_commands app = record app { top = record app.top { has_version = true; subcommand_required = true } }
@@ -89,8 +93,8 @@ with_version_and_commands app = record app { top = record app.top { has_version 
 -- the whole grammar
 abbrev pub dgc_app : App
 dgc_app =
-    with_subcommand (with_subcommand (with_subcommand (with_subcommand (with_subcommand (with_subcommand (with_version_and_commands (new_app (codes "dgc"))) check_app.top)
-    make_app.top) recheck_app.top) replay_app.top) soak_app.top) run_app.top
+    with_subcommand (with_subcommand (with_subcommand (with_subcommand (with_subcommand (with_subcommand (with_subcommand (with_version_and_commands (new_app (codes "dgc"))) check_app.top)
+    make_app.top) recheck_app.top) replay_app.top) soak_app.top) run_app.top) explain_app.top
 
 -- the number that a text of decimal digits writes, where it is below 2 to the 32; a plus may come first
 abbrev pub number_in : Text → Option ℕ
@@ -150,6 +154,10 @@ run_of given =
     option_and_then (λ paths. option_and_then (λ trace_path. option_and_then (λ turns. option_map (λ steps. run paths.0 paths.1 trace_path turns steps)
     (number_of (codes "steps") given)) (number_of (codes "turns") given)) (first_of (codes "TRACE") given)) (paths_in (codes "CERT") given)
 
+-- `explain` with what was given to it: a code, or nothing
+abbrev pub explain_of : List Row → Asked
+explain_of given = explain (first_of (codes "CODE") given)
+
 -- what a command's name with what was given to it asks for
 abbrev pub asked_of : Option (Text × List Row) → Option Asked
 asked_of None = None
@@ -160,6 +168,7 @@ asked_of (Some found) =
     else if bytes_eq found.0 (codes "replay") then replay_of found.1
     else if bytes_eq found.0 (codes "soak") then soak_of found.1
     else if bytes_eq found.0 (codes "run") then run_of found.1
+    else if bytes_eq found.0 (codes "explain") then Some (explain_of found.1)
     else None
 
 -- what the words of a command line ask for, the program's own name first

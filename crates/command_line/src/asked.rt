@@ -64,6 +64,12 @@ pub struct RunLine<'a> {
     pub steps: u32,
 }
 
+/// Tell of a code that is printed of a refusal or a fault; without one, list all codes.
+#[derive(Clone, Copy)]
+pub struct ExplainLine<'a> {
+    pub code: Option<&'a str>,
+}
+
 /// A command with the paths of its files and its options.
 #[derive(Clone, Copy)]
 pub enum Line<'a> {
@@ -73,6 +79,7 @@ pub enum Line<'a> {
     Replay(ReplayLine<'a>),
     Soak(SoakLine<'a>),
     Run(RunLine<'a>),
+    Explain(ExplainLine<'a>),
 }
 
 /// Why a command line asks for nothing.
@@ -122,6 +129,7 @@ impl<'a> Line<'a> {
             Line::Run(asked) => {
                 vec![in alloc; asked.module_path, asked.certificate_path, asked.trace_path]?
             }
+            Line::Explain(_) => Vec::new(alloc),
         };
         Ok(paths)
     }

@@ -152,14 +152,26 @@ Exit status:
   4  the command line is refused, a file cannot be read, or a write failed",
 };
 
+pub(crate) const CODE: &str = "A code, as K6; in lower case too. Without it all codes are listed";
+
+pub(crate) const EXPLAIN_ABOUT: &str = "Tells of a code that is printed of a refusal or a fault";
+
+pub(crate) const EXPLAIN_AFTER: &str = "\
+Prints the rule, why the collector or the check needs it, a refused example and an accepted
+one (docs/RULES.md). Or, without a code, prints a line for each code.
+
+Exit status:
+  0  the code was explained, or the codes were listed
+  4  no code is named so, the command line is refused, or a write failed";
+
 pub(crate) const DGC_ABOUT: &str = "\
 Checks code that compilers emit against a concurrent mark-and-sweep garbage collector.
 Also runs that code beside the collector, one atomic step at a time or on real threads.";
 
 pub(crate) const DGC_AFTER: &str = "\
 Exit status:
-  0  yes or sound, a certificate was made, the threads were run, or help or the version was
-     asked for
+  0  yes or sound, a certificate was made, the threads were run, a code was explained, or help
+     or the version was asked for
   1  no, no answer, or broken
   2  a text is not read, the module has no layouts, or a thread may not begin
   3  memory was refused

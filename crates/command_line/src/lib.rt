@@ -6,6 +6,7 @@ mod help;
 mod reader;
 
 pub use asked::{
-    CheckLine, Line, LineFault, MakeLine, RecheckLine, ReplayLine, RunLine, SoakLine, Why,
+    CheckLine, ExplainLine, Line, LineFault, MakeLine, RecheckLine, ReplayLine, RunLine, SoakLine,
+    Why,
 };
 pub use reader::line;

@@ -1,16 +1,18 @@
 //! The grammar of the command line, and how a line is read.
 ghost use Rattle.std.specs.Prelude.{◌≡◌, IfOk, IfErr, IsOk, [], map, option_map, false, codes};
-ghost use Rattle.clap.specs.Words.{app_of, fault_of, first_of, found_of, new_app, rows_of, rule_of, with_rule};
+ghost use Rattle.clap.specs.Words.{app_of, fault_of, first_of, found_of, new_app, new_rule, rows_of, rule_of, with_rule};
 ghost use Rattle.clap.specs.declared.builder.command.Command.TheViews.{out-Command};
 ghost use Rattle.command_line.specs.Asked.{asked_by, HasWorkers};
-ghost use Rattle.command_line.specs.Grammar.{asked_in, asked_of, check_app, check_of, dgc_app, file_rule, files_app, flag_of, flag_rule, IsRefusalOf, limit_rule, make_app, make_of, module_app, number_of, number_rule, paths_in, recheck_app, recheck_of, replay_of, run_app, run_of, soak_app, soak_of, why_of, with_version_and_commands, workers_of, workers_rule};
+ghost use Rattle.command_line.specs.Grammar.{asked_in, asked_of, check_app, check_of, dgc_app, explain_app, explain_of, file_rule, files_app, flag_of, flag_rule, IsRefusalOf, limit_rule, make_app, make_of, module_app, number_of, number_rule, paths_in, recheck_app, recheck_of, replay_of, run_app, run_of, soak_app, soak_of, why_of, with_version_and_commands, workers_of, workers_rule};
 
 use crate::asked::{
-    CheckLine, Line, LineFault, MakeLine, RecheckLine, ReplayLine, RunLine, SoakLine, Why,
+    CheckLine, ExplainLine, Line, LineFault, MakeLine, RecheckLine, ReplayLine, RunLine, SoakLine,
+    Why,
 };
 use crate::help::{
-    CHECK, CommandHelp, DGC_ABOUT, DGC_AFTER, EDITS, MAKE_ABOUT, MAKE_AFTER, MODULE, RECHECK,
-    REPLAY, RUN, RUN_STEPS, RUN_TRACE, SEEDS, SOAK, STEPS, TURNS, WHY, WORKERS,
+    CHECK, CODE, CommandHelp, DGC_ABOUT, DGC_AFTER, EDITS, EXPLAIN_ABOUT, EXPLAIN_AFTER,
+    MAKE_ABOUT, MAKE_AFTER, MODULE, RECHECK, REPLAY, RUN, RUN_STEPS, RUN_TRACE, SEEDS, SOAK, STEPS,
+    TURNS, WHY, WORKERS,
 };
 use clap::{Arg, ArgAction, ArgMatches, Command, value_parser};
 use std::alloc::{AllocError, Global};
@@ -21,6 +23,14 @@ fn file<'a>(alloc: Global, name: &'a str, help: &'a str) -> Arg<'a>
     ensures own { result.global ≡ false }
 {
     Arg::new(alloc, name).required(true).help(help)
+}
+
+/// A word that may be given.
+fn may_be_given<'a>(alloc: Global, name: &'a str, help: &'a str) -> Arg<'a>
+    ensures rule { rule_of result ≡ new_rule name.entry.now }
+    ensures own { result.global ≡ false }
+{
+    Arg::new(alloc, name).help(help)
 }
 
 /// A number that has to be given as the option of this name.
@@ -154,6 +164,15 @@ fn run_command<'a>(alloc: Global) -> Result<Command<'a>, AllocError>
         .arg(limit(alloc, "steps", "S", RUN_STEPS))
 }
 
+fn explain_command<'a>(alloc: Global) -> Result<Command<'a>, AllocError>
+    ensures app { IfOk result (λ command. app_of command ≡ explain_app) }
+    ensures own { IfOk result (λ command. (out-Command command).has_globals ≡ false) }
+{
+    told_command(alloc, "explain", EXPLAIN_ABOUT, EXPLAIN_AFTER).arg(may_be_given(
+        alloc, "CODE", CODE,
+    ))
+}
+
 /// The program's own line, without its commands.
 fn bare_command<'a>(alloc: Global) -> Command<'a>
     ensures app { app_of result ≡ with_version_and_commands (new_app (codes "dgc")) }
@@ -194,7 +213,12 @@ fn dgc_command<'a>(alloc: Global) -> Result<Command<'a>, AllocError>
         drop(command);
         return Err(AllocError);
     };
-    command.subcommand(run)
+    let command = command.subcommand(run)?;
+    let Ok(explain) = explain_command(alloc) else {
+        drop(command);
+        return Err(AllocError);
+    };
+    command.subcommand(explain)
 }
 
 /// The text that was given under this name.
@@ -335,6 +359,15 @@ fn run_line<'a>(given: &ArgMatches<'a>) -> Option<Line<'a>>
     }))
 }
 
+/// The line of `explain`, from what was given to it.
+fn explain_line<'a>(given: &ArgMatches<'a>) -> Line<'a>
+    ensures { asked_by result ≡ explain_of (rows_of (found_of given.now)) }
+{
+    Line::Explain(ExplainLine {
+        code: text_given(given, "CODE"),
+    })
+}
+
 /// The line of a command with what was given to it.
 fn line_of<'a>(name: &str, given: &ArgMatches<'a>) -> Option<Line<'a>>
     ensures { option_map asked_by result ≡ asked_of (Some (name.now, rows_of (found_of given.now))) }
@@ -346,6 +379,7 @@ fn line_of<'a>(name: &str, given: &ArgMatches<'a>) -> Option<Line<'a>>
         "replay" => replay_line(given),
         "soak" => soak_line(given),
         "run" => run_line(given),
+        "explain" => Some(explain_line(given)),
         _ => None,
     }
 }

@@ -1,8 +1,9 @@
 -- What each command says of the files of its line.
 use Rattle.std.specs.Prelude.{ℕ, List, Option}
-use Rattle.command_line.specs.Asked.{Asked, check, make, recheck, replay, soak, run}
+use Rattle.command_line.specs.Asked.{Asked, check, make, recheck, replay, soak, run, explain}
 use Rattle.reports.specs.Said.{Said, OfCertified}
 use Rattle.check_commands.specs.Checks.{OfCerts, OfMake}
+use Rattle.check_commands.specs.Explained.{OfExplain}
 use Rattle.recheck_command.specs.EditedFiles.{OfEditsFile}
 use Rattle.run_commands.specs.TraceRuns.{OfRun, OfRunCerts, OfSeeds, OfTrace}
 
@@ -16,3 +17,4 @@ OfCommand (replay module_path trace_path) file_at = OfRun OfTrace module_path tr
 OfCommand (soak module_path trace_path seeds steps) file_at = OfRun (OfSeeds seeds steps) module_path trace_path (file_at 0) (file_at 1)
 OfCommand (run module_path cert_path trace_path turns steps) file_at =
     OfCertified (OfRunCerts (record { turns = turns; steps = steps }) trace_path (file_at 2)) module_path cert_path (file_at 0) (file_at 1)
+OfCommand (explain code) file_at = OfExplain code

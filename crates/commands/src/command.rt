@@ -5,7 +5,7 @@ ghost use Rattle.commands.specs.Commands.{OfCommand};
 ghost use Rattle.reports.specs.Said.{Says};
 ghost use Rattle.reports.specs.Files as spec;
 
-use check_commands::{check_files, make_file};
+use check_commands::{check_files, explain_code, make_file};
 use command_line::Line;
 use recheck_command::recheck_files;
 use run_commands::{replay_files, run_files, soak_files};
@@ -34,5 +34,6 @@ pub fn work<O: Write, E: Write>(
         Line::Replay(asked) => replay_files(alloc, asked, files, out, err),
         Line::Soak(asked) => soak_files(rt, alloc, asked, files, out, err),
         Line::Run(asked) => run_files(rt, alloc, asked, files, out, err),
+        Line::Explain(asked) => explain_code(asked, out, err),
     }
 }

@@ -17,3 +17,6 @@ returns-in-Soak g c = rw c.in-Soak.is c.soak_files.ensures
 
 pub returns-in-Run : goal.returns-in-Run
 returns-in-Run g c = rw c.in-Run.is c.run_files.ensures
+
+pub returns-in-Explain : goal.returns-in-Explain
+returns-in-Explain g c = rw c.in-Explain.is c.explain_code.ensures

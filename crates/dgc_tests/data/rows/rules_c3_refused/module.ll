@@ -1,0 +1,6 @@
+define void @go() {
+entry:
+  br label %out
+out:
+  ret void
+}

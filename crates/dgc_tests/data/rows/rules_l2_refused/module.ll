@@ -1,0 +1,3 @@
+define i64 @same(i64 %n) {
+entry:
+  ret i64 %n

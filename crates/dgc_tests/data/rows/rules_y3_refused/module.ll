@@ -1,0 +1,5 @@
+%Box = type { i64, i64* }
+define void @idle() {
+entry:
+  ret void
+}

@@ -1,0 +1,172 @@
+//! What is told of the codes C1 to C5. Made by bench/rules.py from crates/explain/codes: do not edit it.
+
+pub(crate) const C1: &str = "\
+C1  A certificate has the form of docs/CERTIFICATES.md, and each fact fits the
+    written type of its value.
+
+The place is the first word, or the end of the line, with which no form goes on.
+Words of a claim have an order: `nonnull` comes before `fresh` and `stale`. A
+tab parts no words. The one fault of a text of edits is C1 too.
+
+Why: A claim is taken as it stands. One that is misread would be checked for
+what its author did not claim.
+
+Refused: `dgc check` prints `error C1 4:19`.
+
+    %Node = type { i64, %Node* }
+    declare i8* @dg_alloc(i32)
+    define void @new() gc \"shadow-stack\" {
+    entry:
+      %a = call i8* @dg_alloc(i32 0)
+      br label %next
+    next:
+      ret void
+    }
+
+    cert 1
+    function @new none
+    block %next
+    %a ref Node fresh nonnull
+    end
+
+Accepted, with the same module: `dgc check` prints `yes 1`.
+
+    cert 1
+    function @new none
+    block %next
+    %a ref Node fresh
+    end
+
+See also: docs/CERTIFICATES.md, docs/EDITS.md
+";
+
+pub(crate) const C2: &str = "\
+C2  The first line of a certificate says the version of its format.
+
+The place is that of the number.
+
+Why: Another version may give the same words another meaning.
+
+Refused: `dgc check` prints `error C2 1:6`.
+
+    define void @go() {
+    entry:
+      br label %out
+    out:
+      ret void
+    }
+
+    cert 3
+    function @go none
+    block %out
+    end
+
+Accepted, with the same module: `dgc check` prints `yes 1`.
+
+    cert 1
+    function @go none
+    block %out
+    end
+
+See also: docs/CERTIFICATES.md
+";
+
+pub(crate) const C3: &str = "\
+C3  A certificate names what is in the module, in the function, or at the block.
+
+A `slot` is a root slot. A name after `same`, `holds` or `addr` is listed at the
+same block, or is a global. A section is of a function that the module defines.
+
+Why: A claim about nothing could not be checked. It is most often a name that
+was changed in the module alone.
+
+Refused: `dgc check` prints `error C3 3:7`.
+
+    define void @go() {
+    entry:
+      br label %out
+    out:
+      ret void
+    }
+
+    cert 1
+    function @go none
+    block %our
+    end
+
+Accepted, with the same module: `dgc check` prints `yes 1`.
+
+    cert 1
+    function @go none
+    block %out
+    end
+
+See also: C5 (what the certificate lacks)
+";
+
+pub(crate) const C4: &str = "\
+C4  Each function, block, value, slot and fact is listed once.
+
+The place is that of the second one.
+
+Why: Two lists would not say which of them is meant.
+
+Refused: `dgc check` prints `error C4 5:1`.
+
+    define i64 @later(i64 %k) {
+    entry:
+      br label %next
+    next:
+      ret i64 %k
+    }
+
+    cert 1
+    function @later none
+    block %next
+    %k i64
+    %k i64 below 9
+    end
+
+Accepted, with the same module: `dgc check` prints `yes 1`.
+
+    cert 1
+    function @later none
+    block %next
+    %k i64
+    end
+
+See also: docs/CERTIFICATES.md
+";
+
+pub(crate) const C5: &str = "\
+C5  Each defined function has a section, and in it each block but the entry one.
+
+The function is printed, and the block if its section is there. A block at which
+nothing is claimed has a line of its own too. It is looked for only in a text
+without another fault.
+
+Why: The check begins each block with what is claimed there. A missing section
+is most often a function or a block that the certificate's author does not know.
+
+Refused: `dgc check` prints `error C5 @go %out`.
+
+    define void @go() {
+    entry:
+      br label %out
+    out:
+      ret void
+    }
+
+    cert 1
+    function @go none
+    end
+
+Accepted, with the same module: `dgc check` prints `yes 1`.
+
+    cert 1
+    function @go none
+    block %out
+    end
+
+See also: K15 (claims on edges), docs/CERTIFICATES.md
+";

@@ -1,0 +1,218 @@
+//! The codes that are printed of refusals and faults.
+ghost use Rattle.std.specs.Prelude.{◌≡◌};
+ghost use Rattle.std.specs.Array.Iter.{array_into_iter_items};
+ghost use Rattle.explain.specs.Codes.{all_codes, code_named, name_of, text_of};
+
+use crate::{
+    certificate_texts, layout_texts, module_texts, rule_texts_from_1, rule_texts_from_11,
+    trace_texts,
+};
+use std::array;
+
+/// A code that is printed of a refusal or a fault.
+#[derive(Clone, Copy)]
+pub enum Code {
+    K1,
+    K2,
+    K3,
+    K4,
+    K5,
+    K6,
+    K7,
+    K8,
+    K9,
+    K10,
+    K11,
+    K12,
+    K13,
+    K14,
+    K15,
+    K16,
+    K17,
+    K18,
+    K19,
+    K20,
+    L1,
+    L2,
+    L3,
+    L4,
+    L5,
+    L6,
+    L7,
+    L8,
+    L9,
+    C1,
+    C2,
+    C3,
+    C4,
+    C5,
+    Y1,
+    Y2,
+    Y3,
+    Y4,
+    P1,
+    P2,
+    P3,
+}
+
+impl Code {
+    /// All codes.
+    fn all() -> array::IntoIter<Code, 41>
+        ensures { array_into_iter_items result ≡ all_codes }
+    {
+        [
+            Code::K1,
+            Code::K2,
+            Code::K3,
+            Code::K4,
+            Code::K5,
+            Code::K6,
+            Code::K7,
+            Code::K8,
+            Code::K9,
+            Code::K10,
+            Code::K11,
+            Code::K12,
+            Code::K13,
+            Code::K14,
+            Code::K15,
+            Code::K16,
+            Code::K17,
+            Code::K18,
+            Code::K19,
+            Code::K20,
+            Code::L1,
+            Code::L2,
+            Code::L3,
+            Code::L4,
+            Code::L5,
+            Code::L6,
+            Code::L7,
+            Code::L8,
+            Code::L9,
+            Code::C1,
+            Code::C2,
+            Code::C3,
+            Code::C4,
+            Code::C5,
+            Code::Y1,
+            Code::Y2,
+            Code::Y3,
+            Code::Y4,
+            Code::P1,
+            Code::P2,
+            Code::P3,
+        ]
+        .into_iter()
+    }
+
+    /// The code as it is printed.
+    pub fn name(self) -> &'static str
+        ensures { result.now ≡ name_of self }
+    {
+        match self {
+            Code::K1 => "K1",
+            Code::K2 => "K2",
+            Code::K3 => "K3",
+            Code::K4 => "K4",
+            Code::K5 => "K5",
+            Code::K6 => "K6",
+            Code::K7 => "K7",
+            Code::K8 => "K8",
+            Code::K9 => "K9",
+            Code::K10 => "K10",
+            Code::K11 => "K11",
+            Code::K12 => "K12",
+            Code::K13 => "K13",
+            Code::K14 => "K14",
+            Code::K15 => "K15",
+            Code::K16 => "K16",
+            Code::K17 => "K17",
+            Code::K18 => "K18",
+            Code::K19 => "K19",
+            Code::K20 => "K20",
+            Code::L1 => "L1",
+            Code::L2 => "L2",
+            Code::L3 => "L3",
+            Code::L4 => "L4",
+            Code::L5 => "L5",
+            Code::L6 => "L6",
+            Code::L7 => "L7",
+            Code::L8 => "L8",
+            Code::L9 => "L9",
+            Code::C1 => "C1",
+            Code::C2 => "C2",
+            Code::C3 => "C3",
+            Code::C4 => "C4",
+            Code::C5 => "C5",
+            Code::Y1 => "Y1",
+            Code::Y2 => "Y2",
+            Code::Y3 => "Y3",
+            Code::Y4 => "Y4",
+            Code::P1 => "P1",
+            Code::P2 => "P2",
+            Code::P3 => "P3",
+        }
+    }
+
+    /// The page of text about the code.
+    pub fn text(self) -> &'static str
+        ensures { result.now ≡ text_of self }
+    {
+        match self {
+            Code::K1 => rule_texts_from_1::K1,
+            Code::K2 => rule_texts_from_1::K2,
+            Code::K3 => rule_texts_from_1::K3,
+            Code::K4 => rule_texts_from_1::K4,
+            Code::K5 => rule_texts_from_1::K5,
+            Code::K6 => rule_texts_from_1::K6,
+            Code::K7 => rule_texts_from_1::K7,
+            Code::K8 => rule_texts_from_1::K8,
+            Code::K9 => rule_texts_from_1::K9,
+            Code::K10 => rule_texts_from_1::K10,
+            Code::K11 => rule_texts_from_11::K11,
+            Code::K12 => rule_texts_from_11::K12,
+            Code::K13 => rule_texts_from_11::K13,
+            Code::K14 => rule_texts_from_11::K14,
+            Code::K15 => rule_texts_from_11::K15,
+            Code::K16 => rule_texts_from_11::K16,
+            Code::K17 => rule_texts_from_11::K17,
+            Code::K18 => rule_texts_from_11::K18,
+            Code::K19 => rule_texts_from_11::K19,
+            Code::K20 => rule_texts_from_11::K20,
+            Code::L1 => module_texts::L1,
+            Code::L2 => module_texts::L2,
+            Code::L3 => module_texts::L3,
+            Code::L4 => module_texts::L4,
+            Code::L5 => module_texts::L5,
+            Code::L6 => module_texts::L6,
+            Code::L7 => module_texts::L7,
+            Code::L8 => module_texts::L8,
+            Code::L9 => module_texts::L9,
+            Code::C1 => certificate_texts::C1,
+            Code::C2 => certificate_texts::C2,
+            Code::C3 => certificate_texts::C3,
+            Code::C4 => certificate_texts::C4,
+            Code::C5 => certificate_texts::C5,
+            Code::Y1 => layout_texts::Y1,
+            Code::Y2 => layout_texts::Y2,
+            Code::Y3 => layout_texts::Y3,
+            Code::Y4 => layout_texts::Y4,
+            Code::P1 => trace_texts::P1,
+            Code::P2 => trace_texts::P2,
+            Code::P3 => trace_texts::P3,
+        }
+    }
+
+    /// The code of this name, in upper or lower case.
+    pub fn named(name: &str) -> Option<Code>
+        ensures { result ≡ code_named name.now }
+    {
+        for code in Code::all() {
+            if code.name().eq_ignore_ascii_case(name) {
+                return Some(code);
+            }
+        }
+        None
+    }
+}

@@ -1,0 +1,429 @@
+//! What is told of the codes K1 to K10. Made by bench/rules.py from crates/explain/codes: do not edit it.
+
+pub(crate) const K1: &str = "\
+K1  Each operand is available where it is used.
+
+A value is known to be a number, a reference, or the address of words of a cell
+to which an available reference leads. In a block that is entered from others it
+is known by the claims of the certificate at that block. Slots, globals and
+constants are available everywhere.
+
+Why: Otherwise a register could be used that was never set on the way taken, or
+that two edges into the block set to different kinds of values.
+
+Refused: `dgc check` prints `no @later %next 0 K1`.
+
+    define i64 @later(i64 %k) {
+    entry:
+      br label %next
+    next:
+      ret i64 %k
+    }
+
+    cert 1
+    function @later none
+    block %next
+    end
+
+Accepted, with the same module: `dgc check` prints `yes 1`.
+
+    cert 1
+    function @later none
+    block %next
+    %k i64
+    end
+
+See also: K15 (claims on edges), docs/CERTIFICATES.md
+";
+
+pub(crate) const K2: &str = "\
+K2  Each operand has its written type, and fits.
+
+A number is one of its bits. A reference goes where its layout fits. A load or a
+store has the type of each word at which it may be. An address is allowed only
+as the place of a load, a store, gcread or gcwrite, or as the operand of
+getelementptr or bitcast. A global is the address of its word, so its value has
+to be loaded.
+
+Why: What the collector follows as a reference has to be one, and a cell's words
+have to be those of its layout. An address is no reference that could be kept:
+neither a slot nor a word could hold it.
+
+Refused: `dgc check` prints `no @empty %entry 0 K2`.
+
+    %Node = type { i64, %Node* }
+    @g = global %Node* null
+    define i1 @empty() {
+    entry:
+      %c = icmp eq %Node** @g, null
+      ret i1 %c
+    }
+
+    cert 1
+    function @empty none
+    end
+
+Accepted, with the same certificate: `dgc check` prints `yes 1`.
+
+    %Node = type { i64, %Node* }
+    @g = global %Node* null
+    define i1 @empty() gc \"shadow-stack\" {
+    entry:
+      %x = load %Node*, %Node** @g
+      %c = icmp eq %Node* %x, null
+      ret i1 %c
+    }
+
+See also: K10 (slots), K19 (bitcasts)
+";
+
+pub(crate) const K3: &str = "\
+K3  No reference is used that became stale at a safepoint.
+
+At a call that may reach a safepoint every reference in a register becomes
+stale, but for one that is known to be null. So does the base of an address.
+What is used after it is loaded again from a root slot, a global or a word.
+
+Why: The collector may have freed the cell in the meantime. It knows the root
+slots, and no register.
+
+Refused: `dgc check` prints `no @read %entry 1 K3`.
+
+    %Node = type { i64, %Node* }
+    declare void @dg_safepoint()
+    define i64 @read(%Node* %n) gc \"shadow-stack\" {
+    entry:
+      call void @dg_safepoint()
+      %p = getelementptr %Node, %Node* %n, i32 0, i32 0
+      %v = load i64, i64* %p
+      ret i64 %v
+    }
+
+    cert 1
+    function @read may
+    param %n nonnull
+    end
+
+Accepted, with the same certificate: `dgc check` prints `yes 1`.
+
+    %Node = type { i64, %Node* }
+    declare void @dg_safepoint()
+    declare void @llvm.gcroot(i8**, i8*)
+    define i64 @read(%Node* %n) gc \"shadow-stack\" {
+    entry:
+      %s = alloca %Node*
+      %r = bitcast %Node** %s to i8**
+      call void @llvm.gcroot(i8** %r, i8* null)
+      store %Node* %n, %Node** %s
+      call void @dg_safepoint()
+      %m = load %Node*, %Node** %s
+      %p = getelementptr %Node, %Node* %m, i32 0, i32 0
+      %v = load i64, i64* %p
+      ret i64 %v
+    }
+
+See also: K8 (root slots), K17 (which calls reach a safepoint),
+docs/WALKTHROUGH.md
+";
+
+pub(crate) const K4: &str = "\
+K4  The base of a place is not null.
+
+That a reference is not null is promised of a parameter (`nonnull`), claimed at
+a block, or learnt from an `icmp` with null on the edge that a `br` takes.
+
+Why: Null has no words. dg_alloc gives null where it finds no free cell, and
+each word of a new cell is null.
+
+Refused: `dgc check` prints `no @second %entry 1 K4`.
+
+    %Node = type { i64, %Node* }
+    define %Node* @second(%Node* %n) gc \"shadow-stack\" {
+    entry:
+      %f = getelementptr %Node, %Node* %n, i32 0, i32 1
+      %x = load %Node*, %Node** %f
+      ret %Node* %x
+    }
+
+    cert 1
+    function @second none
+    end
+
+Accepted: `dgc check` prints `yes 1`.
+
+    %Node = type { i64, %Node* }
+    define %Node* @second(%Node* %n) gc \"shadow-stack\" {
+    entry:
+      %c = icmp eq %Node* %n, null
+      br i1 %c, label %none, label %some
+    none:
+      ret %Node* null
+    some:
+      %f = getelementptr %Node, %Node* %n, i32 0, i32 1
+      %x = load %Node*, %Node** %f
+      ret %Node* %x
+    }
+
+    cert 1
+    function @second none
+    block %none
+    block %some
+    %n ref Node nonnull
+    end
+
+See also: K13 (promises of parameters), docs/FRONT_ENDS.md
+";
+
+pub(crate) const K5: &str = "\
+K5  A getelementptr leads to words of the layout.
+
+The first index is the constant 0, and another one comes after it. An index into
+a struct is one of its fields. An index into an array is a constant below its
+length, or a register that is known to be below a number that is at most the
+length. A global has one word. The result of one on null may not be used (K1).
+
+Why: A word outside the cell would be another cell's. What is put there by one
+type could be read by another, and the collector would follow it.
+
+Refused: `dgc check` prints `no @third %entry 0 K5`.
+
+    %Node = type { i64, %Node* }
+    define i64 @third(%Node* %n) gc \"shadow-stack\" {
+    entry:
+      %p = getelementptr %Node, %Node* %n, i32 0, i32 2
+      %v = load i64, i64* %p
+      ret i64 %v
+    }
+
+    cert 1
+    function @third none
+    param %n nonnull
+    end
+
+Accepted, with the same certificate: `dgc check` prints `yes 1`.
+
+    %Node = type { i64, %Node* }
+    define i64 @third(%Node* %n) gc \"shadow-stack\" {
+    entry:
+      %p = getelementptr %Node, %Node* %n, i32 0, i32 0
+      %v = load i64, i64* %p
+      ret i64 %v
+    }
+
+See also: `below` in docs/CERTIFICATES.md, docs/FRONT_ENDS.md
+";
+
+pub(crate) const K6: &str = "\
+K6  A reference is stored without a barrier only into a slot or a fresh cell.
+
+A cell is fresh from dg_alloc on while nothing else leads to it: no word holds
+it, it was passed to no function, it took part in no phi or select, and no
+safepoint came. A global is never fresh. Null is stored by the same rule, since
+it overwrites too.
+
+Why: While the collector looks for what is reached, a plain store may overwrite
+the last reference to a cell that it has not found yet, or put one where it has
+looked already. That cell would be freed though a thread still holds it. gcwrite
+marks the cell whose reference it overwrites and, while a cycle begins, the one
+that it stores.
+
+Refused: `dgc check` prints `no @cut %entry 1 K6`.
+
+    %Node = type { i64, %Node* }
+    define void @cut(%Node* %n) gc \"shadow-stack\" {
+    entry:
+      %f = getelementptr %Node, %Node* %n, i32 0, i32 1
+      store %Node* null, %Node** %f
+      ret void
+    }
+
+    cert 1
+    function @cut none
+    param %n nonnull
+    end
+
+Accepted, with the same certificate: `dgc check` prints `yes 1`.
+
+    %Node = type { i64, %Node* }
+    declare void @llvm.gcwrite(i8*, i8*, i8**)
+    define void @cut(%Node* %n) gc \"shadow-stack\" {
+    entry:
+      %f = getelementptr %Node, %Node* %n, i32 0, i32 1
+      %p = bitcast %Node** %f to i8**
+      call void @llvm.gcwrite(i8* null, i8* null, i8** %p)
+      ret void
+    }
+
+See also: K7 (the object of a barrier), docs/COLLECTOR.md
+";
+
+pub(crate) const K7: &str = "\
+K7  The object that gcread and gcwrite name is null, or the cell that has the
+    place.
+
+It is known to be so where the object is the same reference as the base of the
+place. A global is in no object, so its object is null.
+
+Why: A barrier may look at the object in place of the word, so another object
+would mislead it.
+
+Refused: `dgc check` prints `no @next %entry 3 K7`.
+
+    %Node = type { i64, %Node* }
+    declare i8* @llvm.gcread(i8*, i8**)
+    define i8* @next(%Node* %n, %Node* %other) gc \"shadow-stack\" {
+    entry:
+      %f = getelementptr %Node, %Node* %n, i32 0, i32 1
+      %q = bitcast %Node** %f to i8**
+      %o = bitcast %Node* %other to i8*
+      %r = call i8* @llvm.gcread(i8* %o, i8** %q)
+      ret i8* %r
+    }
+
+    cert 1
+    function @next none
+    param %n nonnull
+    result ref Node
+    end
+
+Accepted, with the same certificate: `dgc check` prints `yes 1`.
+
+    %Node = type { i64, %Node* }
+    declare i8* @llvm.gcread(i8*, i8**)
+    define i8* @next(%Node* %n, %Node* %other) gc \"shadow-stack\" {
+    entry:
+      %f = getelementptr %Node, %Node* %n, i32 0, i32 1
+      %q = bitcast %Node** %f to i8**
+      %o = bitcast %Node* %n to i8*
+      %r = call i8* @llvm.gcread(i8* %o, i8** %q)
+      ret i8* %r
+    }
+
+See also: K6 (where a barrier is needed)
+";
+
+pub(crate) const K8: &str = "\
+K8  An alloca holds an integer, or is a root slot.
+
+Slots of `i8*` are refused too: the text does not say the layout of what they
+hold. A slot is refused at its alloca, also where a load before it names it.
+
+Why: A slot that no gcroot names is not seen by the collector. What it holds
+could be freed.
+
+Refused: `dgc check` prints `no @keep %entry 0 K8`.
+
+    %Node = type { i64, %Node* }
+    define void @keep(%Node* %n) gc \"shadow-stack\" {
+    entry:
+      %s = alloca %Node*
+      store %Node* %n, %Node** %s
+      ret void
+    }
+
+    cert 1
+    function @keep none
+    end
+
+Accepted, with the same certificate: `dgc check` prints `yes 1`.
+
+    %Node = type { i64, %Node* }
+    declare void @llvm.gcroot(i8**, i8*)
+    define void @keep(%Node* %n) gc \"shadow-stack\" {
+    entry:
+      %s = alloca %Node*
+      %r = bitcast %Node** %s to i8**
+      call void @llvm.gcroot(i8** %r, i8* null)
+      store %Node* %n, %Node** %s
+      ret void
+    }
+
+See also: K9 (where a gcroot stands)
+";
+
+pub(crate) const K9: &str = "\
+K9  A gcroot is in the head of the entry block, names a slot of references that
+    no gcroot named before, and its metadata is null.
+
+The head is the front of the block that has only allocas, bitcasts of slots,
+gcroots, and stores of constants and parameters into slots.
+
+Why: Each slot is a root before anything happens that the collector sees, and
+the roots of a frame are the same all along.
+
+Refused: `dgc check` prints `no @late %entry 3 K9`.
+
+    %Node = type { i64, %Node* }
+    declare i8* @dg_alloc(i32)
+    declare void @llvm.gcroot(i8**, i8*)
+    define void @late() gc \"shadow-stack\" {
+    entry:
+      %s = alloca %Node*
+      %r = bitcast %Node** %s to i8**
+      %a = call i8* @dg_alloc(i32 0)
+      call void @llvm.gcroot(i8** %r, i8* null)
+      ret void
+    }
+
+    cert 1
+    function @late none
+    end
+
+Accepted, with the same certificate: `dgc check` prints `yes 1`.
+
+    %Node = type { i64, %Node* }
+    declare i8* @dg_alloc(i32)
+    declare void @llvm.gcroot(i8**, i8*)
+    define void @late() gc \"shadow-stack\" {
+    entry:
+      %s = alloca %Node*
+      %r = bitcast %Node** %s to i8**
+      call void @llvm.gcroot(i8** %r, i8* null)
+      %a = call i8* @dg_alloc(i32 0)
+      ret void
+    }
+
+See also: K8 (which slots need a gcroot), K11 (where an alloca stands)
+";
+
+pub(crate) const K10: &str = "\
+K10  A slot is only the place of a load or a store, the argument of gcroot, and
+     the operand of a bitcast.
+
+Why: A slot is the thread's own, and no cell. The barriers are for cells, and
+the address of a slot may go nowhere.
+
+Refused: `dgc check` prints `no @top %entry 3 K10`.
+
+    %Node = type { i64, %Node* }
+    declare void @llvm.gcroot(i8**, i8*)
+    declare i8* @llvm.gcread(i8*, i8**)
+    define i8* @top() gc \"shadow-stack\" {
+    entry:
+      %s = alloca %Node*
+      %r = bitcast %Node** %s to i8**
+      call void @llvm.gcroot(i8** %r, i8* null)
+      %x = call i8* @llvm.gcread(i8* null, i8** %r)
+      ret i8* %x
+    }
+
+    cert 1
+    function @top none
+    result ref Node
+    end
+
+Accepted, with the same certificate: `dgc check` prints `yes 1`.
+
+    %Node = type { i64, %Node* }
+    declare void @llvm.gcroot(i8**, i8*)
+    define i8* @top() gc \"shadow-stack\" {
+    entry:
+      %s = alloca %Node*
+      %r = bitcast %Node** %s to i8**
+      call void @llvm.gcroot(i8** %r, i8* null)
+      %x = load i8*, i8** %r
+      ret i8* %x
+    }
+
+See also: K6 (slots need no barrier)
+";

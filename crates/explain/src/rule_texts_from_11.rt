@@ -1,0 +1,403 @@
+//! What is told of the codes K11 to K20. Made by bench/rules.py from crates/explain/codes: do not edit it.
+
+pub(crate) const K11: &str = "\
+K11  Each alloca is in the entry block.
+
+Why: The slots of a frame are fixed when the frame is made, so the collector
+finds the same ones at each safepoint.
+
+Refused: `dgc check` prints `no @deep %next 0 K11`.
+
+    define void @deep() {
+    entry:
+      br label %next
+    next:
+      %s = alloca i64
+      ret void
+    }
+
+    cert 1
+    function @deep none
+    block %next
+    end
+
+Accepted, with the same certificate: `dgc check` prints `yes 1`.
+
+    define void @deep() {
+    entry:
+      %s = alloca i64
+      br label %next
+    next:
+      ret void
+    }
+
+See also: K9 (the head of the entry block)
+";
+
+pub(crate) const K12: &str = "\
+K12  A function that moves references has a shadow stack.
+
+One that takes, returns, loads, stores, chooses or passes a reference is written
+with `gc \"shadow-stack\"`. The first instruction of the function is named.
+
+Why: The collector finds the root slots of a frame through the shadow stack.
+Without one they would not be handed over.
+
+Refused: `dgc check` prints `no @one %entry 0 K12`.
+
+    %Node = type { i64, %Node* }
+    define void @one(%Node* %n) {
+    entry:
+      ret void
+    }
+
+    cert 1
+    function @one none
+    end
+
+Accepted, with the same certificate: `dgc check` prints `yes 1`.
+
+    %Node = type { i64, %Node* }
+    define void @one(%Node* %n) gc \"shadow-stack\" {
+    entry:
+      ret void
+    }
+
+See also: K8 (root slots)
+";
+
+pub(crate) const K13: &str = "\
+K13  What is promised of a parameter is known of the argument.
+
+It is also asked of the arguments with which a thread starts (`dgc replay`,
+`soak` and `run`).
+
+Why: A function is checked with its `param` lines as facts, so each caller has
+to keep them.
+
+Refused: `dgc check` prints `no @of %entry 0 K13`.
+
+    %Node = type { i64, %Node* }
+    define i64 @value(%Node* %n) gc \"shadow-stack\" {
+    entry:
+      %p = getelementptr %Node, %Node* %n, i32 0, i32 0
+      %v = load i64, i64* %p
+      ret i64 %v
+    }
+    define i64 @of(%Node* %n) gc \"shadow-stack\" {
+    entry:
+      %v = call i64 @value(%Node* %n)
+      ret i64 %v
+    }
+
+    cert 1
+    function @value none
+    param %n nonnull
+    end
+    function @of none
+    end
+
+Accepted, with the same module: `dgc check` prints `yes 2`.
+
+    cert 1
+    function @value none
+    param %n nonnull
+    end
+    function @of none
+    param %n nonnull
+    end
+
+See also: K14 (promises of results), docs/CERTIFICATES.md
+";
+
+pub(crate) const K14: &str = "\
+K14  What is promised of the result is known where the function returns.
+
+Why: Callers go on with the `result` line as a fact. Here dg_alloc gives null
+where each of its tries found no free cell.
+
+Refused: `dgc check` prints `no @make %entry 2 K14`.
+
+    %Node = type { i64, %Node* }
+    declare i8* @dg_alloc(i32)
+    define %Node* @make() gc \"shadow-stack\" {
+    entry:
+      %a = call i8* @dg_alloc(i32 0)
+      %x = bitcast i8* %a to %Node*
+      ret %Node* %x
+    }
+
+    cert 1
+    function @make none
+    result nonnull
+    end
+
+Accepted, with the same module: `dgc check` prints `yes 1`.
+
+    cert 1
+    function @make none
+    end
+
+See also: K13 (promises of parameters), K4 (null)
+";
+
+pub(crate) const K15: &str = "\
+K15  Each claim at a block is implied on each edge into it.
+
+After the rule the target and its claim are printed. A claim may be weaker than
+what is known at the end of the edge. Where a safepoint came before the edge, a
+reference that was in a register there is stale: load it again from its root
+slot, or claim that it is `stale`. In the example the loop goes on with a node
+that may be null.
+
+Why: The block is checked with its claims alone, so whoever enters it has to
+imply them.
+
+Refused: `dgc check` prints `no @walk %loop 4 K15 %loop %p ref Node nonnull`.
+
+    %Node = type { i64, %Node* }
+    define i64 @walk(%Node* %n, i64 %k) gc \"shadow-stack\" {
+    entry:
+      br label %loop
+    loop:
+      %p = phi %Node* [ %n, %entry ], [ %q, %loop ]
+      %f = getelementptr %Node, %Node* %p, i32 0, i32 1
+      %q = load %Node*, %Node** %f
+      %c = icmp eq i64 %k, 0
+      br i1 %c, label %out, label %loop
+    out:
+      ret i64 0
+    }
+
+    cert 1
+    function @walk none
+    param %n nonnull
+    block %loop
+    %p ref Node nonnull
+    %k i64
+    block %out
+    end
+
+Accepted, with the same certificate: `dgc check` prints `yes 1`.
+
+    %Node = type { i64, %Node* }
+    define i64 @walk(%Node* %n, i64 %k) gc \"shadow-stack\" {
+    entry:
+      br label %loop
+    loop:
+      %p = phi %Node* [ %n, %entry ], [ %q, %loop ]
+      %f = getelementptr %Node, %Node* %p, i32 0, i32 1
+      %q = load %Node*, %Node** %f
+      %c = icmp eq %Node* %q, null
+      br i1 %c, label %out, label %loop
+    out:
+      ret i64 0
+    }
+
+See also: K3 (stale references), what each claim says in docs/CERTIFICATES.md
+";
+
+pub(crate) const K16: &str = "\
+K16  A phi has an entry for each block from which its own is entered, and for no
+     other.
+
+Where a block is named twice, the two entries are the same. In the example no
+branch leads from `%two` to itself.
+
+Why: Otherwise the phi would take a value that nobody gave.
+
+Refused: `dgc check` prints `no @choose %two 0 K16`.
+
+    define i64 @choose(i1 %c) {
+    entry:
+      br i1 %c, label %one, label %two
+    one:
+      br label %two
+    two:
+      %v = phi i64 [ 1, %one ], [ 2, %entry ], [ 3, %two ]
+      ret i64 %v
+    }
+
+    cert 1
+    function @choose none
+    param %c below 2
+    block %one
+    block %two
+    %v i64
+    end
+
+Accepted, with the same certificate: `dgc check` prints `yes 1`.
+
+    define i64 @choose(i1 %c) {
+    entry:
+      br i1 %c, label %one, label %two
+    one:
+      br label %two
+    two:
+      %v = phi i64 [ 1, %one ], [ 2, %entry ]
+      ret i64 %v
+    }
+
+See also: K15 (claims on edges)
+";
+
+pub(crate) const K17: &str = "\
+K17  A function that is marked `none` reaches no safepoint.
+
+It calls neither dg_safepoint nor a function that is marked `may`. dg_alloc is
+no safepoint.
+
+Why: A caller keeps its references in registers over such a call, where the
+collector does not see them.
+
+Refused: `dgc check` prints `no @wait %entry 0 K17`.
+
+    declare void @dg_safepoint()
+    define void @wait() {
+    entry:
+      call void @dg_safepoint()
+      ret void
+    }
+
+    cert 1
+    function @wait none
+    end
+
+Accepted, with the same module: `dgc check` prints `yes 1`.
+
+    cert 1
+    function @wait may
+    end
+
+See also: K3 (what becomes of registers at a safepoint)
+";
+
+pub(crate) const K18: &str = "\
+K18  A call is of a function that the module defines, or of one of the runtime's
+     five, with its arguments.
+
+The runtime's functions are dg_alloc, dg_safepoint and the intrinsics gcroot,
+gcread and gcwrite. Each has to be declared with its own types. A call with
+another number of arguments is refused too. In such a call gcroot may still name
+a slot, and gcread and gcwrite an address, so that K18 is what is told.
+
+Why: Of any other function nothing is known: it could reach a safepoint, keep a
+reference, or store one without a barrier.
+
+Refused: `dgc check` prints `no @ask %entry 0 K18`.
+
+    declare void @other()
+    define void @ask() {
+    entry:
+      call void @other()
+      ret void
+    }
+
+    cert 1
+    function @ask none
+    end
+
+Accepted: `dgc check` prints `yes 2`.
+
+    define void @other() {
+    entry:
+      ret void
+    }
+    define void @ask() {
+    entry:
+      call void @other()
+      ret void
+    }
+
+    cert 1
+    function @other none
+    end
+    function @ask none
+    end
+
+See also: docs/FRONT_ENDS.md (the five declarations)
+";
+
+pub(crate) const K19: &str = "\
+K19  A bitcast leads to the same type, or to one of the same layout.
+
+`%L*` and `i8*` are references to a cell of L, and `%L**` and `i8**` are places
+of such references. The same holds of a global that is used under another type,
+`bitcast (%Node** @g to i8**)`.
+
+Why: By another type a word would be taken for what it is not, and the collector
+would follow a number, or miss a reference.
+
+Refused: `dgc check` prints `no @as_pair %entry 0 K19`.
+
+    %Node = type { i64, %Node* }
+    %Pair = type { i64, i64 }
+    define i64 @as_pair(%Node* %n) gc \"shadow-stack\" {
+    entry:
+      %x = bitcast %Node* %n to %Pair*
+      %p = getelementptr %Pair, %Pair* %x, i32 0, i32 1
+      %v = load i64, i64* %p
+      ret i64 %v
+    }
+
+    cert 1
+    function @as_pair none
+    param %n nonnull
+    end
+
+Accepted: `dgc check` prints `yes 1`.
+
+    %Node = type { i64, %Node* }
+    define i8* @as_any(%Node* %n) gc \"shadow-stack\" {
+    entry:
+      %x = bitcast %Node* %n to i8*
+      ret i8* %x
+    }
+
+    cert 1
+    function @as_any none
+    result ref Node
+    end
+
+See also: K2 (types of operands)
+";
+
+pub(crate) const K20: &str = "\
+K20  A thread starts at a function that takes no reference.
+
+This is asked where a thread is started: by `dgc replay`, `soak` and `run`. `dgc
+check` never prints it.
+
+Why: A thread has no reference before it starts. One that it was given would be
+in no slot, so the collector would not see it.
+
+Refused: `dgc replay` prints `error K20 t 0`.
+
+    %Node = type { i64, %Node* }
+    define void @begin(%Node* %n) gc \"shadow-stack\" {
+    entry:
+      ret void
+    }
+
+    trace 1
+    start @begin
+    steps
+    t 0 1
+    end
+
+Accepted: `dgc replay` begins with `sound 1`.
+
+    %Node = type { i64, %Node* }
+    define void @begin(i64 %n) gc \"shadow-stack\" {
+    entry:
+      ret void
+    }
+
+    trace 1
+    start @begin 7
+    steps
+    t 0 1
+    end
+
+See also: K13 (arguments of a start), docs/TRACES.md
+";
