@@ -37,6 +37,39 @@ COMMANDS = {
     "soak": f"soak --seeds 3 --steps 50 {SAFE}",
     "run": f"run {SWAP}/barrier.ll {SWAP}/swap.cert {SWAP}/two.trace --steps 50 --turns 1000",
 }
+# modules that are accepted, one that is refused, and rows with edits of one module
+ACCEPTED = {"four": "four", "six": "six", "leaf": "edit_of_code"}
+REFUSED = "registers_over_a_safepoint"
+EDITS = ["edit_of_code", "edit_reaches_a_safepoint", "edit_calls_a_later_function", "edit_with_two_functions", "edit_mentions_a_new_type",
+         "edit_of_an_unknown_function", "edit_refused_by_its_section", "edit_of_code_with_other_blocks", "edit_with_two_faults",
+         "edit_of_code_and_section"]
+
+
+def on_each_module(folder):
+    """Each command on each of a few modules, with edits and traces that are written into a folder; and a session of ten edits."""
+    commands = {}
+    for name, row in ACCEPTED.items():
+        base = f"{ROWS}/{row}/module"
+        with open(f"{base}.ll") as module:
+            functions = re.findall(r"(?ms)^(define [^@]*@(\w+)\(([^)]*)\).*?^}\n)", module.read())
+        starts = "".join(f"start @{function}{' 1' if given else ''}\n" for _, function, given in functions if "*" not in given)
+        files = {"edits": f"edit code @{functions[0][1]}\n{functions[0][0]}.\n", "trace": f"trace 1\npool Node 2\n{starts}steps\nt 0 9\nc 3\nt 0 9\nend\n"}
+        for end, written in files.items():
+            with open(os.path.join(folder, f"{name}.{end}"), "w") as out:
+                out.write(written)
+        both, own = f"{base}.ll {base}.cert", os.path.join(folder, name)
+        for command, words in {
+                "check": both, "check --workers 4": both, "make": f"{base}.ll", "recheck": f"{both} {own}.edits", "replay": f"{base}.ll {own}.trace",
+                "soak --seeds 3 --steps 30": f"{base}.ll {own}.trace", "run --steps 50 --turns 500": f"{both} {own}.trace"}.items():
+            commands[f"{command.split(' --s')[0]}, {name}"] = f"{command} {words}"
+    commands["check, refused three"] = f"check {ROWS}/{REFUSED}/module.ll {ROWS}/{REFUSED}/module.cert"
+    session = os.path.join(folder, "session.edits")
+    with open(session, "w") as out:
+        for row in EDITS:
+            with open(f"{ROWS}/{row}/module.edits") as edits:
+                out.write(edits.read())
+    commands["recheck, ten edits"] = f"recheck {ROWS}/edit_of_code/module.ll {ROWS}/edit_of_code/module.cert {session}"
+    return commands
 
 
 class Refuser:
@@ -92,7 +125,7 @@ def main():
     options = options.parse_args()
     with tempfile.TemporaryDirectory() as folder:
         refuser = Refuser(os.path.abspath(options.dgc), folder)
-        wrong = [refuser.refuse_each(name, words, options.every) for name, words in COMMANDS.items()
+        wrong = [refuser.refuse_each(name, words, options.every) for name, words in {**COMMANDS, **on_each_module(folder)}.items()
                  if any(word in name for word in options.only)]
     sys.exit(1 if sum(wrong) else 0)
 

@@ -6,15 +6,17 @@ use std::io;
 #[derive(Clone, Copy)]
 pub enum Failure {
     Memory,
-    /// The command line or a file cannot be read, or a write failed.
-    Outside,
+    /// A word of the command line is not UTF-8.
+    Words,
+    /// A write failed.
+    Output,
 }
 
 impl From<io::Error> for Failure {
     fn from(error: io::Error) -> Failure {
         match error.kind() {
             io::ErrorKind::OutOfMemory => Failure::Memory,
-            _ => Failure::Outside,
+            _ => Failure::Output,
         }
     }
 }

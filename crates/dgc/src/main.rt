@@ -2,27 +2,19 @@
 #![tactic(auto)]
 
 mod failure;
+mod files;
 
 ghost use Rattle.command_line.specs.Asked.{asked_by, HasWorkers};
 
 use commands::{Line, LineFault, STATUS_USAGE, STATUS_YES, line, memory, status_of, work};
 use failure::Failure;
+use files::bytes_of;
+use std::env;
+use std::io;
 use std::io::Write;
 use std::process::ExitCode;
 use std::rt::Runtime;
 use std::thread::Threads;
-use std::{env, fs};
-
-/// The bytes of a file, if it can be read.
-fn bytes_of(rt: &(impl Runtime + AllocGlobal), path: &str) -> Result<Option<Vec<u8>>, Failure> {
-    match fs::read(rt, path) {
-        Ok(bytes) => Ok(Some(bytes)),
-        Err(error) => match Failure::from(error) {
-            Failure::Memory => Err(Failure::Memory),
-            Failure::Outside => Ok(None),
-        },
-    }
-}
 
 /// Does what a line asks for.
 fn answer<O: Write, E: Write>(
@@ -33,12 +25,27 @@ fn answer<O: Write, E: Write>(
 ) -> Result<u8, Failure>
     requires { HasWorkers (asked_by line.now) }
 {
-    let mut files = Vec::new(rt.alloc());
+    let mut files: Vec<Option<Vec<u8>>> = Vec::new(rt.alloc());
     for path in line.paths(rt.alloc())? {
-        files.push(bytes_of(rt, path)?)?;
+        let bytes = bytes_of(rt, path, files.len())?;
+        files.push(bytes)?;
     }
-    let printed = work(rt, rt.alloc(), line, files.as_slice(), out, err);
-    Ok(status_of(printed))
+    let status = work(rt, rt.alloc(), line, files.as_slice(), out, err)?;
+    Ok(status)
+}
+
+/// The words of the command line.
+fn words_given(rt: &(impl Runtime + AllocGlobal)) -> Result<Vec<String>, Failure> {
+    match env::args(rt) {
+        Ok(words) => {
+            let words: Vec<String> = words.collect(rt.alloc())?;
+            Ok(words)
+        }
+        Err(error) => match Failure::from(error) {
+            Failure::Memory => Err(Failure::Memory),
+            _ => Err(Failure::Words),
+        },
+    }
 }
 
 /// Reads the command line and does what it asks for.
@@ -48,7 +55,7 @@ fn run<O: Write, E: Write>(
     err: &mut E,
 ) -> Result<u8, Failure> {
     let alloc = rt.alloc();
-    let owned: Vec<String> = env::args(rt)?.collect(alloc)?;
+    let owned = words_given(rt)?;
     let words: Vec<&str> = owned.iter().map(|word| word.as_str()).collect(alloc)?;
     match line(alloc, words.as_slice()) {
         Ok(line) => answer(rt, &line, out, err),
@@ -65,6 +72,17 @@ fn run<O: Write, E: Write>(
     }
 }
 
+/// Says what keeps the program from its answer.
+fn report<E: Write>(err: &mut E, failure: Failure) -> io::Result<u8> {
+    let text = match failure {
+        Failure::Memory => return memory(err),
+        Failure::Words => "error: the command line is not UTF-8",
+        Failure::Output => "error output",
+    };
+    writeln!(err, "{text}")?;
+    Ok(STATUS_USAGE)
+}
+
 /// The status with which the program ends.
 fn ended<O: Write, E: Write>(
     rt: &(impl Runtime + AllocGlobal + Threads + Sync),
@@ -73,8 +91,7 @@ fn ended<O: Write, E: Write>(
 ) -> u8 {
     match run(rt, out, err) {
         Ok(status) => status,
-        Err(Failure::Outside) => STATUS_USAGE,
-        Err(Failure::Memory) => status_of(memory(err)),
+        Err(failure) => status_of(report(err, failure)),
     }
 }
 

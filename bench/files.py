@@ -1,0 +1,214 @@
+#!/usr/bin/env python3
+"""Gives `dgc` files that are none, files past their limits, and outputs that take nothing, and looks at what comes of it.
+
+    files.py DGC [--only WORD ..] [--large]
+
+Each case has a line: what was given, and `as wanted` or what is not. A file that cannot be read has to end each command with
+`error file PATH` and status 4, at each place of its line; an output that takes nothing, with `error output` and status 4. No run may
+end by a signal or take longer than a few seconds. With --large also files of 1 GiB and of one byte more, which take about 2 GB
+of memory. A file without permission is opened by another user, so that case is left out where this one is not root. Ends with status 1
+where a case is not as wanted. For use by hand.
+"""
+import argparse
+import os
+import shutil
+import subprocess
+import sys
+import tempfile
+import time
+
+HERE = os.path.dirname(os.path.abspath(__file__))
+SWAP = os.path.join(HERE, "..", "examples", "swap")
+TEXT_LIMIT, FILE_LIMIT = 16777216, 1 << 30
+NOBODY = 65534
+# each command with its files, the module first
+COMMANDS = {
+    "check": ["barrier.ll", "swap.cert"],
+    "make": ["barrier.ll"],
+    "recheck": ["barrier.ll", "swap.cert", "none.edits"],
+    "replay": ["barrier.ll", "two.trace"],
+    "soak": ["barrier.ll", "two.trace"],
+    "run": ["barrier.ll", "swap.cert", "two.trace"],
+}
+OPTIONS = {"soak": ["--seeds", "2", "--steps", "20"], "run": ["--steps", "5", "--turns", "5"]}
+
+
+class Ended:
+    """How a run ended: its status (below 0 for a signal), what it printed, its time and its memory."""
+
+    def __init__(self, words, **streams):
+        start = time.monotonic()
+        with tempfile.TemporaryFile() as out, tempfile.TemporaryFile() as err:
+            child = subprocess.Popen(words, stdin=subprocess.DEVNULL, **{"stdout": out, "stderr": err, **streams})
+            try:
+                self.status = child.wait(timeout=30)
+            except subprocess.TimeoutExpired:
+                child.kill()
+                child.wait()
+                self.status = "30 s"
+            self.seconds = time.monotonic() - start
+            self.stdout, self.stderr = (os.pread(file.fileno(), 1 << 20, 0) for file in (out, err))
+
+    def __str__(self):
+        return f"status {self.status}, {self.stdout[:60]!r}, {self.stderr[:60]!r}, {self.seconds:.1f} s"
+
+
+class Cases:
+    """Runs cases in a folder, and counts those that are not as wanted."""
+
+    def __init__(self, dgc, folder, only):
+        self.dgc, self.folder, self.only = dgc, folder, only
+        self.made, self.wrong = 0, 0
+        os.chdir(folder)
+
+    def look(self, told, words, wanted, most_seconds=5.0, before=(), **streams):
+        """Runs DGC with these words, which has to end with this status, and with these texts if they are given."""
+        if not any(word in told for word in self.only):
+            return
+        self.made += 1
+        ended = Ended([*before, self.dgc, *words], **streams)
+        status, *texts = wanted
+        alike = ended.status == status and ended.seconds < most_seconds
+        alike = alike and all(text is None or text == said for text, said in zip(texts, (ended.stdout, ended.stderr)))
+        self.wrong += not alike
+        print(f"{told}: {'as wanted' if alike else ended}", flush=True)
+
+    def at_each_place(self, told, path, before=(), **streams):
+        """Puts this path in the place of each file of each command; it cannot be read."""
+        shown = b"error file " + os.fsencode(path) + b"\n"
+        for command, files in COMMANDS.items():
+            for place in range(len(files)):
+                words = [command, *files[:place], path, *files[place + 1:], *OPTIONS.get(command, [])]
+                self.look(f"{told}: {command}, file {place}", words, (4, b"", shown), before=before, **streams)
+
+
+def write_files(folder):
+    """Writes the files of the commands, and those that cannot be read."""
+    for name in ("barrier.ll", "swap.cert", "two.trace"):
+        shutil.copy(os.path.join(SWAP, name), folder)
+    with open("none.edits", "w"):
+        pass
+    os.mkdir("folder")
+    os.mkfifo("fifo")
+    shutil.copy("barrier.ll", "closed.ll")
+    os.chmod("closed.ll", 0)
+    os.symlink("ring", "ring")
+    for name, size in (("text.ll", TEXT_LIMIT), ("long.ll", TEXT_LIMIT + 1), ("huge.ll", 1 << 40), ("file", FILE_LIMIT), ("long", FILE_LIMIT + 1)):
+        with open(name, "wb") as out:
+            out.truncate(size)
+    with open("spaces.ll", "wb") as out:
+        out.write(b" " * TEXT_LIMIT)
+    with open("spaces_more.ll", "wb") as out:
+        out.write(b" " * (TEXT_LIMIT + 1))
+    with open("empty.cert", "w") as out:
+        out.write("cert 1\n")
+
+
+def unread_files(cases):
+    """Files that cannot be read."""
+    cases.at_each_place("no file", "missing")
+    cases.at_each_place("no folder", "missing/file")
+    cases.at_each_place("no name", "")
+    cases.at_each_place("a name that is too long", "a" * 5000)
+    cases.at_each_place("a link to itself", "ring")
+    cases.at_each_place("a folder", "folder")
+    cases.at_each_place("a fifo", "fifo")
+    cases.at_each_place("a file in a file", "barrier.ll/file")
+    if os.getuid() == 0:
+        cases.at_each_place("no permission", "closed.ll", user=NOBODY)
+    library = os.path.join(cases.folder, "shorten.so")
+    subprocess.run(["cc", "-O2", "-shared", "-fPIC", "-o", library, os.path.join(HERE, "shorten.c"), "-ldl"], check=True)
+    for command, files in COMMANDS.items():
+        for place in range(len(files)):
+            with open("shrinks", "wb") as out:
+                out.write(b"; a comment\n" * 100000)
+            words = [command, *files[:place], "shrinks", *files[place + 1:], *OPTIONS.get(command, [])]
+            cases.look(f"a file that shrinks: {command}, file {place}", words, (4, b"", b"error file shrinks\n"),
+                       env={**os.environ, "LD_PRELOAD": library, "SHORTEN": "shrinks"})
+
+
+def words_that_are_no_text(cases):
+    """Words of the command line that are not UTF-8."""
+    refused = b"error: the command line is not UTF-8\n"
+    for command, files in COMMANDS.items():
+        for place in range(len(files)):
+            words = [command, *files[:place], b"\xff.ll", *files[place + 1:], *OPTIONS.get(command, [])]
+            cases.look(f"a name that is not UTF-8: {command}, file {place}", words, (4, b"", refused))
+    cases.look("a command that is not UTF-8", [b"\xc3\x28"], (4, b"", refused))
+
+
+def limits(cases, is_large):
+    """Files of the size of a limit, and past it. A text without end is refused at once, in 40 MB."""
+    within = ["prlimit", f"--data={40 << 20}"]
+    for command, files in COMMANDS.items():
+        words = [command, "/dev/zero", *files[1:], *OPTIONS.get(command, [])]
+        cases.look(f"a device without end: {command}", words, (2, b"", b"error L8 1:16777217\n"), 2.0, within)
+    for name in ("long.ll", "huge.ll", "spaces_more.ll"):
+        cases.look(f"a text past its limit: {name}", ["check", name, "swap.cert"], (2, b"", b"error L8 1:16777217\n"), 2.0, within)
+    cases.look("a text of the limit", ["check", "text.ll", "swap.cert"], (2, b"", b"error L1 1:1\n"))
+    cases.look("blanks up to the limit", ["check", "spaces.ll", "empty.cert"], (0, b"yes 0\n", b""))
+    cases.look("an empty device", ["check", "/dev/null", "empty.cert"], (0, b"yes 0\n", b""))
+    if is_large:
+        cases.look("a certificate of 1 GiB", ["check", "barrier.ll", "file"], (2, b"", b"error C1 1:1\n"))
+        for command, files in COMMANDS.items():
+            for place in range(1, len(files)):
+                for path in ("long", "/dev/zero"):
+                    words = [command, *files[:place], path, *files[place + 1:], *OPTIONS.get(command, [])]
+                    cases.look(f"past 1 GiB, {path}: {command}, file {place}", words, (4, b"", b"error file %s\n" % path.encode()), 20.0)
+
+
+def outputs(cases):
+    """Outputs that take nothing: closed ones, a full disk, and pipes that nobody reads."""
+    said = {command: [command, *files, *OPTIONS.get(command, [])] for command, files in COMMANDS.items()}
+    said |= {"help": ["--help"], "help of check": ["check", "--help"], "version": ["--version"]}
+    broken = (4, None, b"error output\n")
+    for name, words in said.items():
+        closed = [sys.executable, "-c", "import os, sys; os.close(1); os.execv(sys.argv[1], sys.argv[1:])"]
+        cases.look(f"a closed output: {name}", words, broken, before=closed)
+        with open("/dev/full", "wb") as full:
+            cases.look(f"a full disk: {name}", words, broken, stdout=full)
+        reader, writer = os.pipe()
+        os.close(reader)
+        cases.look(f"a pipe that nobody reads: {name}", words, broken, stdout=writer)
+        os.close(writer)
+    errors(cases)
+
+
+def errors(cases):
+    """A standard error that takes nothing: the status says what there is to say."""
+    both = {"a fault of a text": (["check", "two.trace", "swap.cert"], 4), "no command": (["chek"], 4), "no words": ([], 4),
+            "no file": (["check", "missing", "swap.cert"], 4), "no UTF-8": ([b"\xff"], 4)}
+    for name, (words, status) in both.items():
+        reader, writer = os.pipe()
+        os.close(reader)
+        cases.look(f"errors that nobody reads: {name}", words, (status, b""), stderr=writer)
+        os.close(writer)
+        with open("/dev/full", "wb") as full:
+            cases.look(f"errors to a full disk: {name}", words, (status, b""), stderr=full)
+    closed = [sys.executable, "-c", "import os, sys; os.close(2); os.execv(sys.argv[1], sys.argv[1:])"]
+    cases.look("closed errors, and yes", ["check", *COMMANDS["check"]], (0, b"yes 1\n"), before=closed)
+    cases.look("closed errors, and no file", ["check", "missing", "swap.cert"], (4, b""), before=closed)
+
+
+def main():
+    parser = argparse.ArgumentParser(description=__doc__.split("\n")[0])
+    parser.add_argument("dgc")
+    parser.add_argument("--only", nargs="+", default=[""])
+    parser.add_argument("--large", action="store_true")
+    options = parser.parse_args()
+    dgc = os.path.abspath(options.dgc)
+    with tempfile.TemporaryDirectory() as folder:
+        os.chmod(folder, 0o755)
+        cases = Cases(shutil.copy(dgc, folder), folder, options.only)
+        write_files(folder)
+        unread_files(cases)
+        words_that_are_no_text(cases)
+        limits(cases, options.large)
+        outputs(cases)
+        os.chdir(HERE)
+    print(f"{cases.made} cases, {cases.wrong} not as wanted")
+    sys.exit(1 if cases.wrong else 0)
+
+
+if __name__ == "__main__":
+    main()

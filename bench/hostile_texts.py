@@ -1,0 +1,188 @@
+"""The rows of crates/dgc_tests as commands and texts, and changes of such a text, for hostile.py."""
+import os
+import re
+from dataclasses import dataclass
+
+COMMANDS = ("check", "make", "recheck", "replay", "soak", "run")
+TOKEN = re.compile(rb'"[^"\n]*"|[%@!#]?[-a-zA-Z$._0-9]+|\s+|.', re.S)
+NUMBERS = [b"0", b"1", b"2", b"63", b"64", b"65", b"255", b"65535", b"65536", b"1048576", b"2147483647", b"2147483648", b"4294967295",
+           b"4294967296", b"9223372036854775807", b"9223372036854775808", b"-9223372036854775808", b"18446744073709551615",
+           b"18446744073709551616", b"99999999999999999999999999", b"-1", b"00", b"10000001"]
+MOST = {"--seeds": 5, "--steps": 1000, "--turns": 1000}
+BYTES = [0, 9, 10, 13, 32, 34, 37, 40, 41, 44, 58, 59, 64, 91, 92, 93, 123, 125, 127, 128, 255]
+
+
+@dataclass
+class Row:
+    """A command on files, whose texts are here."""
+    name: str
+    words: list
+    texts: dict
+
+
+def read_rows(folder):
+    """The rows whose command reads a text, each with the files that its words name."""
+    rows = []
+    for name in sorted(os.listdir(folder)):
+        with open(os.path.join(folder, name, "args")) as args:
+            words = args.read().split("\n")
+        words = words[:-1] if words and not words[-1] else words
+        texts = {}
+        for word in words[1:]:
+            path = os.path.join(folder, name, word)
+            if word and os.path.isfile(path):
+                with open(path, "rb") as text:
+                    texts[word] = text.read()
+        if words and words[0] in COMMANDS and texts and words[1] in texts:
+            rows.append(Row(name, within(words), texts))
+    return rows
+
+
+def within(words):
+    """The words, with few seeds and steps, so that the command alone makes no run long."""
+    words = list(words)
+    for option, most in MOST.items():
+        if option in words[:-1] and words[words.index(option) + 1].isdigit():
+            at = words.index(option) + 1
+            words[at] = str(min(int(words[at]), most))
+    return words
+
+
+def tokens_of(rows):
+    """The tokens of all texts, by the ends of their files' names; each once."""
+    found = {}
+    for row in rows:
+        for name, text in row.texts.items():
+            found.setdefault(end_of(name), {}).update(dict.fromkeys(token for token in TOKEN.findall(text) if not token.isspace()))
+    return {end: list(tokens) for end, tokens in found.items()} | {"texts": [(end_of(name), text) for row in rows for name, text in row.texts.items()]}
+
+
+def end_of(name):
+    """What kind of text a file has, by its name."""
+    return name.rsplit(".", 1)[-1]
+
+
+def with_bytes(draw, text, _name, _tokens):
+    """Some bytes are changed, put in or left out."""
+    out = bytearray(text)
+    for _ in range(draw.randrange(1, 4)):
+        at = draw.randrange(len(out) + 1)
+        how = draw.randrange(4)
+        byte = draw.choice(BYTES) if how < 3 else draw.randrange(256)
+        if how == 0 or at == len(out):
+            out.insert(at, byte)
+        elif how == 1:
+            del out[at]
+        elif how == 2:
+            out[at] = byte
+        else:
+            out[at] ^= 1 << draw.randrange(8)
+    return bytes(out)
+
+
+def with_cut(draw, text, _name, _tokens):
+    """The back is cut off, the front, or a part between."""
+    first, last = sorted(draw.randrange(len(text) + 1) for _ in range(2))
+    return draw.choice([text[:first], text[last:], text[:first] + text[last:]])
+
+
+def with_lines(draw, text, _name, _tokens):
+    """Lines are left out, written again or moved."""
+    lines = text.split(b"\n")
+    for _ in range(draw.randrange(1, 4)):
+        if not lines:
+            break
+        here, there = draw.randrange(len(lines)), draw.randrange(len(lines))
+        how = draw.randrange(4)
+        if how == 0:
+            del lines[here]
+        elif how == 1:
+            lines.insert(there, lines[here])
+        elif how == 2:
+            lines[here], lines[there] = lines[there], lines[here]
+        else:
+            lines[here] = lines[there]
+    return b"\n".join(lines)
+
+
+def with_tokens(draw, text, name, tokens):
+    """Tokens are left out, written again, swapped, or another text's."""
+    parts = TOKEN.findall(text)
+    places = [place for place, part in enumerate(parts) if not part.isspace()]
+    for _ in range(draw.randrange(1, 4)):
+        if not places:
+            break
+        here, there = draw.choice(places), draw.choice(places)
+        how = draw.randrange(6)
+        if how == 0:
+            parts[here] = b""
+        elif how == 1:
+            parts[here], parts[there] = parts[there], parts[here]
+        elif how == 2:
+            parts[here] = parts[there]
+        elif how == 3:
+            parts[here] += b" " + parts[there]
+        else:
+            parts[here] = draw.choice(tokens[end_of(name)])
+    return b"".join(parts)
+
+
+def with_numbers(draw, text, _name, _tokens):
+    """A number is another one, mostly one at a limit."""
+    found = list(re.finditer(rb"(?<![-a-zA-Z$._0-9])-?\d+", text))
+    if not found:
+        return text + b"0"
+    place = draw.choice(found)
+    number = draw.choice(NUMBERS) if draw.random() < 0.6 else b"%d" % (int(place[0]) + draw.randrange(-3, 4))
+    return text[:place.start()] + number + text[place.end():]
+
+
+def with_names(draw, text, _name, _tokens):
+    """One name is another one of the text, of its kind."""
+    found = list(re.finditer(rb"[%@][-a-zA-Z$._0-9]+", text))
+    if not found:
+        return text + b"%"
+    place = draw.choice(found)
+    other = draw.choice([one for one in found if one[0][:1] == place[0][:1]])
+    return text[:place.start()] + other[0] + text[place.end():]
+
+
+def with_words(draw, text, name, tokens):
+    """One word is another one of such texts."""
+    found = list(re.finditer(rb"(?<![-%@!#$._0-9a-zA-Z])[a-z][a-z0-9]*\*{0,2}", text))
+    if not found:
+        return text + b"i64"
+    place = draw.choice(found)
+    others = [one[0] for one in found] if draw.random() < 0.7 else [one for one in tokens[end_of(name)] if one[:1].islower()]
+    return text[:place.start()] + draw.choice(others) + text[place.end():]
+
+
+def with_other(draw, text, name, tokens):
+    """The front of the text goes on with the back of another one."""
+    others = [other for end, other in tokens["texts"] if end == end_of(name)]
+    other = draw.choice(others)
+    if draw.random() < 0.1:
+        return other
+    front, back = text.split(b"\n"), other.split(b"\n")
+    return b"\n".join(front[:draw.randrange(len(front) + 1)] + back[draw.randrange(len(back) + 1):])
+
+
+def with_many(draw, text, _name, _tokens):
+    """A line or a token is written many times."""
+    parts = text.splitlines(True) if draw.random() < 0.5 else TOKEN.findall(text)
+    if not parts:
+        return text
+    at = draw.randrange(len(parts))
+    times = draw.choice([2, 64, 65, 66, 1000, 5000])
+    return b"".join(parts[:at]) + parts[at] * times + b"".join(parts[at + 1:])
+
+
+# how a text is changed, and how often in this way
+WAYS = [with_bytes, with_cut, with_tokens, with_other, with_many] + 2 * [with_lines, with_numbers, with_words] + 4 * [with_names]
+
+
+def changed(draw, text, name, tokens):
+    """A text with one change, or a few."""
+    for _ in range(draw.choice([1, 1, 1, 1, 2, 3])):
+        text = draw.choice(WAYS)(draw, text, name, tokens)
+    return text

@@ -1,0 +1,61 @@
+//! The files of a command. Each is read up to its limit.
+use crate::failure::Failure;
+use ir_tokens::TEXT_LIMIT;
+use std::fs::OpenFile;
+use std::io::Read;
+use std::os::unix::fs::FileTypeExt;
+use std::rt::Runtime;
+use std::{fs, io};
+
+/// How many bytes a file may have that is no module.
+const FILE_LIMIT: u64 = 1 << 30;
+
+/// The first bytes of a file, at most this many. A pipe is no file: nobody may write to it, or one who ends too early. A file that
+/// becomes shorter meanwhile is not read.
+fn first_bytes(rt: &(impl Runtime + AllocGlobal), path: &str, most: u64) -> io::Result<Vec<u8>> {
+    if fs::metadata(rt, path)?.file_type().is_fifo() {
+        return Err(io::Error::from(io::ErrorKind::Unsupported));
+    }
+    let file = fs::open(rt, path)?;
+    let length = file.metadata()?.len().min(most);
+    let mut bytes = Vec::new(rt.alloc());
+    file.take(most).read_to_end(&mut bytes)?;
+    if (bytes.len() as u64) < length {
+        return Err(io::Error::from(io::ErrorKind::UnexpectedEof));
+    }
+    Ok(bytes)
+}
+
+/// The bytes of a module's file. Of one that is too long these are the first ones, and the reader refuses it.
+fn module_bytes(rt: &(impl Runtime + AllocGlobal), path: &str) -> io::Result<Vec<u8>> {
+    first_bytes(rt, path, TEXT_LIMIT as u64 + 1)
+}
+
+/// The bytes of another file, if it is within the limit.
+fn other_bytes(rt: &(impl Runtime + AllocGlobal), path: &str) -> io::Result<Vec<u8>> {
+    let bytes = first_bytes(rt, path, FILE_LIMIT + 1)?;
+    if bytes.len() as u64 > FILE_LIMIT {
+        return Err(io::Error::from(io::ErrorKind::FileTooLarge));
+    }
+    Ok(bytes)
+}
+
+/// The bytes of the file at this place of a command's line, if it can be read. The first one is a module.
+pub fn bytes_of(
+    rt: &(impl Runtime + AllocGlobal),
+    path: &str,
+    place: usize,
+) -> Result<Option<Vec<u8>>, Failure> {
+    let bytes = if place == 0 {
+        module_bytes(rt, path)
+    } else {
+        other_bytes(rt, path)
+    };
+    match bytes {
+        Ok(bytes) => Ok(Some(bytes)),
+        Err(error) => match Failure::from(error) {
+            Failure::Memory => Err(Failure::Memory),
+            _ => Ok(None),
+        },
+    }
+}
