@@ -1,18 +1,19 @@
 #!/usr/bin/env python3
 """Measures how the time of `dgc check` and `dgc replay` grows with the number of each kind of thing in their texts.
 
-    growth.py DGC [--only WORD ..] [--least N] [--runs R] [--seconds S] [--beside OPT] [--make] [--instructions] [--keep FOLDER] [--all]
+    growth.py DGC [--only WORD ..] [--least N] [--runs R] [--seconds S] [--beside OPT] [--make] [--instructions] [--keep FOLDER] [--all] [--full]
 
 For each kind (growth_modules.py, growth_bodies.py, growth_pairs.py, growth_traces.py) it writes texts with 1,000 things,
 then about three times as many, up to 100,000 or the limit of the program, and runs the command on each. Prints the
-processor time of the largest, and the exponent: how the time grows with the size of the texts, where twice the text takes
+processor time of the largest and its memory, and the exponent: how the time grows with the size of the texts, where twice the text takes
 2^exponent the time. The size is in bytes, and in steps or things where a kind's text does not grow. It is measured from the last size to the one that is about ten times smaller, less the time that an
 empty module takes. A kind ends early at the first run of more than S seconds. A time under 5 ms says nothing: then the
 exponent is `-`. A kind whose exponent is over 1.1 is marked. With `--beside opt-14` the last column says how many times longer
 the check takes than that program's reader and verifier on the same module, `-` where that refuses the module. With --make it times
 `dgc make` on the modules of `check` instead. With --instructions it counts, in place of the time, the instructions that the
 program makes, in thousand millions, by valgrind's callgrind. That number is the same in each run, and does not depend on caches.
-With --all the cost of each size is printed. FOLDER keeps the texts. For use by hand.
+With --all the cost of each size is printed. With --full it makes one text of each kind, with as many things as 16 MiB or the program
+allow, and there is no exponent. FOLDER keeps the texts. For use by hand.
 """
 import argparse
 import math
@@ -31,45 +32,43 @@ import growth_traces
 from growth_kinds import KINDS
 
 MOST_BYTES = 16777216
+# a kind that may have so many things, the default, has no limit but that of its text
+MANY = 100000
 STEP = math.sqrt(10)
 SMALL = 0.005
 BOUND = 1.1
 assert all([growth_modules, growth_bodies, growth_pairs, growth_traces])
 
 
-def processor_time():
-    """What the programs that have ended took, in seconds of a processor."""
-    used = resource.getrusage(resource.RUSAGE_CHILDREN)
-    return used.ru_utime + used.ru_stime
-
-
 def run(command, runs, limit):
-    """The least processor time of some runs, and what was printed; None for a run that takes too long."""
-    best, said = None, ""
+    """The least processor time of some runs, what was printed, and the most memory in MB; None for a run that takes too long."""
+    best, said, memory = None, "", 0
     bound = (math.ceil(limit), math.ceil(limit) + 1)
     for _ in range(runs):
-        before = processor_time()
-        ended = subprocess.run(command, capture_output=True, text=True,
-                               preexec_fn=lambda: resource.setrlimit(resource.RLIMIT_CPU, bound))
-        took = processor_time() - before
-        if ended.returncode in (-signal.SIGXCPU, -signal.SIGKILL):
-            return None, "too long"
-        said = (ended.stdout + ended.stderr).strip() or f"status {ended.returncode}"
+        with tempfile.TemporaryFile() as printed:
+            child = subprocess.Popen(command, stdout=printed, stderr=subprocess.STDOUT,
+                                     preexec_fn=lambda: resource.setrlimit(resource.RLIMIT_CPU, bound))
+            _, ended, used = os.wait4(child.pid, 0)
+            child.returncode = os.waitstatus_to_exitcode(ended)
+            said = os.pread(printed.fileno(), 1 << 20, 0).decode(errors="replace").strip() or f"status {child.returncode}"
+        if child.returncode in (-signal.SIGXCPU, -signal.SIGKILL):
+            return None, "too long", 0
+        took, memory = used.ru_utime + used.ru_stime, max(memory, used.ru_maxrss // 1024)
         best = took if best is None else min(best, took)
-    return best, said
+    return best, said, memory
 
 
 def counted(command):
-    """The instructions that a program makes, in thousand millions, and what it prints."""
+    """The instructions that a program makes, in thousand millions, and what it prints; its memory is not looked at."""
     watched = ["valgrind", "--tool=callgrind", "--callgrind-out-file=/dev/null", *command]
     ended = subprocess.run(watched, capture_output=True, text=True)
     number = int(re.search(r"^==\d+== Collected : (\d+)$", ended.stderr, re.M)[1])
     faults = re.sub(r"(?m)^==\d+==.*\n?", "", ended.stderr)
-    return number / 1e9, (ended.stdout + faults).strip() or f"status {ended.returncode}"
+    return number / 1e9, (ended.stdout + faults).strip() or f"status {ended.returncode}", 0
 
 
 def cost(command, options):
-    """What a command costs, in seconds or in thousand million instructions, and what it prints."""
+    """What a command costs, in seconds or in thousand million instructions, what it prints, and its memory in MB."""
     return counted(command) if options.instructions else run(command, options.runs, 4 * options.seconds)
 
 
@@ -82,10 +81,24 @@ def sizes(least, most):
     yield most
 
 
+def largest(it):
+    """The largest number of things that a text within the limit can have, to a hundredth."""
+    count = 1000
+    for _ in range(20):
+        module, other, *given = it.make(count)
+        size = max(len(module), len(other))
+        if given or it.most != MANY and count >= it.most:
+            return it.most
+        if 0.98 * MOST_BYTES < size <= MOST_BYTES:
+            break
+        count = round(count * 0.99 * MOST_BYTES / size)
+    return count
+
+
 def measure(dgc, it, options, folder):
-    """The rows of a kind: how many things, how many bytes, and how long. And what is wrong, if it was refused."""
+    """The rows of a kind: how many things, how many bytes, how long and how much memory. And what is wrong, if it was refused."""
     rows = []
-    for count in sizes(options.least, it.most):
+    for count in [largest(it)] if options.full else sizes(options.least, it.most):
         module, other, *given = it.make(count)
         size = given[0] if given else len(module) + len(other)
         if max(len(module), len(other)) > MOST_BYTES:
@@ -96,7 +109,7 @@ def measure(dgc, it, options, folder):
             with open(path, "w") as out:
                 out.write(text)
         words = ["make", paths[0]] if options.make else [it.command, *paths]
-        took, said = cost([dgc, *words], options)
+        took, said, memory = cost([dgc, *words], options)
         other_took = beside(options, it, paths[0])
         if not options.keep:
             for path in paths:
@@ -105,7 +118,7 @@ def measure(dgc, it, options, folder):
             return rows, f"more than {4 * options.seconds:.0f} s at {count:,}"
         if not said.startswith("cert 1" if options.make and it.says == "yes" else it.says):
             return rows, f"at {count:,}: {said.splitlines()[0][:60]}"
-        rows.append((count, size, took, other_took))
+        rows.append((count, size, took, memory, other_took))
         if took > options.seconds:
             break
     return rows, ""
@@ -115,13 +128,13 @@ def beside(options, it, module):
     """The time that LLVM's reader and verifier take for a module; None where they refuse it, or are not asked."""
     if not options.beside or it.command != "check":
         return None
-    took, said = run([options.beside, "-passes=verify", "-disable-output", module], options.runs, 4 * options.seconds)
+    took, said, _ = run([options.beside, "-passes=verify", "-disable-output", module], options.runs, 4 * options.seconds)
     return took if said == "status 0" else None
 
 
 def exponent(rows, empty):
     """How the time grows with the size, over the last decade of sizes that can be measured; None if none can."""
-    able = [(size, took - empty) for _, size, took, _ in rows if took - empty > SMALL]
+    able = [(size, took - empty) for _, size, took, *_ in rows if took - empty > SMALL]
     if len(able) < 2:
         return None
     last = able[-1]
@@ -142,6 +155,7 @@ def main():
     parser.add_argument("--make", action="store_true", help="times `dgc make` on the modules of `check`")
     parser.add_argument("--instructions", action="store_true", help="counts instructions, by valgrind, in place of the time")
     parser.add_argument("--keep", default=None)
+    parser.add_argument("--full", action="store_true", help="only the largest text of each kind that is within the limit")
     parser.add_argument("--all", action="store_true", help="also prints the cost of each size")
     options = parser.parse_args()
     with tempfile.TemporaryDirectory() as scratch:
@@ -151,9 +165,9 @@ def main():
         with open(empty_module, "w"), open(empty_cert, "w") as out:
             out.write("cert 1\n")
         command = [options.dgc, "check", empty_module, empty_cert]
-        empty, _ = counted(command) if options.instructions else run(command, 10, 10)
+        empty, _, _ = counted(command) if options.instructions else run(command, 10, 10)
         unit = "10^9" if options.instructions else "Seconds"
-        names = ["Kind".ljust(50), "Things".rjust(9), "Size".rjust(10), unit.rjust(8), "Exponent"]
+        names = ["Kind".ljust(50), "Things".rjust(9), "Size".rjust(10), unit.rjust(8), "MB".rjust(6), "Exponent"]
         names += ["By LLVM's"] if options.beside else []
         print("| " + " | ".join(names) + " |\n|" + "|".join("-" * (len(it) + 1) + ("-" if n == 0 else ":") for n, it in enumerate(names)) + "|")
         over = 0
@@ -166,13 +180,13 @@ def main():
             if options.all:
                 for row in rows:
                     print(f"#   {row[0]:9,} {row[1]:11,} {row[2]:9.4f}")
-            count, size, took, other = rows[-1] if rows else (0, 0, 0.0, None)
+            count, size, took, memory, other = rows[-1] if rows else (0, 0, 0.0, 0, None)
             grows = exponent(rows, empty)
             mark = " !" if grows and grows > BOUND else ""
             over += bool(mark)
             shown = "-" if grows is None else f"{grows:.2f}"
             ratio = f" {took / other:8.2f} |" if other else " " * 8 + "- |" if options.beside else ""
-            print(f"| {it.name:50} | {count:9,} | {size:10,} | {took:8.3f} | {shown + mark:>8} |{ratio}{' ' + wrong if wrong else ''}", flush=True)
+            print(f"| {it.name:50} | {count:9,} | {size:10,} | {took:8.3f} | {memory:6,} | {shown + mark:>8} |{ratio}{' ' + wrong if wrong else ''}", flush=True)
         print(f"{over} kinds grow faster than the size to the power of {BOUND}", file=sys.stderr)
 
 

@@ -11,6 +11,23 @@ def values(n):
     return function(numbers(n) + "  ret void\n", parameters=K)
 
 
+def short_name(number):
+    """A name of at most four bytes."""
+    digits = "abcdefghijklmnopqrstuvwxyzABCDEFGHIJKLMNOPQRSTUVWXYZ$_"
+    name = ""
+    while True:
+        name = digits[number % len(digits)] + name
+        number //= len(digits)
+        if not number:
+            return name
+
+
+@kind("values with short names", 1000000)
+def short_values(n):
+    """Numbers, of which a text may have a million."""
+    return function(lines(n, lambda i: f"%{short_name(i)}=or i1 0,0") + "  ret void\n")
+
+
 @kind("blocks", 65000)
 def blocks(n):
     """Blocks in a row, each with one line."""
@@ -18,7 +35,7 @@ def blocks(n):
     return function(body, lines(n + 1, lambda i: f"block %b{i}\n%k i64"), K)
 
 
-@kind("predecessors", 65000)
+@kind("predecessors", 65533)
 def predecessors(n):
     """Blocks that all lead to one."""
     cases = " ".join(f"i64 {i}, label %b{i}" for i in range(n))

@@ -12,6 +12,13 @@ def types(n):
     return f"%T = type {{ {fields} }}\n", "cert 1\n"
 
 
+@kind("types of 64 levels")
+def deep_types(n):
+    """Types of arrays in arrays; the struct is the first level, and i64 the last."""
+    fields = ", ".join("[0 x " + "[1 x " * 60 + f"[{i} x i64]" + "]" * 61 for i in range(n))
+    return f"%T = type {{ {fields} }}\n", "cert 1\n"
+
+
 @kind("structs")
 def structs(n):
     """Structs that refer to each other."""

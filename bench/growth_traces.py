@@ -29,7 +29,7 @@ def trace_lines(n):
     return MODULE, trace("".join("t 0 1\n" if i % 2 else "c 1\n" for i in range(n)))
 
 
-@kind("steps of a line", 1000000, "replay")
+@kind("steps of a line", 10000000, "replay")
 def steps(n):
     """Steps of one thread, on one line."""
     return MODULE, trace(f"t 0 {n}\n"), n
@@ -40,6 +40,15 @@ def arguments(n):
     """Arguments of a thread."""
     listed = ", ".join(f"i64 %p{i}" for i in range(n))
     return f"define void @f({listed}) {{\n  ret void\n}}\n", trace("t 0 5\n", "", "start @f" + " 1" * n + "\n")
+
+
+DEEP = "define void @down() {\nentry:\n  call void @down()\n  ret void\n}\n"
+
+
+@kind("threads of 10,000 frames", 64, "replay")
+def deep_threads(n):
+    """Threads of a function that calls itself, until it is at the limit of frames."""
+    return DEEP, trace("".join(f"t {i} 10005\n" for i in range(n)), "", "start @down\n" * n), 10000 * n
 
 
 STORES = """%Node = type { i64, %Node* }

@@ -133,7 +133,7 @@ def with_numbers(draw, text, _name, _tokens):
     if not found:
         return text + b"0"
     place = draw.choice(found)
-    number = draw.choice(NUMBERS) if draw.random() < 0.6 else b"%d" % (int(place[0]) + draw.randrange(-3, 4))
+    number = draw.choice(NUMBERS) if draw.random() < 0.6 else b"%d" % (int(place[0][:20]) + draw.randrange(-3, 4))
     return text[:place.start()] + number + text[place.end():]
 
 
