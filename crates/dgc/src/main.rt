@@ -9,12 +9,11 @@ ghost use Rattle.command_line.specs.Asked.{asked_by, HasWorkers};
 use commands::{Line, LineFault, STATUS_USAGE, STATUS_YES, line, memory, status_of, work};
 use failure::Failure;
 use files::bytes_of;
-use std::env;
-use std::io;
 use std::io::Write;
 use std::process::ExitCode;
 use std::rt::Runtime;
 use std::thread::Threads;
+use std::{env, io};
 
 /// Does what a line asks for.
 fn answer<O: Write, E: Write>(
