@@ -21,6 +21,7 @@ HERE = os.path.dirname(os.path.abspath(__file__))
 SWAP = os.path.join(HERE, "..", "examples", "swap")
 TEXT_LIMIT, FILE_LIMIT = 16777216, 1 << 30
 NOBODY = 65534
+MOST_SECONDS = 120
 # each command with its files, the module first
 COMMANDS = {
     "check": ["barrier.ll", "swap.cert"],
@@ -41,11 +42,11 @@ class Ended:
         with tempfile.TemporaryFile() as out, tempfile.TemporaryFile() as err:
             child = subprocess.Popen(words, stdin=subprocess.DEVNULL, **{"stdout": out, "stderr": err, **streams})
             try:
-                self.status = child.wait(timeout=30)
+                self.status = child.wait(timeout=MOST_SECONDS)
             except subprocess.TimeoutExpired:
                 child.kill()
                 child.wait()
-                self.status = "30 s"
+                self.status = f"{MOST_SECONDS} s"
             self.seconds = time.monotonic() - start
             self.stdout, self.stderr = (os.pread(file.fileno(), 1 << 20, 0) for file in (out, err))
 
@@ -149,12 +150,12 @@ def limits(cases, is_large):
     cases.look("blanks up to the limit", ["check", "spaces.ll", "empty.cert"], (0, b"yes 0\n", b""))
     cases.look("an empty device", ["check", "/dev/null", "empty.cert"], (0, b"yes 0\n", b""))
     if is_large:
-        cases.look("a certificate of 1 GiB", ["check", "barrier.ll", "file"], (2, b"", b"error C1 1:1\n"))
+        cases.look("a certificate of 1 GiB", ["check", "barrier.ll", "file"], (2, b"", b"error C1 1:1\n"), MOST_SECONDS)
         for command, files in COMMANDS.items():
             for place in range(1, len(files)):
                 for path in ("long", "/dev/zero"):
                     words = [command, *files[:place], path, *files[place + 1:], *OPTIONS.get(command, [])]
-                    cases.look(f"past 1 GiB, {path}: {command}, file {place}", words, (4, b"", b"error file %s\n" % path.encode()), 20.0)
+                    cases.look(f"past 1 GiB, {path}: {command}, file {place}", words, (4, b"", b"error file %s\n" % path.encode()), MOST_SECONDS)
 
 
 def outputs(cases):
