@@ -144,7 +144,8 @@ def exponent(rows, empty):
     return math.log(last[1] / first[1]) / math.log(last[0] / first[0])
 
 
-def main():
+def asked():
+    """What the command line asks for."""
     parser = argparse.ArgumentParser(description=__doc__.split("\n")[0])
     parser.add_argument("dgc")
     parser.add_argument("--only", nargs="+", default=None, help="kinds whose names have one of these words")
@@ -157,7 +158,11 @@ def main():
     parser.add_argument("--keep", default=None)
     parser.add_argument("--full", action="store_true", help="only the largest text of each kind that is within the limit")
     parser.add_argument("--all", action="store_true", help="also prints the cost of each size")
-    options = parser.parse_args()
+    return parser.parse_args()
+
+
+def main():
+    options = asked()
     with tempfile.TemporaryDirectory() as scratch:
         folder = options.keep or scratch
         os.makedirs(folder, exist_ok=True)
