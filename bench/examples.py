@@ -5,7 +5,7 @@
                          the same bytes, and exits with 1
 
 The gate runs each row and compares what it prints. So an example that equals a row is one that the program prints.
-Checked are docs/HELP.md, docs/FRONT_ENDS.md, docs/WALKTHROUGH.md, README.md, the files of examples/, and the certificates, edits and
+Checked are docs/HELP.md, docs/FRONT_ENDS.md, docs/WALKTHROUGH.md, README.md, the files of examples/swap, and the certificates, edits and
 printed lines that stand as blocks in docs/CERTIFICATES.md, docs/EDITS.md, docs/TRACES.md and docs/TEXT.md. Not checked are lines within
 a paragraph, and blocks that show a form. Those of docs/RULES.md are made from the rows (bench/rules.py).
 
@@ -286,9 +286,9 @@ def story_places(rows, page):
 
 
 def file_places(rows):
-    """examples/: each file is a file of some row."""
+    """examples/swap: each file is a file of some row."""
     places = []
-    for folder, _, names in sorted(os.walk(os.path.join(TOP, "examples"))):
+    for folder, _, names in sorted(os.walk(os.path.join(TOP, SWAP))):
         for name in sorted(names):
             path = os.path.relpath(os.path.join(folder, name), TOP)
             found = any(row.files.get(name) == text_of(path) for row in rows)

@@ -3,11 +3,12 @@
 
     make.py DGC [--clang PROGRAM] [--opt PROGRAM] [--level=-O0:PASSES ..] [--keep FOLDER] [--all]
 
-- Each function of the C programs in bench/programs is compiled at several levels, and made into gcroot code by gcroot.py, with
-  what it calls. Prints for each level how many modules are read, for how many of them a certificate is made, and by which rule
-  the others are refused. Then it prints why they are: refusals.py finds the instructions that are refused with every
-  certificate. A module for which none is made has to have one, and a module for which one is made must have none. With --all it
-  prints the refusal of each module, and such an instruction. With --level it takes these levels of clang and passes of opt.
+- Each function of the C programs in bench/programs is compiled at several levels, and made into gcroot code with what it calls,
+  by examples/pipeline/gcroot.py. Prints for each level how many modules are read, for how many of them a certificate is made,
+  and by which rule the others are refused. Then it prints why they are: refusals.py finds the instructions that are refused
+  with every certificate. A module for which none is made has to have one, and a module for which one is made must have none.
+  With --all it prints the refusal of each module, and such an instruction. With --level it takes these flags of clang and passes
+  of opt.
 - The module of each worked example that `check` accepts (crates/dgc_tests/data), and modules of generate.py: a certificate
   has to be made for each.
 Each certificate that is made has to be accepted by `dgc check`. Ends with status 1 where something is not as it has to be.
@@ -21,10 +22,12 @@ import subprocess
 import sys
 import tempfile
 
-from gcroot import functions_of, modules
 from refusals import refused_always
 
 HERE = os.path.dirname(os.path.abspath(__file__))
+sys.path.insert(0, os.path.join(HERE, "..", "examples", "pipeline"))
+from gcroot import functions_of, module_of
+
 ROWS = os.path.join(HERE, "..", "crates", "dgc_tests", "data", "rows")
 FLAGS = ["-S", "-emit-llvm", "-w", "-fno-builtin", "-fno-vectorize", "-fno-slp-vectorize", "-fno-unroll-loops", "-fno-exceptions",
          "-fno-discard-value-names", "-Xclang", "-disable-O0-optnone"]
@@ -65,8 +68,26 @@ class Maker:
 
 
 def compiled(options, path, level, passes):
-    text = run(options.clang, *FLAGS, level, "-o", "-", path).stdout
+    text = run(options.clang, *FLAGS, *level.split(), "-o", "-", path).stdout
     return run(options.opt, "-S", f"-passes={passes}", text=text).stdout
+
+
+def closure(functions, name):
+    """A function and those that it calls, in the order of the text."""
+    wanted, todo = set(), [name]
+    while todo:
+        it = todo.pop()
+        if it not in wanted:
+            wanted.add(it)
+            todo += [called for called in functions[it].calls() if called in functions]
+    return [it for it in functions if it in wanted]
+
+
+def modules(text):
+    """For each function of what clang prints, the module that has it and what it calls, as gcroot code."""
+    functions = functions_of(text)
+    for name in functions:
+        yield name, module_of(text, closure(functions, name))
 
 
 def why_none(maker, name, module, answer):

@@ -1,11 +1,19 @@
-"""Makes gcroot code of what clang prints of the programs in bench/programs, a module for each function.
+#!/usr/bin/env python3
+"""Makes gcroot code of what clang 14 prints of a C program.
 
-A call of new_NAME becomes a claim of a cell of struct NAME. A safepoint comes to the head of each loop and before each call of a
-function of the program. A reference that is used after a safepoint is kept in a root slot: it is stored there where it is made,
-and loaded from there before each such use. An address is computed again after a safepoint. A reference is stored into a cell or
-a global by gcwrite.
+    gcroot.py IN.ll > OUT.ll
+
+IN.ll is typed text after the passes mem2reg, jump-threading and instnamer. A call of new_NAME becomes a claim of a cell of
+struct NAME. A safepoint comes to the head of each loop and before each call of a function of the program. A reference that
+is used after a safepoint is kept in a root slot: it is stored there where it is made, and loaded from there before each such
+use. An address is computed again after a safepoint. A reference is stored into a cell or a global by gcwrite. A branch on a
+negated test becomes one on the test.
+
+Says to standard error what each function got. Ends with status 1 and one line where it cannot read IN.ll.
 """
+import argparse
 import re
+import sys
 
 RUNTIME = """declare i8* @dg_alloc(i32)
 declare void @dg_safepoint()
@@ -115,6 +123,16 @@ class Lowering:
     def is_safepoint(self, line):
         called = re.search(r"\bcall \S+ @([\w.$]+)\(", line)
         return bool(called) and (called[1] == "dg_safepoint" or called[1] in self.may)
+
+    def turn_branches(self):
+        """A branch on a negated test becomes one on the test, since nothing is known where a negation is true."""
+        lines = [line for block in self.f.blocks.values() for line in block]
+        negated = dict(found.groups() for line in lines if (found := re.match(rf"({NAME}) = xor i1 ({NAME}), true$", line)))
+        for block in self.f.blocks.values():
+            branch = re.match(rf"br i1 ({NAME}), label ({NAME}), label ({NAME})$", block[-1])
+            while branch and branch[1] in negated:
+                block[-1] = f"br i1 {negated[branch[1]]}, label {branch[3]}, label {branch[2]}"
+                branch = re.match(rf"br i1 ({NAME}), label ({NAME}), label ({NAME})$", block[-1])
 
     def add_calls(self):
         """Claims, and safepoints at the heads of loops and before calls."""
@@ -295,6 +313,7 @@ class Lowering:
 
     def text(self):
         """The text of the function."""
+        self.turn_branches()
         self.add_calls()
         self.mend_addresses()
         self.mend_references()
@@ -316,27 +335,65 @@ def functions_of(text):
     return found
 
 
-def closure(functions, name):
-    """A function and those that it calls, in the order of the text."""
-    wanted, todo = set(), [name]
-    while todo:
-        it = todo.pop()
-        if it not in wanted:
-            wanted.add(it)
-            todo += [called for called in functions[it].calls() if called in functions]
-    return [it for it in functions if it in wanted]
-
-
-def modules(text):
-    """For each function of what clang prints, the module that has it and what it calls, as gcroot code."""
+def module_of(text, names=None):
+    """The module of these functions, or of all, as gcroot code."""
     types = [plain(line) for line in text.split("\n") if re.match(r"%struct\.\w+ = type \{", line)]
     globals_of = [plain(line) for line in text.split("\n") if re.match(r"@\S+ = ", line)]
     layouts = [re.match(r"%struct\.(\w+)", line)[1] for line in types]
-    for name in functions_of(text):
-        functions = functions_of(text)
-        names = closure(functions, name)
-        may = {it for it in names if functions[it].loop_heads() or functions[it].calls() & set(functions)}
-        for _ in names:
-            may |= {it for it in names if functions[it].calls() & may}
-        bodies = [Lowering(functions[it], layouts, may).text() for it in names]
-        yield name, "\n".join(types + globals_of) + "\n" + RUNTIME + "\n".join(bodies) + "\n"
+    functions = functions_of(text)
+    names = list(functions) if names is None else names
+    may = {it for it in names if functions[it].loop_heads() or functions[it].calls() & set(functions)}
+    for _ in names:
+        may |= {it for it in names if functions[it].calls() & may}
+    bodies = [Lowering(functions[it], layouts, may).text() for it in names]
+    return "\n".join(types + globals_of) + "\n" + RUNTIME + "\n".join(bodies) + "\n"
+
+
+def fault(text):
+    """Why a text cannot be made into gcroot code, or None."""
+    code = "\n".join(plain(line) for line in text.split("\n") if not re.match(r"source_filename|target |attributes |!|;|@", line))
+    if re.search(r"(?<![\w%@.$-])ptr\b(?!:)", code):
+        return "it has pointers without types: use clang 14"
+    if re.search(r"%\d", code) or re.search(r"^define [^\n]*\n(?![-\w.$]+:)", code, re.M):
+        return "it has values or blocks without names: run the pass instnamer"
+    functions = functions_of(text)
+    if not functions:
+        return "it defines no function"
+    structs = re.findall(r"^%struct\.(\w+) = type \{", text, re.M)
+    for function in functions.values():
+        for called in sorted(function.calls() - set(functions)):
+            if called.startswith("new_") and called[4:] not in structs:
+                return f"@{function.name} calls @{called}, and there is no struct {called[4:]}"
+            if not called.startswith(("new_", "llvm.")):
+                return f"@{function.name} calls @{called}, which the program does not define"
+    return None
+
+
+def report(module):
+    """For each function of a module what the tool put into it."""
+    for name, body in re.findall(r"^define \S+ @([\w.$]+)\(.*?\{\n(.*?)^\}", module, re.M | re.S):
+        told = [("claims", "@dg_alloc("), ("safepoints", SAFEPOINT), ("roots", "@llvm.gcroot("), ("barriers", "@llvm.gcwrite(")]
+        counts = [f"{what} {body.count(sign)}" for what, sign in told]
+        loads = len(re.findall(rf"^  {NAME} = load [^,]+, \S+ {NAME}\.root$", body, re.M))
+        yield f"@{name}: " + ", ".join(counts[:3] + [f"loads from roots {loads}"] + counts[3:])
+
+
+def main():
+    parser = argparse.ArgumentParser(description=__doc__.split("\n")[0])
+    parser.add_argument("text", metavar="IN.ll")
+    options = parser.parse_args()
+    try:
+        with open(options.text, encoding="utf-8") as file:
+            text = file.read()
+    except OSError as error:
+        sys.exit(f"gcroot.py: {options.text}: {error.strerror}")
+    wrong = fault(text)
+    if wrong:
+        sys.exit(f"gcroot.py: {options.text}: {wrong}")
+    module = module_of(text)
+    print("\n".join(report(module)), file=sys.stderr)
+    sys.stdout.write(module)
+
+
+if __name__ == "__main__":
+    main()
