@@ -1,3 +1,4 @@
 pub mod Fields
+pub mod PointerKinds
 pub mod Stars
 pub mod Values

@@ -4,30 +4,30 @@ use Rattle.grammar.specs.Outcome.{and_then}
 use Rattle.ir_tokens.specs.declared.token.Kind.TheVariants as k
 use Rattle.ir_ast.specs.declared.ir_type.IrType.TheVariants as type
 use Rattle.ir_forms.specs.declared.input.Input.{Input}
-use Rattle.ir_forms.specs.Cursor.{sees}
+use Rattle.ir_forms.specs.Cursor.{sees, start}
 use Rattle.ir_forms.specs.Input.{limit, unexpected, advanced}
-use Rattle.ir_forms.specs.Written.{pointers, intern, part, firm, base, starred, no_type, again_within, again_over, no_parameters}
+use Rattle.ir_forms.specs.Written.{pointers, intern_pointer, part, firm, base, starred, no_type, again_within, again_over, no_parameters}
 
-pub pointers_none : (n pointee : ℕ) (i : Input) → sees k.Star i.cursor ≡ false → (pointers n pointee).read i ≡ Ok ((n, pointee), i)
+pub pointers_none : (from n pointee : ℕ) (i : Input) → sees k.Star i.cursor ≡ false → (pointers from n pointee).read i ≡ Ok ((n, pointee), i)
 unfolding pointers
-pointers_none zero pointee i e = rw e refl
-pointers_none (suc n) pointee i e = rw e refl
+pointers_none from zero pointee i e = rw e refl
+pointers_none from (suc n) pointee i e = rw e refl
 
-pub pointers_full : (n pointee : ℕ) (i : Input) → sees k.Star i.cursor ≡ true → n ≡ 0 → (pointers n pointee).read i ≡ Err (limit i)
+pub pointers_full : (from n pointee : ℕ) (i : Input) → sees k.Star i.cursor ≡ true → n ≡ 0 → (pointers from n pointee).read i ≡ Err (limit i)
 unfolding pointers
-pointers_full n pointee i e z = rw (z, e) refl
+pointers_full from n pointee i e z = rw (z, e) refl
 
-pub pointers_more : (n pointee : ℕ) (i : Input) → sees k.Star i.cursor ≡ true → 0 < n
-    → (pointers n pointee).read i ≡ and_then ((intern (type.Pointer pointee)).read (advanced i)) (λ p. (pointers (n - 1) p).read)
+pub pointers_more : (from n pointee : ℕ) (i : Input) → sees k.Star i.cursor ≡ true → 0 < n
+    → (pointers from n pointee).read i ≡ and_then ((intern_pointer from (type.Pointer pointee)).read (advanced i)) (λ p. (pointers from (n - 1) p).read)
 unfolding pointers
-pointers_more zero pointee i e less = absurd (omega arith)
-pointers_more (suc n) pointee i e less = let d : suc n - 1 ≡ n = omega arith in rw (d, e) refl
+pointers_more from zero pointee i e less = absurd (omega arith)
+pointers_more from (suc n) pointee i e less = let d : suc n - 1 ≡ n = omega arith in rw (d, e) refl
 
 pub part_none : (n : ℕ) (i : Input) → n ≡ 0 → (part n).read i ≡ no_type.read i
 unfolding firm
 part_none n i e = rw e refl
 
-pub part_more : (n : ℕ) (i : Input) → 0 < n → (part n).read i ≡ and_then ((base (n - 1) (firm (n - 1))).read i) (λ p. (starred p).read)
+pub part_more : (n : ℕ) (i : Input) → 0 < n → (part n).read i ≡ and_then ((base (n - 1) (firm (n - 1))).read i) (λ p. (starred (start i.cursor) p).read)
 unfolding firm
 part_more zero i less = absurd (omega arith)
 part_more (suc n) i less = let e : suc n - 1 ≡ n = omega arith in rw e refl

@@ -18,7 +18,7 @@ use Rattle.ir_forms.specs.Numbers.{condition}
 use Rattle.ir_forms.specs.declared.choices.Entries.{Entries}
 use Rattle.ir_forms.specs.declared.numbers.TwoOperands.{TwoOperands}
 use Rattle.ir_forms.specs.declared.decorating.Trail.TheVariants as trail
-use Rattle.ir_forms.specs.Decorations.{trailing}
+use Rattle.ir_forms.specs.Decorations.{instruction_end}
 use Rattle.ir_forms.specs.Lists.{at_no_comma}
 use Rattle.ir_forms.specs.ManyWith.{many_with}
 
@@ -122,7 +122,7 @@ phi_after value = do
   w ← scalar
   xs ← all_entries (bits_of w)
   set_type value w.id
-  trailing trail.Other
+  instruction_end trail.Other
   pure (record { value = value; written = w.id; incoming = xs })
 
 -- `%v = phi T [ V, %b ], [ W, %c ]`

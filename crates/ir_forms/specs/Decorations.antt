@@ -12,12 +12,13 @@ use Rattle.ir_forms.specs.Cursor.{kind, kind_after, same_kind, sees, begins_line
 use Rattle.ir_forms.specs.declared.input.Input.{Input}
 use Rattle.ir_forms.specs.Input.{Form, limit, unexpected, unread, skip, expect, expect_takes, IsKind, skip_takes}
 use Rattle.ir_forms.specs.declared.decorating.Brackets.{Brackets}
+use Rattle.ir_forms.specs.declared.decorating.FlagsAfter.{FlagsAfter}
 use Rattle.ir_forms.specs.declared.decorating.Spot.{Spot}
 use Rattle.ir_forms.specs.declared.decorating.Spot.TheVariants as spot
 use Rattle.ir_forms.specs.declared.decorating.Trail.{Trail}
 use Rattle.ir_forms.specs.declared.decorating.Trail.TheVariants as trail
 use Rattle.ir_forms.specs.ManyWith.{many_with}
-use Rattle.ir_forms.specs.Starts.{is_flag, begins_any_type}
+use Rattle.ir_forms.specs.Starts.{is_flag_of, begins_any_type}
 
 -- one form or the other
 abbrev pub either : {A : Type 0} → Form A → Form A → Bool → Form A
@@ -191,43 +192,68 @@ same_spot s _ = s
 unfoldable pub decorations : Spot → Form (Unit {0})
 decorations s = many_with at_no_decoration decoration decoration_takes same_spot s >> pure tt
 
--- ---- words that are written once, and flags
+-- ---- words that are written once
 
 -- this word, if it is there
 unfoldable pub optional : Kind → Form (Unit {0})
 optional x = look (λ i. sees x i.cursor) (either skip (pure tt))
 
--- no `nsw` or `nuw` is here
-abbrev pub at_no_flag : Input → Bool
-at_no_flag i = not (is_flag (kind i.cursor))
+-- ---- the word of an instruction
 
--- `nsw` or `nuw`
-abbrev pub flag_by : Kind → Form (Unit {0})
-flag_by k.Nsw = skip
-flag_by k.Nuw = skip
-flag_by _ = refuse unexpected
+-- a flag of the instruction with this word
+unfoldable pub flag : Kind → Form (Unit {0})
+flag word = checked (λ i. is_flag_of word (kind i.cursor)) unexpected >> skip
 
--- `nsw` or `nuw`
-unfoldable pub flag : Form (Unit {0})
-flag = look (λ i. kind i.cursor) flag_by
+flag_is_token : (x y : Kind) → is_flag_of x y ≡ true → y ≢ k.End
+flag_is_token x k.End e = absurd cc
+flag_is_token x _ e = λ is. cc
 
-flag_takes_by : (x : Kind) → TakesWhere (IsKind x) (flag_by x)
-flag_takes_by k.Nsw = skip_takes k.Nsw (λ x. cc)
-flag_takes_by k.Nuw = skip_takes k.Nuw (λ x. cc)
-flag_takes_by _ = λ i a o e h. absurd h
-
-pub flag_takes : Takes flag
+pub flag_takes : (f : FlagsAfter) → Takes (flag f.word)
 unfolding flag
-flag_takes = look_takes (λ i. kind i.cursor) flag_by flag_takes_by
+flag_takes f = checked_takes (λ i. is_flag_of f.word (kind i.cursor)) unexpected skip
+    (λ i a o e h. skip_takes (kind i.cursor) (flag_is_token f.word (kind i.cursor) e) i a o refl h)
 
--- the flags of an instruction that may have some
-abbrev pub flags_or : Bool → Form (Unit {0})
-flags_or true = many at_no_flag flag flag_takes >> pure tt
-flags_or false = pure tt
+-- no flag of the instruction is here
+abbrev pub at_no_flag : FlagsAfter → Input → Bool
+at_no_flag f i = not (is_flag_of f.word (kind i.cursor))
 
--- the flags after a word that may have some
-unfoldable pub flags : Bool → Form (Unit {0})
-flags may_wrap = flags_or may_wrap
+-- the flags are those of the same instruction after one of them
+abbrev pub same_flags : FlagsAfter → Unit {0} → FlagsAfter
+same_flags f _ = f
+
+-- the flags of the instruction with this word
+unfoldable pub flags : Kind → Form (Unit {0})
+flags word = many_with at_no_flag (λ f. flag f.word) flag_takes same_flags (record { word = word }) >> pure tt
+
+-- this word of an instruction, with the flags after it
+abbrev pub flagged : Kind → Form (Unit {0})
+flagged word = skip >> flags word
+
+-- the word of an instruction, with the flags after it
+unfoldable pub flagged_word : Form (Unit {0})
+flagged_word = look (λ i. kind i.cursor) flagged
+
+-- ---- debug records
+
+-- what follows the name of a debug record
+abbrev pub record_after : Form (Unit {0})
+record_after = expect k.OpenRound >> past_brackets
+
+-- `#dbg_value(..)`
+unfoldable pub debug_record : Form (Unit {0})
+debug_record = expect k.DebugRecord >> record_after
+
+pub debug_record_takes : Takes debug_record
+unfolding debug_record
+debug_record_takes = first_takes (expect k.DebugRecord) (λ _. record_after) (expect_takes k.DebugRecord (λ x. cc))
+
+-- no debug record is here
+abbrev pub at_no_record : Input → Bool
+at_no_record i = not (sees k.DebugRecord i.cursor)
+
+-- the debug records before an instruction
+unfoldable pub debug_records : Form (Unit {0})
+debug_records = many at_no_record debug_record debug_record_takes >> pure tt
 
 -- ---- after an instruction or a global
 
@@ -300,6 +326,10 @@ trail_of (op.Memory (memory.Alloca held)) = trail.Slot
 trail_of (op.Memory x) = trail.Memory
 trail_of _ = trail.Other
 
--- an instruction, and the decorations after it
+-- the decorations after an instruction, and the debug records before the next one
+unfoldable pub instruction_end : Trail → Form (Unit {0})
+instruction_end t = trailing t >> debug_records
+
+-- an instruction, with what comes before the next one
 abbrev pub trailed : Op → Form Op
-trailed x = trailing (trail_of x) >> pure x
+trailed x = instruction_end (trail_of x) >> pure x

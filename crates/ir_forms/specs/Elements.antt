@@ -4,23 +4,18 @@ use Rattle.grammar.specs.Grammar.{pure, ◌>>=◌, ◌>>◌}
 use Rattle.ir_tokens.specs.declared.token.Kind.TheVariants as k
 use Rattle.ir_ast.specs.declared.elements.Element.{Element}
 use Rattle.ir_forms.specs.declared.site.Site.{Site}
-use Rattle.ir_forms.specs.declared.written.WrittenType.{WrittenType}
-use Rattle.ir_forms.specs.Input.{Form, skip, expect}
+use Rattle.ir_forms.specs.Input.{Form, expect}
 use Rattle.ir_forms.specs.Names.{set_element}
 use Rattle.ir_forms.specs.Written.{any_type}
-use Rattle.ir_forms.specs.Decorations.{optional}
+use Rattle.ir_forms.specs.Decorations.{flagged_word}
 use Rattle.ir_forms.specs.Lists.{indices}
 use Rattle.ir_forms.specs.Memory.{place_of}
-
--- the type of which a part is taken
-unfoldable pub source : Form WrittenType
-source = optional k.Inbounds >> any_type
 
 -- `getelementptr T, T* V, T W, ..`
 unfoldable pub element : Site → ℕ → Form Element
 element site value = do
-  skip
-  whole ← source
+  flagged_word
+  whole ← any_type
   expect k.Comma
   base ← place_of whole
   xs ← indices

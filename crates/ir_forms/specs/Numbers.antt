@@ -22,7 +22,7 @@ use Rattle.ir_forms.specs.Written.{scalar, intern, again, bits_of}
 use Rattle.ir_forms.specs.Operand.{operand}
 use Rattle.ir_forms.specs.declared.numbers.TwoOperands.{TwoOperands}
 use Rattle.ir_forms.specs.Lists.{typed}
-use Rattle.ir_forms.specs.Decorations.{flags}
+use Rattle.ir_forms.specs.Decorations.{flagged_word}
 
 -- `T V, W`
 unfoldable pub pair : Form TwoOperands
@@ -45,18 +45,10 @@ arithmetic_of k.Or = Some a.Or
 arithmetic_of k.Xor = Some a.Xor
 arithmetic_of _ = None
 
--- those that flags may follow
-abbrev pub may_wrap : Arithmetic → Bool
-may_wrap a.Add = true
-may_wrap a.Sub = true
-may_wrap a.Mul = true
-may_wrap _ = false
-
 -- `add T V, W`, and so for the other five
 unfoldable pub arithmetic : Arithmetic → ℕ → Form NumberOp
 arithmetic x value = do
-  skip
-  flags (may_wrap x)
+  flagged_word
   p ← pair
   set_type value p.written
   pure (number.Arithmetic x p.written p.first p.second)
@@ -73,7 +65,7 @@ resize_of _ = None
 -- `zext T V to U`, and so for the other two
 unfoldable pub resize : Resize → ℕ → Form NumberOp
 resize x value = do
-  skip
+  flagged_word
   from ← typed
   expect k.To
   to ← scalar
@@ -108,7 +100,7 @@ comparison = look (λ i. comparison_of (kind i.cursor)) comparison_by
 -- `icmp C T V, W`, whose value is an i1
 unfoldable pub compare : ℕ → Form NumberOp
 compare value = do
-  skip
+  flagged_word
   x ← comparison
   p ← pair
   bit ← intern (type.Integer 1)

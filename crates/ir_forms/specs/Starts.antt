@@ -1,8 +1,9 @@
--- Kinds of tokens with which forms begin that are left out, and of decorations.
+-- Kinds of tokens with which forms begin that are left out, and of flags.
 use Rattle.std.specs.Prelude.{ℕ, Bool, true, false, ◌||◌, List, codes}
 use Rattle.std.specs.Str.{bytes_eq}
 use Rattle.ir_tokens.specs.declared.token.Kind.{Kind}
 use Rattle.ir_tokens.specs.declared.token.Kind.TheVariants as k
+use Rattle.ir_forms.specs.Cursor.{same_kind}
 
 -- any type, also one that is left out
 abbrev pub begins_any_type : Kind → Bool
@@ -12,6 +13,7 @@ begins_any_type k.LocalNumber = true
 begins_any_type k.OpenSquare = true
 begins_any_type k.OpenBrace = true
 begins_any_type k.Less = true
+begins_any_type k.Ptr = true
 begins_any_type _ = false
 
 -- a word of a type that is left out
@@ -19,13 +21,14 @@ abbrev pub is_left_out_type : List ℕ → Bool
 is_left_out_type word =
     bytes_eq word (codes "half") || bytes_eq word (codes "bfloat") || bytes_eq word (codes "float") || bytes_eq word (codes "double")
     || bytes_eq word (codes "x86_fp80") || bytes_eq word (codes "fp128") || bytes_eq word (codes "ppc_fp128")
-    || bytes_eq word (codes "x86_mmx") || bytes_eq word (codes "x86_amx") || bytes_eq word (codes "ptr")
+    || bytes_eq word (codes "x86_mmx") || bytes_eq word (codes "x86_amx")
     || bytes_eq word (codes "metadata") || bytes_eq word (codes "token")
 
 -- a token of this kind and spelling makes a level of a type, which is of any form
 abbrev pub makes_level : Kind → List ℕ → Bool
 makes_level k.Void word = true
 makes_level k.Label word = true
+makes_level k.Target word = true
 makes_level k.LeftOut word = is_left_out_type word
 makes_level x word = begins_any_type x
 
@@ -37,8 +40,21 @@ is_indirect_callee k.Bitcast = true
 is_indirect_callee k.OpenRound = true
 is_indirect_callee _ = false
 
--- decorations of a sum, a difference or a product
-abbrev pub is_flag : Kind → Bool
-is_flag k.Nsw = true
-is_flag k.Nuw = true
-is_flag _ = false
+-- the instruction with this word has a result that may wrap
+abbrev pub may_wrap : Kind → Bool
+may_wrap k.Add = true
+may_wrap k.Sub = true
+may_wrap k.Mul = true
+may_wrap k.Trunc = true
+may_wrap _ = false
+
+-- a flag of the instruction with the word x: it says when the result is poison
+abbrev pub is_flag_of : (x flag : Kind) → Bool
+is_flag_of x k.Nuw = may_wrap x || same_kind x k.Getelementptr
+is_flag_of x k.Nsw = may_wrap x
+is_flag_of x k.Nusw = same_kind x k.Getelementptr
+is_flag_of x k.Inbounds = same_kind x k.Getelementptr
+is_flag_of x k.Nneg = same_kind x k.Zext
+is_flag_of x k.Disjoint = same_kind x k.Or
+is_flag_of x k.Samesign = same_kind x k.Icmp
+is_flag_of x _ = false

@@ -1,5 +1,6 @@
 -- Types as they are written: a base with stars after it, where arrays and structs are bases that have types inside.
-use Rattle.std.specs.Prelude.{ℕ, zero, suc, ◌-◌, ◌≤◌, Bool, true, false, not, ◌||◌, ◌==◌, ◌&&◌, if◌then◌else◌, nat_lt, nat_le, min, List, [], ◌∷◌, Option, Some, None, is_some, unwrap_or, slice_get}
+use Rattle.std.specs.Prelude.{ℕ, zero, suc, ◌-◌, ◌≤◌, Bool, true, false, not, ◌||◌, ◌==◌, ◌&&◌, if◌then◌else◌, nat_lt, nat_le, min, List, [], ◌∷◌, Option, Some, None, is_some, is_none, unwrap_or, slice_get}
+use Rattle.std.specs.List.{list_any}
 use Rattle.std.proofs.Common.{arith}
 use Rattle.grammar.specs.Grammar.{pure, step, checked, refuse, look, ◌>>=◌, ◌>>◌}
 use Rattle.grammar.specs.Takes.{Takes, TakesWhere, first_takes, first_takes_where, look_takes, stays_takes}
@@ -7,14 +8,14 @@ use Rattle.grammar.specs.Many.{many}
 use Rattle.ir_tokens.specs.declared.token.Kind.{Kind}
 use Rattle.ir_tokens.specs.declared.token.Kind.TheVariants as k
 use Rattle.ir_ast.specs.Names.{place_of}
-use Rattle.ir_ast.specs.Types.{number_of_type, numbered_type}
+use Rattle.ir_ast.specs.Types.{place_of_type, number_of_type, numbered_type}
 use Rattle.ir_ast.specs.declared.ir_type.IrType.{IrType}
 use Rattle.ir_ast.specs.declared.ir_type.IrType.TheVariants as type
 use Rattle.ir_forms.specs.declared.fault.Fault.{Fault}
-use Rattle.ir_forms.specs.declared.fault.Fault.TheVariants.{OutOfRange}
+use Rattle.ir_forms.specs.declared.fault.Fault.TheVariants.{OutOfRange, OtherPointer}
 use Rattle.ir_forms.specs.declared.input.Input.{Input}
 use Rattle.ir_forms.specs.declared.written.Base.{Base}
-use Rattle.ir_forms.specs.declared.written.Base.TheVariants.{Integer, Named, Aggregate}
+use Rattle.ir_forms.specs.declared.written.Base.TheVariants.{Integer, Named, Opaque, Aggregate}
 use Rattle.ir_forms.specs.declared.written.WrittenType.{WrittenType}
 use Rattle.ir_forms.specs.Cursor.{kind, kind_after, sees, start, name, spelled, spelling, left_out, refused}
 use Rattle.ir_forms.specs.Number.{decimal, natural}
@@ -39,6 +40,52 @@ with_type_interned_falls t i = omega arith
 -- the place of a type in the table, which has it from now on; no token is read
 unfoldable pub intern : IrType → Form ℕ
 intern t = has_number (place_in_table t) >> step (place_in_table t) (with_type_interned t) (with_type_interned_falls t)
+
+-- ---- both kinds of pointers
+
+-- `ptr` is among these types
+abbrev pub has_opaque : List IrType → Bool
+has_opaque types = is_some (place_of_type type.Opaque types)
+
+-- a pointer that says what it points to
+abbrev pub is_typed_pointer : IrType → Bool
+is_typed_pointer (type.Pointer part) = true
+is_typed_pointer _ = false
+
+-- such a pointer is there
+abbrev pub is_typed_at : Option IrType → Bool
+is_typed_at (Some t) = is_typed_pointer t
+is_typed_at None = false
+
+-- pointers that say what they point to are among these types
+abbrev pub has_typed : List IrType → Bool
+has_typed types = list_any is_typed_pointer types
+
+-- pointers of the other kind than this type are among these types
+abbrev pub has_other_pointer : IrType → List IrType → Bool
+has_other_pointer (type.Pointer part) types = has_opaque types
+has_other_pointer type.Opaque types = has_typed types
+has_other_pointer _ types = false
+
+-- the type is the first pointer of its kind, after pointers of the other kind
+abbrev pub is_other_kind : IrType → List IrType → Bool
+is_other_kind t types = has_other_pointer t types && is_none (place_of_type t types)
+
+-- so it is of the types that were read
+unfoldable pub is_second_kind : IrType → Input → Bool
+is_second_kind t i = is_other_kind t i.types
+
+-- a pointer type comes into the table; it is written from this place on
+abbrev pub interned_pointer : ℕ → IrType → Bool → Form ℕ
+interned_pointer start t other = intern t >>= λ id. checked (λ _. not other) (λ _. OtherPointer start) >> pure id
+
+-- the place of a pointer type, which is written from this place on: no text has pointers of both kinds
+unfoldable pub intern_pointer : ℕ → IrType → Form ℕ
+intern_pointer start t = look (is_second_kind t) (interned_pointer start t)
+
+-- `ptr`: its place
+unfoldable pub opaque_type : Form ℕ
+opaque_type = look (λ i. start i.cursor) (λ start. skip >> intern_pointer start type.Opaque)
 
 -- ---- a type before its stars
 
@@ -67,6 +114,7 @@ begins_type k.IntegerType = true
 begins_type k.LocalName = true
 begins_type k.OpenSquare = true
 begins_type k.OpenBrace = true
+begins_type k.Ptr = true
 begins_type _ = false
 
 -- numbered types, vectors, packed structs and lists of any length
@@ -74,6 +122,7 @@ abbrev pub begins_unread_type : Kind → Bool
 begins_unread_type k.LocalNumber = true
 begins_unread_type k.Less = true
 begins_unread_type k.Dots = true
+begins_unread_type k.Target = true
 begins_unread_type _ = false
 
 -- a type without a star, with room for this number of further levels
@@ -173,6 +222,7 @@ base_by room inner k.IntegerType = integer >>= λ bits. interned (Integer bits) 
 base_by room inner k.LocalName = struct_name >>= λ name. interned Named room (type.Named name)
 base_by room inner k.OpenSquare = array inner
 base_by room inner k.OpenBrace = braced room inner
+base_by room inner k.Ptr = opaque_type >>= λ id. pure (part_of Opaque room id)
 base_by room inner k.Void = no_void
 base_by room inner _ = refuse (unread begins_unread_type)
 
@@ -191,10 +241,17 @@ abbrev pub star_or : {A : Type 0} → Form A → Form A → Bool → Form A
 star_or star none true = star
 star_or star none false = none
 
--- at most n stars after a type: the room for further levels that is left, and the place of the pointer type
-unfoldable pub pointers : ℕ → ℕ → Form (ℕ × ℕ)
-pointers zero pointee = look at_star (star_or (refuse limit) (pure (0, pointee)))
-pointers (suc room) pointee = look at_star (star_or (skip >> intern (type.Pointer pointee) >>= pointers room) (pure (suc room, pointee)))
+-- At most n stars after a type that is written from this place on: the room for further levels that is left, and the place of the
+-- pointer type.
+unfoldable pub pointers : ℕ → ℕ → ℕ → Form (ℕ × ℕ)
+pointers start zero pointee = look at_star (star_or (refuse limit) (pure (0, pointee)))
+pointers start (suc room) pointee =
+    look at_star (star_or (skip >> intern_pointer start (type.Pointer pointee) >>= pointers start room) (pure (suc room, pointee)))
+
+-- the stars after a type, which is written from this place on; `ptr` takes none
+abbrev pub stars_after : ℕ → WrittenType → Base → Form (ℕ × ℕ)
+stars_after start p Opaque = pure (p.room, p.id)
+stars_after start p _ = pointers start p.room p.id
 
 -- no function type
 abbrev pub no_parameters : Form (Unit {0})
@@ -204,10 +261,10 @@ no_parameters = checked (λ i. not (sees k.OpenRound i.cursor)) (λ i. left_out 
 abbrev pub with_stars : WrittenType → ℕ × ℕ → WrittenType
 with_stars p found = record { base = p.base; stars = p.room - found.0; id = found.1; room = found.0 }
 
--- the stars after a type
-unfoldable pub starred : WrittenType → Form WrittenType
-starred p = do
-  found ← pointers p.room p.id
+-- a type with the stars after it, which is written from this place on
+unfoldable pub starred : ℕ → WrittenType → Form WrittenType
+starred start p = do
+  found ← stars_after start p p.base
   no_parameters
   pure (with_stars p found)
 
@@ -223,21 +280,26 @@ no_type = refuse (λ i. if sees_level i then limit i else unread begins_unread_t
 
 -- a type with its stars, whose parts are of this form
 abbrev pub over : ℕ → Firm → Form WrittenType
-over room inner = base room inner >>= starred
+over room inner = look (λ i. start i.cursor) (λ start. base room inner >>= starred start)
 
 pub integer_takes : TakesWhere (IsKind k.IntegerType) integer
 unfolding integer
 integer_takes = stays_takes (IsKind k.IntegerType) has_bits (step bits_at advanced advanced_falls) (λ i a o h. h.1) (advance_takes k.IntegerType (λ x. cc) bits_at advanced advanced_falls advanced_left)
+
+opaque_takes : TakesWhere (IsKind k.Ptr) opaque_type
+unfolding opaque_type
+opaque_takes i = first_takes_where (IsKind k.Ptr) skip (λ _. intern_pointer (start i.cursor) type.Opaque) (skip_takes k.Ptr (λ x. cc)) i
 
 pub base_takes_by : (room : ℕ) (inner : Firm) (x : Kind) → TakesWhere (IsKind x) (base_by room inner x)
 base_takes_by room inner k.IntegerType = first_takes_where (IsKind k.IntegerType) integer (λ bits. interned (Integer bits) room (type.Integer bits)) integer_takes
 base_takes_by room inner k.LocalName = first_takes_where (IsKind k.LocalName) struct_name (λ name. interned Named room (type.Named name)) struct_name_takes
 base_takes_by room inner k.OpenSquare = first_takes_where (IsKind k.OpenSquare) skip (λ _. array_after inner) (skip_takes k.OpenSquare (λ x. cc))
 base_takes_by room inner k.OpenBrace = first_takes_where (IsKind k.OpenBrace) skip (λ _. fields_afterwards room inner) (skip_takes k.OpenBrace (λ x. cc))
+base_takes_by room inner k.Ptr = first_takes_where (IsKind k.Ptr) opaque_type (λ id. pure (part_of Opaque room id)) opaque_takes
 base_takes_by room inner _ = λ i a o e h. absurd h
 
 pub over_takes : (room : ℕ) (inner : Firm) → Takes (over room inner)
-over_takes room inner = first_takes (base room inner) starred (look_takes (λ i. kind i.cursor) (base_by room inner) (base_takes_by room inner))
+over_takes room inner i = first_takes (base room inner) (starred (start i.cursor)) (look_takes (λ i. kind i.cursor) (base_by room inner) (base_takes_by room inner)) i
 
 pub no_type_takes : Takes no_type
 unfolding no_type
@@ -266,30 +328,42 @@ struct_body = braced 63 (firm 63) >>= λ p. pure p.id
 abbrev pub bits_of_base : Base → Option ℕ
 bits_of_base (Integer bits) = Some bits
 bits_of_base Named = None
+bits_of_base Opaque = None
 bits_of_base Aggregate = None
+
+-- a pointer before its stars
+abbrev pub is_opaque_base : Base → Bool
+is_opaque_base Opaque = true
+is_opaque_base _ = false
+
+-- a pointer
+abbrev pub is_pointer : WrittenType → Bool
+is_pointer w = nat_lt 0 w.stars || is_opaque_base w.base
 
 -- an integer or a pointer, which are one word
 abbrev pub is_scalar : WrittenType → Bool
-is_scalar w = nat_lt 0 w.stars || is_some (bits_of_base w.base)
+is_scalar w = is_pointer w || is_some (bits_of_base w.base)
 
 -- how many bits a type has, if it is an integer type
 abbrev pub bits_of : WrittenType → Option ℕ
 bits_of w = if w.stars == 0 then bits_of_base w.base else None
 
--- an integer, a reference or `i8*`, which a function may take and return
+-- an integer, a reference, `i8*` or `ptr`, which a function may take and return
 abbrev pub is_passed : WrittenType → Bool
 is_passed w = passed_by w.base w.stars where
   passed_by : Base → ℕ → Bool
   passed_by (Integer bits) stars = stars == 0 || (stars == 1 && bits == 8)
   passed_by Named stars = stars == 1
+  passed_by Opaque stars = stars == 0
   passed_by Aggregate stars = false
 
--- an integer or a reference, which a global may hold
+-- an integer, a reference or `ptr`, which a global may hold
 abbrev pub is_held : WrittenType → Bool
 is_held w = held_by w.base w.stars where
   held_by : Base → ℕ → Bool
   held_by (Integer bits) stars = stars == 0
   held_by Named stars = stars == 1
+  held_by Opaque stars = stars == 0
   held_by Aggregate stars = false
 
 -- The type before here is allowed, or else has this fault. Where the text ends, the fault is that of its end, since a star might follow.
@@ -324,9 +398,9 @@ passed_type = type_that is_passed 63
 unfoldable pub held_type : Form WrittenType
 held_type = type_that is_held 63
 
--- a type with a star after it
+-- a pointer type: `ptr`, or a type with a star after it
 unfoldable pub pointer_type : Form WrittenType
-pointer_type = any_type >>= λ w. checked (λ _. nat_lt 0 w.stars) unexpected >> pure w
+pointer_type = any_type >>= λ w. checked (λ _. is_pointer w) unexpected >> pure w
 
 -- ---- a second mention of a type
 
@@ -383,6 +457,7 @@ abbrev pub again_by : (ℕ → Form (Unit {0})) → Option IrType → Form (Unit
 again_by inner (Some (type.Integer bits)) = integer_again bits
 again_by inner (Some (type.Named wanted)) = name_again wanted
 again_by inner (Some (type.Pointer part)) = inner part >> expect k.Star
+again_by inner (Some type.Opaque) = sees_type k.Ptr >> skip
 again_by inner (Some (type.Array n part)) = array_again inner n part
 again_by inner (Some type.EmptyStruct) = sees_type k.OpenBrace >> skip >> expect k.CloseBrace
 again_by inner (Some (type.Struct first rest)) = sees_type k.OpenBrace >> skip >> inner first >> all_fields_again inner rest
@@ -405,9 +480,18 @@ again w = again_within 64 w.id
 abbrev pub further_star : ℕ → Form (Unit {0})
 further_star room = sees_a k.Star >> checked (λ _. nat_lt 0 room) limit >> skip
 
--- a pointer to the same type: the place of its type
+-- the same type again with a star: the place of the pointer type
+abbrev pub starred_again : WrittenType → Form ℕ
+starred_again w = look (λ i. start i.cursor) (λ start. again w >> further_star w.room >> intern_pointer start (type.Pointer w.id))
+
+-- one form at `ptr`, the other elsewhere
+abbrev pub opaque_or : {A : Type 0} → Form A → Form A → Bool → Form A
+opaque_or opaque typed true = opaque
+opaque_or opaque typed false = typed
+
+-- a pointer to a type that is written before it, `ptr` or the same type again with a star: the place of its type
 unfoldable pub pointer_again : WrittenType → Form ℕ
-pointer_again w = again w >> further_star w.room >> intern (type.Pointer w.id)
+pointer_again w = look (λ i. sees k.Ptr i.cursor) (opaque_or opaque_type (starred_again w))
 
 -- ---- types take a token
 

@@ -100,6 +100,11 @@ impl<'a> Input<'a> {
                 self.again_within(alloc, levels, *pointee)?;
                 self.expect(Kind::Star)
             }
+            Some(IrType::Opaque) => {
+                self.sees_type(Kind::Ptr)?;
+                self.skip();
+                Ok(())
+            }
             Some(IrType::Array { length, part }) => self.array_again(alloc, levels, *length, *part),
             Some(IrType::EmptyStruct) => {
                 self.sees_type(Kind::OpenBrace)?;
@@ -183,12 +188,24 @@ impl<'a> Input<'a> {
     }
 
     /// The type of pointers to a type that is mentioned here again. Returns its place.
+    fn starred_again(&mut self, alloc: Global, written: &WrittenType) -> Result<TypeId, Fault>
+        ensures { Reads ((form.starred_again written.now).read self.old) result self.new }
+    {
+        let start = self.cursor.start();
+        self.again(alloc, written)?;
+        self.further_star(written.room)?;
+        self.intern_pointer(start, IrType::Pointer(written.id))
+    }
+
+    /// The type of pointers to a type that is written before it: `ptr`, or that type again and a star. Returns its place.
     #[tactic(auto, unfolding(crate::specs::Written::pointer_again))]
     pub fn pointer_again(&mut self, alloc: Global, written: &WrittenType) -> Result<TypeId, Fault>
         ensures { Reads ((form.pointer_again written.now).read self.old) result self.new }
     {
-        self.again(alloc, written)?;
-        self.further_star(written.room)?;
-        self.intern(IrType::Pointer(written.id))
+        if self.sees(Kind::Ptr) {
+            self.opaque_type()
+        } else {
+            self.starred_again(alloc, written)
+        }
     }
 }

@@ -4,7 +4,7 @@ ghost use Rattle.ir_forms.specs.Input.{Reads};
 ghost use Rattle.ir_forms.specs.Choices as form;
 
 use crate::cursor::same_kind;
-use crate::decorating::{Trail, trailing};
+use crate::decorating::{Trail, instruction_end};
 use crate::fault::Fault;
 use crate::following::{Following, many_with};
 use crate::input::Input;
@@ -170,7 +170,7 @@ fn phi(alloc: Global, input: &mut Input<'_>) -> Result<Phi, Fault>
     let written = input.scalar(alloc)?;
     let incoming = all_entries(alloc, input, bits_of(&written))?;
     input.set_type(value, written.id);
-    trailing(alloc, input, Trail::Other)?;
+    instruction_end(alloc, input, Trail::Other)?;
     Ok(Phi {
         value,
         written: written.id,

@@ -7,7 +7,7 @@ use crate::fault::Fault;
 use crate::following::{Following, many_with};
 use crate::input::Input;
 use crate::listed::{Listed, many};
-use crate::starts::{begins_any_type, is_flag};
+use crate::starts::{begins_any_type, is_flag_of};
 use ir_ast::{MemoryOp, Op};
 use ir_tokens::Kind;
 use std::alloc::Global;
@@ -237,7 +237,7 @@ pub fn decorations(alloc: Global, input: &mut Input<'_>, spot: Spot) -> Result<(
     Ok(())
 }
 
-// ---- words that are written once, and flags
+// ---- words that are written once
 
 /// A word, if it is there.
 #[tactic(auto, unfolding(crate::specs::Decorations::optional))]
@@ -249,49 +249,104 @@ pub fn optional(input: &mut Input<'_>, kind: Kind)
     }
 }
 
-/// `nsw` or `nuw`
-#[tactic(auto, unfolding(crate::specs::Decorations::flag))]
-fn flag(input: &mut Input<'_>) -> Result<(), Fault>
-    ensures { Reads (form.flag.read input.old) result input.new }
-{
-    match input.kind() {
-        Kind::Nsw | Kind::Nuw => {
-            input.skip();
-            Ok(())
-        }
-        _ => Err(input.refuse(false)),
-    }
+// ---- the word of an instruction
+
+/// The flags of the instruction with this word.
+#[derive(Clone, Copy)]
+pub struct FlagsAfter {
+    pub word: Kind,
 }
 
-/// The flags of a sum, a difference or a product.
-pub struct FlagList;
+/// A flag of the instruction with this word.
+#[tactic(auto, unfolding(crate::specs::Decorations::flag))]
+fn flag(input: &mut Input<'_>, word: Kind) -> Result<(), Fault>
+    ensures { Reads ((form.flag word).read input.old) result input.new }
+{
+    if !is_flag_of(word, input.kind()) {
+        return Err(input.refuse(false));
+    }
+    input.skip();
+    Ok(())
+}
 
-impl Listed for FlagList {
-    ghost use Rattle.ir_forms.specs.Decorations.{flag, at_no_flag};
+impl Following for FlagsAfter {
+    ghost use Rattle.ir_forms.specs.Decorations.{flag, at_no_flag, same_flags};
 
     type Item = ();
 
-    ghost form = { flag.read };
+    ghost form = { λ f. (flag f.word).read };
 
     ghost ends = { at_no_flag };
 
-    fn ends(input: &Input<'_>) -> bool {
-        !is_flag(input.kind())
+    ghost next = { same_flags };
+
+    fn ends(&self, input: &Input<'_>) -> bool {
+        !is_flag_of(self.word, input.kind())
     }
 
-    fn read(_alloc: Global, input: &mut Input<'_>) -> Result<(), Fault> {
-        flag(input)
+    fn read(&mut self, _alloc: Global, input: &mut Input<'_>) -> Result<(), Fault> {
+        flag(input, self.word)
     }
 }
 
-/// The flags after a word that may have some.
+/// The flags of the instruction with this word.
 #[tactic(auto, unfolding(crate::specs::Decorations::flags))]
-pub fn flags(alloc: Global, input: &mut Input<'_>, may_wrap: bool) -> Result<(), Fault>
-    ensures { Reads ((form.flags may_wrap).read input.old) result input.new }
+fn flags(alloc: Global, input: &mut Input<'_>, word: Kind) -> Result<(), Fault>
+    ensures { Reads ((form.flags word).read input.old) result input.new }
 {
-    if may_wrap {
-        many::<FlagList>(alloc, input)?;
+    many_with(alloc, input, FlagsAfter { word })?;
+    Ok(())
+}
+
+/// The word of an instruction, with the flags after it.
+#[tactic(auto, unfolding(crate::specs::Decorations::flagged_word))]
+pub fn flagged_word(alloc: Global, input: &mut Input<'_>) -> Result<(), Fault>
+    ensures { Reads (form.flagged_word.read input.old) result input.new }
+{
+    let word = input.kind();
+    input.skip();
+    flags(alloc, input, word)
+}
+
+// ---- debug records
+
+/// `#dbg_value(..)`
+#[tactic(auto, unfolding(crate::specs::Decorations::debug_record))]
+fn debug_record(alloc: Global, input: &mut Input<'_>) -> Result<(), Fault>
+    ensures { Reads (form.debug_record.read input.old) result input.new }
+{
+    input.expect(Kind::DebugRecord)?;
+    input.expect(Kind::OpenRound)?;
+    past_brackets(alloc, input)
+}
+
+/// Debug records, up to where none begins.
+struct RecordList;
+
+impl Listed for RecordList {
+    ghost use Rattle.ir_forms.specs.Decorations.{debug_record, at_no_record};
+
+    type Item = ();
+
+    ghost form = { debug_record.read };
+
+    ghost ends = { at_no_record };
+
+    fn ends(input: &Input<'_>) -> bool {
+        !input.sees(Kind::DebugRecord)
     }
+
+    fn read(alloc: Global, input: &mut Input<'_>) -> Result<(), Fault> {
+        debug_record(alloc, input)
+    }
+}
+
+/// The debug records before an instruction.
+#[tactic(auto, unfolding(crate::specs::Decorations::debug_records))]
+pub fn debug_records(alloc: Global, input: &mut Input<'_>) -> Result<(), Fault>
+    ensures { Reads (form.debug_records.read input.old) result input.new }
+{
+    many::<RecordList>(alloc, input)?;
     Ok(())
 }
 
@@ -398,10 +453,19 @@ pub fn trailing(alloc: Global, input: &mut Input<'_>, trail: Trail) -> Result<()
     Ok(())
 }
 
-/// The decorations after an instruction.
+/// The decorations after an instruction, and the debug records before the next one.
+#[tactic(auto, unfolding(crate::specs::Decorations::instruction_end))]
+pub fn instruction_end(alloc: Global, input: &mut Input<'_>, trail: Trail) -> Result<(), Fault>
+    ensures { Reads ((form.instruction_end trail).read input.old) result input.new }
+{
+    trailing(alloc, input, trail)?;
+    debug_records(alloc, input)
+}
+
+/// An instruction, with what comes before the next one.
 pub fn trailed(alloc: Global, input: &mut Input<'_>, op: Op) -> Result<Op, Fault>
     ensures { Reads ((form.trailed op).read input.old) result input.new }
 {
-    trailing(alloc, input, trail_of(&op))?;
+    instruction_end(alloc, input, trail_of(&op))?;
     Ok(op)
 }

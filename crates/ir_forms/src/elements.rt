@@ -3,25 +3,15 @@ ghost use Rattle.std.specs.Prelude.{◌≡◌};
 ghost use Rattle.ir_forms.specs.Input.{Reads};
 ghost use Rattle.ir_forms.specs.Elements as form;
 
-use crate::decorating::optional;
+use crate::decorating::flagged_word;
 use crate::fault::Fault;
 use crate::input::Input;
 use crate::lists::indices;
 use crate::memory::place_of;
 use crate::site::Site;
-use crate::written::WrittenType;
 use ir_ast::{Element, ValueId};
 use ir_tokens::Kind;
 use std::alloc::Global;
-
-/// The type of which a part is taken.
-#[tactic(auto, unfolding(crate::specs::Elements::source))]
-fn source(alloc: Global, input: &mut Input<'_>) -> Result<WrittenType, Fault>
-    ensures { Reads (form.source.read input.old) result input.new }
-{
-    optional(input, Kind::Inbounds);
-    input.any_type(alloc)
-}
 
 /// getelementptr.
 #[tactic(auto, unfolding(crate::specs::Elements::element))]
@@ -33,8 +23,8 @@ pub fn element(
 ) -> Result<Element, Fault>
     ensures { Reads ((form.element site value).read input.old) result input.new }
 {
-    input.skip();
-    let source = source(alloc, input)?;
+    flagged_word(alloc, input)?;
+    let source = input.any_type(alloc)?;
     input.expect(Kind::Comma)?;
     let base = place_of(alloc, input, &source)?;
     let indices = indices(alloc, input)?;

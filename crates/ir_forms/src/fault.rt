@@ -22,6 +22,8 @@ pub enum Fault {
     Limit(u32),
     /// The number in place of a name is not the next one.
     WrongNumber(u32),
+    /// The type is a pointer of another kind than those before it.
+    OtherPointer(u32),
 }
 
 impl From<AllocError> for Fault {

@@ -43,9 +43,14 @@ impl<'a> Input<'a> {
         Ok(length)
     }
 
-    /// At most `room` stars after a type. Returns the room for further levels that is left.
-    pub fn pointers(&mut self, room: u32, pointee: TypeId) -> Result<(u32, TypeId), Fault>
-        ensures { Reads ((form.pointers room pointee).read self.old) result self.new }
+    /// At most `room` stars after a type that is written from `start` on. Returns the room for further levels that is left.
+    pub fn pointers(
+        &mut self,
+        start: u32,
+        room: u32,
+        pointee: TypeId,
+    ) -> Result<(u32, TypeId), Fault>
+        ensures { Reads ((form.pointers start room pointee).read self.old) result self.new }
     {
         if !self.sees(Kind::Star) {
             return Ok((room, pointee));
@@ -54,16 +59,26 @@ impl<'a> Input<'a> {
             return Err(self.limit());
         }
         self.skip();
-        let pointer = self.intern(IrType::Pointer(pointee))?;
-        self.pointers(room - 1, pointer)
+        let pointer = self.intern_pointer(start, IrType::Pointer(pointee))?;
+        self.pointers(start, room - 1, pointer)
     }
 
-    /// The stars after a type.
-    #[tactic(auto, unfolding(crate::specs::Written::starred))]
-    fn starred(&mut self, part: WrittenType) -> Result<WrittenType, Fault>
-        ensures { Reads ((form.starred part).read self.old) result self.new }
+    /// The stars after a type that is written from `start` on. Returns the room for further levels that is left.
+    fn stars_after(&mut self, start: u32, part: &WrittenType) -> Result<(u32, TypeId), Fault>
+        ensures { Reads ((form.stars_after start part.now part.now.base).read self.old) result self.new }
     {
-        let (room, id) = self.pointers(part.room, part.id)?;
+        match part.base {
+            Base::Opaque => Ok((part.room, part.id)),
+            _ => self.pointers(start, part.room, part.id),
+        }
+    }
+
+    /// A type that is written from `start` on, with the stars after it.
+    #[tactic(auto, unfolding(crate::specs::Written::starred))]
+    fn starred(&mut self, start: u32, part: WrittenType) -> Result<WrittenType, Fault>
+        ensures { Reads ((form.starred start part).read self.old) result self.new }
+    {
+        let (room, id) = self.stars_after(start, &part)?;
         self.no_parameters()?;
         Ok(WrittenType {
             base: part.base,
@@ -149,8 +164,9 @@ impl<'a> Input<'a> {
         if levels == 0 {
             return Err(self.no_type());
         }
+        let start = self.cursor.start();
         let base = self.base(alloc, levels - 1)?;
-        self.starred(base)
+        self.starred(start, base)
     }
 
     /// A type before its stars, of at most `room` levels over its first.
@@ -169,6 +185,15 @@ impl<'a> Input<'a> {
             }
             Kind::OpenSquare => self.array(alloc, room),
             Kind::OpenBrace => self.braced(alloc, room),
+            Kind::Ptr => {
+                let id = self.opaque_type()?;
+                Ok(WrittenType {
+                    base: Base::Opaque,
+                    stars: 0,
+                    id,
+                    room,
+                })
+            }
             Kind::Void => Err(self.no_void()),
             kind => Err(self.refuse(begins_unread_type(kind))),
         }

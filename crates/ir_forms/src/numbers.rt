@@ -3,7 +3,7 @@ ghost use Rattle.std.specs.Prelude.{◌≡◌};
 ghost use Rattle.ir_forms.specs.Input.{Reads};
 ghost use Rattle.ir_forms.specs.Numbers as form;
 
-use crate::decorating::flags;
+use crate::decorating::flagged_word;
 use crate::fault::Fault;
 use crate::input::Input;
 use crate::lists::typed;
@@ -52,13 +52,6 @@ fn arithmetic_of(kind: Kind) -> Option<Arithmetic>
     }
 }
 
-/// Whether flags may follow its word.
-fn may_wrap(kind: Arithmetic) -> bool
-    ensures { result ≡ form.may_wrap kind }
-{
-    matches!(kind, Arithmetic::Add | Arithmetic::Sub | Arithmetic::Mul)
-}
-
 #[tactic(auto, unfolding(crate::specs::Numbers::arithmetic))]
 fn arithmetic(
     alloc: Global,
@@ -68,8 +61,7 @@ fn arithmetic(
 ) -> Result<NumberOp, Fault>
     ensures { Reads ((form.arithmetic kind value).read input.old) result input.new }
 {
-    input.skip();
-    flags(alloc, input, may_wrap(kind))?;
+    flagged_word(alloc, input)?;
     let pair = pair(alloc, input)?;
     input.set_type(value, pair.written);
     Ok(NumberOp::Arithmetic {
@@ -100,7 +92,7 @@ fn resize(
 ) -> Result<NumberOp, Fault>
     ensures { Reads ((form.resize kind value).read input.old) result input.new }
 {
-    input.skip();
+    flagged_word(alloc, input)?;
     let from = typed(alloc, input)?;
     input.expect(Kind::To)?;
     let to = input.scalar(alloc)?.id;
@@ -150,7 +142,7 @@ fn comparison(input: &mut Input<'_>) -> Result<Comparison, Fault>
 pub fn compare(alloc: Global, input: &mut Input<'_>, value: ValueId) -> Result<NumberOp, Fault>
     ensures { Reads ((form.compare value).read input.old) result input.new }
 {
-    input.skip();
+    flagged_word(alloc, input)?;
     let kind = comparison(input)?;
     let pair = pair(alloc, input)?;
     let bit = input.intern(IrType::Integer(1))?;

@@ -1,7 +1,8 @@
-//! Kinds of tokens with which forms begin that are left out, and of decorations.
+//! Kinds of tokens with which forms begin that are left out, and of flags.
 ghost use Rattle.std.specs.Prelude.{◌≡◌};
 ghost use Rattle.ir_forms.specs.Starts as spec;
 
+use crate::cursor::same_kind;
 use ir_tokens::Kind;
 
 /// Whether a type begins with a token of this kind, also one that is left out.
@@ -16,6 +17,7 @@ pub fn begins_any_type(kind: Kind) -> bool
             | Kind::OpenSquare
             | Kind::OpenBrace
             | Kind::Less
+            | Kind::Ptr
     )
 }
 
@@ -32,7 +34,6 @@ fn is_left_out_type(word: &[u8]) -> bool
         || word == b"ppc_fp128".as_slice()
         || word == b"x86_mmx".as_slice()
         || word == b"x86_amx".as_slice()
-        || word == b"ptr".as_slice()
         || word == b"metadata".as_slice()
         || word == b"token".as_slice()
 }
@@ -42,7 +43,7 @@ pub fn makes_level(kind: Kind, word: &[u8]) -> bool
     ensures { result ≡ spec.makes_level kind word.now }
 {
     match kind {
-        Kind::Void | Kind::Label => true,
+        Kind::Void | Kind::Label | Kind::Target => true,
         Kind::LeftOut => is_left_out_type(word),
         kind => begins_any_type(kind),
     }
@@ -58,9 +59,24 @@ pub fn is_indirect_callee(kind: Kind) -> bool
     )
 }
 
-/// Decorations of a sum, a difference or a product.
-pub fn is_flag(kind: Kind) -> bool
-    ensures { result ≡ spec.is_flag kind }
+/// Whether the instruction with this word has a result that may wrap.
+fn may_wrap(word: Kind) -> bool
+    ensures { result ≡ spec.may_wrap word }
 {
-    matches!(kind, Kind::Nsw | Kind::Nuw)
+    matches!(word, Kind::Add | Kind::Sub | Kind::Mul | Kind::Trunc)
+}
+
+/// Whether this is a flag of the instruction with this word.
+pub fn is_flag_of(word: Kind, flag: Kind) -> bool
+    ensures { result ≡ spec.is_flag_of word flag }
+{
+    match flag {
+        Kind::Nuw => may_wrap(word) || same_kind(word, Kind::Getelementptr),
+        Kind::Nsw => may_wrap(word),
+        Kind::Nusw | Kind::Inbounds => same_kind(word, Kind::Getelementptr),
+        Kind::Nneg => same_kind(word, Kind::Zext),
+        Kind::Disjoint => same_kind(word, Kind::Or),
+        Kind::Samesign => same_kind(word, Kind::Icmp),
+        _ => false,
+    }
 }

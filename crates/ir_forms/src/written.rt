@@ -18,6 +18,8 @@ pub enum Base {
     Integer(u32),
     /// A named struct.
     Named,
+    /// `ptr`, which takes no stars.
+    Opaque,
     /// An array, or a struct that is written out.
     Aggregate,
 }
@@ -40,14 +42,24 @@ pub const ROOM: u32 = 63;
 pub fn begins_unread_type(kind: Kind) -> bool
     ensures { result ≡ form.begins_unread_type kind }
 {
-    matches!(kind, Kind::LocalNumber | Kind::Less | Kind::Dots)
+    matches!(
+        kind,
+        Kind::LocalNumber | Kind::Less | Kind::Dots | Kind::Target
+    )
+}
+
+/// Whether the type is a pointer.
+fn is_pointer(written: &WrittenType) -> bool
+    ensures { result ≡ form.is_pointer written.now }
+{
+    written.stars > 0 || matches!(written.base, Base::Opaque)
 }
 
 /// Whether a value of this type is one word: an integer or a pointer.
 pub fn is_scalar(written: &WrittenType) -> bool
     ensures { result ≡ form.is_scalar written.now }
 {
-    written.stars > 0 || matches!(written.base, Base::Integer(_))
+    is_pointer(written) || matches!(written.base, Base::Integer(_))
 }
 
 /// How many bits the type has, if it is an integer type.
@@ -60,23 +72,24 @@ pub fn bits_of(written: &WrittenType) -> Option<u32>
     }
 }
 
-/// Whether a function may take and return a value of this type: an integer, a reference or `i8*`.
+/// Whether a function may take and return a value of this type: an integer, a reference, `i8*` or `ptr`.
 pub fn is_passed(written: &WrittenType) -> bool
     ensures { result ≡ form.is_passed written.now }
 {
     match written.base {
         Base::Integer(bits) => written.stars == 0 || written.stars == 1 && bits == 8,
         Base::Named => written.stars == 1,
+        Base::Opaque => written.stars == 0,
         Base::Aggregate => false,
     }
 }
 
-/// Whether a global may have this type: an integer or a reference.
+/// Whether a global may have this type: an integer, a reference or `ptr`.
 pub fn is_held(written: &WrittenType) -> bool
     ensures { result ≡ form.is_held written.now }
 {
     match written.base {
-        Base::Integer(_) => written.stars == 0,
+        Base::Integer(_) | Base::Opaque => written.stars == 0,
         Base::Named => written.stars == 1,
         Base::Aggregate => false,
     }
@@ -156,13 +169,13 @@ impl<'a> Input<'a> {
         self.scalar_within(alloc, ROOM)
     }
 
-    /// A type with a star after it.
+    /// A pointer type: `ptr`, or a type with a star after it.
     #[tactic(auto, unfolding(crate::specs::Written::pointer_type))]
     pub fn pointer_type(&mut self, alloc: Global) -> Result<WrittenType, Fault>
         ensures { Reads (form.pointer_type.read self.old) result self.new }
     {
         let written = self.any_type(alloc)?;
-        if written.stars == 0 {
+        if !is_pointer(&written) {
             return Err(self.refuse(false));
         }
         Ok(written)

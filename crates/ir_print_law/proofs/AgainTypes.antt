@@ -16,24 +16,25 @@ use Rattle.ir_tokens.specs.declared.token.Kind.{Kind}
 use Rattle.ir_tokens.specs.declared.token.Kind.TheVariants as k
 use Rattle.ir_tokens.specs.Bytes.{Text, class_of}
 use Rattle.ir_tokens.specs.Keywords.{word_kind, keywords}
-use Rattle.ir_forms.specs.Cursor.{kind, next, sees, spelled, left_out}
+use Rattle.ir_forms.specs.Cursor.{kind, next, sees, start, spelled, left_out}
 use Rattle.ir_forms.specs.declared.input.Input.{Input}
 use Rattle.ir_forms.specs.declared.written.WrittenType.{WrittenType}
-use Rattle.ir_forms.specs.Input.{Form, left, unread, advanced, skip, expect, expect_takes}
+use Rattle.ir_forms.specs.Input.{Form, left, unread, advanced, skip, expect, expect_takes, start_of}
 use Rattle.ir_forms.specs.Names.{is_at}
+use Rattle.ir_forms.specs.Place.{Place}
 use Rattle.ir_forms.specs.Written as w
-use Rattle.ir_forms.specs.Written.{no_parameters, integer, bits_at, begins_unread_type}
+use Rattle.ir_forms.specs.Written.{has_opaque, no_parameters, integer, bits_at, begins_unread_type}
 use Rattle.ir_print.specs.Standing.{Stands, IsSeam, AreBlanks}
 use Rattle.ir_print_law.proofs.Constants.{integer_types_are_read, are_digits}
 use Rattle.name_text.specs.declared.blank.Blank.TheVariants as blank
 use Rattle.name_text.specs.Reading.{name_spelled}
 use Rattle.ir_print_law.proofs.Words.{sign_comes, number_comes, local_comes, seen}
 use Rattle.ir_print_law.specs.Definitions.{defined_structs}
-use Rattle.ir_print_law.specs.Shapes.{Shape, Integer, Pointer, Array, Empty, Struct, Named, HasShape, IsWritten, IsStruct, levels}
+use Rattle.ir_print_law.specs.Shapes.{Shape, Integer, Pointer, Array, Empty, Struct, Named, Opaque, HasShape, IsWritten, IsStruct, levels}
 use Rattle.ir_print_law.proofs.State.{Invariant, Ready, Reads, Any}
 use Rattle.ir_print_law.proofs.Shown.{shown, field_count, IsTypeRead, shape_stays, some_level}
-use Rattle.ir_print_law.proofs.Steps.{go_on, so, said_then, token_then, shorter, checked_then, test_reads, looked, sign_reads, sign_skipped, sign_kind, word_reads, intern_reads, unlike, grows_further, grows_advanced, passed}
-use Rattle.ir_print_law.proofs.Types.{Comes, length_said}
+use Rattle.ir_print_law.proofs.Steps.{go_on, so, said_then, token_then, shorter, checked_then, test_reads, looked, sign_reads, sign_skipped, sign_kind, word_reads, word_skipped, word_seen, intern_pointer_reads, unlike, grows_further, grows_advanced, passed}
+use Rattle.ir_print_law.proofs.Types.{Comes, length_said, opaque_type_reads}
 
 -- a token of this kind begins no parameters
 abbrev pub no_round : Kind → Bool
@@ -67,6 +68,7 @@ field_ends (Integer bits) rest is = absurd is
 field_ends (Pointer part) rest is = absurd is
 field_ends (Array count part) rest is = absurd is
 field_ends (Named name) rest is = absurd is
+field_ends Opaque rest is = absurd is
 
 -- an integer type is the same again
 integer_said : (bits : ℕ) (i : Input) → kind i.cursor ≡ k.IntegerType → integer.says i bits (advanced i) → (w.integer_again bits).says i tt (advanced i)
@@ -95,17 +97,34 @@ length_again_said count i is h =
       at_by None e v = absurd cc
       at_by (Some n) e v = ap (λ k. k == count) v ∙ test_same count
 
+-- a token other than `ptr`
+abbrev pub no_ptr : Kind → Bool
+no_ptr k.Ptr = false
+no_ptr _ = true
+
+-- a type of a text without `ptr` begins so
+typed_comes : (structs : _) (shape : Shape) (place : Place) (gap afterwards : Text) → IsWritten false structs shape → AreBlanks gap → IsSeam afterwards → Stands place (gap ++ (shown false shape ++ afterwards)) → no_ptr (kind place) ≡ true
+unfolding class_of
+typed_comes structs (Integer bits) place gap afterwards own blanks seam at = ap no_ptr (integer_types_are_read bits (start_of place) gap afterwards own.0 own.1 blanks seam at).0
+typed_comes structs (Pointer part) place gap afterwards own blanks seam at =
+    typed_comes structs part place gap (42 ∷ afterwards) own.1 blanks refl (subst (λ (x : Text). Stands place (gap ++ x)) (append_assoc (shown false part) (42 ∷ []) afterwards) at)
+typed_comes structs (Array count part) place gap afterwards own blanks seam at = ap no_ptr (sign_comes place gap 91 _ k.OpenSquare blanks refl refl at).0
+typed_comes structs Empty place gap afterwards own blanks seam at = ap no_ptr (sign_comes place gap 123 _ k.OpenBrace blanks refl refl at).0
+typed_comes structs (Struct first rest) place gap afterwards own blanks seam at = ap no_ptr (sign_comes place gap 123 _ k.OpenBrace blanks refl refl at).0
+typed_comes structs (Named name) place gap afterwards own blanks seam at = ap no_ptr (local_comes place gap name afterwards blanks own.0 seam at).0
+typed_comes structs Opaque place gap afterwards own blanks seam at = absurd cc
+
 module _ {m : Module} {f : Function} (v : Invariant m f) where
   -- a type of this shape is read again
   abbrev AgainClaim : Shape → Type 0
   AgainClaim shape =
-      (room number : ℕ) (i : Input) (gap rest : Text) (s : ℕ) → IsWritten (defined_structs m) shape → HasShape i.types i.struct_names.names shape number → levels shape ≤ room → AreBlanks gap → EndsAgain rest
+      (room number : ℕ) (i : Input) (gap rest : Text) (s : ℕ) → IsWritten (has_opaque m.types) (defined_structs m) shape → HasShape i.types i.struct_names.names shape number → levels shape ≤ room → AreBlanks gap → EndsAgain rest
       → Ready v s i (gap ++ (shown false shape ++ rest)) → Reads v s (w.again_within room number) i rest Any
 
   -- further fields are read
   abbrev FieldsClaim : Shape → Type 0
   FieldsClaim shape =
-      (fuel room number : ℕ) (i : Input) (rest : Text) (s : ℕ) → IsWritten (defined_structs m) shape → IsStruct shape → HasShape i.types i.struct_names.names shape number → levels shape ≤ suc room → field_count shape < fuel
+      (fuel room number : ℕ) (i : Input) (rest : Text) (s : ℕ) → IsWritten (has_opaque m.types) (defined_structs m) shape → IsStruct shape → HasShape i.types i.struct_names.names shape number → levels shape ≤ suc room → field_count shape < fuel
       → Ready v s i (shown true shape ++ (codes " }" ++ rest)) → Reads v s (w.fields_again (w.again_within room) fuel number) i rest (λ _ o. left o + field_count shape ≤ left i)
 
   -- each type has a level
@@ -222,7 +241,7 @@ module _ {m : Module} {f : Function} (v : Invariant m f) where
 
   -- each type is read again
   pub again_claims : (shape : Shape) → AgainClaim shape × FieldsClaim shape
-  unfolding class_of
+  unfolding class_of word_kind keywords
   again_claims (Integer bits) = (by, λ fuel room number i rest s own is has le less ready. absurd is) where
     by : AgainClaim (Integer bits)
     by zero number i gap rest s own has le blanks ends ready = absurd (no_level (Integer bits) le)
@@ -252,33 +271,51 @@ module _ {m : Module} {f : Function} (v : Invariant m f) where
     by claim (suc room) number i gap rest s own has le blanks ends ready =
         over_reads room number (type.Pointer has.0) i rest s has.1 ends
         (go_on v (w.again_within room has.0) (λ _. expect k.Star) i (42 ∷ rest) rest s s Any Any
-        (claim room has.0 i gap (42 ∷ rest) s own has.2 (omega (arith, le)) blanks (star_ends rest)
+        (claim room has.0 i gap (42 ∷ rest) s own.1 has.2 (omega (arith, le)) blanks (star_ends rest)
         (subst (λ (x : Text). Ready v s i (gap ++ x)) (append_assoc (shown false shape) (42 ∷ []) rest) ready))
         (λ _ o ready g e. so v (expect k.Star) o rest s (λ _ p. advanced o ≡ p) Any (sign_reads v 42 k.Star o [] rest s s refl refl refl (omega arith) ready) (λ _ p g e. tt)))
+  again_claims Opaque = (by, λ fuel room number i rest s own is has le less ready. absurd is) where
+    by : AgainClaim Opaque
+    by zero number i gap rest s own has le blanks ends ready = absurd (no_level Opaque le)
+    by (suc room) number i gap rest s own has le blanks ends ready =
+        over_reads room number type.Opaque i rest s has ends
+        (checked_then v (λ i. sees k.Ptr i.cursor) (unread begins_unread_type) skip i rest s Any (seen k.Ptr i (word_seen v (codes "ptr") i gap rest s blanks refl ends.0 ready))
+        (so v skip i rest s (λ _ o. advanced i ≡ o) Any (word_skipped v (codes "ptr") i gap rest s s blanks refl ends.0 (omega arith) ready) (λ _ o g e. tt)))
   again_claims (Array count shape) = (array_claim count shape (again_claims shape).0, λ fuel room number i rest s own is has le less ready. absurd is)
   again_claims (Struct first others) = (struct_claim first others (again_claims first).0 (again_claims others).1, fields_claim first others (again_claims first).0 (again_claims others).1)
 
   -- the same type again
-  pub again_reads : (shape : Shape) (p : WrittenType) (i : Input) (gap rest : Text) (s : ℕ) → IsWritten (defined_structs m) shape → HasShape i.types i.struct_names.names shape p.id → levels shape ≤ 64 → AreBlanks gap → EndsAgain rest
+  pub again_reads : (shape : Shape) (p : WrittenType) (i : Input) (gap rest : Text) (s : ℕ) → IsWritten (has_opaque m.types) (defined_structs m) shape → HasShape i.types i.struct_names.names shape p.id → levels shape ≤ 64 → AreBlanks gap → EndsAgain rest
       → Ready v s i (gap ++ (shown false shape ++ rest)) → Reads v s (w.again p) i rest Any
   unfolding w.again
   again_reads shape p i gap rest s own has le blanks ends ready = (again_claims shape).0 64 p.id i gap rest s own has le blanks ends ready
 
-  -- a pointer to the same type
-  pub pointer_again_reads : (shape : Shape) (p : WrittenType) (i : Input) (gap rest : Text) (s : ℕ) → IsWritten (defined_structs m) shape → IsTypeRead shape 64 p i → levels shape < 64 → AreBlanks gap
-      → Ready v s i (gap ++ (shown false (Pointer shape) ++ rest)) → Reads v s (w.pointer_again p) i rest (λ n o. HasShape o.types o.struct_names.names (Pointer shape) n)
+  -- a pointer to the same type, in a text without `ptr`
+  pub pointer_again_reads : (shape : Shape) (p : WrittenType) (i : Input) (gap rest : Text) (s : ℕ) → has_opaque m.types ≡ false → IsWritten (has_opaque m.types) (defined_structs m) shape → IsTypeRead shape 64 p i
+      → levels shape < 64 → AreBlanks gap → Ready v s i (gap ++ (shown false (Pointer shape) ++ rest)) → Reads v s (w.pointer_again p) i rest (λ n o. HasShape o.types o.struct_names.names (Pointer shape) n)
   unfolding w.pointer_again class_of
-  pointer_again_reads shape p i gap rest s own read le blanks ready =
+  pointer_again_reads shape p i gap rest s plain own read le blanks ready =
       let ready = subst (λ (x : Text). Ready v s i (gap ++ x)) (append_assoc (shown false shape) (42 ∷ []) rest) ready in
       let fits = read.fits in
       let room : nat_lt 0 p.room ≡ true = let some : 0 < p.room = omega (arith, fits, le) in grind (arith, nat_tests) in
       let good : ℕ → Input → Type 0 = λ n o. HasShape o.types o.struct_names.names (Pointer shape) n in
       let a = again_reads shape p i gap (42 ∷ rest) s own read.has_shape (omega (arith, le)) blanks (star_ends rest) ready in
       let star = sign_comes a.1.cursor [] 42 rest k.Star refl refl refl a.3.stands in
-      said_then v (w.again p >> w.further_star p.room) (λ _. w.intern (type.Pointer p.id)) i (advanced a.1) tt rest s good
+      let typed = typed_comes (defined_structs m) shape i.cursor gap (42 ∷ rest) (subst (λ (b : Bool). IsWritten b (defined_structs m) shape) plain own) blanks refl ready.stands in
+      looked v (λ i. sees k.Ptr i.cursor) (w.opaque_or w.opaque_type (w.starred_again p)) i rest s good false (unlike k.Ptr no_ptr i refl typed)
+      (looked v (λ i. start i.cursor) (λ from. w.again p >> w.further_star p.room >> w.intern_pointer from (type.Pointer p.id)) i rest s good (start i.cursor) refl
+      (said_then v (w.again p >> w.further_star p.room) (λ _. w.intern_pointer (start i.cursor) (type.Pointer p.id)) i (advanced a.1) tt rest s good
       (a.0, a.1, a.2, (tt, a.1, (tt, a.1, (seen k.Star a.1 star.0, refl), (room, refl)), (refl, refl))) (grows_further i a.1 (advanced a.1) a.4 (grows_advanced v a.1))
-      (so v (w.intern (type.Pointer p.id)) (advanced a.1) rest s (λ n o. slice_get o.types n ≡ Some (type.Pointer p.id)) good
-      (intern_reads v (type.Pointer p.id) (advanced a.1) rest s tt (passed v a.1 (42 ∷ rest) rest s (s + 1) a.3 star.3 (omega arith)))
+      (so v (w.intern_pointer (start i.cursor) (type.Pointer p.id)) (advanced a.1) rest s (λ n o. slice_get o.types n ≡ Some (type.Pointer p.id)) good
+      (intern_pointer_reads v (start i.cursor) (type.Pointer p.id) (advanced a.1) rest s plain (passed v a.1 (42 ∷ rest) rest s (s + 1) a.3 star.3 (omega arith)))
       (λ n o g there.
       let h = grows_further i (advanced a.1) o (grows_further i a.1 (advanced a.1) a.4 (grows_advanced v a.1)) g in
-      (p.id, there, shape_stays i.types o.types i.struct_names.names o.struct_names.names shape p.id h.types h.structs read.has_shape)))
+      (p.id, there, shape_stays i.types o.types i.struct_names.names o.struct_names.names shape p.id h.types h.structs read.has_shape)))))
+
+  -- `ptr`, whatever is written before it
+  pub opaque_again_reads : (p : WrittenType) (i : Input) (gap rest : Text) (s : ℕ) → has_opaque m.types ≡ true → AreBlanks gap → IsSeam rest → Ready v s i (gap ++ (codes "ptr" ++ rest))
+      → Reads v s (w.pointer_again p) i rest (λ n o. slice_get o.types n ≡ Some type.Opaque)
+  unfolding w.pointer_again class_of word_kind keywords
+  opaque_again_reads p i gap rest s is blanks seam ready =
+      looked v (λ i. sees k.Ptr i.cursor) (w.opaque_or w.opaque_type (w.starred_again p)) i rest s (λ n o. slice_get o.types n ≡ Some type.Opaque) true
+      (seen k.Ptr i (word_seen v (codes "ptr") i gap rest s blanks refl seam ready)) (opaque_type_reads v i gap rest s is blanks seam ready)

@@ -93,6 +93,7 @@ module _ (m : Module) (names : HasModuleNames m) where
       struct_uses = λ u there. ap (λ (l : List (Option ℕ)). is_struct (slice_get l u.name)) (sym structs_are.1) ∙ struct_uses u there;
       symbol_uses = symbol_uses;
       missing = late.0;
+      ordered = h.ordered;
     };
   } where
     late : (o.missing ≡ None) × (wrong_symbol (with_sorts m.sorts o) ≡ None) × (wrong_struct (with_sorts m.sorts o) ≡ None)
@@ -154,6 +155,7 @@ module _ (m : Module) (names : HasModuleNames m) where
         struct_uses = b.struct_uses;
         symbol_uses = b.symbol_uses;
         missing = b.missing;
+        ordered = b.ordered;
       }
 
       its_number : (i : Input) → spelled i.cursor ≡ own_name → Arrives m types (with_symbol (symbol.Defined func) i) → symbol_number i ≡ old.symbol
@@ -200,6 +202,7 @@ module _ (m : Module) (names : HasModuleNames m) where
               struct_uses = b.struct_uses;
               symbol_uses = b.symbol_uses;
               missing = none.0;
+              ordered = b.ordered;
             },
           )
 

@@ -31,7 +31,8 @@ use Rattle.ir_print_law.proofs.NameBytes.{spelled_bytes}
 use Rattle.ir_print_law.proofs.NumberTokens.{AllSpell}
 use Rattle.ir_print_law.proofs.Outside.{Outside}
 use Rattle.ir_print_law.proofs.Reading.{Reading}
-use Rattle.ir_print_law.proofs.Tables.{Begins, IsRestBefore, AreOrdered, begins_further, type_begins, type_ordered, name_there, stays}
+use Rattle.ir_print_law.proofs.OneKind.{IsNext, type_ordered}
+use Rattle.ir_print_law.proofs.Tables.{Begins, AreOrdered, begins_further, type_begins, name_there, stays}
 
 -- the names of globals and functions are those of the module, or one is used that the module does not have
 abbrev pub AreItsSymbols : Module → Input → Type 0
@@ -64,6 +65,7 @@ pub record Arrives (m : Module) (types : List IrType) (i : Input) : Type 0 where
   pub struct_uses : (u : StructUse) → IsIn u i.struct_uses → is_struct (slice_get m.struct_of u.name) ≡ true
   pub symbol_uses : (u : SymbolUse) → IsIn u i.symbol_uses → is_right u.is_call (slice_get m.sorts u.symbol) ≡ true
   pub missing : i.missing ≡ None
+  pub ordered : AreOrdered types
 
 -- ---- mentions of names
 
@@ -122,7 +124,7 @@ module _ (m : Module) where
     layouts = h.layouts;
   }
 
-  pub anew_type : (i : Input) (t : IrType) → IsRestBefore (length i.types) t → Anew m i → Anew m (with_type_interned t i)
+  pub anew_type : (i : Input) (t : IrType) → IsNext i.types t → Anew m i → Anew m (with_type_interned t i)
   anew_type i t last h = record {
     bytes = h.bytes;
     spell = h.spell;
@@ -161,6 +163,7 @@ module _ (m : Module) where
       struct_uses = b.struct_uses;
       symbol_uses = b.symbol_uses;
       missing = b.missing;
+      ordered = b.ordered;
     }
 
     pub arrives_type : (i : Input) (t : IrType) → Arrives m types (with_type_interned t i) → Arrives m types i
@@ -171,6 +174,7 @@ module _ (m : Module) where
       struct_uses = b.struct_uses;
       symbol_uses = b.symbol_uses;
       missing = b.missing;
+      ordered = b.ordered;
     }
 
     pub arrives_struct : (i : Input) → Arrives m types (with_struct_use i) → Arrives m types i
@@ -181,6 +185,7 @@ module _ (m : Module) where
       struct_uses = λ u there. b.struct_uses u (in_first u i.struct_uses (struct_use i ∷ []) there);
       symbol_uses = b.symbol_uses;
       missing = b.missing;
+      ordered = b.ordered;
     }
 
     pub arrives_symbol : (i : Input) (is_call : Bool) → Arrives m types (with_symbol_use is_call i) → Arrives m types i
@@ -191,6 +196,7 @@ module _ (m : Module) where
       struct_uses = b.struct_uses;
       symbol_uses = λ u there. b.symbol_uses u (in_first u i.symbol_uses (symbol_use is_call i ∷ []) there);
       missing = b.missing;
+      ordered = b.ordered;
     }
 
     -- ---- what a name is that is used
@@ -248,7 +254,7 @@ module _ (m : Module) where
       anew_reading P = record {
         Fore = λ i. Anew m i × P (kept_of i);
         Back = Arrives m types;
-        ordered = λ i f back. f.0.ordered;
+        ordered = λ i back. back.ordered;
         bytes = λ i f back. spelled_bytes i.cursor f.0.bytes;
         has_types = λ i b. b.begins;
         has_structs = λ i b. b.struct_names;
@@ -280,6 +286,7 @@ module _ (m : Module) where
           struct_uses = b.struct_uses;
           symbol_uses = b.symbol_uses;
           missing = b.missing;
+          ordered = b.ordered;
         };
         bytes = λ i f. spelled_bytes i.cursor f.0.bytes;
         digits = λ i f is. number_spells i.cursor f.0.spell is;

@@ -9,7 +9,7 @@ use Rattle.ir_ast.specs.declared.operand.Operand.{Operand}
 use Rattle.ir_tokens.specs.declared.token.Kind.TheVariants as k
 use Rattle.ir_forms.specs.declared.input.Input.{Input}
 use Rattle.ir_forms.specs.declared.written.WrittenType.{WrittenType}
-use Rattle.ir_forms.specs.Written.{is_scalar, bits_of}
+use Rattle.ir_forms.specs.Written.{has_opaque, is_scalar, bits_of}
 use Rattle.ir_forms.specs.ManyWith.{Follows}
 use Rattle.ir_forms.specs.Lists.{argument, argument_takes, arguments, at_round, typed, index, any_index, indices, ends_indices, after_index}
 use Rattle.ir_forms.specs.Choices.{typed_pair}
@@ -20,7 +20,7 @@ use Rattle.ir_forms.specs.declared.numbers.TwoOperands.{TwoOperands}
 use Rattle.ir_forms.specs.declared.lists.IndexList.{IndexList}
 use Rattle.ir_print_law.specs.Definitions.{defined_structs}
 use Rattle.ir_print_law.specs.Parts.{IsArgument, IsOperand, ArePair, IsCondition, IsPlaceType}
-use Rattle.ir_print_law.specs.Shapes.{Shape, Integer, Pointer, Array, Empty, Struct, Named, IsWritten, bits_of_shape}
+use Rattle.ir_print_law.specs.Shapes.{Shape, Integer, Pointer, Array, Empty, Struct, Named, Opaque, IsWritten, bits_of_shape}
 use Rattle.ir_print_law.proofs.Forms.{Keeps, Same, all, each_with}
 use Rattle.ir_print_law.proofs.Decorations.{decorations_pass, separator_passes}
 use Rattle.ir_print_law.proofs.Looks.{IsTypeOf, bits_are}
@@ -30,20 +30,21 @@ use Rattle.ir_print_law.proofs.Reading.{Within}
 use Rattle.ir_print_law.proofs.Tokens.{intern_goes}
 use Rattle.ir_print_law.proofs.TypesThat.{IsFit, scalar_of, scalar_keeps, place_type_keeps}
 
-pub bits_written : (structs : _) (shape : Shape) → IsWritten structs shape → AreBits (bits_of_shape shape)
-bits_written structs (Integer bits) h = h
-bits_written structs (Pointer part) h = tt
-bits_written structs (Array count part) h = tt
-bits_written structs Empty h = tt
-bits_written structs (Struct first rest) h = tt
-bits_written structs (Named name) h = tt
+pub bits_written : (opaque : _) (structs : _) (shape : Shape) → IsWritten opaque structs shape → AreBits (bits_of_shape shape)
+bits_written opaque structs (Integer bits) h = h
+bits_written opaque structs (Pointer part) h = tt
+bits_written opaque structs (Array count part) h = tt
+bits_written opaque structs Empty h = tt
+bits_written opaque structs (Struct first rest) h = tt
+bits_written opaque structs (Named name) h = tt
+bits_written opaque structs Opaque h = tt
 
 module _ {m : Module} {f : Function} (v : Within m f) where
   -- what was read as an operand of this type is one
   pub operand_at : (w : WrittenType) (h : IsFit m is_scalar w) (x : Operand) → IsRead v (bits_of w) x → IsOperand m f (bits_of_shape h.0.0) x
   operand_at w h x read =
       let e = bits_are m 64 w h.0.0 h.0.1 in
-      subst (λ (b : Option ℕ). IsOperand m f b x) e (read (subst AreBits (sym e) (bits_written (defined_structs m) h.0.0 h.0.1.is_written)))
+      subst (λ (b : Option ℕ). IsOperand m f b x) e (read (subst AreBits (sym e) (bits_written (has_opaque m.types) (defined_structs m) h.0.0 h.0.1.is_written)))
 
   pub typed_keeps : (i : Input) → Keeps v.reading.Fore (Same v.reading.Fore) v.reading.Back typed (IsArgument m f) i
   unfolding typed

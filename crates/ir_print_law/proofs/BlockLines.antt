@@ -29,11 +29,13 @@ use Rattle.ir_print_law.proofs.State.{Ready}
 use Rattle.ir_print_law.proofs.Bodies.{body_text, lines_go, next_ends, next_no_phi, end_line_is}
 use Rattle.ir_print_law.proofs.WholeForms.{widens_further, grows_widens, Leads, later_widened}
 use Rattle.ir_print_law.proofs.Known.{Far, AreNamed, known}
+use Rattle.ir_print_law.proofs.InnerLines.{record_free}
+use Rattle.ir_print_law.proofs.ListsAgain.{records_said}
 use Rattle.ir_print_law.proofs.LabelLines.{far_label, label_goes}
 use Rattle.ir_print_law.proofs.NewValues.{unnamed_then}
 use Rattle.ir_print_law.proofs.OpNeeds.{EndsOp, OpsRead}
 use Rattle.ir_print_law.proofs.Parts.{IsLaterAgain}
-use Rattle.ir_print_law.proofs.PhiLines.{phi_lines, phis_go}
+use Rattle.ir_print_law.proofs.PhiLines.{phi_lines, phis_end, phis_go}
 use Rattle.ir_print_law.proofs.Steady.{Steady, Onward, onward_further, next_key, steady_label}
 
 -- the lines after the label of a block, and what follows them
@@ -90,6 +92,8 @@ module _ (m : Module) (f : Function) (named : AreNamed m f) (ops : OpsRead m f n
       let a = phis_go m f named ops b.phis (flat_map (result_keys f.locals) b.body ++ more) (far_label m f named far key (unnamed_then far.unnamed key next.1.0)) p (body_text m f named ops b.body b.end rest) own.0 front
       (subst (λ (l : List Text). Steady (far_label m f named far key (unnamed_then far.unnamed key next.1.0)) l) (append_assoc (map (phi_key f.locals) b.phis) (flat_map (result_keys f.locals) b.body) more) steady_mid)
       (omega (arith, room, size, phi_count)) (omega (arith, label_count, few_labels)) (next_ends m f named ops b.body b.end rest own.1 back) (next_no_phi m f named ops b.body b.end rest own.1 back) w.3 in
+      let none = record_free (10 ∷ (phi_lines m f named ops b.phis ++ body_text m f named ops b.body b.end rest)) p
+      (phis_end m f named ops b.phis (body_text m f named ops b.body b.end rest) front (next_ends m f named ops b.body b.end rest own.1 back)) w.3.stands in
       let q = a.1 in
       let after = a.2 in
       let on_phis = a.6 in
@@ -114,7 +118,7 @@ module _ (m : Module) (f : Function) (named : AreNamed m f) (ops : OpsRead m f n
         record { label = w.0; phis = a.0; body = c.0; end = t.0 },
         t.1,
         c.2,
-        (w.0, p, w.2, (a.0, q, a.3, (c.0, r, c.3, (t.0, o, t.2, (refl, refl))))),
+        (w.0, p, w.2, (tt, p, records_said p none, (a.0, q, a.3, (c.0, r, c.3, (t.0, o, t.2, (refl, refl)))))),
         t.3,
         widens_further i p o w.4 wide_p,
         (

@@ -23,7 +23,7 @@ use Rattle.ir_text.specs.Parameters.{parameter_type_by, parameter_type, paramete
 use Rattle.ir_text.specs.declared.blocks.Blocks.{Blocks}
 use Rattle.ir_print_law.specs.Printable.{IsBlock, IsParameter}
 use Rattle.ir_print_law.proofs.Choices.{with_phis, phis_keep}
-use Rattle.ir_print_law.proofs.Decorations.{decorations_pass, separator_passes}
+use Rattle.ir_print_law.proofs.Decorations.{debug_records_pass, decorations_pass, separator_passes}
 use Rattle.ir_print_law.proofs.Ends.{block_end_keeps}
 use Rattle.ir_print_law.proofs.Forms.{Keeps, Same, Any}
 use Rattle.ir_print_law.proofs.Instructions.{with_result, with_results, body_keeps}
@@ -67,14 +67,16 @@ module _ {m : Module} {f : Function} {Back : Input → Type 0} {Fore : Progress 
   block_keeps g i x o h fore =
       let label = h.2 in
       let rule = label.2 in
-      let t = h.3 in
+      let s = h.3 in
+      let t = s.3 in
       let u = t.3 in
       let w = u.3 in
       let labelled = with_named_label g h.0 in
       let after_phis = with_phis labelled t.0 in
       let after_body = with_results after_phis u.0 in
       let a = label_by_keeps g (kind label.1.cursor) label.1 refl h.0 h.1 label.3 (subst (Fore g) rule.1 fore) in
-      let c = phis_keep b labelled h.1 t.0 t.1 t.2 a.0 in
+      let records = debug_records_pass (within_of (b.kit labelled)).reading h.1 s.0 s.1 s.2 a.0 in
+      let c = phis_keep b labelled s.1 t.0 t.1 t.2 records.0 in
       let d = body_keeps b (length g.labels) after_phis t.1 u.0 u.1 u.2 c.0 in
       let e = block_end_keeps (within_of (b.kit after_body)) u.1 w.0 w.1 w.2 d.0 in (
         subst (λ (y : Block). Fore (with_block g y) o) w.3.0 (subst (Fore after_body) w.3.1 e.0),
@@ -82,7 +84,7 @@ module _ {m : Module} {f : Function} {Back : Input → Type 0} {Fore : Progress 
             let eb = e.1 (subst Back (sym w.3.1) back) in
             let db = d.1 eb.0 in
             let cb = c.1 db.0 in
-            let ab = a.1 cb.0 in
+            let ab = a.1 (records.1 cb.0).0 in
             let few : nat_lt (length g.labels) 65535 ≡ true = rule.0 in
             (subst Back (sym rule.1) ab.0, (subst (IsBlock m f) w.3.0 (cb.1, db.1, eb.1), grind (arith, nat_tests))),
       )

@@ -20,7 +20,7 @@ use Rattle.ir_print_law.specs.Definitions.{functions_of}
 use Rattle.ir_print_law.specs.Parts.{IsReturned}
 use Rattle.ir_print_law.specs.Calls.{IsCall}
 use Rattle.ir_print_law.specs.Printable.{gives_value, is_void}
-use Rattle.ir_print_law.specs.Shapes.{Shape, Integer, Pointer, Array, Empty, Struct, Named, HasShape}
+use Rattle.ir_print_law.specs.Shapes.{Shape, Integer, Pointer, Array, Empty, Struct, Named, Opaque, HasShape}
 use Rattle.ir_print_law.proofs.Arguments.{arguments_keep}
 use Rattle.ir_print_law.proofs.Decorations.{decorations_pass}
 use Rattle.ir_print_law.proofs.Forms.{Keeps, Same}
@@ -42,6 +42,7 @@ no_void types names (Array count part) n h = ap is_void h.1
 no_void types names Empty n h = ap is_void h
 no_void types names (Struct first rest) n h = ap is_void h.2
 no_void types names (Named name) n h = ap is_void h.1
+no_void types names Opaque n h = ap is_void h
 
 module _ {m : Module} {f : Function} (v : Within m f) where
   called_by_keeps : (x : Kind) (i : Input) → Keeps v.reading.Fore (Same v.reading.Fore) v.reading.Back (called_by x) (λ s. IsIn (name_at m.symbols s) (functions_of m)) i

@@ -27,6 +27,7 @@ use Rattle.ir_print_law.specs.PartsAgain.{IsResultAgain, IsArgumentAgain}
 use Rattle.ir_print_law.specs.Calls.{IsCallAgain, IsCall}
 use Rattle.ir_print_law.specs.Parts.{IsScalar, IsArgument, IsVoid, IsReturned}
 use Rattle.ir_print_law.specs.Shapes.{Shape}
+use Rattle.ir_print_law.proofs.OneKind.{IsLonger}
 use Rattle.ir_print_law.proofs.Tables.{stays}
 use Rattle.ir_print_law.proofs.State.{Invariant, Ready, IsLater, Reads}
 use Rattle.ir_print_law.proofs.Shown.{shown, IsTypeRead}
@@ -63,7 +64,6 @@ use Rattle.ir_print_law.proofs.OpsAgain.{op_reads, by_word, PlainAgain, unnamed_
 use Rattle.ir_print_law.proofs.SameParts.{same3, listed_same, result_same, global_same, argument_same}
 use Rattle.ir_print_law.proofs.LongerTypes.{with_types, returned_again, argument_again}
 use Rattle.ir_print_law.specs.Definitions.{defined_functions}
-use Rattle.ir_print_law.proofs.Tables.{Begins}
 use Rattle.ir_print_law.specs.Definitions.{declared_functions}
 
 -- a call of these texts
@@ -239,7 +239,7 @@ module _ (m n : Module) (locals others : List Text) where
       (listed_same (IsArgumentAgain m n locals others) (argument_text m locals) (argument_text n others) x.arguments y.arguments (argument_same m n locals others) h.2)
 
 -- a call is printable where the module has more types, too
-pub call_longer : (m : Module) (types : List IrType) (fs : List Function) (more : Begins m.types types) (same : defined_functions (with_types m types fs) ≡ defined_functions m) (f : Function)
+pub call_longer : (m : Module) (types : List IrType) (fs : List Function) (more : IsLonger m.types types) (same : defined_functions (with_types m types fs) ≡ defined_functions m) (f : Function)
     → (x : Call) → IsCall m f x → IsCall (with_types m types fs) f x
 call_longer m types fs more same f x h = (
   returned_again m types fs more same f x.returned h.0,

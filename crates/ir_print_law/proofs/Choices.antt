@@ -11,7 +11,7 @@ use Rattle.ir_tokens.specs.declared.token.Kind.TheVariants as k
 use Rattle.ir_forms.specs.Choices.{select, separated, incoming, entry, ends_entries, after_entry, all_entries, phi_value_by, phi_value, phi_after, phi, at_no_phi, phis}
 use Rattle.ir_forms.specs.Cursor.{kind}
 use Rattle.ir_forms.specs.ManyWith.{Follows}
-use Rattle.ir_forms.specs.Written.{is_scalar, bits_of}
+use Rattle.ir_forms.specs.Written.{has_opaque, is_scalar, bits_of}
 use Rattle.ir_forms.specs.declared.written.WrittenType.{WrittenType}
 use Rattle.ir_forms.specs.declared.choices.Entries.{Entries}
 use Rattle.ir_forms.specs.declared.decorating.Trail.TheVariants as trail
@@ -21,7 +21,7 @@ use Rattle.ir_print_law.specs.Definitions.{defined_structs}
 use Rattle.ir_print_law.specs.Choices.{IsChoice}
 use Rattle.ir_print_law.specs.Printable.{IsIncoming, IsPhi}
 use Rattle.ir_print_law.proofs.Arguments.{bits_written, typed_pair_keeps, condition_keeps}
-use Rattle.ir_print_law.proofs.Decorations.{trailing_passes}
+use Rattle.ir_print_law.proofs.Decorations.{instruction_end_passes}
 use Rattle.ir_print_law.proofs.Forms.{Keeps, Same, Any, each_with}
 use Rattle.ir_print_law.proofs.Looks.{bits_are}
 use Rattle.ir_print_law.proofs.Operands.{AreBits, operand_keeps, label_keeps}
@@ -42,7 +42,7 @@ phi_is m f n w xs fit entries =
     let shape = fit.0.0 in
     let own = fit.0.1 in
     let bits = bits_are m 64 w shape own in
-    let are = entries.1 (subst AreBits (sym bits) (bits_written (defined_structs m) shape own.is_written)) in
+    let are = entries.1 (subst AreBits (sym bits) (bits_written (has_opaque m.types) (defined_structs m) shape own.is_written)) in
     (shape, scalar_of m w fit, entries.0, subst (λ (y : Option ℕ). AllByRecursion (IsIncoming m f y) xs) bits are)
 
 module _ {m : Module} {f : Function} {value : ℕ} (n : Naming m f value) where
@@ -147,7 +147,7 @@ module _ {m : Module} {f : Function} {Back : Input → Type 0} {Fore : Progress 
       let d = scalar_keeps r t.1 u.0 u.1 u.2 c.0 in
       let e = entries_keep naming.within (bits_of u.0) u.1 w.0 w.1 w.2 d.0 in
       let s = sort_keeps naming (local.Value u.0.id) tt w.1 y.0 y.1 y.2 e.0 in
-      let q = trailing_passes (within_of (b.kit (with_named_value g n))).reading trail.Other y.1 z.0 z.1 z.2 s.0 in (
+      let q = instruction_end_passes (within_of (b.kit (with_named_value g n))).reading trail.Other y.1 z.0 z.1 z.2 s.0 in (
         subst (λ (p : Phi). Fore (with_named_value g p.value) o) z.3.0 (subst (Fore (with_named_value g n)) z.3.1 q.0),
         λ back.
             let qb = q.1 (subst Back (sym z.3.1) back) in

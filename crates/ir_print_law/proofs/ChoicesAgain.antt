@@ -49,7 +49,7 @@ use Rattle.ir_print_law.proofs.SameParts.{same3, typed_same}
 use Rattle.ir_print_law.proofs.LongerTypes.{with_types, condition_again, pair_again}
 use Rattle.ir_ast.specs.declared.ir_type.IrType.{IrType}
 use Rattle.ir_print_law.specs.Definitions.{defined_functions}
-use Rattle.ir_print_law.proofs.Tables.{Begins}
+use Rattle.ir_print_law.proofs.OneKind.{IsLonger}
 
 -- a select is this one again, in each module later on
 abbrev pub ChoiceAgain : Module → (locals : List Text) → Choice → Choice → Input → Type 0
@@ -179,6 +179,6 @@ module _ (m n : Module) (locals others : List Text) where
       (typed_same m n locals others x.written y.written x.chosen y.chosen h.2.0 h.2.1) (typed_same m n locals others x.written y.written x.other y.other h.2.0 h.2.2)
 
 -- a select is printable where the module has more types, too
-pub choice_longer : (m : Module) (types : List IrType) (fs : List Function) (more : Begins m.types types) (same : defined_functions (with_types m types fs) ≡ defined_functions m) (f : Function)
+pub choice_longer : (m : Module) (types : List IrType) (fs : List Function) (more : IsLonger m.types types) (same : defined_functions (with_types m types fs) ≡ defined_functions m) (f : Function)
     → (x : Choice) → IsChoice m f x → IsChoice (with_types m types fs) f x
 choice_longer m types fs more same f x h = (condition_again m types fs more same f x.condition_type x.condition h.0, pair_again m types fs more same f x.written x.chosen x.other h.1)

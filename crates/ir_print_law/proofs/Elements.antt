@@ -4,28 +4,17 @@ use Rattle.ir_ast.specs.declared.function.Function.{Function}
 use Rattle.ir_ast.specs.declared.function.LocalSort.TheVariants as local
 use Rattle.ir_ast.specs.declared.module.Module.{Module}
 use Rattle.ir_tokens.specs.declared.token.Kind.TheVariants as k
-use Rattle.ir_forms.specs.declared.input.Input.{Input}
 use Rattle.ir_forms.specs.declared.site.Site.{Site}
-use Rattle.ir_forms.specs.Elements.{source, element}
+use Rattle.ir_forms.specs.Elements.{element}
 use Rattle.ir_print_law.specs.Elements.{IsElement}
 use Rattle.ir_print_law.proofs.Arguments.{place_keeps, indices_keep}
-use Rattle.ir_print_law.proofs.Decorations.{optional_passes}
-use Rattle.ir_print_law.proofs.Forms.{Keeps, Same}
-use Rattle.ir_print_law.proofs.Looks.{IsShaped}
-use Rattle.ir_print_law.proofs.Passes.{skip_passes, expect_passes}
+use Rattle.ir_print_law.proofs.Decorations.{flagged_passes}
+use Rattle.ir_print_law.proofs.Passes.{expect_passes}
 use Rattle.ir_print_law.proofs.Reading.{Naming}
 use Rattle.ir_print_law.proofs.TypesThat.{type_of, any_type_keeps}
 use Rattle.ir_print_law.proofs.ValueSorts.{Gives, ends}
 
 module _ {m : Module} {f : Function} {value : ℕ} (n : Naming m f value) where
-  source_keeps : (i : Input) → Keeps n.within.reading.Fore (Same n.within.reading.Fore) n.within.reading.Back source (IsShaped m 64) i
-  unfolding source
-  source_keeps i w o h fore =
-      let r = n.within.reading in
-      let a = optional_passes r k.Inbounds i h.0 h.1 h.2 fore in
-      let b = any_type_keeps r h.1 w o h.3 a.0 in
-      (b.0, λ back. let bb = b.1 back in ((a.1 bb.0).0, bb.1))
-
   pub element_keeps : (site : Site) → Gives n (element site value) (IsElement m f)
   unfolding element
   element_keeps site i x o h fore =
@@ -34,8 +23,8 @@ module _ {m : Module} {f : Function} {value : ℕ} (n : Naming m f value) where
       let u = t.3 in
       let w = u.3 in
       let z = w.3 in
-      let a = skip_passes r i h.0 h.1 h.2 fore in
-      let b = source_keeps h.1 t.0 t.1 t.2 a.0 in
+      let a = flagged_passes r i h.0 h.1 h.2 fore in
+      let b = any_type_keeps r h.1 t.0 t.1 t.2 a.0 in
       let c = expect_passes r k.Comma t.1 u.0 u.1 u.2 b.0 in
       let d = place_keeps n.within t.0 u.1 w.0 w.1 w.2 c.0 in
       let e = indices_keep n.within w.1 z.0 z.1 z.2 d.0 in

@@ -15,9 +15,9 @@ use Rattle.ir_forms.specs.Cursor.{kind, same_kind}
 use Rattle.ir_forms.specs.declared.input.Input.{Input}
 use Rattle.ir_forms.specs.declared.site.Site.{Site}
 use Rattle.ir_forms.specs.declared.written.WrittenType.{WrittenType}
-use Rattle.ir_forms.specs.Decorations.{optional}
+use Rattle.ir_forms.specs.Decorations.{flagged_word}
 use Rattle.ir_forms.specs.Elements as elements
-use Rattle.ir_forms.specs.Input.{Form, advanced, skip, expect}
+use Rattle.ir_forms.specs.Input.{Form, advanced, expect}
 use Rattle.ir_forms.specs.Lists as lists
 use Rattle.ir_forms.specs.ManyWith.{Follows}
 use Rattle.ir_forms.specs.Memory as memory
@@ -32,14 +32,15 @@ use Rattle.ir_print_law.specs.Elements.{IsElementAgain, IsElement}
 use Rattle.ir_print_law.specs.Parts.{IsArgument}
 use Rattle.ir_print_law.proofs.State.{Invariant, Ready, Grows, Reads}
 use Rattle.ir_print_law.proofs.Shown.{shown, IsTypeRead, read_stays}
-use Rattle.ir_print_law.proofs.Steps.{sign_reads, sign_kind, word_skipped, unlike, grows_itself, grows_further, later_before}
+use Rattle.ir_print_law.proofs.Steps.{sign_reads, sign_kind, grows_itself, grows_further, later_before}
 use Rattle.ir_print_law.proofs.WholeTypes.{type_begins}
 use Rattle.ir_print_law.proofs.PrintedTypes.{type_shown, read_again, any_type_reads}
 use Rattle.ir_print_law.proofs.ArgumentsAgain.{EndsLine, AllArgumentsAgain}
 use Rattle.ir_print_law.proofs.ListsAgain.{no_metadata, list_ends, list_goes_on}
-use Rattle.ir_print_law.proofs.MemoryAgain.{optional_said, place_reads}
+use Rattle.ir_print_law.proofs.Flags.{type_no_flag, word_flagged}
+use Rattle.ir_print_law.proofs.MemoryAgain.{place_reads}
 use Rattle.ir_print_law.proofs.Parts.{ends_comma, IsLaterAgain, ArgumentAgain, Sets, typed_reads, OpAgain}
-use Rattle.ir_print_law.proofs.Setting.{on, said_on, set_reads}
+use Rattle.ir_print_law.proofs.Setting.{on, set_reads}
 use Rattle.ir_ast.specs.declared.op.Op.TheVariants as op
 use Rattle.ir_print.specs.Instructions.{op_text}
 use Rattle.ir_print_law.specs.PartsAgain.{IsArgumentAgain}
@@ -52,7 +53,7 @@ use Rattle.ir_print_law.proofs.SameParts.{same2, lines_same, argument_same, plac
 use Rattle.ir_print_law.proofs.LongerTypes.{with_types, type_again, place_again, operand_again, argument_again}
 use Rattle.ir_ast.specs.declared.ir_type.IrType.{IrType}
 use Rattle.ir_print_law.specs.Definitions.{defined_functions}
-use Rattle.ir_print_law.proofs.Tables.{Begins}
+use Rattle.ir_print_law.proofs.OneKind.{IsLonger}
 use Rattle.std.proofs.Common.{None}
 use Rattle.lemmas.specs.All.{all_so}
 
@@ -130,7 +131,7 @@ module _ {m : Module} {f : Function} (v u : Invariant m f) where
   -- `getelementptr T, T* V, T W, ..`
   pub element_reads : (site : Site) (value : ℕ) (x : Element) (i : Input) (gap rest : Text) (s : ℕ) → IsElement m f x → Sets v u value → EndsLine rest → AreBlanks gap
       → Ready v s i (gap ++ (element_text m f.locals x ++ rest)) → Reads u s (elements.element site value) i rest (ElementAgain m f.locals x)
-  unfolding elements.element elements.source element_word class_of word_kind keywords
+  unfolding elements.element element_word class_of word_kind keywords
   element_reads site value x i gap rest s own sets ends blanks ready =
       let shape = own.0 in
       let is = own.1 in
@@ -142,13 +143,12 @@ module _ {m : Module} {f : Function} (v u : Invariant m f) where
       let t1 = shown false shape ++ t2 in
       let ready = subst (λ (y : Text). Ready v s i (gap ++ y)) (front (type_text m x.source) (argument_text m f.locals (typed x.base_type x.base)) (flat_map (index_text m f.locals) x.indices)) ready in
       let ready = subst (λ (y : Text). Ready v s i (gap ++ (codes "getelementptr" ++ (32 ∷ (y ++ t2))))) type_is ready in
-      on v u skip (λ _. source_form) i (32 ∷ t1) rest s s (λ _ o. advanced i ≡ o) good
-      (word_skipped v (codes "getelementptr") i gap (32 ∷ t1) s s blanks refl refl (omega arith) ready)
+      let begins = λ (o : Input) (stands : Stands o.cursor (32 ∷ t1)). type_begins v shape o (32 ∷ []) t2 is.2 refl refl stands in
+      on v u flagged_word (λ _. source_form) i (32 ∷ t1) rest s s (λ _ o. advanced i ≡ o) good
+      (word_flagged v (codes "getelementptr") i gap (32 ∷ t1) s s blanks refl refl (omega arith) ready (λ o stands word. type_no_flag word (kind o.cursor) (begins o stands)))
       (λ _ o ready g e.
-      let begins = type_begins v shape o (32 ∷ []) t2 is.2 refl refl ready.stands in
-      on v u elements.source comma_form o t2 rest s s (IsTypeRead shape 64) good
-      (said_on v (optional k.Inbounds) (λ _. w.any_type) o tt t2 s (IsTypeRead shape 64) (optional_said k.Inbounds o (unlike k.Inbounds w.begins_type o refl begins))
-      (any_type_reads v shape o (32 ∷ []) t2 s is.2 is.1 refl (ends_comma (32 ∷ t3)) ready))
+      on v u w.any_type comma_form o t2 rest s s (IsTypeRead shape 64) good
+      (any_type_reads v shape o (32 ∷ []) t2 s is.2 is.1 refl (ends_comma (32 ∷ t3)) ready)
       (λ p q ready h read.
       on v u (expect k.Comma) (λ _. place_form p) q (32 ∷ t3) rest s s (λ _ r. advanced q ≡ r) good
       (sign_reads v 44 k.Comma q [] (32 ∷ t3) s s refl refl refl (omega arith) ready)
@@ -185,7 +185,7 @@ module _ {m : Module} {f : Function} (v u : Invariant m f) where
       comma_form p = expect k.Comma >> place_form p
 
       source_form : Form Element
-      source_form = elements.source >>= comma_form
+      source_form = w.any_type >>= comma_form
 
   -- what follows `%v =`
   pub named_element_reads : (site : Site) (value : ℕ) (x : Element) (i : Input) (gap rest : Text) (s : ℕ) → AreBlanks gap → IsElement m f x → Sets v u value → EndsLine rest
@@ -219,7 +219,7 @@ module _ (m n : Module) (locals others : List Text) where
       (lines_same (IsArgumentAgain m n locals others) (index_text m locals) (index_text n others) x.indices y.indices index_same h.3)
 
 -- a getelementptr is printable where the module has more types, too
-pub element_longer : (m : Module) (types : List IrType) (fs : List Function) (more : Begins m.types types) (same : defined_functions (with_types m types fs) ≡ defined_functions m) (f : Function)
+pub element_longer : (m : Module) (types : List IrType) (fs : List Function) (more : IsLonger m.types types) (same : defined_functions (with_types m types fs) ≡ defined_functions m) (f : Function)
     → (x : Element) → IsElement m f x → IsElement (with_types m types fs) f x
 element_longer m types fs more same f x h = (
   h.0,

@@ -19,7 +19,7 @@ use Rattle.ir_print_law.proofs.Forms.{Keeps, Same, each_with}
 use Rattle.ir_print_law.proofs.Passes.{skip_passes, expect_passes}
 use Rattle.ir_print_law.proofs.Reading.{Within}
 use Rattle.ir_ast.specs.declared.operand.Constant.{Constant}
-use Rattle.ir_forms.specs.Written.{bits_of}
+use Rattle.ir_forms.specs.Written.{has_opaque, bits_of}
 use Rattle.ir_forms.specs.Ends.{jump, branch, br, case_constant, case, at_square, after_case, all_cases, bracketed_cases, switch, returned_value, ret, terminator_by, terminator, block_end}
 use Rattle.ir_forms.specs.CaseValues.{value_of, is_among}
 use Rattle.ir_forms.specs.Decorations.{either}
@@ -153,7 +153,7 @@ module _ {m : Module} {f : Function} (v : Within m f) where
             let shape = bb.1.0.0 in
             let own = bb.1.0.1 in
             let bits = bits_are m 64 w shape own in
-            let fit = subst AreBits (sym bits) (bits_written (defined_structs m) shape own.is_written) in
+            let fit = subst AreBits (sym bits) (bits_written (has_opaque m.types) (defined_structs m) shape own.is_written) in
             let cases = subst (λ (q : Option ℕ). AreCases f q [] s1.0) bits (jb.1 fit) in
             let same_cases = subst (AreCases f (bits_of_shape shape) []) s2.3.0 cases in
             (ab.0, subst (IsEnd m f) t4.3.0 (shape, scalar_of m w bb.1, operand_at v w bb.1 t1.0 cb.1, eb.1, same_cases)),

@@ -128,7 +128,7 @@ module _ {m : Module} (w : Outside m) where
 
   pub kit : (f : Function) (t : Table LocalSort) (unnamed : ℕ) (g : Progress) (pending : Option ℕ) → Kit m f (Holds m w g pending) (Ends m w f t unnamed)
   kit f t unnamed g pending = record {
-    ordered = λ i h back. w.reading.ordered i h.outside back.outside;
+    ordered = λ i back. w.reading.ordered i back.outside;
     bytes = λ i h back. w.reading.bytes i h.outside back.outside;
     has_types = λ i h. w.reading.has_types i h.outside;
     has_structs = λ i h. w.reading.has_structs i h.outside;

@@ -40,7 +40,7 @@ use Rattle.ir_print_law.proofs.Constants.{are_digits, constants_are_read, wide}
 use Rattle.ir_print_law.proofs.Words.{global_comes, word_comes, number_comes}
 use Rattle.ir_print_law.specs.Again.{IsGlobalAgain}
 use Rattle.ir_print_law.specs.Printable.{IsGlobal, IsInitial}
-use Rattle.ir_print_law.specs.Shapes.{Shape, Integer, Pointer, Array, Empty, Struct, Named, HasShape, bits_of_shape}
+use Rattle.ir_print_law.specs.Shapes.{Shape, Integer, Pointer, Array, Empty, Struct, Named, Opaque, HasShape, bits_of_shape}
 use Rattle.ir_print_law.proofs.Tables.{stays, begins_itself}
 use Rattle.ir_print_law.proofs.State.{Invariant, Ready, IsLater}
 use Rattle.ir_print_law.proofs.Shown.{shape_stays, bits_read}
@@ -76,6 +76,9 @@ text_shown m (Struct first rest) held (constant.Truth t) h is = absurd is
 text_shown m (Named name) held constant.Null h is = refl
 text_shown m (Named name) held (constant.Number n) h is = absurd is
 text_shown m (Named name) held (constant.Truth t) h is = absurd is
+text_shown m Opaque held constant.Null h is = refl
+text_shown m Opaque held (constant.Number n) h is = absurd is
+text_shown m Opaque held (constant.Truth t) h is = absurd is
 
 fits : (bits : Option ℕ) (x : Constant) → IsInitial bits x → FitsType bits x
 fits (Some bits) (constant.Number n) is = is

@@ -59,7 +59,7 @@ module _ (m : Module) where
 
   abbrev kit : (f : Function) → Kit m f Grown Nowhere
   kit f = record {
-    ordered = λ i h back. absurd back;
+    ordered = λ i back. absurd back;
     bytes = λ i h back. absurd back;
     has_types = λ i back. absurd back;
     has_structs = λ i back. absurd back;

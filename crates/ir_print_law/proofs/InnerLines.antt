@@ -45,6 +45,10 @@ placed_is site i o a less h = (tt, i, (few_places site.place less, refl), h)
 pub comma_free : (rest : Text) (i : Input) → EndsOp rest → Stands i.cursor rest → sees k.Comma i.cursor ≡ false
 comma_free rest i ends at = unlike k.Comma begins_body_line i refl (ends.1 i at)
 
+-- no debug record comes after a line
+pub record_free : (rest : Text) (i : Input) → EndsOp rest → Stands i.cursor rest → sees k.DebugRecord i.cursor ≡ false
+record_free rest i ends at = unlike k.DebugRecord begins_body_line i refl (ends.1 i at)
+
 -- the line of an instruction with a value
 pub valued_line : (m : Module) (locals : List Text) (x : Op) (value : ℕ) (rest : Text)
     → instruction_line m locals (record { result = Some value; op = x }) ++ rest ≡ 32 ∷ 32 ∷ 37 ∷ (key_text (name_at locals value) ++ (codes " = " ++ (op_text m locals x ++ 10 ∷ rest)))
@@ -98,7 +102,7 @@ module _ (m : Module) (f : Function) (named : AreNamed m f) (ops : OpsRead m f n
       let r = ops.named_read x key n (far_value m f named far key n unnamed) site q (32 ∷ []) (10 ∷ rest) own gives refl (last_in key far.seen) apart refl ends equals.3 in
       let y = r.0 in
       let o = r.1 in
-      let trail = not_trailed r.0 r.1 (comma_free (10 ∷ rest) r.1 ends r.3.stands) in
+      let trail = not_trailed r.0 r.1 (comma_free (10 ∷ rest) r.1 ends r.3.stands) (record_free (10 ∷ rest) r.1 ends r.3.stands) in
       let afterwards : (named_after site n).says p (record { result = Some n; op = y }) o = (tt, q, equals.2, (r.0, r.1, r.2, (r.0, r.1, trail, (refl, refl)))) in
       let wide = widens_further i p o w.1.4 (widens_further p q o (grows_widens p q equals.4) (grows_widens q o r.4)) in
       let wide_p = widens_further p q o (grows_widens p q equals.4) (grows_widens q o r.4) in (

@@ -20,7 +20,7 @@ use Rattle.ir_forms.specs.declared.input.Input.{Input}
 use Rattle.ir_forms.specs.declared.written.WrittenType.{WrittenType}
 use Rattle.ir_forms.specs.Input.{Form}
 use Rattle.ir_forms.specs.Names.{with_number_taken}
-use Rattle.ir_forms.specs.Written.{is_held, bits_of}
+use Rattle.ir_forms.specs.Written.{has_opaque, is_held, bits_of}
 use Rattle.ir_forms.specs.declared.decorating.Spot.TheVariants as spot
 use Rattle.ir_forms.specs.declared.decorating.Trail.TheVariants as trail
 use Rattle.ir_text.specs.ItemsOfText.{struct_type, with_struct_type, global, with_global, function_name_by, function_name, declaration, with_declare}
@@ -135,7 +135,7 @@ module _ (e : Input) (Good : Function → Type 0) where
       let shape = fit.0.0 in
       let own = fit.0.1 in
       let bits = bits_are m 64 w shape own in
-      let fits = subst AreBits (sym bits) (bits_written (defined_structs m) shape own.is_written) in
+      let fits = subst AreBits (sym bits) (bits_written (has_opaque m.types) (defined_structs m) shape own.is_written) in
       (shape, type_of m w shape own, sym (held_is m 64 w shape own) ∙ fit.1, subst (λ (b : Option ℕ). IsInitial b x) bits (first fits))
 
   pub global_goes : Goes e Good global

@@ -1,4 +1,5 @@
 pub mod Tables
+pub mod OneKind
 pub mod OneTypes
 pub mod Forms
 pub mod Looks
@@ -57,6 +58,7 @@ pub mod AgainTypes
 pub mod Parts
 pub mod Setting
 pub mod OpsAgain
+pub mod Flags
 pub mod NumbersAgain
 pub mod MemoryAgain
 pub mod CastsAgain

@@ -19,8 +19,9 @@ use Rattle.ir_ast.specs.declared.op.Op.TheVariants as op
 use Rattle.ir_print_law.specs.Definitions.{defined_functions}
 use Rattle.ir_print_law.specs.Parts.{IsScalar, IsVoid, IsReturned}
 use Rattle.ir_print_law.specs.Printable.{IsIncoming, IsOp, is_void, gives_value, IsInstr, IsPhi, IsEnd, IsBlock, IsPassed, IsParameter, IsFunction, IsStructType, IsGlobal, IsAnyType, IsDeclare}
-use Rattle.ir_print_law.specs.Shapes.{Shape, Integer, Pointer, Array, Empty, Struct, Named, bits_of_shape}
-use Rattle.ir_print_law.proofs.Tables.{Begins, stays}
+use Rattle.ir_print_law.specs.Shapes.{Shape, Integer, Pointer, Array, Empty, Struct, Named, Opaque, bits_of_shape}
+use Rattle.ir_print_law.proofs.OneKind.{IsLonger}
+use Rattle.ir_print_law.proofs.Tables.{stays}
 use Rattle.ir_print_law.proofs.LongerTypes.{with_types, type_again, scalar_again, void_again, operand_again, argument_again, incoming_again, condition_again, converted_again}
 use Rattle.ir_print_law.proofs.NumbersAgain.{number_longer}
 use Rattle.ir_print_law.proofs.MemoryAgain.{memory_longer}
@@ -28,7 +29,7 @@ use Rattle.ir_print_law.proofs.ElementsAgain.{element_longer}
 use Rattle.ir_print_law.proofs.ChoicesAgain.{choice_longer}
 use Rattle.ir_print_law.proofs.CallsAgain.{call_longer}
 
-module _ (m : Module) (types : List IrType) (fs : List Function) (more : Begins m.types types) (same : defined_functions (with_types m types fs) ≡ defined_functions m) where
+module _ (m : Module) (types : List IrType) (fs : List Function) (more : IsLonger m.types types) (same : defined_functions (with_types m types fs) ≡ defined_functions m) where
   abbrev longer : Module
   longer = with_types m types fs
 
@@ -51,6 +52,7 @@ module _ (m : Module) (types : List IrType) (fs : List Function) (more : Begins 
     scalar_there Empty t h = let no = h.1 in absurd cc
     scalar_there (Struct first rest) t h = let no = h.1 in absurd cc
     scalar_there (Named name) t h = let no = h.1 in absurd cc
+    scalar_there Opaque t h = (type.Opaque, h.0.0)
 
     returned_there : (t : ℕ) → IsReturned m t → (x : IrType) × (slice_get m.types t ≡ Some x)
     returned_there t (inl h) = (type.Void, h)
@@ -66,7 +68,7 @@ module _ (m : Module) (types : List IrType) (fs : List Function) (more : Begins 
     gives_again (op.Choice x) h = refl
     gives_again (op.Call x) h =
         let t = returned_there x.returned h.0 in
-        ap (λ (o : Option IrType). not (is_void o)) (t.1 ∙ sym (stays m.types types x.returned t.0 more t.1))
+        ap (λ (o : Option IrType). not (is_void o)) (t.1 ∙ sym (stays m.types types x.returned t.0 more.0 t.1))
 
     -- ---- blocks
 

@@ -8,25 +8,29 @@ use Rattle.ir_ast.specs.declared.ir_type.IrType.TheVariants as type
 use Rattle.ir_ast.specs.declared.module.Module.{Module}
 use Rattle.ir_ast.specs.declared.operand.Operand.{Operand}
 use Rattle.ir_ast.specs.declared.operand.Operand.TheVariants as operand
-use Rattle.ir_print_law.specs.Definitions.{defined_functions}
+use Rattle.ir_forms.specs.Written.{has_opaque}
+use Rattle.ir_print_law.specs.Definitions.{defined_functions, defined_structs}
 use Rattle.ir_print_law.specs.Parts.{IsType, IsScalar, IsPointer, IsVoid, IsPlaceType, IsOperand, IsArgument, IsCondition, ArePair, IsConverted, IsReturned}
 use Rattle.ir_print_law.specs.Printable.{IsIncoming}
 use Rattle.ir_print_law.specs.Shapes.{Shape, bits_of_shape}
 use Rattle.ir_print_law.proofs.Shown.{shape_stays}
-use Rattle.ir_print_law.proofs.Tables.{Begins, begins_itself, stays}
+use Rattle.ir_print_law.proofs.OneKind.{IsLonger, written_in}
+use Rattle.ir_print_law.proofs.Tables.{begins_itself, stays}
 
 -- a module with these types and these functions
 abbrev pub with_types : Module → List IrType → List Function → Module
 with_types m types functions = record m { types = types; functions = functions }
 
-module _ (m : Module) (types : List IrType) (fs : List Function) (more : Begins m.types types) (same : defined_functions (with_types m types fs) ≡ defined_functions m) where
+module _ (m : Module) (types : List IrType) (fs : List Function) (more : IsLonger m.types types) (same : defined_functions (with_types m types fs) ≡ defined_functions m) where
   abbrev longer : Module
   longer = with_types m types fs
 
   -- ---- types
 
   pub type_again : (shape : Shape) (t : ℕ) → IsType m shape t → IsType longer shape t
-  type_again shape t h = (shape_stays m.types types m.struct_names m.struct_names shape t more (begins_itself m.struct_names) h.0, h.1, h.2)
+  type_again shape t h =
+      let has = shape_stays m.types types m.struct_names m.struct_names shape t more.0 (begins_itself m.struct_names) h.0 in
+      (has, h.1, written_in types m.struct_names (has_opaque m.types) (defined_structs m) shape t more.1 has h.2)
 
   pub scalar_again : (shape : Shape) (t : ℕ) → IsScalar m shape t → IsScalar longer shape t
   scalar_again shape t h = (type_again shape t h.0, h.1)
@@ -35,10 +39,11 @@ module _ (m : Module) (types : List IrType) (fs : List Function) (more : Begins 
   pointer_again t h = (h.0, type_again h.0 t h.1, h.2)
 
   pub void_again : (t : ℕ) → IsVoid m t → IsVoid longer t
-  void_again t h = stays m.types types t type.Void more h
+  void_again t h = stays m.types types t type.Void more.0 h
 
   pub place_again : (shape : Shape) (held place : ℕ) → IsPlaceType m shape held place → IsPlaceType longer shape held place
-  place_again shape held place h = (stays m.types types place (type.Pointer held) more h.0, h.1)
+  place_again shape held place (inl h) = let there = stays m.types types place (type.Pointer held) more.0 h.1 in inl (more.1 place (type.Pointer held) there, there, h.2)
+  place_again shape held place (inr h) = let there = stays m.types types place type.Opaque more.0 h.1 in inr (more.1 place type.Opaque there, there)
 
   -- ---- operands
 
@@ -56,7 +61,7 @@ module _ (m : Module) (types : List IrType) (fs : List Function) (more : Begins 
     incoming_again bits x h = (operand_again bits x.operand h.0, h.1)
 
     pub condition_again : (t : ℕ) (x : Operand) → IsCondition m f t x → IsCondition longer f t x
-    condition_again t x h = (stays m.types types t (type.Integer 1) more h.0, operand_again (Some 1) x h.1)
+    condition_again t x h = (stays m.types types t (type.Integer 1) more.0 h.0, operand_again (Some 1) x h.1)
 
     pub pair_again : (t : ℕ) (x y : Operand) → ArePair m f t x y → ArePair longer f t x y
     pair_again t x y h = (h.0, scalar_again h.0 t h.1, operand_again (bits_of_shape h.0) x h.2, operand_again (bits_of_shape h.0) y h.3)

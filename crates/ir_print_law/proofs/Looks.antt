@@ -1,5 +1,5 @@
 -- What a type that was read looks like, by its shape.
-use Rattle.std.proofs.Common.{◌≡◌, ℕ, zero, suc, ◌+◌, true, false, refl, ap, ◌∙◌, arith}
+use Rattle.std.proofs.Common.{◌≡◌, ℕ, zero, suc, ◌+◌, Bool, true, false, refl, ap, ◌∙◌, arith}
 use Rattle.std.specs.Prelude.{◌==◌, nat_lt}
 use Rattle.std.proofs.lemmas.Bool.Decides.{nat_tests}
 use Rattle.lemmas.specs.Numbers.{suc_not_null}
@@ -7,9 +7,9 @@ use Rattle.ir_ast.specs.declared.module.Module.{Module}
 use Rattle.ir_forms.specs.declared.written.Base.{Base}
 use Rattle.ir_forms.specs.declared.written.Base.TheVariants as base
 use Rattle.ir_forms.specs.declared.written.WrittenType.{WrittenType}
-use Rattle.ir_forms.specs.Written.{bits_of, is_scalar, is_passed, is_held}
+use Rattle.ir_forms.specs.Written.{has_opaque, bits_of, is_pointer, is_scalar, is_passed, is_held}
 use Rattle.ir_print_law.specs.Definitions.{defined_structs}
-use Rattle.ir_print_law.specs.Shapes.{Shape, Integer, Pointer, Array, Empty, Struct, Named, HasShape, IsWritten, levels, bits_of_shape, is_scalar_shape, is_pointer_shape, is_passed_shape, is_held_shape}
+use Rattle.ir_print_law.specs.Shapes.{Shape, Integer, Pointer, Array, Empty, Struct, Named, Opaque, HasShape, IsWritten, levels, bits_of_shape, is_scalar_shape, is_pointer_shape, is_passed_shape, is_held_shape}
 
 -- a type with n stars after it
 abbrev pub starred : ℕ → Shape → Shape
@@ -21,6 +21,7 @@ abbrev pub base_of : Shape → Base
 base_of (Integer bits) = base.Integer bits
 base_of (Pointer part) = base_of part
 base_of (Named name) = base.Named
+base_of Opaque = base.Opaque
 base_of _ = base.Aggregate
 
 abbrev pub stars_of : Shape → ℕ
@@ -31,7 +32,7 @@ stars_of _ = 0
 pub record IsTypeOf (m : Module) (most : ℕ) (w : WrittenType) (shape : Shape) : Type 0 where
   pub has_shape : HasShape m.types m.struct_names shape w.id
   pub fits : levels shape + w.room ≡ most
-  pub is_written : IsWritten (defined_structs m) shape
+  pub is_written : IsWritten (has_opaque m.types) (defined_structs m) shape
   pub base_is : w.base ≡ base_of shape
   pub stars_are : w.stars ≡ stars_of shape
 
@@ -53,9 +54,15 @@ pub starred_stars : (count : ℕ) (shape : Shape) → stars_of (starred count sh
 starred_stars zero shape = omega arith
 starred_stars (suc count) shape = let e = starred_stars count (Pointer shape) in omega (arith, e)
 
-pub starred_written : (structs : _) (count : ℕ) (shape : Shape) → IsWritten structs shape → IsWritten structs (starred count shape)
-starred_written structs zero shape h = h
-starred_written structs (suc count) shape h = starred_written structs count (Pointer shape) h
+-- n stars may be written: there are none, or no pointer is `ptr`
+abbrev pub MayStar : (opaque : Bool) → ℕ → Type 0
+MayStar opaque zero = Unit {0}
+MayStar opaque (suc count) = opaque ≡ false
+
+-- a type that is written with stars, and those stars
+pub starred_parts : (opaque : Bool) (structs : _) (count : ℕ) (shape : Shape) → IsWritten opaque structs (starred count shape) → MayStar opaque count × IsWritten opaque structs shape
+starred_parts opaque structs zero shape h = (tt, h)
+starred_parts opaque structs (suc count) shape h = let p = (starred_parts opaque structs count (Pointer shape) h).1 in (p.0, p.1)
 
 -- ---- what kind of type it is
 
@@ -80,6 +87,7 @@ bits_looks (Array count part) = refl
 bits_looks Empty = refl
 bits_looks (Struct first rest) = refl
 bits_looks (Named name) = refl
+bits_looks Opaque = refl
 
 pub bits_are : (m : Module) (most : ℕ) (w : WrittenType) (shape : Shape) → IsTypeOf m most w shape → bits_of w ≡ bits_of_shape shape
 bits_are m most w shape h = by_looks bits_of m most w shape (λ id room b stars. refl) h ∙ bits_looks shape
@@ -91,30 +99,34 @@ scalar_looks (Array count part) = refl
 scalar_looks Empty = refl
 scalar_looks (Struct first rest) = refl
 scalar_looks (Named name) = refl
+scalar_looks Opaque = refl
 
 pub scalar_is : (m : Module) (most : ℕ) (w : WrittenType) (shape : Shape) → IsTypeOf m most w shape → is_scalar w ≡ is_scalar_shape shape
 scalar_is m most w shape h = by_looks is_scalar m most w shape (λ id room b stars. refl) h ∙ scalar_looks shape
 
-pub pointer_looks : (shape : Shape) → nat_lt 0 (stars_of shape) ≡ is_pointer_shape shape
+pub pointer_looks : (shape : Shape) → is_pointer (looking (base_of shape) (stars_of shape)) ≡ is_pointer_shape shape
 pointer_looks (Integer bits) = refl
-pointer_looks (Pointer part) = zero_less (stars_of part)
+pointer_looks (Pointer part) = let some = zero_less (stars_of part) in rw some refl
 pointer_looks (Array count part) = refl
 pointer_looks Empty = refl
 pointer_looks (Struct first rest) = refl
 pointer_looks (Named name) = refl
+pointer_looks Opaque = refl
 
-pub pointer_is : (m : Module) (most : ℕ) (w : WrittenType) (shape : Shape) → IsTypeOf m most w shape → nat_lt 0 w.stars ≡ is_pointer_shape shape
-pointer_is m most w shape h = ap (nat_lt 0) h.stars_are ∙ pointer_looks shape
+pub pointer_is : (m : Module) (most : ℕ) (w : WrittenType) (shape : Shape) → IsTypeOf m most w shape → is_pointer w ≡ is_pointer_shape shape
+pointer_is m most w shape h = by_looks is_pointer m most w shape (λ id room b stars. refl) h ∙ pointer_looks shape
 
 passed_deep : (b : Base) (n : ℕ) → is_passed (looking b (suc (suc n))) ≡ false
 passed_deep (base.Integer bits) n = let a = suc_not_null (suc n) in let c = suc_one n in rw (a, c) refl
 passed_deep base.Named n = suc_one n
+passed_deep base.Opaque n = suc_not_null (suc n)
 passed_deep base.Aggregate n = refl
 
 pub passed_looks : (shape : Shape) → is_passed (looking (base_of shape) (stars_of shape)) ≡ is_passed_shape shape
 passed_looks (Integer bits) = refl
 passed_looks (Pointer (Integer bits)) = refl
 passed_looks (Pointer (Named name)) = refl
+passed_looks (Pointer Opaque) = refl
 passed_looks (Pointer (Pointer part)) = passed_deep (base_of part) (stars_of part)
 passed_looks (Pointer (Array count part)) = refl
 passed_looks (Pointer Empty) = refl
@@ -123,6 +135,7 @@ passed_looks (Array count part) = refl
 passed_looks Empty = refl
 passed_looks (Struct first rest) = refl
 passed_looks (Named name) = refl
+passed_looks Opaque = refl
 
 pub passed_is : (m : Module) (most : ℕ) (w : WrittenType) (shape : Shape) → IsTypeOf m most w shape → is_passed w ≡ is_passed_shape shape
 passed_is m most w shape h = by_looks is_passed m most w shape (λ id room b stars. refl) h ∙ passed_looks shape
@@ -130,12 +143,14 @@ passed_is m most w shape h = by_looks is_passed m most w shape (λ id room b sta
 held_deep : (b : Base) (n : ℕ) → is_held (looking b (suc (suc n))) ≡ false
 held_deep (base.Integer bits) n = suc_not_null (suc n)
 held_deep base.Named n = suc_one n
+held_deep base.Opaque n = suc_not_null (suc n)
 held_deep base.Aggregate n = refl
 
 pub held_looks : (shape : Shape) → is_held (looking (base_of shape) (stars_of shape)) ≡ is_held_shape shape
 held_looks (Integer bits) = refl
 held_looks (Pointer (Integer bits)) = refl
 held_looks (Pointer (Named name)) = refl
+held_looks (Pointer Opaque) = refl
 held_looks (Pointer (Pointer part)) = held_deep (base_of part) (stars_of part)
 held_looks (Pointer (Array count part)) = refl
 held_looks (Pointer Empty) = refl
@@ -144,6 +159,7 @@ held_looks (Array count part) = refl
 held_looks Empty = refl
 held_looks (Struct first rest) = refl
 held_looks (Named name) = refl
+held_looks Opaque = refl
 
 pub held_is : (m : Module) (most : ℕ) (w : WrittenType) (shape : Shape) → IsTypeOf m most w shape → is_held w ≡ is_held_shape shape
 held_is m most w shape h = by_looks is_held m most w shape (λ id room b stars. refl) h ∙ held_looks shape

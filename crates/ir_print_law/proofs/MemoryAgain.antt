@@ -1,12 +1,10 @@
 -- Printed operations on memory are read as these operations again; and their numbers are within the tables.
-use Rattle.std.proofs.Common.{◌≡◌, ◌≤◌, ℕ, Bool, false, List, [], ◌∷◌, ◌++◌, length, None, refl, sym, subst, arith, append_assoc, ap, true}
+use Rattle.std.proofs.Common.{◌≡◌, ◌≤◌, ℕ, Bool, false, List, [], ◌∷◌, ◌++◌, length, None, refl, sym, subst, arith, append_assoc, ap, true, inl, inr}
 use Rattle.std.specs.Prelude.{codes}
-use Rattle.std.proofs.lemmas.Option.{slice_get_within}
 use Rattle.grammar.specs.Grammar.{pure, ◌>>=◌, ◌>>◌}
 use Rattle.ir_ast.specs.declared.argument.Argument.{Argument}
 use Rattle.ir_ast.specs.declared.function.Function.{Function}
 use Rattle.ir_ast.specs.declared.function.LocalSort.TheVariants as local
-use Rattle.ir_ast.specs.declared.ir_type.IrType.TheVariants as type
 use Rattle.ir_ast.specs.declared.memory.MemoryOp.{MemoryOp}
 use Rattle.ir_ast.specs.declared.memory.MemoryOp.TheVariants as memory
 use Rattle.ir_ast.specs.declared.module.Module.{Module}
@@ -32,10 +30,10 @@ use Rattle.ir_print.specs.Types.{type_text}
 use Rattle.ir_print_law.specs.Memory.{IsMemoryOpAgain, IsMemoryOp, IsMemoryOpWithin, memory_gives_value}
 use Rattle.ir_print_law.specs.ModuleNames.{HasModuleNames}
 use Rattle.ir_print_law.specs.Parts.{IsType, IsOperand, IsPlaceType}
-use Rattle.ir_print_law.specs.Shapes.{Shape, Pointer, HasShape}
+use Rattle.ir_print_law.specs.Shapes.{Shape, Pointer, Opaque, HasShape, levels}
 use Rattle.ir_print_law.proofs.DefinedWithin.{AreDefinedWithin}
 use Rattle.ir_print_law.proofs.PartsLonger.{MeansAsMuch, type_longer, operand_longer}
-use Rattle.ir_print_law.proofs.PartsWithin.{Wide, type_within, operand_within}
+use Rattle.ir_print_law.proofs.PartsWithin.{Wide, place_type_within, type_within, operand_within}
 use Rattle.ir_print_law.proofs.State.{Invariant, Ready, Reads}
 use Rattle.ir_print_law.proofs.Shown.{shown, IsTypeRead, read_stays}
 use Rattle.ir_print_law.proofs.Steps.{given, sign_reads, word_skipped, unlike, grows_further, later_before}
@@ -43,7 +41,7 @@ use Rattle.ir_print_law.proofs.Types.{EndsType}
 use Rattle.ir_print_law.proofs.WholeTypes.{type_begins}
 use Rattle.ir_print_law.proofs.PrintedTypes.{type_shown, read_again, scalar_reads}
 use Rattle.ir_print_law.proofs.OperandsAgain.{OperandAgain, operand_reads, ends_operand}
-use Rattle.ir_print_law.proofs.AgainTypes.{pointer_again_reads}
+use Rattle.ir_print_law.proofs.AgainTypes.{pointer_again_reads, opaque_again_reads}
 use Rattle.ir_print_law.proofs.Parts.{ends_comma, IsLaterAgain, ArgumentAgain, Sets, operand_at, OpAgain}
 use Rattle.ir_print_law.proofs.Setting.{on, said_on, set_reads}
 use Rattle.ir_ast.specs.declared.op.Op.TheVariants as op
@@ -60,7 +58,7 @@ use Rattle.ir_print_law.proofs.SameParts.{same2, type_same, typed_same, placed_s
 use Rattle.ir_print_law.proofs.LongerTypes.{with_types, scalar_again, place_again, operand_again}
 use Rattle.ir_ast.specs.declared.ir_type.IrType.{IrType}
 use Rattle.ir_print_law.specs.Definitions.{defined_functions}
-use Rattle.ir_print_law.proofs.Tables.{Begins}
+use Rattle.ir_print_law.proofs.OneKind.{IsLonger}
 use Rattle.ir_print_law.specs.Shapes.{bits_of_shape}
 
 -- an operation on memory is this one again, in each module later on
@@ -78,24 +76,39 @@ module _ {m : Module} {f : Function} (v : Invariant m f) where
       → IsTypeRead shape 64 p i → AreBlanks gap → IsSeam rest
       → Ready v s i (gap ++ (argument_text m f.locals (typed place_type x) ++ rest)) → Reads v s (forms.place_of p) i rest (ArgumentAgain m f.locals (typed place_type x))
   unfolding forms.place_of class_of
-  place_reads shape t place_type x p i gap rest s own place is_operand read blanks seam ready =
-      let few = place.1 in
-      let has : HasShape m.types m.struct_names (Pointer shape) place_type = (t, place.0, own.0) in
-      let type_is = type_shown m (Pointer shape) place_type has (omega (arith, few)) in
-      let good = ArgumentAgain m f.locals (typed place_type x) in
-      let text = operand_text m f.locals place_type x in
-      let ready = subst (λ (y : Text). Ready v s i (gap ++ ((y ++ 32 ∷ operand_text m f.locals place_type x) ++ rest))) type_is ready in
-      let ready = subst (λ (y : Text). Ready v s i (gap ++ y)) (append_assoc (shown false (Pointer shape)) (32 ∷ text) rest) ready in
-      on v v (w.pointer_again p) place_form i (32 ∷ (operand_text m f.locals place_type x ++ rest)) rest s s (λ n o. HasShape o.types o.struct_names.names (Pointer shape) n) good
-      (pointer_again_reads v shape p i gap (32 ∷ (operand_text m f.locals place_type x ++ rest)) s own.2 read few blanks ready)
-      (λ pointer o ready g there.
-      on v v (form.operand None) (λ y. pure (record { written = pointer; operand = y })) o rest rest s s (OperandAgain m f.locals x) good
-      (operand_reads v (Pointer shape) place_type x o (32 ∷ []) rest s has is_operand refl seam ready)
-      (λ y q ready h again. given v (record { written = pointer; operand = y }) q rest s good ready
-      (λ n others later. (read_again m (Pointer shape) place_type pointer o n others has there (later_before o q n others h later), again n others later))))
-    where
-      place_form : ℕ → Form Argument
-      place_form pointer = form.operand None >>= λ y. pure (record { written = pointer; operand = y })
+  place_reads shape t place_type x p i gap rest s own place is_operand read blanks seam ready = by place where
+    good : Argument → Input → Type 0
+    good = ArgumentAgain m f.locals (typed place_type x)
+
+    place_form : ℕ → Form Argument
+    place_form pointer = form.operand None >>= λ y. pure (record { written = pointer; operand = y })
+
+    -- the type of the place has this shape
+    of_shape : (q : Shape) → HasShape m.types m.struct_names q place_type → levels q ≤ 64
+        → (Ready v s i (gap ++ (shown false q ++ (32 ∷ (operand_text m f.locals place_type x ++ rest)))) → Reads v s (w.pointer_again p) i (32 ∷ (operand_text m f.locals place_type x ++ rest)) (λ n o. HasShape o.types o.struct_names.names q n))
+        → ((o : Input) → Ready v s o (32 ∷ (operand_text m f.locals place_type x ++ rest)) → Reads v s (form.operand None) o rest (OperandAgain m f.locals x))
+        → Reads v s (w.pointer_again p >>= place_form) i rest good
+    of_shape q has few again operand =
+        let type_is = type_shown m q place_type has few in
+        let ready = subst (λ (y : Text). Ready v s i (gap ++ ((y ++ 32 ∷ operand_text m f.locals place_type x) ++ rest))) type_is ready in
+        let ready = subst (λ (y : Text). Ready v s i (gap ++ y)) (append_assoc (shown false q) (32 ∷ operand_text m f.locals place_type x) rest) ready in
+        on v v (w.pointer_again p) place_form i (32 ∷ (operand_text m f.locals place_type x ++ rest)) rest s s (λ n o. HasShape o.types o.struct_names.names q n) good
+        (again ready)
+        (λ pointer o ready g there.
+        on v v (form.operand None) (λ y. pure (record { written = pointer; operand = y })) o rest rest s s (OperandAgain m f.locals x) good
+        (operand o ready)
+        (λ y z ready h again. given v (record { written = pointer; operand = y }) z rest s good ready
+        (λ n others later. (read_again m q place_type pointer o n others has there (later_before o z n others h later), again n others later))))
+
+    by : IsPlaceType m shape t place_type → Reads v s (w.pointer_again p >>= place_form) i rest good
+    by (inl typed) =
+        let few = typed.2 in
+        of_shape (Pointer shape) (t, typed.1, own.0) (omega (arith, few))
+        (λ ready. pointer_again_reads v shape p i gap (32 ∷ (operand_text m f.locals place_type x ++ rest)) s typed.0 own.2 read few blanks ready)
+        (λ o ready. operand_reads v (Pointer shape) place_type x o (32 ∷ []) rest s (t, typed.1, own.0) is_operand refl seam ready)
+    by (inr opaque) =
+        of_shape Opaque opaque.1 (omega arith) (λ ready. opaque_again_reads v p i gap (32 ∷ (operand_text m f.locals place_type x ++ rest)) s opaque.0 blanks refl ready)
+        (λ o ready. operand_reads v Opaque place_type x o (32 ∷ []) rest s opaque.1 is_operand refl seam ready)
 
   -- `T V, T* W` after its word
   pub store_reads : (stored : ℕ) (x : Operand) (place_type : ℕ) (y : Operand) (i : Input) (gap rest : Text) (s : ℕ) → IsMemoryOp m f (memory.Store stored x place_type y)
@@ -286,7 +299,7 @@ module _ (m n : Module) (locals others : List Text) where
   memory_op_same _ _ h = absurd h
 
 -- an operation on memory is printable where the module has more types, too
-pub memory_longer : (m : Module) (types : List IrType) (fs : List Function) (more : Begins m.types types) (same : defined_functions (with_types m types fs) ≡ defined_functions m) (f : Function)
+pub memory_longer : (m : Module) (types : List IrType) (fs : List Function) (more : IsLonger m.types types) (same : defined_functions (with_types m types fs) ≡ defined_functions m) (f : Function)
     → (x : MemoryOp) → IsMemoryOp m f x → IsMemoryOp (with_types m types fs) f x
 memory_longer m types fs more same f (memory.Alloca held) h = (h.0, scalar_again m types fs more same h.0 held h.1)
 memory_longer m types fs more same f (memory.Load loaded place_type place) h =
@@ -301,13 +314,13 @@ module _ (m : Module) (f : Function) (own : HasModuleNames m) (h : AreDefinedWit
   memory_within (memory.Alloca held) is = type_within m f own h (is []).0 held [] (is []).1.0
   memory_within (memory.Load loaded place_type place) is = (
     type_within m f own h (is []).0 loaded [] (is []).1.0,
-    slice_get_within m.types place_type (type.Pointer loaded) (is []).2.0,
+    place_type_within m (is []).0 loaded place_type (is []).2,
     operand_within m f own h place (λ more. (None, (is more).3)),
   )
   memory_within (memory.Store stored value place_type place) is = (
     type_within m f own h (is []).0 stored [] (is []).1.0,
     operand_within m f own h value (λ more. (bits_of_shape (is more).0, (is more).2)),
-    slice_get_within m.types place_type (type.Pointer stored) (is []).3.0,
+    place_type_within m (is []).0 stored place_type (is []).3,
     operand_within m f own h place (λ more. (None, (is more).4)),
   )
 

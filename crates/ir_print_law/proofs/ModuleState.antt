@@ -39,7 +39,8 @@ use Rattle.ir_print_law.proofs.NumberTokens.{AllSpell}
 use Rattle.ir_print_law.proofs.Outside.{Outside, with_own}
 use Rattle.ir_print_law.proofs.DefinedLocals.{in_list}
 use Rattle.ir_print_law.proofs.Reading.{Reading}
-use Rattle.ir_print_law.proofs.Tables.{Begins, IsRestBefore, AreOrdered, begins_further, type_begins, type_ordered, name_begins, name_there, stays}
+use Rattle.ir_print_law.proofs.OneKind.{IsNext, type_ordered}
+use Rattle.ir_print_law.proofs.Tables.{Begins, AreOrdered, begins_further, type_begins, name_begins, name_there, stays}
 
 -- ---- before a place
 
@@ -229,7 +230,7 @@ stands_next p i h = record {
 }
 
 -- after a type
-pub stands_type : (p : Pending) (i : Input) (t : IrType) → IsRestBefore (length i.types) t → Stands p i → Stands p (with_type_interned t i)
+pub stands_type : (p : Pending) (i : Input) (t : IrType) → IsNext i.types t → Stands p i → Stands p (with_type_interned t i)
 stands_type p i t last h = record {
   bytes = h.bytes;
   spell = h.spell;
@@ -332,7 +333,7 @@ abbrev pub reading_of : (e : Input) (P : Kept → Type 0) (p : Pending) → Read
 reading_of e P p = record {
   Fore = λ i. Stands p i × P (kept_of i);
   Back = Leads e;
-  ordered = λ i f back. f.0.ordered;
+  ordered = λ i back. back.end.ordered;
   bytes = λ i f back. spelled_bytes i.cursor f.0.bytes;
   has_types = λ i b. b.types;
   has_structs = λ i b. b.struct_names;

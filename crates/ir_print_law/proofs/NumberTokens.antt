@@ -16,7 +16,7 @@ use Rattle.ir_tokens.specs.Bytes.{Text, is_letter, is_digit, is_name, class_of, 
 use Rattle.ir_tokens.specs.Form.{Form, pure, skip, ◌>>=◌, ◌>>◌, look, span, quoted, Passes, begins, IsSpan, IsQuoted}
 use Rattle.ir_tokens.specs.Keywords.{keywords, kind_in, other_word, word_kind, is_integer_type, is_negative_number, is_lowercase_word}
 use Rattle.ir_tokens.specs.Names.{spelling, bare, unquoted, name_of}
-use Rattle.ir_tokens.specs.Tokens.{token, token_by, word, number, quote, local, local_by, global, global_by, group, group_by, metadata, metadata_by, name, digits, quotation, sign, label_or, Cut, IsLexed}
+use Rattle.ir_tokens.specs.Tokens.{token, token_by, word, number, quote, local, local_by, global, global_by, is_record, record_by, record_name, group, group_by, metadata, metadata_by, name, digits, quotation, sign, label_or, Cut, IsLexed}
 use Rattle.ir_forms.specs.Cursor.{is_local_number}
 use Rattle.ir_print.specs.Standing.{AreDigits}
 use Rattle.name_text.specs.Reading.{digits_spelled}
@@ -281,12 +281,21 @@ global_other = after_skip (look global_by) (look_leaves _ global_by by) where
   by c.Letter = name_other k.GlobalName refl
   by _ = λ i a o h. absurd h
 
--- groups of attributes
+-- names of debug records
+record_other : IsOther record_name
+unfolding record_name
+record_other = bind_leaves (λ y. is_local_number y ≡ false) (span is_name) (λ name. record_by (is_record name)) (span_leaves is_name) (λ name. by (is_record name)) where
+  by : (t : Bool) → IsOther (record_by t)
+  by true = pure_leaves (λ y. is_local_number y ≡ false) k.DebugRecord refl
+  by false = λ i a o h. absurd h
+
+-- groups of attributes, and debug records
 group_other : IsOther group
 unfolding group
 group_other = after_skip (look group_by) (look_leaves _ group_by by) where
   by : (x : ByteClass) → IsOther (group_by x)
   by c.Digit = digits_other k.AttributeGroup refl
+  by c.Letter = record_other
   by _ = λ i a o h. absurd h
 
 -- metadata

@@ -12,10 +12,10 @@ use Rattle.ir_ast.specs.declared.numbers.Resize.{Resize}
 use Rattle.ir_tokens.specs.declared.token.Kind.TheVariants as k
 use Rattle.ir_forms.specs.Cursor.{kind}
 use Rattle.ir_forms.specs.Input.{skip, unexpected}
-use Rattle.ir_forms.specs.Numbers.{may_wrap, arithmetic, resize, comparison_of, comparison_by, comparison, compare, integer_op, arithmetic_of, arithmetic_by, resized, resize_of, resize_by}
+use Rattle.ir_forms.specs.Numbers.{arithmetic, resize, comparison_of, comparison_by, comparison, compare, integer_op, arithmetic_of, arithmetic_by, resized, resize_of, resize_by}
 use Rattle.ir_print_law.specs.Numbers.{IsNumberOp}
 use Rattle.ir_print_law.proofs.Arguments.{typed_keeps, pair_keeps}
-use Rattle.ir_print_law.proofs.Decorations.{flags_pass}
+use Rattle.ir_print_law.proofs.Decorations.{flagged_passes}
 use Rattle.ir_print_law.proofs.Passes.{Passes, skip_passes, expect_passes, look_passes, past, pure_passes, refuse_passes}
 use Rattle.ir_print_law.proofs.Reading.{Naming}
 use Rattle.ir_print_law.proofs.Tokens.{intern_goes}
@@ -28,17 +28,14 @@ module _ {m : Module} {f : Function} {value : ℕ} (n : Naming m f value) where
   arithmetic_keeps y i x o h fore =
       let r = n.within.reading in
       let t = h.3 in
-      let u = t.3 in
-      let a = skip_passes r i h.0 h.1 h.2 fore in
-      let b = flags_pass r (may_wrap y) h.1 t.0 t.1 t.2 a.0 in
-      let c = pair_keeps n.within t.1 u.0 u.1 u.2 b.0 in
-      let d = ends n (local.Value u.0.written) tt (number.Arithmetic y u.0.written u.0.first u.0.second) u.1 x o u.3 c.0 in (
-        d.0,
+      let a = flagged_passes r i h.0 h.1 h.2 fore in
+      let b = pair_keeps n.within h.1 t.0 t.1 t.2 a.0 in
+      let c = ends n (local.Value t.0.written) tt (number.Arithmetic y t.0.written t.0.first t.0.second) t.1 x o t.3 b.0 in (
+        c.0,
         λ back.
-            let db = d.1 back in
-            let cb = c.1 db.0 in
+            let cb = c.1 back in
             let bb = b.1 cb.0 in
-            ((a.1 bb.0).0, subst (IsNumberOp m f) db.1 cb.1),
+            ((a.1 bb.0).0, subst (IsNumberOp m f) cb.1 bb.1),
       )
 
   resize_keeps : (y : Resize) → Gives n (resize y value) (IsNumberOp m f)
@@ -48,7 +45,7 @@ module _ {m : Module} {f : Function} {value : ℕ} (n : Naming m f value) where
       let t = h.3 in
       let u = t.3 in
       let w = u.3 in
-      let a = skip_passes r i h.0 h.1 h.2 fore in
+      let a = flagged_passes r i h.0 h.1 h.2 fore in
       let b = typed_keeps n.within h.1 t.0 t.1 t.2 a.0 in
       let c = expect_passes r k.To t.1 u.0 u.1 u.2 b.0 in
       let d = scalar_keeps r u.1 w.0 w.1 w.2 c.0 in
@@ -77,7 +74,7 @@ module _ {m : Module} {f : Function} {value : ℕ} (n : Naming m f value) where
       let t = h.3 in
       let u = t.3 in
       let w = u.3 in
-      let a = skip_passes r i h.0 h.1 h.2 fore in
+      let a = flagged_passes r i h.0 h.1 h.2 fore in
       let b = comparison_passes h.1 t.0 t.1 t.2 a.0 in
       let c = pair_keeps n.within t.1 u.0 u.1 u.2 b.0 in
       let d = intern_goes r (type.Integer 1) u.1 tt w.0 w.1 w.2 c.0 in

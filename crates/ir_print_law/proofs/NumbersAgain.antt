@@ -1,5 +1,5 @@
 -- Printed operations on integers, and conditions, are read as they were printed; and their numbers are within the tables.
-use Rattle.std.proofs.Common.{◌≡◌, ◌≤◌, ℕ, ◌+◌, Bool, true, false, not, List, [], ◌∷◌, ◌++◌, length, slice_get, None, Some, refl, ap, subst, ◌∙◌, arith, append_assoc}
+use Rattle.std.proofs.Common.{◌≡◌, ◌≤◌, ℕ, ◌+◌, true, false, List, [], ◌∷◌, ◌++◌, length, slice_get, None, Some, refl, ap, subst, ◌∙◌, arith, append_assoc}
 use Rattle.std.specs.Prelude.{codes}
 use Rattle.grammar.specs.Grammar.{pure, ◌>>=◌, ◌>>◌}
 use Rattle.ir_ast.specs.declared.argument.Argument.{Argument}
@@ -25,8 +25,8 @@ use Rattle.ir_forms.specs.Names.{set_type}
 use Rattle.ir_forms.specs.Operand as form
 use Rattle.ir_forms.specs.Written as w
 use Rattle.ir_forms.specs.declared.numbers.TwoOperands.{TwoOperands}
-use Rattle.ir_forms.specs.Decorations.{flags}
-use Rattle.ir_forms.specs.Starts.{is_flag}
+use Rattle.ir_forms.specs.Decorations.{flagged_word}
+use Rattle.ir_forms.specs.Starts.{is_flag_of}
 use Rattle.ir_forms.specs.Lists as lists
 use Rattle.ir_forms.specs.Numbers as numbers
 use Rattle.ir_print.specs.Numbers.{arithmetic_word, comparison_word, resize_word, number_op_text}
@@ -45,13 +45,14 @@ use Rattle.ir_print_law.proofs.PartsWithin.{Wide, pair_within, converted_within}
 use Rattle.ir_print_law.proofs.State.{Invariant, Ready, Reads, Any}
 use Rattle.ir_print_law.proofs.Shown.{shown}
 use Rattle.ir_print_law.proofs.Steps.{looked, given, word_skipped, word_seen, intern_reads, grows_further, later_before}
+use Rattle.ir_print_law.proofs.Flags.{type_no_flag, word_flagged}
 use Rattle.ir_print_law.proofs.Types.{EndsType}
 use Rattle.ir_print_law.proofs.WholeTypes.{type_begins}
 use Rattle.ir_print_law.proofs.PrintedTypes.{type_shown, read_again}
 use Rattle.ir_print_law.proofs.OperandsAgain.{OperandAgain, operand_reads, ends_operand}
 use Rattle.ir_print_law.proofs.AgainTypes.{again_reads}
 use Rattle.ir_print_law.proofs.Parts.{ends_again, IsLaterAgain, ArgumentAgain, PairAgain, Sets, pair_reads, OpAgain}
-use Rattle.ir_print_law.proofs.Setting.{on, said_on, set_reads, converted_reads}
+use Rattle.ir_print_law.proofs.Setting.{on, set_reads, converted_reads}
 use Rattle.ir_ast.specs.declared.op.Op.TheVariants as op
 use Rattle.ir_print.specs.Instructions.{op_text}
 use Rattle.ir_ast.specs.declared.numbers.Arithmetic.TheVariants as arithmetic
@@ -67,23 +68,22 @@ use Rattle.ir_print_law.proofs.SameParts.{same2, converted_same, pair_same}
 use Rattle.ir_print_law.proofs.LongerTypes.{with_types, pair_again, converted_again}
 use Rattle.ir_ast.specs.declared.ir_type.IrType.{IrType}
 use Rattle.ir_print_law.specs.Definitions.{defined_functions}
-use Rattle.ir_print_law.proofs.Tables.{Begins}
+use Rattle.ir_print_law.proofs.OneKind.{IsLonger}
 
 -- an operation on integers is this one again, in each module later on
 abbrev pub NumberAgain : Module → (locals : List Text) → NumberOp → NumberOp → Input → Type 0
 NumberAgain m locals = IsLaterAgain (λ n others. IsNumberOpAgain m n locals others)
 
--- a type is no flag
-no_flag_of : (x : Kind) → w.begins_type x ≡ true → not (is_flag x) ≡ true
-no_flag_of k.Nsw e = absurd cc
-no_flag_of k.Nuw e = absurd cc
-no_flag_of _ e = refl
-
--- there are no flags before a type
-flags_said : (may_wrap : Bool) (i : Input) → w.begins_type (kind i.cursor) ≡ true → (flags may_wrap).says i tt i
-unfolding flags
-flags_said true i e = ([], i, (no_flag_of (kind i.cursor) e, refl), (refl, refl))
-flags_said false i e = (refl, refl)
+-- a comparison is no flag
+comparison_no_flag : (x y : Kind) (c : Comparison) → numbers.comparison_of y ≡ Some c → is_flag_of x y ≡ false
+comparison_no_flag x k.Nuw c e = absurd cc
+comparison_no_flag x k.Nsw c e = absurd cc
+comparison_no_flag x k.Nusw c e = absurd cc
+comparison_no_flag x k.Inbounds c e = absurd cc
+comparison_no_flag x k.Nneg c e = absurd cc
+comparison_no_flag x k.Disjoint c e = absurd cc
+comparison_no_flag x k.Samesign c e = absurd cc
+comparison_no_flag x _ c e = refl
 
 module _ {m : Module} {f : Function} (v : Invariant m f) where
   -- `i1 V`
@@ -126,17 +126,17 @@ module _ {m : Module} {f : Function} (v u : Invariant m f) where
   arithmetic_reads x name value t a b i gap rest s is plain own sets blanks seam ready =
       let good = NumberAgain m f.locals (number.Arithmetic x t a b) in
       let afterwards = 32 ∷ (pair_text m f.locals (typed t a) b ++ rest) in
-      on v u skip (λ _. flags_form) i afterwards rest s s (λ _ o. advanced i ≡ o) good
-      (word_skipped v name i gap afterwards s s blanks plain refl (omega arith) ready)
+      on v u flagged_word (λ _. pair_form) i afterwards rest s s (λ _ o. advanced i ≡ o) good
+      (word_flagged v name i gap afterwards s s blanks plain refl (omega arith) ready
+      (λ o stands word.
+      let starts = subst (λ (y : Text). Stands o.cursor (32 ∷ y)) (front (type_text m t) (operand_text m f.locals t a) (operand_text m f.locals t b)) stands in
+      type_no_flag word (kind o.cursor) (type_begins v own.0 o (32 ∷ []) (32 ∷ (operand_text m f.locals t a ++ (codes ", " ++ (operand_text m f.locals t b ++ rest)))) own.1.0.2 refl refl
+      (subst (λ (y : Text). Stands o.cursor (32 ∷ (y ++ (32 ∷ (operand_text m f.locals t a ++ (codes ", " ++ (operand_text m f.locals t b ++ rest))))))) (type_shown m own.0 t own.1.0.0 own.1.0.1) starts))))
       (λ _ o ready g e.
-      let starts = subst (λ (y : Text). Stands o.cursor (32 ∷ y)) (front (type_text m t) (operand_text m f.locals t a) (operand_text m f.locals t b)) ready.stands in
-      let begins = type_begins v own.0 o (32 ∷ []) (32 ∷ (operand_text m f.locals t a ++ (codes ", " ++ (operand_text m f.locals t b ++ rest)))) own.1.0.2 refl refl
-      (subst (λ (y : Text). Stands o.cursor (32 ∷ (y ++ (32 ∷ (operand_text m f.locals t a ++ (codes ", " ++ (operand_text m f.locals t b ++ rest))))))) (type_shown m own.0 t own.1.0.0 own.1.0.1) starts) in
-      said_on u (flags (numbers.may_wrap x)) (λ _. pair_form) o tt rest s good (flags_said (numbers.may_wrap x) o begins)
-      (on v u numbers.pair set_form o rest rest s s (PairAgain m f.locals t a b) good
+      on v u numbers.pair set_form o rest rest s s (PairAgain m f.locals t a b) good
       (pair_reads v t a b o (32 ∷ []) rest s own refl seam ready)
       (λ p q ready h again. set_reads v u (λ n others. IsNumberOpAgain m n f.locals others) value (local.Value p.written) (number.Arithmetic x t a b) (number.Arithmetic x p.written p.first p.second) q rest s sets refl ready
-      (λ n others later. (refl, again n others later)))))
+      (λ n others later. (refl, again n others later))))
     where
       front : (a b c : Text) → ((a ++ 32 ∷ b) ++ codes ", " ++ c) ++ rest ≡ a ++ (32 ∷ (b ++ (codes ", " ++ (c ++ rest))))
       front a b c = simp append_assoc
@@ -146,9 +146,6 @@ module _ {m : Module} {f : Function} (v u : Invariant m f) where
 
       pair_form : Form NumberOp
       pair_form = numbers.pair >>= set_form
-
-      flags_form : Form NumberOp
-      flags_form = flags (numbers.may_wrap x) >> pair_form
 
   -- ---- comparisons
 
@@ -161,8 +158,9 @@ module _ {m : Module} {f : Function} (v u : Invariant m f) where
       let good = NumberAgain m f.locals (number.Compare x t a b) in
       let t2 = 32 ∷ (pair_text m f.locals (typed t a) b ++ rest) in
       let t1 = 32 ∷ (name ++ t2) in
-      on v u skip (λ _. kind_form) i t1 rest (s + 1) s (λ _ o. advanced i ≡ o) good
-      (word_skipped v (codes "icmp") i gap t1 s (s + 1) blanks refl refl (omega arith) ready)
+      on v u flagged_word (λ _. kind_form) i t1 rest (s + 1) s (λ _ o. advanced i ≡ o) good
+      (word_flagged v (codes "icmp") i gap t1 s (s + 1) blanks refl refl (omega arith) ready
+      (λ o stands word. ap (is_flag_of word) (word_comes o.cursor (32 ∷ []) name t2 refl plain refl stands).0 ∙ comparison_no_flag word (word_kind name) x is))
       (λ _ o ready g e.
       on v u numbers.comparison pair_form o t2 rest (s + 1) s (λ y _. x ≡ y) good
       (looked v (λ i. numbers.comparison_of (kind i.cursor)) numbers.comparison_by o t2 (s + 1) (λ y _. x ≡ y) (Some x) (ap numbers.comparison_of (word_seen v name o (32 ∷ []) t2 (s + 1) refl plain refl ready) ∙ is)
@@ -199,9 +197,16 @@ module _ {m : Module} {f : Function} (v u : Invariant m f) where
   resize_reads x name value from a to i gap rest s plain own sets blanks ends ready =
       let good = NumberAgain m f.locals (number.Resize x from a to) in
       let afterwards = 32 ∷ (converted_text m f.locals (typed from a) to ++ rest) in
-      on v u skip (λ _. lists.typed >>= λ from. expect k.To >> (w.scalar >>= λ to. set_type value to.id >> pure (number.Resize x from.written from.operand to.id))) i afterwards rest s s (λ _ o. advanced i ≡ o) good
-      (word_skipped v name i gap afterwards s s blanks plain refl (omega arith) ready)
+      on v u flagged_word (λ _. lists.typed >>= λ from. expect k.To >> (w.scalar >>= λ to. set_type value to.id >> pure (number.Resize x from.written from.operand to.id))) i afterwards rest s s (λ _ o. advanced i ≡ o) good
+      (word_flagged v name i gap afterwards s s blanks plain refl (omega arith) ready
+      (λ o stands word.
+      let starts = subst (λ (y : Text). Stands o.cursor (32 ∷ y)) (front (type_text m from) (operand_text m f.locals from a) (type_text m to)) stands in
+      type_no_flag word (kind o.cursor) (type_begins v own.0.0 o (32 ∷ []) (32 ∷ (operand_text m f.locals from a ++ (codes " to " ++ (type_text m to ++ rest)))) own.0.1.0.2 refl refl
+      (subst (λ (y : Text). Stands o.cursor (32 ∷ (y ++ (32 ∷ (operand_text m f.locals from a ++ (codes " to " ++ (type_text m to ++ rest))))))) (type_shown m own.0.0 from own.0.1.0.0 own.0.1.0.1) starts))))
       (λ _ o ready g e. converted_reads v u (λ n others. IsNumberOpAgain m n f.locals others) (λ b k. number.Resize x b.written b.operand k) (number.Resize x from a to) value from a to o (32 ∷ []) rest s (λ n others b k argument type. (refl, argument.0, argument.1, type)) own sets refl ends ready)
+    where
+      front : (a b c : Text) → ((a ++ 32 ∷ b) ++ codes " to " ++ c) ++ rest ≡ a ++ (32 ∷ (b ++ (codes " to " ++ (c ++ rest))))
+      front a b c = simp append_assoc
 
   -- ---- by the word
 
@@ -313,7 +318,7 @@ module _ (m n : Module) (locals others : List Text) where
   number_op_same _ _ h = absurd h
 
 -- an operation on numbers is printable where the module has more types, too
-pub number_longer : (m : Module) (types : List IrType) (fs : List Function) (more : Begins m.types types) (same : defined_functions (with_types m types fs) ≡ defined_functions m) (f : Function)
+pub number_longer : (m : Module) (types : List IrType) (fs : List Function) (more : IsLonger m.types types) (same : defined_functions (with_types m types fs) ≡ defined_functions m) (f : Function)
     → (x : NumberOp) → IsNumberOp m f x → IsNumberOp (with_types m types fs) f x
 number_longer m types fs more same f (number.Arithmetic kind t x y) h = pair_again m types fs more same f t x y h
 number_longer m types fs more same f (number.Resize kind from x to) h = converted_again m types fs more same f from x to h

@@ -39,7 +39,7 @@ use Rattle.name_text.specs.Reading.{name_spelled}
 use Rattle.ir_print_law.proofs.Words.{global_comes, sign_comes, word_comes}
 use Rattle.ir_print_law.specs.PartsAgain.{IsOperandAgain}
 use Rattle.ir_print_law.specs.Parts.{IsType, IsGlobalUse, IsOperand}
-use Rattle.ir_print_law.specs.Shapes.{Shape, Integer, Pointer, Array, Empty, Struct, Named, HasShape, bits_of_shape, is_pointer_shape}
+use Rattle.ir_print_law.specs.Shapes.{Shape, Integer, Pointer, Array, Empty, Struct, Named, Opaque, HasShape, bits_of_shape, is_pointer_shape}
 use Rattle.ir_print_law.specs.Definitions.{used_keys, used_symbols}
 use Rattle.ir_print_law.proofs.Tables.{begins_itself, stays, name_begins, name_length, name_there, number_within}
 use Rattle.ir_print_law.proofs.State.{Invariant, Ready, Grows, IsLater, Reads}
@@ -58,6 +58,7 @@ bit_is types names (Array count part) n h = ap is_bit h.1
 bit_is types names Empty n h = ap is_bit h
 bit_is types names (Struct first rest) n h = ap is_bit h.2
 bit_is types names (Named name) n h = ap is_bit h.1
+bit_is types names Opaque n h = ap is_bit h
 
 -- a constant is printed by the shape of its type
 pub constant_by_shape : (n : Module) (shape : Shape) (t : ℕ) (x : Constant) → HasShape n.types n.struct_names shape t → constant_text n t x ≡ constant_shown (bits_of_shape shape) x

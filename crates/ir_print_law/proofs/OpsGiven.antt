@@ -10,6 +10,7 @@ use Rattle.ir_tokens.specs.declared.token.Kind.TheVariants as k
 use Rattle.ir_tokens.specs.Bytes.{Text}
 use Rattle.ir_forms.specs.Cursor.{kind}
 use Rattle.ir_print.specs.Standing.{Stands}
+use Rattle.ir_forms.specs.Written.{has_opaque}
 use Rattle.ir_print_law.specs.Definitions.{defined_structs}
 use Rattle.ir_print_law.proofs.State.{Ready}
 use Rattle.ir_print_law.proofs.ArgumentsAgain.{EndsLine, ends_line}
@@ -40,7 +41,7 @@ types_given m = record {
   struct_body_read = λ v shape written i gap rest s own is blanks ready.
       struct_body_reads v shape i gap rest s own.2 own.1 is blanks (subst (λ (y : Text). Ready v s i (gap ++ (y ++ rest))) (type_shown m shape written own.0 own.1) ready);
   type_comes = λ shape written place gap rest own blanks seam at.
-      shape_comes (defined_structs m) shape place gap rest own.2 blanks seam (subst (λ (y : Text). Stands place (gap ++ (y ++ rest))) (type_shown m shape written own.0 own.1) at);
+      shape_comes (has_opaque m.types) (defined_structs m) shape place gap rest own.2 blanks seam (subst (λ (y : Text). Stands place (gap ++ (y ++ rest))) (type_shown m shape written own.0 own.1) at);
 }
 
 -- ---- instructions

@@ -29,7 +29,7 @@ use Rattle.ir_print_law.specs.Printable.{IsOp, IsInstr, IsIncoming, IsPhi, AreCa
 use Rattle.ir_print_law.specs.Shapes.{bits_of_shape}
 use Rattle.ir_print_law.specs.Within.{IsOpWithin, IsInstrWithin, IsIncomingWithin, IsPhiWithin, IsCaseWithin, IsEndWithin, IsBlockWithin}
 use Rattle.ir_print_law.proofs.DefinedWithin.{AreDefinedWithin, AreLocalValues}
-use Rattle.ir_print_law.proofs.PartsWithin.{Wide, wide_module, wide, all_wide, callee_within, block_within, target_within, type_within, operand_within, argument_within, arguments_within, pair_within, converted_within, returned_within}
+use Rattle.ir_print_law.proofs.PartsWithin.{place_type_within, Wide, wide_module, wide, all_wide, callee_within, block_within, target_within, type_within, operand_within, argument_within, arguments_within, pair_within, converted_within, returned_within}
 use Rattle.ir_print_law.proofs.NumbersAgain.{number_within}
 use Rattle.ir_print_law.proofs.MemoryAgain.{memory_within}
 
@@ -39,7 +39,7 @@ module _ (m : Module) (f : Function) (own : HasModuleNames m) (h : AreDefinedWit
   element_within : (x : Element) → Wide m f (λ m f. IsElement m f x) → IsElementWithin m f x
   element_within x is = (
     type_within m f own h (is []).0 x.source [] (is []).1,
-    slice_get_within m.types x.base_type (type.Pointer x.source) (is []).2.0,
+    place_type_within m (is []).0 x.source x.base_type (is []).2,
     operand_within m f own h x.base (λ more. (None, (is more).3)),
     arguments_within m f own h x.indices (λ more. (is more).5),
   )

@@ -19,9 +19,9 @@ use Rattle.ir_tokens.specs.Bytes.{Text}
 use Rattle.ir_print.specs.Names.{name_at}
 use Rattle.ir_print_law.specs.Definitions.{value_keys, label_keys, target_keys, defined_globals, declared_functions, defined_functions, functions_of}
 use Rattle.ir_print_law.specs.ModuleNames.{HasModuleNames}
-use Rattle.ir_print_law.specs.Parts.{IsType, IsVoid, IsPointer, IsOperand, IsArgument, ArePair, IsConverted, IsReturned}
+use Rattle.ir_print_law.specs.Parts.{IsType, IsVoid, IsPointer, IsPlaceType, IsOperand, IsArgument, ArePair, IsConverted, IsReturned}
 use Rattle.ir_print_law.specs.PartsWithin.{HasType, HasSymbol, HasGlobal, HasFunction, HasLocal, HasValue, HasBlock, HasTarget, IsOperandWithin, IsArgumentWithin, ArePairWithin, IsConvertedWithin}
-use Rattle.ir_print_law.specs.Shapes.{Shape, Integer, Pointer, Array, Empty, Struct, Named, HasShape, bits_of_shape}
+use Rattle.ir_print_law.specs.Shapes.{Shape, Integer, Pointer, Array, Empty, Struct, Named, Opaque, HasShape, bits_of_shape}
 use Rattle.ir_print_law.proofs.DefinedWithin.{AreDefinedWithin, all_at, any_all}
 use Rattle.ir_print_law.proofs.FoundNames.{found_number, in_all, place_in, place_after, item_in, each_number, item_keys, items_stay}
 use Rattle.ir_print_law.proofs.FunctionEnds.{whole_of, values_are, labels_are, rest_keys}
@@ -37,6 +37,12 @@ shape_within types names (Array count part) written h = slice_get_within types w
 shape_within types names Empty written h = slice_get_within types written type.EmptyStruct h
 shape_within types names (Struct first rest) written h = slice_get_within types written (type.Struct h.0 h.1) h.2
 shape_within types names (Named name) written h = slice_get_within types written (type.Named h.0) h.1
+shape_within types names Opaque written h = slice_get_within types written type.Opaque h
+
+-- the type of a place
+pub place_type_within : (m : Module) (shape : Shape) (held place : ℕ) → IsPlaceType m shape held place → place < length m.types
+place_type_within m shape held place (inl h) = slice_get_within m.types place (type.Pointer held) h.1
+place_type_within m shape held place (inr h) = slice_get_within m.types place type.Opaque h.1
 
 pub void_within : (m : Module) (written : ℕ) → IsVoid m written → HasType m written
 void_within m written h = slice_get_within m.types written type.Void h

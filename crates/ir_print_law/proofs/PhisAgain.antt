@@ -18,7 +18,7 @@ use Rattle.ir_forms.specs.declared.input.Input.{Input}
 use Rattle.ir_forms.specs.declared.uses.Wanted.TheVariants as wants
 use Rattle.ir_forms.specs.declared.written.WrittenType.{WrittenType}
 use Rattle.ir_forms.specs.Choices as choices
-use Rattle.ir_forms.specs.Decorations.{trailing}
+use Rattle.ir_forms.specs.Decorations.{instruction_end}
 use Rattle.ir_forms.specs.Input.{Form, advanced, expect}
 use Rattle.ir_forms.specs.Lists as lists
 use Rattle.ir_forms.specs.ManyWith.{Follows}
@@ -41,7 +41,7 @@ use Rattle.ir_print_law.proofs.Types.{EndsType, ends_type}
 use Rattle.ir_print_law.proofs.PrintedTypes.{type_shown, read_again, scalar_reads}
 use Rattle.ir_print_law.proofs.OperandsAgain.{OperandAgain, operand_reads}
 use Rattle.ir_print_law.proofs.ArgumentsAgain.{EndsLine}
-use Rattle.ir_print_law.proofs.ListsAgain.{list_ends, list_goes_on, no_comma_seen, trailing_said}
+use Rattle.ir_print_law.proofs.ListsAgain.{list_ends, list_goes_on, line_ended}
 use Rattle.ir_print_law.proofs.Parts.{IsLaterAgain, Sets, HasLabel, label_reads, label_later}
 use Rattle.ir_print_law.proofs.Setting.{on, sort_set}
 use Rattle.ir_print_law.proofs.Words.{sign_comes}
@@ -187,7 +187,7 @@ module _ {m : Module} {f : Function} (v u : Invariant m f) where
       made p ys = record { value = value; written = p.id; incoming = ys }
 
       end_form : WrittenType → List Incoming → Form Phi
-      end_form p ys = trailing trail.Other >> pure (made p ys)
+      end_form p ys = instruction_end trail.Other >> pure (made p ys)
 
       set_form : WrittenType → List Incoming → Form Phi
       set_form p ys = set_type value p.id >> end_form p ys
@@ -210,4 +210,4 @@ module _ {m : Module} {f : Function} (v u : Invariant m f) where
       trail_form p ys z ready again =
           let a = sort_set v u (λ n others. IsPhiRestAgain m n f.locals others) value (local.Value p.id) x (made p ys) z rest s sets refl ready again in
           let o = a.1 in
-          (made p ys, a.1, (tt, a.1, a.2, (tt, o, trailing_said trail.Other o (no_comma_seen o (ends.1 o a.3.stands)), (refl, refl))), a.3, a.4, (refl, a.5))
+          (made p ys, a.1, (tt, a.1, a.2, (tt, o, line_ended trail.Other o (ends.1 o a.3.stands), (refl, refl))), a.3, a.4, (refl, a.5))

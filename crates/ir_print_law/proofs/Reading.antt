@@ -16,20 +16,21 @@ use Rattle.ir_forms.specs.Written.{with_type_interned}
 use Rattle.name_text.specs.Readings.{AreBytes}
 use Rattle.ir_print_law.specs.Definitions.{defined_structs, used_keys, used_symbols}
 use Rattle.ir_print_law.proofs.Forms.{Keeps, Any}
-use Rattle.ir_print_law.proofs.Tables.{Begins, IsRestBefore, AreOrdered}
+use Rattle.ir_print_law.proofs.OneKind.{IsNext}
+use Rattle.ir_print_law.proofs.Tables.{Begins, AreOrdered}
 
 -- `Fore` holds after a form that names nothing new where it holds before it. `Back` says that reading goes on to this module: where it holds after such a form, it holds before it.
 pub record Reading (m : Module) : Type 1 where
   pub Fore : Input → Type 0
   pub Back : Input → Type 0
-  pub ordered : (i : Input) → Fore i → Back i → AreOrdered i.types
+  pub ordered : (i : Input) → Back i → AreOrdered m.types
   pub bytes : (i : Input) → Fore i → Back i → AreBytes (spelled i.cursor)
   pub has_types : (i : Input) → Back i → Begins i.types m.types
   pub has_structs : (i : Input) → Back i → Begins i.struct_names.names m.struct_names
   pub has_symbols : (i : Input) → Back i → Begins i.symbols.names m.symbols
   pub on_token : (i : Input) → Fore i → Fore (advanced i)
   pub from_token : (i : Input) → Back (advanced i) → Back i
-  pub on_type : (i : Input) (t : IrType) → IsRestBefore (length i.types) t → Fore i → Fore (with_type_interned t i)
+  pub on_type : (i : Input) (t : IrType) → IsNext i.types t → Fore i → Fore (with_type_interned t i)
   pub from_type : (i : Input) (t : IrType) → Back (with_type_interned t i) → Back i
   pub on_struct : (i : Input) → Fore i → Fore (with_struct_use i)
   pub from_struct : (i : Input) → Back (with_struct_use i) → Back i
@@ -62,7 +63,7 @@ pub record Naming (m : Module) (f : Function) (value : ℕ) : Type 1 where
 
 -- The same for what holds before, and for what is known from after it.
 pub record Kit (m : Module) (f : Function) (Fore Back : Input → Type 0) : Type 0 where
-  pub ordered : (i : Input) → Fore i → Back i → AreOrdered i.types
+  pub ordered : (i : Input) → Back i → AreOrdered m.types
   pub bytes : (i : Input) → Fore i → Back i → AreBytes (spelled i.cursor)
   pub has_types : (i : Input) → Back i → Begins i.types m.types
   pub has_structs : (i : Input) → Back i → Begins i.struct_names.names m.struct_names
@@ -70,7 +71,7 @@ pub record Kit (m : Module) (f : Function) (Fore Back : Input → Type 0) : Type
   pub has_locals : (i : Input) → Back i → Begins i.locals.names f.locals
   pub on_token : (i : Input) → Fore i → Fore (advanced i)
   pub from_token : (i : Input) → Back (advanced i) → Back i
-  pub on_type : (i : Input) (t : IrType) → IsRestBefore (length i.types) t → Fore i → Fore (with_type_interned t i)
+  pub on_type : (i : Input) (t : IrType) → IsNext i.types t → Fore i → Fore (with_type_interned t i)
   pub from_type : (i : Input) (t : IrType) → Back (with_type_interned t i) → Back i
   pub on_struct : (i : Input) → Fore i → Fore (with_struct_use i)
   pub from_struct : (i : Input) → Back (with_struct_use i) → Back i

@@ -73,14 +73,14 @@ module _ (m : Module) (whole : IsWhole m) (func : ℕ) (old : Function) (at : sl
         symbols = subst
             (λ (names : List Text). AllByRecursion IsSymbol (defined_globals m ++ (declared_functions m ++ names)) × AreNew [] (defined_globals m ++ (declared_functions m ++ names)))
             (sym same_names) h.symbols;
-        structs = all_so (IsStructType m) (IsStructType (edited types f)) m.structs (struct_again m types (slice_set m.functions func f) more same_names) h.structs;
-        globals = all_so (IsGlobal m) (IsGlobal (edited types f)) m.globals (global_again m types (slice_set m.functions func f) more same_names) h.globals;
+        structs = all_so (IsStructType m) (IsStructType (edited types f)) m.structs (struct_again m types (slice_set m.functions func f) (more, order) same_names) h.structs;
+        globals = all_so (IsGlobal m) (IsGlobal (edited types f)) m.globals (global_again m types (slice_set m.functions func f) (more, order) same_names) h.globals;
         few_globals = h.few_globals;
-        declares = all_so (IsDeclare m) (IsDeclare (edited types f)) m.declares (declare_again m types (slice_set m.functions func f) more same_names) h.declares;
+        declares = all_so (IsDeclare m) (IsDeclare (edited types f)) m.declares (declare_again m types (slice_set m.functions func f) (more, order) same_names) h.declares;
         few_declares = h.few_declares;
         functions = all_set (IsFunction (edited types f)) m.functions func f
-            (all_so (IsFunction m) (IsFunction (edited types f)) m.functions (function_again m types (slice_set m.functions func f) more same_names) h.functions)
-            (function_again (with_types m types m.functions) types (slice_set m.functions func f) (begins_itself types) same_names f function_is);
+            (all_so (IsFunction m) (IsFunction (edited types f)) m.functions (function_again m types (slice_set m.functions func f) (more, order) same_names) h.functions)
+            (function_again (with_types m types m.functions) types (slice_set m.functions func f) (begins_itself types, order) same_names f function_is);
         few_functions = subst (λ (k : ℕ). k ≤ 65535) (sym (length-set m.functions func f)) h.few_functions;
       };
       names = record {

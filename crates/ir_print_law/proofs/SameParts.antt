@@ -17,7 +17,7 @@ use Rattle.ir_print.specs.Operands.{constant_text, operand_text, typed_text, arg
 use Rattle.ir_print.specs.Parts.{converted_text, pair_text, placed_text}
 use Rattle.ir_print.specs.Types.{type_text, type_within, fields_text}
 use Rattle.ir_print_law.specs.PartsAgain.{AreAlike, IsNameAgain, IsTypeAgain, IsResultAgain, IsOperandAgain, IsArgumentAgain}
-use Rattle.ir_print_law.specs.Shapes.{Shape, Integer, Pointer, Array, Empty, Struct, Named, HasShape}
+use Rattle.ir_print_law.specs.Shapes.{Shape, Integer, Pointer, Array, Empty, Struct, Named, Opaque, HasShape}
 use Rattle.ir_print_law.proofs.Named.{place_name}
 use Rattle.ir_print_law.proofs.OperandsAgain.{constant_by_shape}
 use Rattle.ir_print_law.proofs.PrintedTypes.{at_type, at_field, void_shown}
@@ -132,6 +132,15 @@ module _ (m n : Module) where
         at_field m room most t _ h.2
         ∙ same2 (λ a b. codes ", " ++ a ++ b) (inner room h.0 g.0 h.4 g.4) (further room most more h.1 g.1 h.5 g.5 (omega (arith, less, before)) (omega (arith, below, earlier)))
         ∙ sym (at_field n room more u _ g.2)
+  both_same Opaque = (part_same, fields_same) where
+    part_same : PartSame Opaque
+    part_same zero t u h g = nothing_within m n t u
+    part_same (suc room) t u h g = at_type m room t _ h ∙ sym (at_type n room u _ g)
+
+    fields_same : FieldsSame Opaque
+    fields_same room zero more t u h g less below = absurd (omega (arith, less))
+    fields_same room (suc most) zero t u h g less below = absurd (omega (arith, below))
+    fields_same room (suc most) (suc more) t u h g less below = at_field m room most t _ h ∙ sym (at_field n room more u _ g)
   both_same (Named name) = (part_same, fields_same) where
     part_same : PartSame (Named name)
     part_same zero t u h g = nothing_within m n t u

@@ -1,6 +1,6 @@
 -- Types by their shapes: how they are printed, and what a reader knows of one.
 use Rattle.std.proofs.Common.{◌≡◌, ℕ, zero, suc, ◌+◌, ◌≤◌, Bool, true, false, List, [], ◌∷◌, ◌++◌, refl, sym, ap, ◌∙◌, arith}
-use Rattle.std.specs.Prelude.{codes, ◌==◌, nat_lt}
+use Rattle.std.specs.Prelude.{codes, ◌==◌}
 use Rattle.std.specs.Fmt.{decimal}
 use Rattle.ir_print_law.proofs.Looks.{suc_one, bits_looks, held_looks, passed_looks, scalar_looks, pointer_looks, base_of, stars_of, looking}
 use Rattle.lemmas.specs.Numbers.{suc_not_null}
@@ -10,10 +10,10 @@ use Rattle.ir_forms.specs.declared.input.Input.{Input}
 use Rattle.ir_forms.specs.declared.written.Base.{Base}
 use Rattle.ir_forms.specs.declared.written.Base.TheVariants as base
 use Rattle.ir_forms.specs.declared.written.WrittenType.{WrittenType}
-use Rattle.ir_forms.specs.Written.{bits_of, is_scalar, is_passed, is_held}
+use Rattle.ir_forms.specs.Written.{bits_of, is_pointer, is_scalar, is_passed, is_held}
 use Rattle.name_text.specs.Names.{name_text}
 use Rattle.name_text.specs.declared.blank.Blank.TheVariants as blank
-use Rattle.ir_print_law.specs.Shapes.{Shape, Integer, Pointer, Array, Empty, Struct, Named, HasShape, levels, bits_of_shape, is_scalar_shape, is_pointer_shape, is_passed_shape, is_held_shape}
+use Rattle.ir_print_law.specs.Shapes.{Shape, Integer, Pointer, Array, Empty, Struct, Named, Opaque, HasShape, levels, bits_of_shape, is_scalar_shape, is_pointer_shape, is_passed_shape, is_held_shape}
 use Rattle.ir_print_law.proofs.Tables.{Begins, stays, place_stays}
 use Rattle.ir_print_law.proofs.State.{Grows}
 
@@ -25,6 +25,7 @@ shown false (Array count part) = 91 ∷ decimal count ++ codes " x " ++ shown fa
 shown false Empty = codes "{}"
 shown false (Struct first rest) = codes "{ " ++ shown false first ++ shown true rest ++ codes " }"
 shown false (Named name) = 37 ∷ name_text blank.Kept name
+shown false Opaque = codes "ptr"
 shown true (Struct first rest) = codes ", " ++ shown false first ++ shown true rest
 shown true _ = []
 
@@ -51,6 +52,7 @@ shape_stays types more names others Empty n a b h = stays types more n _ a h
 shape_stays types more names others (Struct first rest) n a b h =
     (h.0, h.1, stays types more n _ a h.2, h.3, shape_stays types more names others first h.0 a b h.4, shape_stays types more names others rest h.1 a b h.5)
 shape_stays types more names others (Named name) n a b h = (h.0, stays types more n _ a h.1, place_stays name names others h.0 b h.2)
+shape_stays types more names others Opaque n a b h = stays types more n _ a h
 
 -- what was read stays
 pub read_stays : (shape : Shape) (most : ℕ) (w : WrittenType) (i o : Input) → Grows i o → IsTypeRead shape most w i → IsTypeRead shape most w o
@@ -71,6 +73,7 @@ some_level (Array count part) = omega arith
 some_level Empty = omega arith
 some_level (Struct first rest) = omega arith
 some_level (Named name) = omega arith
+some_level Opaque = omega arith
 
 -- ---- what kind of type was read
 
@@ -88,8 +91,8 @@ pub scalar_read : (shape : Shape) (most : ℕ) (w : WrittenType) (o : Input) →
 scalar_read shape most w o h = by_looks is_scalar shape most w o (λ id room b stars. refl) h ∙ scalar_looks shape
 
 -- whether the type that was read is a pointer
-pub pointer_read : (shape : Shape) (most : ℕ) (w : WrittenType) (o : Input) → IsTypeRead shape most w o → nat_lt 0 w.stars ≡ is_pointer_shape shape
-pointer_read shape most w o h = ap (nat_lt 0) h.stars_are ∙ pointer_looks shape
+pub pointer_read : (shape : Shape) (most : ℕ) (w : WrittenType) (o : Input) → IsTypeRead shape most w o → is_pointer w ≡ is_pointer_shape shape
+pointer_read shape most w o h = by_looks is_pointer shape most w o (λ id room b stars. refl) h ∙ pointer_looks shape
 
 -- the successor of a number is 1 where the number is 0
 one_star : (n : ℕ) → suc n == 1 ≡ n == 0
@@ -102,6 +105,7 @@ passed_read shape most w o h = by_looks is_passed shape most w o (λ id room b s
   same : (b : Base) (stars id room : ℕ) → is_passed (record { base = b; stars = stars; id = id; room = room }) ≡ is_passed (looking b stars)
   same (base.Integer bits) stars id room = refl
   same base.Named stars id room = refl
+  same base.Opaque stars id room = refl
   same base.Aggregate stars id room = refl
 
 -- whether a global may hold the type that was read
@@ -110,4 +114,5 @@ held_read shape most w o h = by_looks is_held shape most w o (λ id room b stars
   same : (b : Base) (stars id room : ℕ) → is_held (record { base = b; stars = stars; id = id; room = room }) ≡ is_held (looking b stars)
   same (base.Integer bits) stars id room = refl
   same base.Named stars id room = refl
+  same base.Opaque stars id room = refl
   same base.Aggregate stars id room = refl

@@ -11,13 +11,13 @@ use Rattle.ir_forms.specs.declared.uses.Wanted.{Wanted}
 use Rattle.ir_forms.specs.declared.input.Input.{Input}
 use Rattle.ir_forms.specs.Input.{Form, advanced}
 use Rattle.ir_forms.specs.Names.{is_function, with_struct_use, with_symbol_use, with_local_use}
-use Rattle.ir_forms.specs.Written.{with_type_interned}
+use Rattle.ir_forms.specs.Written.{has_opaque, with_type_interned}
 use Rattle.ir_forms.specs.Intrinsics.{is_left_out}
 use Rattle.name_text.specs.Readings.{AreBytes}
 use Rattle.ir_print_law.specs.Readings.{IsKey}
 use Rattle.ir_print.specs.Standing.{Stands}
 use Rattle.ir_print_law.specs.Definitions.{defined_structs, defined_globals, used_keys, used_symbols}
-use Rattle.ir_print_law.proofs.Tables.{Begins, AreOrdered}
+use Rattle.ir_print_law.proofs.Tables.{Begins, AreInOrder}
 
 -- What holds of the names of the state all along, which no form of a type, an operand or an operation breaks.
 pub record Invariant (m : Module) (f : Function) : Type 1 where
@@ -43,7 +43,7 @@ pub record HasRoom (i : Input) (bytes : ℕ) : Type 0 where
 -- these bytes come next, and there is room for `spare` new types and names besides one for each byte
 pub record Ready {m : Module} {f : Function} (v : Invariant m f) (spare : ℕ) (i : Input) (bytes : Text) : Type 0 where
   pub stands : Stands i.cursor bytes
-  pub ordered : AreOrdered i.types
+  pub ordered : AreInOrder (has_opaque m.types) i.types
   pub room : HasRoom i (length bytes + spare)
   pub holds : v.Holds i
 

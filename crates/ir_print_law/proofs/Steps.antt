@@ -1,5 +1,6 @@
 -- One form after another, and the forms that read a token.
-use Rattle.std.proofs.Common.{◌≡◌, ℕ, ◌+◌, ◌<◌, ◌≤◌, ◌^◌, Bool, true, false, List, [], ◌∷◌, ◌++◌, length, slice_get, Some, refl, sym, ap, subst, ◌∙◌, arith, length-append}
+use Rattle.std.proofs.Common.{◌≡◌, ℕ, ◌+◌, ◌<◌, ◌≤◌, ◌^◌, Bool, true, false, not, List, [], ◌∷◌, ◌++◌, length, slice_get, Some, refl, sym, ap, subst, ◌∙◌, arith, length-append}
+use Rattle.ir_print_law.proofs.OneKind.{no_other_kind, type_in_order}
 use Rattle.ir_print_law.proofs.StarsRead.{interned}
 use Rattle.grammar.specs.Grammar.{pure, step, checked, look, ◌>>=◌, ◌>>◌}
 use Rattle.ir_ast.specs.declared.function.Function.{Function}
@@ -13,13 +14,14 @@ use Rattle.ir_tokens.specs.Keywords.{word_kind}
 use Rattle.ir_tokens.specs.Tokens.{begins_gap}
 use Rattle.ir_forms.specs.Cursor.{kind, next, sees}
 use Rattle.ir_forms.specs.declared.fault.Fault.{Fault}
+use Rattle.ir_forms.specs.declared.fault.Fault.TheVariants.{OtherPointer}
 use Rattle.ir_forms.specs.declared.input.Input.{Input}
 use Rattle.ir_forms.specs.Input.{Form, left, advanced, skip, expect, sees_is}
-use Rattle.ir_forms.specs.Written.{intern, with_type_interned}
+use Rattle.ir_forms.specs.Written.{has_opaque, intern, intern_pointer, interned_pointer, is_second_kind, with_type_interned}
 use Rattle.name_text.specs.Names.{is_plain}
 use Rattle.ir_print.specs.Standing.{Stands, IsSeam, AreBlanks}
 use Rattle.ir_print_law.proofs.Words.{word_comes, sign_comes, expected}
-use Rattle.ir_print_law.proofs.Tables.{IsRestBefore, begins_itself, begins_further, type_begins, type_there, type_ordered, type_length}
+use Rattle.ir_print_law.proofs.Tables.{IsInOrder, begins_itself, begins_further, type_begins, type_there, type_length}
 use Rattle.ir_print_law.proofs.State.{Invariant, HasRoom, Ready, Grows, IsLater, Reads}
 
 -- nothing was read
@@ -199,7 +201,7 @@ module _ {m : Module} {f : Function} (v : Invariant m f) where
   }
 
   -- a type comes into the table, and is at its number
-  pub intern_reads : (t : IrType) (i : Input) (bytes : Text) (s : ℕ) → IsRestBefore (length i.types) t → Ready v (s + 1) i bytes
+  pub intern_reads : (t : IrType) (i : Input) (bytes : Text) (s : ℕ) → IsInOrder (has_opaque m.types) (length i.types) t → Ready v (s + 1) i bytes
       → Reads v s (intern t) i bytes (λ n o. slice_get o.types n ≡ Some t)
   intern_reads t i bytes s last ready =
       let room = ready.room in
@@ -212,7 +214,7 @@ module _ {m : Module} {f : Function} (v : Invariant m f) where
         interned t i few,
         record {
           stands = ready.stands;
-          ordered = type_ordered t i.types last ready.ordered;
+          ordered = type_in_order (has_opaque m.types) t i.types last ready.ordered;
           room = record {
             types = omega (arith, types, longer);
             structs = let h = room.structs in omega (arith, h);
@@ -224,6 +226,17 @@ module _ {m : Module} {f : Function} (v : Invariant m f) where
         grows_interned t i,
         type_there t i.types,
       )
+
+  -- so it is with a pointer type
+  pub intern_pointer_reads : (start : ℕ) (t : IrType) (i : Input) (bytes : Text) (s : ℕ) → IsInOrder (has_opaque m.types) (length i.types) t → Ready v (s + 1) i bytes
+      → Reads v s (intern_pointer start t) i bytes (λ n o. slice_get o.types n ≡ Some t)
+  unfolding intern_pointer is_second_kind
+  intern_pointer_reads start t i bytes s own ready =
+      let good : ℕ → Input → Type 0 = λ n o. slice_get o.types n ≡ Some t in
+      looked (is_second_kind t) (interned_pointer start t) i bytes s good false (no_other_kind (has_opaque m.types) (length i.types) t i.types own ready.ordered)
+      (go_on (intern t) (λ id. checked (λ _. not false) (λ _. OtherPointer start) >> pure id) i bytes bytes s s good good
+      (intern_reads t i bytes s own ready)
+      (λ n o ready g there. checked_then (λ _. not false) (λ _. OtherPointer start) (pure n) o bytes s good refl (given n o bytes s good ready there)))
 
 -- what a token is not
 pub unlike : (x : Kind) (test : Kind → Bool) (i : Input) → test x ≡ false → test (kind i.cursor) ≡ true → sees x i.cursor ≡ false

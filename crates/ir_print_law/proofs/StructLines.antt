@@ -24,7 +24,7 @@ use Rattle.ir_print.specs.Types.{type_text}
 use Rattle.ir_print_law.proofs.Words.{sign_comes}
 use Rattle.ir_print_law.specs.Again.{IsStructAgain}
 use Rattle.ir_print_law.specs.Parts.{IsType}
-use Rattle.ir_print_law.specs.Shapes.{Shape, Integer, Pointer, Array, Empty, Struct, Named, HasShape, is_struct_shape}
+use Rattle.ir_print_law.specs.Shapes.{Shape, Integer, Pointer, Array, Empty, Struct, Named, Opaque, HasShape, is_struct_shape}
 use Rattle.ir_print_law.proofs.Tables.{stays, begins_itself}
 use Rattle.ir_print_law.proofs.State.{Invariant, Ready, Reads, IsLater}
 use Rattle.ir_print_law.proofs.Shown.{shown, shape_stays}
@@ -67,6 +67,7 @@ module _ (m : Module) (f : Function) (named : AreNamed m f) (types : TypesRead m
   brace_comes (Pointer part) i gap rest is blanks at = absurd cc
   brace_comes (Array count part) i gap rest is blanks at = absurd cc
   brace_comes (Named name) i gap rest is blanks at = absurd cc
+  brace_comes Opaque i gap rest is blanks at = absurd cc
 
   body_reads : {g : Function} (v : Invariant m g) (shape : Shape) (written : ℕ) (i : Input) (gap rest : Text) → IsType m shape written → is_struct_shape shape ≡ true → AreBlanks gap
       → Ready v 0 i (gap ++ (type_text m written ++ rest)) → Reads v 0 body i rest (λ w o. HasShape o.types o.struct_names.names shape w)

@@ -1,5 +1,5 @@
 -- Tables that grow at the end: what is in them stays.
-use Rattle.std.proofs.Common.{◌≡◌, ℕ, ◌+◌, ◌<◌, ◌≤◌, Bool, true, false, List, [], ◌∷◌, ◌++◌, length, slice_get, is_some, unwrap_or, if◌then◌else◌, Option, None, Some, refl, sym, ap, subst, ◌∙◌, arith, append_assoc, length-append, inl, inr, get_or, cond, not, position}
+use Rattle.std.proofs.Common.{◌≡◌, ℕ, ◌+◌, ◌<◌, ◌≤◌, Bool, true, false, List, [], ◌∷◌, ◌++◌, length, slice_get, is_some, unwrap_or, if◌then◌else◌, Option, None, Some, refl, sym, ap, ◌∙◌, arith, append_assoc, length-append, get_or, cond, not, position}
 use Rattle.std.specs.Prelude.{nat_lt, eqb}
 use Rattle.std.specs.List.{position_or_len}
 use Rattle.std.proofs.lemmas.Bool.Decides.{nat_tests}
@@ -10,13 +10,13 @@ use Rattle.std.proofs.lemmas.Slice.Eq.{bytes_eq-Decides}
 use Rattle.std.proofs.lemmas.List.{append-nil}
 use Rattle.std.proofs.lemmas.List.Quantifiers.{position-Some}
 use Rattle.std.specs.Str.{bytes_eq}
-use Rattle.lemmas.specs.Lists.{get_end, get_front, get_either}
+use Rattle.lemmas.specs.Lists.{get_end, get_front}
 use Rattle.ir_ast.specs.Names.{place_of, number_of, numbered}
 use Rattle.ir_ast.specs.Types.{place_of_type, number_of_type, numbered_type}
 use Rattle.ir_ast.specs.declared.ir_type.IrType.{IrType}
 use Rattle.ir_ast.specs.TypePlaces.{stands}
 use Rattle.ir_tokens.specs.Bytes.{Text}
-pub use Rattle.ir_print_law.specs.TypeOrder.{IsRestBefore, AreOrdered}
+pub use Rattle.ir_print_law.specs.TypeOrder.{IsInOrder, AreInOrder, AreOrdered}
 
 -- the second list begins with the first
 abbrev pub Begins : {A : Type 0} → List A → List A → Type 0
@@ -55,16 +55,6 @@ type_there t types = by (place_of_type t types) refl where
   by : (place : Option ℕ) → place_of_type t types ≡ place → slice_get (if is_some place then types else types ++ t ∷ []) (unwrap_or place (length types)) ≡ Some t
   by None e = get_end types t
   by (Some n) e = stands t types n e
-
--- the table stays in order
-pub type_ordered : (t : IrType) (types : List IrType) → IsRestBefore (length types) t → AreOrdered types → AreOrdered (numbered_type t types)
-type_ordered t types last before = by (is_some (place_of_type t types)) where
-  by : (b : Bool) → AreOrdered (if b then types else types ++ t ∷ [])
-  by true = before
-  by false = λ n x e. elim (get_either types t n x e) [
-    | inl h ↦ before n x h
-    | inr h ↦ subst (λ y. IsRestBefore n y) (sym h.1) (subst (λ k. IsRestBefore k t) (sym h.0) last)
-  ]
 
 -- one type comes at most
 pub type_length : (t : IrType) (types : List IrType) → length (numbered_type t types) ≤ length types + 1

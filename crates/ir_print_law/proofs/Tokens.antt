@@ -1,5 +1,5 @@
 -- Forms of tokens, names of structs and types in the table, as they are read.
-use Rattle.std.proofs.Common.{◌≡◌, ℕ, ◌<◌, length, slice_get, Some, refl, sym, subst}
+use Rattle.std.proofs.Common.{◌≡◌, ℕ, ◌<◌, Bool, true, false, length, slice_get, Some, refl, sym, subst, ◌∙◌}
 use Rattle.std.specs.Prelude.{nat_lt}
 use Rattle.std.proofs.lemmas.Option.{slice_get_within}
 use Rattle.lemmas.specs.Lists.{IsIn}
@@ -16,16 +16,17 @@ use Rattle.ir_forms.specs.declared.written.Base.{Base}
 use Rattle.ir_forms.specs.declared.written.WrittenType.{WrittenType}
 use Rattle.ir_forms.specs.Input.{limit, unexpected, advanced, advanced_falls, skip, expect}
 use Rattle.ir_forms.specs.Names.{struct_name, struct_number, with_struct_use, with_struct_use_falls}
-use Rattle.ir_forms.specs.Written.{intern, interned, place_in_table, with_type_interned, with_type_interned_falls}
+use Rattle.ir_forms.specs.Written.{has_opaque, is_other_kind, intern, intern_pointer, interned_pointer, is_second_kind, interned, place_in_table, with_type_interned, with_type_interned_falls}
 use Rattle.name_text.specs.Readings.{AreBytes}
 use Rattle.ir_print_law.specs.Definitions.{defined_structs}
 use Rattle.ir_print_law.proofs.Forms.{Keeps, Same, Any, stepped, where_true}
+use Rattle.ir_print_law.proofs.OneKind.{IsNext}
 use Rattle.ir_print_law.proofs.Reading.{Reading}
-use Rattle.ir_print_law.proofs.Tables.{IsRestBefore, stays, type_there, place_there, place_stays}
+use Rattle.ir_print_law.proofs.Tables.{IsInOrder, stays, type_there, place_there, place_stays}
 
 -- this type is at its number
 abbrev pub IsAt : Module → IrType → ℕ → Type 0
-IsAt m t n = (slice_get m.types n ≡ Some t) × IsRestBefore n t
+IsAt m t n = (slice_get m.types n ≡ Some t) × IsInOrder (has_opaque m.types) n t
 
 -- a name of a struct, with its number
 abbrev pub IsStructName : Module → ℕ → Type 0
@@ -46,7 +47,7 @@ module _ {m : Module} (r : Reading m) where
   pub expect_keeps : (x : Kind) (i : Input) → Keeps r.Fore (Same r.Fore) r.Back (expect x) Any i
   expect_keeps x i = where_true r.Back r.Fore (Same r.Fore) Any (λ i. sees x i.cursor) unexpected skip i (λ e. skip_keeps i)
 
-  pub intern_keeps : (t : IrType) (i : Input) → IsRestBefore (length i.types) t → Keeps r.Fore (Has r.Fore) r.Back (intern t) (IsAt m t) i
+  pub intern_keeps : (t : IrType) (i : Input) → IsNext i.types t → Keeps r.Fore (Has r.Fore) r.Back (intern t) (IsAt m t) i
   unfolding intern
   intern_keeps t i last =
       where_true r.Back r.Fore (Has r.Fore) (IsAt m t) (λ i. nat_lt (place_in_table t i) 4294967296) limit (step (place_in_table t) (with_type_interned t) (with_type_interned_falls t)) i
@@ -55,20 +56,27 @@ module _ {m : Module} (r : Reading m) where
       let next = r.on_type i t last f in
       let there = type_there t i.types in (
         (next, slice_get_within (numbered_type t i.types) (number_of_type t i.types) t there),
-        λ b. (
-          r.from_type i t b,
-          (
-            stays (numbered_type t i.types) m.types (number_of_type t i.types) t (r.has_types (with_type_interned t i) b) there,
-            r.ordered (with_type_interned t i) next b (number_of_type t i.types) t there,
-          ),
-        ),
+        λ b.
+            let at = stays (numbered_type t i.types) m.types (number_of_type t i.types) t (r.has_types (with_type_interned t i) b) there in
+            (r.from_type i t b, (at, r.ordered (with_type_interned t i) b (number_of_type t i.types) t at)),
       )))
 
   -- the same, where it is not asked for how far the table goes
-  pub intern_goes : (t : IrType) (i : Input) → IsRestBefore (length i.types) t → Keeps r.Fore (Same r.Fore) r.Back (intern t) (IsAt m t) i
+  pub intern_goes : (t : IrType) (i : Input) → IsNext i.types t → Keeps r.Fore (Same r.Fore) r.Back (intern t) (IsAt m t) i
   intern_goes t i last a o h f = let x = intern_keeps t i last a o h f in (x.0.0, x.1)
 
-  pub interned_keeps : (b : Base) (room : ℕ) (t : IrType) (i : Input) → IsRestBefore (length i.types) t
+  -- so it is with a pointer type, which is of the text's kind
+  pub pointer_goes : (start : ℕ) (t : IrType) (i : Input) → (is_other_kind t i.types ≡ false → IsNext i.types t) → Keeps r.Fore (Same r.Fore) r.Back (intern_pointer start t) (IsAt m t) i
+  unfolding intern_pointer is_second_kind
+  pointer_goes start t i next = by (is_other_kind t i.types) refl where
+    by : (b : Bool) → is_other_kind t i.types ≡ b → Keeps r.Fore (Same r.Fore) r.Back (interned_pointer start t b) (IsAt m t) i
+    by true e = λ n o h f. absurd (let no = h.3.2.0 in cc)
+    by false e = λ n o h f.
+        let x = intern_goes t i (next e) h.0 h.1 h.2 f in
+        let same = h.3.2.1 ∙ h.3.3.1 in
+        (subst r.Fore same x.0, λ b. let c = x.1 (subst r.Back (sym same) b) in (c.0, subst (IsAt m t) h.3.3.0 c.1))
+
+  pub interned_keeps : (b : Base) (room : ℕ) (t : IrType) (i : Input) → IsNext i.types t
       → Keeps r.Fore (λ w o. Has r.Fore w.id o) r.Back (interned b room t) (IsInterned m b room t) i
   interned_keeps b room t i last w o h f =
       let x = intern_keeps t i last h.0 h.1 h.2 f in

@@ -20,13 +20,13 @@ use Rattle.ir_forms.specs.declared.written.WrittenType.{WrittenType}
 use Rattle.ir_forms.specs.Input.{limit, advanced, advanced_falls, skip}
 use Rattle.ir_forms.specs.Names.{struct_name}
 use Rattle.ir_forms.specs.Written as w
-use Rattle.ir_forms.specs.Written.{intern, integer, bits_at, length_at, array_length, pointers, star_or, at_star, at_brace, comma_or, after_field, field, field_takes, before, struct_of, starred as with_starred, with_stars, interned, part, firm, Firm, no_type}
+use Rattle.ir_forms.specs.Written.{has_opaque, intern_pointer, opaque_type, stars_after, part_of, integer, bits_at, length_at, array_length, pointers, star_or, at_star, at_brace, comma_or, after_field, field, field_takes, before, struct_of, starred as with_starred, with_stars, interned, part, firm, Firm, no_type}
 use Rattle.ir_print_law.specs.Definitions.{defined_structs}
-use Rattle.ir_print_law.specs.Shapes.{Shape, Integer, Pointer, Array, Empty, Struct, Named, HasShape, IsWritten, IsStruct, levels}
+use Rattle.ir_print_law.specs.Shapes.{Shape, Integer, Pointer, Array, Empty, Struct, Named, Opaque, HasShape, IsWritten, IsStruct, levels}
 use Rattle.ir_print_law.proofs.Forms.{Keeps, Same, Any, stepped, where_true, all}
-use Rattle.ir_print_law.proofs.Looks.{starred, base_of, stars_of, IsTypeOf, IsShaped, starred_levels, starred_base, starred_stars, starred_written}
+use Rattle.ir_print_law.proofs.Looks.{starred, base_of, stars_of, IsTypeOf, IsShaped, starred_levels, starred_base, starred_stars}
 use Rattle.ir_print_law.proofs.Reading.{Reading}
-use Rattle.ir_print_law.proofs.Tokens.{IsAt, IsInterned, Has, skip_keeps, expect_keeps, intern_goes, interned_keeps, struct_name_keeps}
+use Rattle.ir_print_law.proofs.Tokens.{IsAt, IsInterned, Has, skip_keeps, expect_keeps, pointer_goes, interned_keeps, struct_name_keeps}
 
 -- a number of bits that an integer type may have
 abbrev AreBits : ℕ → Type 0
@@ -34,7 +34,9 @@ AreBits bits = (1 ≤ bits) × (bits ≤ 64)
 
 -- what stars make of a type
 abbrev IsStarred : Module → (room pointee : ℕ) → ℕ × ℕ → Type 0
-IsStarred m room pointee found = (shape : Shape) → HasShape m.types m.struct_names shape pointee → (count : ℕ) × (found.0 + count ≡ room) × HasShape m.types m.struct_names (starred count shape) found.1
+IsStarred m room pointee found =
+    (shape : Shape) → HasShape m.types m.struct_names shape pointee → IsWritten (has_opaque m.types) (defined_structs m) shape
+    → (count : ℕ) × (found.0 + count ≡ room) × HasShape m.types m.struct_names (starred count shape) found.1 × IsWritten (has_opaque m.types) (defined_structs m) (starred count shape)
 
 -- a type without stars
 abbrev pub IsBare : Module → (most : ℕ) → WrittenType → Type 0
@@ -47,17 +49,18 @@ IsWhole m most p = (shape : Shape) × IsTypeOf m most p shape × (p.stars ≡ 0)
 module _ {m : Module} (r : Reading m) where
   -- ---- stars
 
-  star_keeps : (room pointee : ℕ) (i : Input) → Keeps r.Fore (Same r.Fore) r.Back (pointers room pointee) (IsStarred m room pointee) i
+  star_keeps : (from room pointee : ℕ) (i : Input) → Keeps r.Fore (Same r.Fore) r.Back (pointers from room pointee) (IsStarred m room pointee) i
   unfolding pointers
-  star_keeps zero pointee i = by (at_star i) where
+  star_keeps from zero pointee i = by (at_star i) where
     by : (t : Bool) → Keeps r.Fore (Same r.Fore) r.Back (star_or (refuse limit) (pure (0, pointee)) t) (IsStarred m 0 pointee) i
     by true = λ a o h f. absurd h
-    by false = λ a o h f. (subst r.Fore h.1 f, λ b. (subst r.Back (sym h.1) b, subst (IsStarred m 0 pointee) h.0 (λ shape has. (0, refl, has))))
-  star_keeps (suc room) pointee i = by (at_star i) (λ n j. star_keeps room n j) where
-    by : (t : Bool) → ((n : ℕ) (j : Input) → Keeps r.Fore (Same r.Fore) r.Back (pointers room n) (IsStarred m room n) j) → Keeps r.Fore (Same r.Fore) r.Back (star_or (skip >> intern (type.Pointer pointee) >>= pointers room) (pure (suc room, pointee)) t) (IsStarred m (suc room) pointee) i
+    by false = λ a o h f. (subst r.Fore h.1 f, λ b. (subst r.Back (sym h.1) b, subst (IsStarred m 0 pointee) h.0 (λ shape has own. (0, refl, has, own))))
+  star_keeps from (suc room) pointee i = by (at_star i) (λ n j. star_keeps from room n j) where
+    by : (t : Bool) → ((n : ℕ) (j : Input) → Keeps r.Fore (Same r.Fore) r.Back (pointers from room n) (IsStarred m room n) j)
+        → Keeps r.Fore (Same r.Fore) r.Back (star_or (skip >> intern_pointer from (type.Pointer pointee) >>= pointers from room) (pure (suc room, pointee)) t) (IsStarred m (suc room) pointee) i
     by true further = λ a o h f.
         let x = skip_keeps r i h.2.0 h.2.1 h.2.2 f in
-        let y = intern_goes r (type.Pointer pointee) h.2.1 tt h.0 h.1 h.2.3 x.0 in
+        let y = pointer_goes r from (type.Pointer pointee) h.2.1 (λ next. next) h.0 h.1 h.2.3 x.0 in
         let z = further h.0 h.1 a o h.3 y.0 in (
           z.0,
           λ b.
@@ -65,19 +68,26 @@ module _ {m : Module} (r : Reading m) where
               let d = y.1 c.0 in
               let e = x.1 d.0 in (
                 e.0,
-                λ shape has.
-                    let u = c.1 (Pointer shape) (pointee, d.1.0, has) in
+                λ shape has own.
+                    let u = c.1 (Pointer shape) (pointee, d.1.0, has) (d.1.1, own) in
                     let n = u.1 in
-                    (suc u.0, omega (arith, n), u.2),
+                    (suc u.0, omega (arith, n), u.2, u.3),
               ),
         )
-    by false further = λ a o h f. (subst r.Fore h.1 f, λ b. (subst r.Back (sym h.1) b, subst (IsStarred m (suc room) pointee) h.0 (λ shape has. (0, omega arith, has))))
+    by false further = λ a o h f. (subst r.Fore h.1 f, λ b. (subst r.Back (sym h.1) b, subst (IsStarred m (suc room) pointee) h.0 (λ shape has own. (0, omega arith, has, own))))
+
+  -- the stars after a base, if it takes any
+  after_keeps : (from : ℕ) (p : WrittenType) (x : Base) (i : Input) → Keeps r.Fore (Same r.Fore) r.Back (stars_after from p x) (IsStarred m p.room p.id) i
+  after_keeps from p (base.Integer bits) i = star_keeps from p.room p.id i
+  after_keeps from p base.Named i = star_keeps from p.room p.id i
+  after_keeps from p base.Aggregate i = star_keeps from p.room p.id i
+  after_keeps from p base.Opaque i = λ a o h f. (subst r.Fore h.1 f, λ b. (subst r.Back (sym h.1) b, subst (IsStarred m p.room p.id) h.0 (λ shape has own. (0, omega arith, has, own))))
 
   starred_type : (most : ℕ) (p : WrittenType) (found : ℕ × ℕ) → IsBare m most p → IsStarred m p.room p.id found → IsShaped m most (with_stars p found)
   starred_type most p found bare stars =
       let shape = bare.0 in
       let own = bare.1 in
-      let u = stars shape own.has_shape in
+      let u = stars shape own.has_shape own.is_written in
       let fits = own.fits in
       let none = bare.2 ∙ refl in
       let flat = own.stars_are in
@@ -88,16 +98,16 @@ module _ {m : Module} (r : Reading m) where
         record {
           has_shape = u.2;
           fits = omega (arith, fits, n, levels_e);
-          is_written = starred_written (defined_structs m) u.0 shape own.is_written;
+          is_written = u.3;
           base_is = own.base_is ∙ sym (starred_base u.0 shape);
           stars_are = omega (arith, n, stars_e, none, flat);
         },
       )
 
-  starred_keeps : (most : ℕ) (p : WrittenType) (i : Input) → Keeps r.Fore (Same r.Fore) r.Back (with_starred p) (λ w. IsBare m most p → IsShaped m most w) i
+  starred_keeps : (from most : ℕ) (p : WrittenType) (i : Input) → Keeps r.Fore (Same r.Fore) r.Back (with_starred from p) (λ w. IsBare m most p → IsShaped m most w) i
   unfolding with_starred
-  starred_keeps most p i w o h f =
-      let x = star_keeps p.room p.id i h.0 h.1 h.2 f in
+  starred_keeps from most p i w o h f =
+      let x = after_keeps from p p.base i h.0 h.1 h.2 f in
       let rule = h.3.2 in
       let end = h.3.3 in
       let same = rule.1 ∙ end.1 in (
@@ -123,7 +133,7 @@ module _ {m : Module} (r : Reading m) where
             (r.from_token i b, (grind (arith, nat_tests), grind (arith, nat_tests))),
       )))
 
-  bare_of : (b : Base) (room most : ℕ) (t : IrType) (shape : Shape) (p : WrittenType) → b ≡ base_of shape → stars_of shape ≡ 0 → levels shape + room ≡ most → IsWritten (defined_structs m) shape
+  bare_of : (b : Base) (room most : ℕ) (t : IrType) (shape : Shape) (p : WrittenType) → b ≡ base_of shape → stars_of shape ≡ 0 → levels shape + room ≡ most → IsWritten (has_opaque m.types) (defined_structs m) shape
       → IsInterned m b room t p → (IsAt m t p.id → HasShape m.types m.struct_names shape p.id) → IsBare m most p
   bare_of b room most t shape p base_is flat fits written own has =
       let e = own.3 in (
@@ -158,6 +168,25 @@ module _ {m : Module} (r : Reading m) where
             let c = y.1 b in
             let d = x.1 c.0 in
             (d.0, bare_of base.Named room (suc room) (type.Named h.0) (Named d.1.0) p refl refl (omega arith) (d.1.2, d.1.3) c.1 (λ at. (h.0, at.0, d.1.1))),
+      )
+
+  -- ---- `ptr`
+
+  pub opaque_keeps : (i : Input) → Keeps r.Fore (Same r.Fore) r.Back opaque_type (IsAt m type.Opaque) i
+  unfolding opaque_type
+  opaque_keeps i n o h f =
+      let x = skip_keeps r i h.0 h.1 h.2 f in
+      let y = pointer_goes r (start i.cursor) type.Opaque h.1 (λ next. next) n o h.3 x.0 in
+      (y.0, λ b. let c = y.1 b in ((x.1 c.0).0, c.1))
+
+  opaque_type_keeps : (room : ℕ) (i : Input) → Keeps r.Fore (Same r.Fore) r.Back (opaque_type >>= λ id. pure (part_of base.Opaque room id)) (IsBare m (suc room)) i
+  opaque_type_keeps room i p o h f =
+      let x = opaque_keeps i h.0 h.1 h.2 f in (
+        subst r.Fore h.3.1 x.0,
+        λ b.
+            let c = x.1 (subst r.Back (sym h.3.1) b) in
+            let own = bare_of base.Opaque room (suc room) type.Opaque Opaque (part_of base.Opaque room h.0) refl refl (omega arith) c.1.1 (c.1, refl, refl, refl) (λ at. at.0) in
+            (c.0, subst (IsBare m (suc room)) h.3.0 own),
       )
 
   -- ---- arrays
@@ -309,6 +338,7 @@ module _ {m : Module} (r : Reading m) where
   base_keeps room inner part k.IntegerType i = integer_type_keeps room i
   base_keeps room inner part k.LocalName i = named_type_keeps room i
   base_keeps room inner part k.OpenSquare i = array_keeps room inner part i
+  base_keeps room inner part k.Ptr i = opaque_type_keeps room i
   base_keeps room inner part k.OpenBrace i = λ p o h f. let x = struct_keeps room inner part i p o h f in (x.0, λ b. let c = x.1 b in (c.0, (c.1.0, c.1.1, c.1.2)))
   base_keeps room inner part _ i = λ p o h f. absurd h
 
@@ -317,5 +347,5 @@ module _ {m : Module} (r : Reading m) where
   part_keeps zero i p o h f = absurd h
   part_keeps (suc room) i p o h f =
       let a = base_keeps room (firm room) (part_keeps room) (kind i.cursor) i h.0 h.1 h.2 f in
-      let b = starred_keeps (suc room) h.0 h.1 p o h.3 a.0 in
+      let b = starred_keeps (start i.cursor) (suc room) h.0 h.1 p o h.3 a.0 in
       (b.0, λ back. let c = b.1 back in let d = a.1 c.0 in (d.0, c.1 d.1))

@@ -1,21 +1,23 @@
 -- Types that are allowed somewhere, and pointers to them.
-use Rattle.std.proofs.Common.{◌≡◌, ℕ, ◌<◌, Bool, true, refl, sym, subst, ◌∙◌, arith}
+use Rattle.std.proofs.Common.{◌≡◌, ℕ, ◌<◌, Bool, true, false, refl, sym, subst, ◌∙◌, arith, inl, inr}
 use Rattle.std.specs.Prelude.{nat_lt}
 use Rattle.std.proofs.lemmas.Bool.Decides.{nat_tests}
 use Rattle.ir_ast.specs.declared.ir_type.IrType.TheVariants as type
 use Rattle.ir_ast.specs.declared.module.Module.{Module}
+use Rattle.ir_tokens.specs.declared.token.Kind.TheVariants as k
+use Rattle.ir_forms.specs.Cursor.{sees, start}
 use Rattle.ir_forms.specs.declared.input.Input.{Input}
 use Rattle.ir_forms.specs.declared.written.WrittenType.{WrittenType}
-use Rattle.ir_forms.specs.Written.{firm, struct_body, type_within, type_that, any_type, scalar_within, scalar, passed_type, held_type, pointer_type, is_scalar, is_passed, is_held, pointer_again}
-use Rattle.ir_print_law.specs.Shapes.{Shape, IsStruct, Integer, Pointer, Array, Empty, Struct, Named, is_struct_shape}
+use Rattle.ir_forms.specs.Written.{firm, struct_body, type_within, type_that, any_type, scalar_within, scalar, passed_type, held_type, pointer_type, is_scalar, is_passed, is_held, pointer_again, starred_again, opaque_or, opaque_type}
+use Rattle.ir_print_law.specs.Shapes.{Shape, IsStruct, Integer, Pointer, Array, Empty, Struct, Named, Opaque, is_struct_shape}
 use Rattle.ir_print_law.specs.Parts.{IsType, IsScalar, IsPointer, IsPlaceType}
 use Rattle.ir_print_law.specs.Printable.{IsPassed}
 use Rattle.ir_print_law.proofs.Forms.{Keeps, Same}
 use Rattle.ir_print_law.proofs.Looks.{IsTypeOf, IsShaped, scalar_is, passed_is, pointer_is}
 use Rattle.ir_print_law.proofs.Passes.{again_passes, skip_passes}
 use Rattle.ir_print_law.proofs.Reading.{Reading}
-use Rattle.ir_print_law.proofs.Tokens.{intern_goes}
-use Rattle.ir_print_law.proofs.TypesRead.{part_keeps, struct_keeps}
+use Rattle.ir_print_law.proofs.Tokens.{pointer_goes}
+use Rattle.ir_print_law.proofs.TypesRead.{part_keeps, struct_keeps, opaque_keeps}
 
 -- a type that is allowed somewhere
 abbrev pub IsFit : Module → (WrittenType → Bool) → WrittenType → Type 0
@@ -37,6 +39,7 @@ is_struct_of (Integer bits) h = absurd h
 is_struct_of (Pointer part) h = absurd h
 is_struct_of (Array count part) h = absurd h
 is_struct_of (Named name) h = absurd h
+is_struct_of Opaque h = absurd h
 
 module _ {m : Module} (r : Reading m) where
   pub any_type_keeps : (i : Input) → Keeps r.Fore (Same r.Fore) r.Back any_type (IsShaped m 64) i
@@ -91,25 +94,28 @@ module _ {m : Module} (r : Reading m) where
             (c.0, (c.1.0, subst (λ (y : ℕ). IsType m c.1.0 y) t.0 (type_of m h.0 c.1.0 c.1.1), is_struct_of c.1.0 c.1.3)),
       )
 
-  -- a pointer to the same type
+  -- a pointer to the same type, or `ptr`
   pub place_type_keeps : (w : WrittenType) (i : Input) → Keeps r.Fore (Same r.Fore) r.Back (pointer_again w) (λ n. (shape : Shape) → IsTypeOf m 64 w shape → IsPlaceType m shape w.id n) i
   unfolding pointer_again
-  place_type_keeps w i n o h f =
-      let star = h.2.3 in
-      let a = again_passes r w i h.2.0 h.2.1 h.2.2 f in
-      let same = star.2.2.1 ∙ star.2.3.1 in
-      let b = skip_passes r star.1 h.0 h.1 star.3 (subst r.Fore same a.0) in
-      let c = intern_goes r (type.Pointer w.id) h.1 tt n o h.3 b.0 in (
-        c.0,
-        λ back.
-            let cb = c.1 back in
-            let bb = b.1 cb.0 in
-            let ab = a.1 (subst r.Back (sym same) bb.0) in (
-              ab.0,
-              λ shape own.
-                  let room : nat_lt 0 w.room ≡ true = star.2.3.0 in
-                  let fits = own.fits in
-                  let some : 0 < w.room = grind (arith, nat_tests) in
-                  (cb.1.0, omega (arith, fits, some)),
-            ),
-      )
+  place_type_keeps w i = by (sees k.Ptr i.cursor) where
+    by : (t : Bool) → Keeps r.Fore (Same r.Fore) r.Back (opaque_or opaque_type (starred_again w) t) (λ n. (shape : Shape) → IsTypeOf m 64 w shape → IsPlaceType m shape w.id n) i
+    by true = λ n o h f. let x = opaque_keeps r i n o h f in (x.0, λ back. let c = x.1 back in (c.0, λ shape own. inr (c.1.1, c.1.0)))
+    by false = λ n o h f.
+        let star = h.2.3 in
+        let a = again_passes r w i h.2.0 h.2.1 h.2.2 f in
+        let same = star.2.2.1 ∙ star.2.3.1 in
+        let b = skip_passes r star.1 h.0 h.1 star.3 (subst r.Fore same a.0) in
+        let c = pointer_goes r (start i.cursor) (type.Pointer w.id) h.1 (λ next. next) n o h.3 b.0 in (
+          c.0,
+          λ back.
+              let cb = c.1 back in
+              let bb = b.1 cb.0 in
+              let ab = a.1 (subst r.Back (sym same) bb.0) in (
+                ab.0,
+                λ shape own.
+                    let room : nat_lt 0 w.room ≡ true = star.2.3.0 in
+                    let fits = own.fits in
+                    let some : 0 < w.room = grind (arith, nat_tests) in
+                    inl (cb.1.1, cb.1.0, omega (arith, fits, some)),
+              ),
+        )

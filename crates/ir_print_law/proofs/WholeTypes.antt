@@ -1,5 +1,5 @@
 -- A printed type is read as a type of the same shape: arrays, structs, and all types.
-use Rattle.std.proofs.Common.{◌≡◌, ℕ, zero, suc, ◌+◌, ◌<◌, ◌≤◌, ◌^◌, Bool, true, false, not, List, [], ◌∷◌, ◌++◌, length, refl, ap, subst, arith, append_assoc}
+use Rattle.std.proofs.Common.{◌≡◌, ℕ, zero, suc, ◌+◌, ◌<◌, ◌≤◌, ◌^◌, Bool, true, false, not, List, [], ◌∷◌, ◌++◌, length, refl, sym, ap, subst, ◌∙◌, arith, append_assoc}
 use Rattle.std.specs.Prelude.{codes, min}
 use Rattle.std.specs.Fmt as text
 use Rattle.std.proofs.lemmas.Option.{slice_get_within}
@@ -20,18 +20,18 @@ use Rattle.ir_forms.specs.declared.written.WrittenType.{WrittenType}
 use Rattle.ir_forms.specs.Place.{Place}
 use Rattle.ir_forms.specs.Input.{Form, unexpected, advanced, skip, expect, start_of}
 use Rattle.ir_forms.specs.Written as w
-use Rattle.ir_forms.specs.Written.{part, firm, begins_type}
+use Rattle.ir_forms.specs.Written.{has_opaque, part, firm, begins_type}
 use Rattle.ir_print.specs.Standing.{Stands, IsSeam, AreBlanks}
 use Rattle.ir_print_law.specs.Stars.{stars}
 use Rattle.ir_print_law.proofs.Constants.{integer_types_are_read, are_digits}
-use Rattle.ir_print_law.proofs.Words.{sign_comes, number_comes, local_comes, seen}
+use Rattle.ir_print_law.proofs.Words.{sign_comes, number_comes, local_comes, word_comes, seen}
 use Rattle.ir_print_law.specs.Definitions.{defined_structs}
-use Rattle.ir_print_law.specs.Shapes.{Shape, Integer, Pointer, Array, Empty, Struct, Named, HasShape, IsWritten, IsStruct, levels, is_struct_shape}
+use Rattle.ir_print_law.specs.Shapes.{Shape, Integer, Pointer, Array, Empty, Struct, Named, Opaque, HasShape, IsWritten, IsStruct, levels, is_struct_shape}
 use Rattle.ir_print_law.proofs.State.{Invariant, Ready, Grows, Reads, Any}
 use Rattle.ir_print_law.proofs.Shown.{shown, field_count, IsTypeRead, shape_stays, read_stays, some_level}
-use Rattle.ir_print_law.proofs.Looks.{starred, stars_of}
+use Rattle.ir_print_law.proofs.Looks.{starred, stars_of, MayStar, starred_parts}
 use Rattle.ir_print_law.proofs.Steps.{go_on, so, given, said_then, token_then, shorter, test_reads, looked, less_spare, sign_reads, sign_skipped, sign_kind, word_reads, unlike, grows_itself, grows_further}
-use Rattle.ir_print_law.proofs.Types.{EndsType, ends_type, length_said, named_read, integer_read, interned_read, over_read}
+use Rattle.ir_print_law.proofs.Types.{EndsType, ends_type, HasStars, length_said, named_read, integer_read, opaque_read, interned_read, over_read}
 
 -- what was read of fields stays
 abbrev pub AreFields : (most : ℕ) → Shape → List WrittenType → Input → Type 0
@@ -49,6 +49,7 @@ fields_stay most (Integer bits) ps i o g h = absurd h
 fields_stay most (Pointer part) ps i o g h = absurd h
 fields_stay most (Array count part) ps i o g h = absurd h
 fields_stay most (Named name) ps i o g h = absurd h
+fields_stay most Opaque ps i o g h = absurd h
 
 -- the forms after the parts of an array
 abbrev square_after : ℕ → WrittenType → Form WrittenType
@@ -85,6 +86,7 @@ ends_field (Integer bits) rest is = absurd is
 ends_field (Pointer part) rest is = absurd is
 ends_field (Array count part) rest is = absurd is
 ends_field (Named name) rest is = absurd is
+ends_field Opaque rest is = absurd is
 
 -- a type that has a shape is in the table
 shape_within : (types : List IrType) (names : List Text) (shape : Shape) (n : ℕ) → HasShape types names shape n → n < length types
@@ -94,27 +96,29 @@ shape_within types names (Array count part) n h = slice_get_within types n _ h.1
 shape_within types names Empty n h = slice_get_within types n _ h
 shape_within types names (Struct first rest) n h = slice_get_within types n _ h.2
 shape_within types names (Named name) n h = slice_get_within types n _ h.1
+shape_within types names Opaque n h = slice_get_within types n _ h
 
 -- which token a type begins with, at any place
-pub shape_comes : (structs : List Text) (shape : Shape) (place : Place) (gap afterwards : Text) → IsWritten structs shape → AreBlanks gap → IsSeam afterwards → Stands place (gap ++ (shown false shape ++ afterwards)) → begins_type (kind place) ≡ true
-unfolding class_of
-shape_comes structs (Integer bits) place gap afterwards own blanks seam at = ap begins_type (integer_types_are_read bits (start_of place) gap afterwards own.0 own.1 blanks seam at).0
-shape_comes structs (Pointer part) place gap afterwards own blanks seam at =
-    shape_comes structs part place gap (42 ∷ afterwards) own blanks refl (subst (λ (x : Text). Stands place (gap ++ x)) (append_assoc (shown false part) (42 ∷ []) afterwards) at)
-shape_comes structs (Array count part) place gap afterwards own blanks seam at = ap begins_type (sign_comes place gap 91 _ k.OpenSquare blanks refl refl at).0
-shape_comes structs Empty place gap afterwards own blanks seam at = ap begins_type (sign_comes place gap 123 _ k.OpenBrace blanks refl refl at).0
-shape_comes structs (Struct first rest) place gap afterwards own blanks seam at = ap begins_type (sign_comes place gap 123 _ k.OpenBrace blanks refl refl at).0
-shape_comes structs (Named name) place gap afterwards own blanks seam at = ap begins_type (local_comes place gap name afterwards blanks own.0 seam at).0
+pub shape_comes : (opaque : Bool) (structs : List Text) (shape : Shape) (place : Place) (gap afterwards : Text) → IsWritten opaque structs shape → AreBlanks gap → IsSeam afterwards → Stands place (gap ++ (shown false shape ++ afterwards)) → begins_type (kind place) ≡ true
+unfolding class_of word_kind keywords
+shape_comes opaque structs (Integer bits) place gap afterwards own blanks seam at = ap begins_type (integer_types_are_read bits (start_of place) gap afterwards own.0 own.1 blanks seam at).0
+shape_comes opaque structs (Pointer part) place gap afterwards own blanks seam at =
+    shape_comes opaque structs part place gap (42 ∷ afterwards) own.1 blanks refl (subst (λ (x : Text). Stands place (gap ++ x)) (append_assoc (shown false part) (42 ∷ []) afterwards) at)
+shape_comes opaque structs (Array count part) place gap afterwards own blanks seam at = ap begins_type (sign_comes place gap 91 _ k.OpenSquare blanks refl refl at).0
+shape_comes opaque structs Empty place gap afterwards own blanks seam at = ap begins_type (sign_comes place gap 123 _ k.OpenBrace blanks refl refl at).0
+shape_comes opaque structs (Struct first rest) place gap afterwards own blanks seam at = ap begins_type (sign_comes place gap 123 _ k.OpenBrace blanks refl refl at).0
+shape_comes opaque structs (Named name) place gap afterwards own blanks seam at = ap begins_type (local_comes place gap name afterwards blanks own.0 seam at).0
+shape_comes opaque structs Opaque place gap afterwards own blanks seam at = ap begins_type (word_comes place gap (codes "ptr") afterwards blanks refl seam at).0
 
 module _ {m : Module} {f : Function} (v : Invariant m f) where
   -- which token a type begins with
-  pub type_begins : (shape : Shape) (i : Input) (gap afterwards : Text) → IsWritten (defined_structs m) shape → AreBlanks gap → IsSeam afterwards → Stands i.cursor (gap ++ (shown false shape ++ afterwards)) → begins_type (kind i.cursor) ≡ true
-  type_begins shape i gap afterwards own blanks seam at = shape_comes (defined_structs m) shape i.cursor gap afterwards own blanks seam at
+  pub type_begins : (shape : Shape) (i : Input) (gap afterwards : Text) → IsWritten (has_opaque m.types) (defined_structs m) shape → AreBlanks gap → IsSeam afterwards → Stands i.cursor (gap ++ (shown false shape ++ afterwards)) → begins_type (kind i.cursor) ≡ true
+  type_begins shape i gap afterwards own blanks seam at = shape_comes (has_opaque m.types) (defined_structs m) shape i.cursor gap afterwards own blanks seam at
 
   -- a type with stars after it is read
   abbrev PartClaim : Shape → Type 0
   PartClaim shape =
-      (count n : ℕ) (i : Input) (gap rest : Text) (s : ℕ) → IsWritten (defined_structs m) shape → levels shape + count ≤ n → AreBlanks gap → EndsType rest
+      (count n : ℕ) (i : Input) (gap rest : Text) (s : ℕ) → IsWritten (has_opaque m.types) (defined_structs m) (starred count shape) → levels shape + count ≤ n → AreBlanks gap → EndsType rest
       → Ready v s i (gap ++ (shown false shape ++ (stars count ++ rest))) → Reads v s (part n) i rest (IsTypeRead (starred count shape) n)
 
   -- further fields were read
@@ -126,7 +130,7 @@ module _ {m : Module} {f : Function} (v : Invariant m f) where
   -- further fields are read
   abbrev FieldsClaim : Shape → Type 0
   FieldsClaim shape =
-      (n : ℕ) (i : Input) (rest : Text) (s : ℕ) (p : WrittenType) → IsWritten (defined_structs m) shape → IsStruct shape → levels shape ≤ suc n
+      (n : ℕ) (i : Input) (rest : Text) (s : ℕ) (p : WrittenType) → IsWritten (has_opaque m.types) (defined_structs m) shape → IsStruct shape → levels shape ≤ suc n
       → Ready v s i (shown true shape ++ (codes " }" ++ rest)) → FieldsRead n shape p s i rest
 
   -- a token ends before stars
@@ -138,7 +142,7 @@ module _ {m : Module} {f : Function} (v : Invariant m f) where
   -- ---- arrays
 
   -- an array is read
-  array_read : (count room : ℕ) (shape : Shape) (i : Input) (gap afterwards : Text) (s : ℕ) → PartClaim shape → count < 2 ^ 64 → IsWritten (defined_structs m) shape → levels shape ≤ room → AreBlanks gap
+  array_read : (count room : ℕ) (shape : Shape) (i : Input) (gap afterwards : Text) (s : ℕ) → PartClaim shape → count < 2 ^ 64 → IsWritten (has_opaque m.types) (defined_structs m) shape → levels shape ≤ room → AreBlanks gap
       → Ready v s i (gap ++ (shown false (Array count shape) ++ afterwards)) → Reads v s (w.base room (firm room)) i afterwards (IsTypeRead (Array count shape) (suc room))
   unfolding class_of word_kind keywords
   array_read count room shape i gap afterwards s claim less own le blanks ready =
@@ -176,11 +180,11 @@ module _ {m : Module} {f : Function} (v : Invariant m f) where
   -- ---- fields
 
   -- no brace closes before a type
-  no_brace : (shape : Shape) (i : Input) (afterwards : Text) (s : ℕ) → IsWritten (defined_structs m) shape → IsSeam afterwards → Ready v s i (32 ∷ (shown false shape ++ afterwards)) → w.at_brace i ≡ false
+  no_brace : (shape : Shape) (i : Input) (afterwards : Text) (s : ℕ) → IsWritten (has_opaque m.types) (defined_structs m) shape → IsSeam afterwards → Ready v s i (32 ∷ (shown false shape ++ afterwards)) → w.at_brace i ≡ false
   no_brace shape i afterwards s own seam ready = unlike k.CloseBrace begins_type i refl (type_begins shape i (32 ∷ []) afterwards own refl seam ready.stands)
 
   -- a comma, and a further field after it
-  comma_read : (shape : Shape) (i : Input) (afterwards : Text) (s : ℕ) → IsWritten (defined_structs m) shape → IsSeam afterwards → Ready v s i (44 ∷ 32 ∷ (shown false shape ++ afterwards))
+  comma_read : (shape : Shape) (i : Input) (afterwards : Text) (s : ℕ) → IsWritten (has_opaque m.types) (defined_structs m) shape → IsSeam afterwards → Ready v s i (44 ∷ 32 ∷ (shown false shape ++ afterwards))
       → Reads v (s + 1) w.after_field i (32 ∷ (shown false shape ++ afterwards)) Any
   unfolding w.after_field class_of
   comma_read shape i afterwards s own seam ready =
@@ -253,6 +257,7 @@ module _ {m : Module} {f : Function} (v : Invariant m f) where
   before_read room (Pointer part) ps whole i bytes s fields read ready = absurd fields
   before_read room (Array count part) ps whole i bytes s fields read ready = absurd fields
   before_read room (Named name) ps whole i bytes s fields read ready = absurd fields
+  before_read room Opaque ps whole i bytes s fields read ready = absurd fields
 
   -- the brace that closes a struct, and the struct with the fields before it
   closed_read : (room : ℕ) (shape : Shape) (ps : List WrittenType) (i : Input) (gap afterwards : Text) (s t : ℕ) → AreBlanks gap → s + field_count shape ≤ t → AreFields room shape ps i → Ready v t i (gap ++ 125 ∷ afterwards)
@@ -287,7 +292,7 @@ module _ {m : Module} {f : Function} (v : Invariant m f) where
       (empty_braced room i gap afterwards s blanks ready)
 
   -- a struct with fields is read
-  struct_braced : (first others : Shape) (room : ℕ) (i : Input) (gap afterwards : Text) (s : ℕ) → PartClaim first → FieldsClaim others → IsWritten (defined_structs m) (Struct first others)
+  struct_braced : (first others : Shape) (room : ℕ) (i : Input) (gap afterwards : Text) (s : ℕ) → PartClaim first → FieldsClaim others → IsWritten (has_opaque m.types) (defined_structs m) (Struct first others)
       → levels (Struct first others) ≤ suc room → AreBlanks gap → Ready v s i (gap ++ 123 ∷ 32 ∷ (shown false first ++ (shown true others ++ (codes " }" ++ afterwards))))
       → Reads v s (w.braced room (firm room)) i afterwards (IsTypeRead (Struct first others) (suc room))
   unfolding class_of
@@ -305,7 +310,7 @@ module _ {m : Module} {f : Function} (v : Invariant m f) where
       (closed_read room (Struct first others) (b.0 ∷ d.0) d.2 (32 ∷ []) afterwards s (s + 1 + field_count others) refl (omega arith) (read_stays first room b.0 b.1 d.2 d.6 b.5, d.7) d.5))
 
   -- so it is as a type
-  struct_type_read : (first others : Shape) (room : ℕ) (i : Input) (gap afterwards : Text) (s : ℕ) → PartClaim first → FieldsClaim others → IsWritten (defined_structs m) (Struct first others)
+  struct_type_read : (first others : Shape) (room : ℕ) (i : Input) (gap afterwards : Text) (s : ℕ) → PartClaim first → FieldsClaim others → IsWritten (has_opaque m.types) (defined_structs m) (Struct first others)
       → levels (Struct first others) ≤ suc room → AreBlanks gap → Ready v s i (gap ++ (shown false (Struct first others) ++ afterwards)) → Reads v s (w.base room (firm room)) i afterwards (IsTypeRead (Struct first others) (suc room))
   unfolding class_of
   struct_type_read first others room i gap afterwards s claim more own le blanks ready =
@@ -316,9 +321,9 @@ module _ {m : Module} {f : Function} (v : Invariant m f) where
   -- ---- all types
 
   -- a type before its stars
-  at_base : (shape : Shape) (count room : ℕ) (i : Input) (gap rest : Text) (s : ℕ) → stars_of shape ≡ 0 → levels shape + count ≤ suc room → EndsType rest
+  at_base : (shape : Shape) (count room : ℕ) (i : Input) (gap rest : Text) (s : ℕ) → MayStar (has_opaque m.types) count → HasStars count shape → stars_of shape ≡ 0 → levels shape + count ≤ suc room → EndsType rest
       → Reads v s (w.base room (firm room)) i (stars count ++ rest) (IsTypeRead shape (suc room)) → Reads v s (part (suc room)) i rest (IsTypeRead (starred count shape) (suc room))
-  at_base shape count room i gap rest s none le ends h = over_read v count room shape i rest s none le ends h
+  at_base shape count room i gap rest s may has none le ends h = over_read v count room shape i rest s may has none le ends h
 
   -- no type has no level
   no_levels : (shape : Shape) (count : ℕ) → levels shape + count ≤ 0 → ⊥
@@ -330,16 +335,30 @@ module _ {m : Module} {f : Function} (v : Invariant m f) where
     by : PartClaim (Integer bits)
     by count zero i gap rest s own le blanks ends ready = absurd (no_levels (Integer bits) count le)
     by count (suc room) i gap rest s own le blanks ends ready =
-        over_read v count room (Integer bits) i rest s refl le ends (integer_read v bits room i gap (stars count ++ rest) s own.0 own.1 blanks (seam_after count rest ends.0) ready)
+        let p = starred_parts (has_opaque m.types) (defined_structs m) count (Integer bits) own in
+        over_read v count room (Integer bits) i rest s p.0 tt refl le ends (integer_read v bits room i gap (stars count ++ rest) s p.1.0 p.1.1 blanks (seam_after count rest ends.0) ready)
   claims (Named name) = (by, λ n i rest s p own is le ready. absurd is) where
     by : PartClaim (Named name)
     by count zero i gap rest s own le blanks ends ready = absurd (no_levels (Named name) count le)
     by count (suc room) i gap rest s own le blanks ends ready =
-        over_read v count room (Named name) i rest s refl le ends (named_read v name room i gap (stars count ++ rest) s own.0 own.1 blanks (seam_after count rest ends.0) ready)
+        let p = starred_parts (has_opaque m.types) (defined_structs m) count (Named name) own in
+        over_read v count room (Named name) i rest s p.0 tt refl le ends (named_read v name room i gap (stars count ++ rest) s p.1.0 p.1.1 blanks (seam_after count rest ends.0) ready)
   claims Empty = (by, no_field_read) where
     by : PartClaim Empty
     by count zero i gap rest s own le blanks ends ready = absurd (no_levels Empty count le)
-    by count (suc room) i gap rest s own le blanks ends ready = over_read v count room Empty i rest s refl le ends (empty_read room i gap (stars count ++ rest) s blanks ready)
+    by count (suc room) i gap rest s own le blanks ends ready =
+        let p = starred_parts (has_opaque m.types) (defined_structs m) count Empty own in
+        over_read v count room Empty i rest s p.0 tt refl le ends (empty_read room i gap (stars count ++ rest) s blanks ready)
+  claims Opaque = (by, λ n i rest s p own is le ready. absurd is) where
+    none_after : (count : ℕ) → MayStar (has_opaque m.types) count → has_opaque m.types ≡ true → HasStars count Opaque
+    none_after zero may is = refl
+    none_after (suc count) may is = absurd (let both : false ≡ true = sym may ∙ is in cc)
+
+    by : PartClaim Opaque
+    by count zero i gap rest s own le blanks ends ready = absurd (no_levels Opaque count le)
+    by count (suc room) i gap rest s own le blanks ends ready =
+        let p = starred_parts (has_opaque m.types) (defined_structs m) count Opaque own in
+        over_read v count room Opaque i rest s p.0 (none_after count p.0 p.1) refl le ends (opaque_read v room i gap (stars count ++ rest) s p.1 blanks (seam_after count rest ends.0) ready)
   claims (Pointer shape) = (by (claims shape).0, λ n i rest s p own is le ready. absurd is) where
     by : PartClaim shape → PartClaim (Pointer shape)
     by claim count n i gap rest s own le blanks ends ready =
@@ -349,15 +368,17 @@ module _ {m : Module} {f : Function} (v : Invariant m f) where
     by : PartClaim shape → PartClaim (Array size shape)
     by claim count zero i gap rest s own le blanks ends ready = absurd (no_levels (Array size shape) count le)
     by claim count (suc room) i gap rest s own le blanks ends ready =
-        over_read v count room (Array size shape) i rest s refl le ends (array_read size room shape i gap (stars count ++ rest) s claim own.0 own.1 (omega (arith, le)) blanks ready)
+        let p = starred_parts (has_opaque m.types) (defined_structs m) count (Array size shape) own in
+        over_read v count room (Array size shape) i rest s p.0 tt refl le ends (array_read size room shape i gap (stars count ++ rest) s claim p.1.0 p.1.1 (omega (arith, le)) blanks ready)
   claims (Struct first others) = (by (claims first).0 (claims others).1, fields_read first others (claims first).0 (claims others).1) where
     by : PartClaim first → FieldsClaim others → PartClaim (Struct first others)
     by claim more count zero i gap rest s own le blanks ends ready = absurd (no_levels (Struct first others) count le)
     by claim more count (suc room) i gap rest s own le blanks ends ready =
-        over_read v count room (Struct first others) i rest s refl le ends (struct_type_read first others room i gap (stars count ++ rest) s claim more own (omega (arith, le)) blanks ready)
+        let p = starred_parts (has_opaque m.types) (defined_structs m) count (Struct first others) own in
+        over_read v count room (Struct first others) i rest s p.0 tt refl le ends (struct_type_read first others room i gap (stars count ++ rest) s claim more p.1 (omega (arith, le)) blanks ready)
 
   -- the body of a named struct
-  pub braced_reads : (shape : Shape) (i : Input) (gap rest : Text) (s : ℕ) → is_struct_shape shape ≡ true → IsWritten (defined_structs m) shape → levels shape ≤ 64 → AreBlanks gap
+  pub braced_reads : (shape : Shape) (i : Input) (gap rest : Text) (s : ℕ) → is_struct_shape shape ≡ true → IsWritten (has_opaque m.types) (defined_structs m) shape → levels shape ≤ 64 → AreBlanks gap
       → Ready v s i (gap ++ (shown false shape ++ rest)) → Reads v s (w.braced 63 (firm 63)) i rest (IsTypeRead shape 64)
   braced_reads Empty i gap rest s is own le blanks ready = empty_braced 63 i gap rest s blanks ready
   braced_reads (Struct first others) i gap rest s is own le blanks ready =

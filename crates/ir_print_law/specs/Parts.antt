@@ -8,6 +8,7 @@ use Rattle.ir_ast.specs.declared.module.Module.{Module}
 use Rattle.ir_ast.specs.declared.operand.Operand.{Operand}
 use Rattle.ir_ast.specs.declared.operand.Operand.TheVariants as operand
 use Rattle.ir_forms.specs.Intrinsics.{is_intrinsic}
+use Rattle.ir_forms.specs.Written.{has_opaque}
 use Rattle.ir_print.specs.Fits.{FitsType}
 use Rattle.ir_print.specs.Names.{name_at}
 use Rattle.ir_print_law.specs.Shapes.{Shape, HasShape, IsWritten, levels, bits_of_shape, is_scalar_shape, is_pointer_shape}
@@ -17,7 +18,7 @@ use Rattle.ir_print_law.specs.Definitions.{value_keys, target_keys, defined_stru
 
 -- a type of this shape, which has at most 64 levels
 abbrev pub IsType : Module → Shape → (written : ℕ) → Type 0
-IsType m shape written = HasShape m.types m.struct_names shape written × (levels shape ≤ 64) × IsWritten (defined_structs m) shape
+IsType m shape written = HasShape m.types m.struct_names shape written × (levels shape ≤ 64) × IsWritten (has_opaque m.types) (defined_structs m) shape
 
 -- a type that a word holds
 abbrev pub IsScalar : Module → Shape → (written : ℕ) → Type 0
@@ -31,9 +32,11 @@ IsPointer m written = (shape : Shape) × IsType m shape written × (is_pointer_s
 abbrev pub IsVoid : Module → (written : ℕ) → Type 0
 IsVoid m written = slice_get m.types written ≡ Some type.Void
 
--- the type of a place of a value of this shape, whose type has this number
+-- the type of a place of a value of this shape, whose type has this number: a pointer to it, or `ptr`
 abbrev pub IsPlaceType : Module → Shape → (held place_type : ℕ) → Type 0
-IsPlaceType m shape held place_type = (slice_get m.types place_type ≡ Some (type.Pointer held)) × (levels shape < 64)
+IsPlaceType m shape held place_type =
+    ((has_opaque m.types ≡ false) × (slice_get m.types place_type ≡ Some (type.Pointer held)) × (levels shape < 64))
+    ⊎ ((has_opaque m.types ≡ true) × (slice_get m.types place_type ≡ Some type.Opaque))
 
 -- ---- operands
 

@@ -15,6 +15,7 @@ pub data Shape : Type 0 where
   Empty : Shape
   Struct : (first rest : Shape) → Shape
   Named : (name : Text) → Shape
+  Opaque : Shape
 
 -- The type with this number has this shape in a table of types, where names of structs have numbers. The rest of a struct is before it.
 abbrev pub HasShape : (types : List IrType) → (names : List Text) → Shape → (number : ℕ) → Type 0
@@ -25,8 +26,9 @@ HasShape types names Empty number = slice_get types number ≡ Some type.EmptySt
 HasShape types names (Struct first rest) number =
     (f : ℕ) × (r : ℕ) × (slice_get types number ≡ Some (type.Struct f r)) × (r < number) × HasShape types names first f × HasShape types names rest r
 HasShape types names (Named name) number = (n : ℕ) × (slice_get types number ≡ Some (type.Named n)) × (place_of name names ≡ Some n)
+HasShape types names Opaque number = slice_get types number ≡ Some type.Opaque
 
--- how many levels a type has: an integer or a name is one, and each star, array or struct around it is one more
+-- how many levels a type has: an integer, a name or `ptr` is one, and each star, array or struct around it is one more
 abbrev pub levels : Shape → ℕ
 levels (Integer bits) = 1
 levels (Pointer part) = suc (levels part)
@@ -34,6 +36,7 @@ levels (Array count part) = suc (levels part)
 levels Empty = 1
 levels (Struct first rest) = max (suc (levels first)) (levels rest)
 levels (Named name) = 1
+levels Opaque = 1
 
 -- the struct of the fields after the first
 abbrev pub IsStruct : Shape → Type 0
@@ -41,14 +44,15 @@ IsStruct Empty = Unit {0}
 IsStruct (Struct first rest) = Unit {0}
 IsStruct _ = ⊥
 
--- a type may be written so: integers have 1 to 64 bits, lengths 64 bits, and structs these names
-abbrev pub IsWritten : (structs : List Text) → Shape → Type 0
-IsWritten structs (Integer bits) = (1 ≤ bits) × (bits ≤ 64)
-IsWritten structs (Pointer part) = IsWritten structs part
-IsWritten structs (Array count part) = (count < 2 ^ 64) × IsWritten structs part
-IsWritten structs Empty = Unit {0}
-IsWritten structs (Struct first rest) = IsStruct rest × IsWritten structs first × IsWritten structs rest
-IsWritten structs (Named name) = AreBytes name × IsIn name structs
+-- a type may be written so: integers have 1 to 64 bits, lengths 64 bits, structs these names, and all pointers are `ptr` or none is
+abbrev pub IsWritten : (opaque : Bool) → (structs : List Text) → Shape → Type 0
+IsWritten opaque structs (Integer bits) = (1 ≤ bits) × (bits ≤ 64)
+IsWritten opaque structs (Pointer part) = (opaque ≡ false) × IsWritten opaque structs part
+IsWritten opaque structs (Array count part) = (count < 2 ^ 64) × IsWritten opaque structs part
+IsWritten opaque structs Empty = Unit {0}
+IsWritten opaque structs (Struct first rest) = IsStruct rest × IsWritten opaque structs first × IsWritten opaque structs rest
+IsWritten opaque structs (Named name) = AreBytes name × IsIn name structs
+IsWritten opaque structs Opaque = opaque ≡ true
 
 -- how many bits an integer type has
 abbrev pub bits_of_shape : Shape → Option ℕ
@@ -59,11 +63,13 @@ bits_of_shape _ = None
 abbrev pub is_scalar_shape : Shape → Bool
 is_scalar_shape (Integer bits) = true
 is_scalar_shape (Pointer part) = true
+is_scalar_shape Opaque = true
 is_scalar_shape _ = false
 
 -- it is a pointer
 abbrev pub is_pointer_shape : Shape → Bool
 is_pointer_shape (Pointer part) = true
+is_pointer_shape Opaque = true
 is_pointer_shape _ = false
 
 -- it is a struct
@@ -78,10 +84,11 @@ is_passed_part (Integer bits) = bits == 8
 is_passed_part (Named name) = true
 is_passed_part _ = false
 
--- a function may take and return it: an integer, a reference or `i8*`
+-- a function may take and return it: an integer, a reference, `i8*` or `ptr`
 abbrev pub is_passed_shape : Shape → Bool
 is_passed_shape (Integer bits) = true
 is_passed_shape (Pointer part) = is_passed_part part
+is_passed_shape Opaque = true
 is_passed_shape _ = false
 
 -- it is the name of a struct
@@ -89,8 +96,9 @@ abbrev pub is_named_shape : Shape → Bool
 is_named_shape (Named name) = true
 is_named_shape _ = false
 
--- a global may hold it: an integer or a reference
+-- a global may hold it: an integer, a reference or `ptr`
 abbrev pub is_held_shape : Shape → Bool
 is_held_shape (Integer bits) = true
 is_held_shape (Pointer part) = is_named_shape part
+is_held_shape Opaque = true
 is_held_shape _ = false

@@ -7,7 +7,7 @@ use Rattle.ir_tokens.specs.declared.token.Kind.TheVariants as k
 use Rattle.ir_tokens.specs.Bytes.{Text}
 use Rattle.ir_forms.specs.Cursor.{sees}
 use Rattle.ir_forms.specs.declared.input.Input.{Input}
-use Rattle.ir_forms.specs.Written.{pointers}
+use Rattle.ir_forms.specs.Written.{has_opaque, pointers}
 use Rattle.ir_print.specs.Standing.{Stands}
 
 -- n stars
@@ -29,8 +29,8 @@ starred_types (suc count) number types = starred_types count (number_of_type (Po
 abbrev pub EndsStars : Text → Type 0
 EndsStars rest = (i : Input) → Stands i.cursor rest → sees k.Star i.cursor ≡ false
 
--- n stars after a type are read as the pointers to it, where the type has room for n further levels
+-- n stars after a type are read as the pointers to it, where the type has room for n further levels and no type is `ptr`
 abbrev pub StarsAreRead : Type 0
 StarsAreRead =
-    (count room number : ℕ) (i : Input) (rest : Text) → count ≤ room → length i.types + count < 2 ^ 32 → EndsStars rest → Stands i.cursor (stars count ++ rest)
-    → (o : Input) × (pointers room number).says i (room - count, starred_number count number i.types) o × (o.types ≡ starred_types count number i.types) × Stands o.cursor rest
+    (from count room number : ℕ) (i : Input) (rest : Text) → count ≤ room → length i.types + count < 2 ^ 32 → has_opaque i.types ≡ false → EndsStars rest → Stands i.cursor (stars count ++ rest)
+    → (o : Input) × (pointers from room number).says i (room - count, starred_number count number i.types) o × (o.types ≡ starred_types count number i.types) × Stands o.cursor rest

@@ -12,6 +12,7 @@ use Rattle.ir_forms.specs.Cursor.{kind, sees}
 use Rattle.ir_forms.specs.Input.{Form, limit}
 use Rattle.ir_forms.specs.Names.{new_label, numbered_label, unnamed_label}
 use Rattle.ir_forms.specs.Choices.{phis}
+use Rattle.ir_forms.specs.Decorations.{debug_records}
 use Rattle.ir_forms.specs.Ends.{block_end, block_end_takes}
 use Rattle.ir_forms.specs.Instructions.{body}
 use Rattle.ir_forms.specs.ManyWith.{many_with}
@@ -39,9 +40,13 @@ ended_by l ps xs = block_end >>= λ e. pure (record { label = l; phis = ps; body
 abbrev pub after_phis : (number label : ℕ) → List Phi → Form Block
 after_phis number l ps = body number >>= ended_by l ps
 
+-- what follows the debug records before a block's phis
+abbrev pub records_after : (number label : ℕ) → Form Block
+records_after number l = phis >>= after_phis number l
+
 -- what follows the label of a block
 abbrev pub after_label : (number label : ℕ) → Form Block
-after_label number l = phis >>= after_phis number l
+after_label number l = debug_records >> records_after number l
 
 -- the block with this number: its label, its phis, its body and its end
 unfoldable pub block : ℕ → Form Block
@@ -50,7 +55,7 @@ block number = block_label number >>= after_label number
 block_takes : (number : ℕ) → Takes (block number)
 unfolding block
 block_takes number =
-    second_takes (block_label number) (after_label number) (λ l. second_takes phis (after_phis number l) (λ ps. second_takes (body number) (ended_by l ps) (λ xs. first_takes block_end (λ e. pure (record { label = l; phis = ps; body = xs; end = e })) block_end_takes)))
+    second_takes (block_label number) (after_label number) (λ l. second_takes debug_records (λ _. records_after number l) (λ _. second_takes phis (after_phis number l) (λ ps. second_takes (body number) (ended_by l ps) (λ xs. first_takes block_end (λ e. pure (record { label = l; phis = ps; body = xs; end = e })) block_end_takes))))
 
 -- ---- the blocks of a function
 

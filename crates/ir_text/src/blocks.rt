@@ -4,7 +4,7 @@ ghost use Rattle.ir_forms.specs.Input.{Reads};
 ghost use Rattle.ir_text.specs.Blocks as form;
 
 use ir_ast::{Block, BlockId, ValueId};
-use ir_forms::{Fault, Following, Input, block_end, body, many_with, phis};
+use ir_forms::{Fault, Following, Input, block_end, body, debug_records, many_with, phis};
 use ir_tokens::Kind;
 use items::Items;
 use std::alloc::Global;
@@ -35,6 +35,7 @@ fn block(alloc: Global, input: &mut Input<'_>, number: BlockId) -> Result<Block,
     ensures within { IfOk result (λ _. number < 65535) }
 {
     let label = block_label(alloc, input, number)?;
+    debug_records(alloc, input)?;
     let phis = phis(alloc, input)?;
     let body = body(alloc, input, number)?;
     let end = block_end(alloc, input)?;

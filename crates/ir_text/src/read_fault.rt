@@ -27,6 +27,8 @@ pub enum ReadFault {
     Limit(Position),
     #[error("L9: the number is not the next one")]
     WrongNumber(Position),
+    #[error("L10: a text has pointer types of one kind")]
+    OtherPointer(Position),
 }
 
 impl From<AllocError> for ReadFault {

@@ -8,7 +8,7 @@ use Rattle.ir_tokens.specs.Form.{quoted_from}
 use Rattle.ir_tokens.specs.Keywords.{keywords, word_kind}
 use Rattle.ir_tokens.specs.Names.{name_of, unescaped_from}
 use Rattle.ir_tokens.specs.Position.{position_of}
-use Rattle.ir_tokens.specs.Tokens.{lexed_of, lex_from, past_gap, token, word, number, quote, local, global, group, metadata}
+use Rattle.ir_tokens.specs.Tokens.{lexed_of, lex_from, past_gap, token, word, number, quote, local, global, group, metadata, record_name}
 
 -- each token's kind, whether it begins a line, and the name that it spells; and the first bad place
 abbrev seen : Text → List (Kind × Bool × Text) × Option ℕ
@@ -56,8 +56,13 @@ unfolding lex_from past_gap token class_of quote local quoted_from next digit un
 bad_escapes = ((refl, refl), (refl, refl), (refl, refl))
 
 bad_tokens : (s : both (seen (codes "@5")) [] (Some 0)) × (t : both (seen (codes "%")) [] (Some 0)) × (u : both (seen (codes "#a")) [] (Some 0)) × both (seen (codes "+")) [] (Some 0)
-unfolding lex_from past_gap token class_of local global group
+unfolding lex_from past_gap token class_of local global group record_name is_name
 bad_tokens = ((refl, refl), (refl, refl), (refl, refl), (refl, refl))
+
+debug_records : both (seen (codes "#dbg_value( #dbg_ #0")) (
+    (k.DebugRecord, true, codes "#dbg_value") ∷ (k.OpenRound, false, codes "(") ∷ (k.DebugRecord, false, codes "#dbg_") ∷ (k.AttributeGroup, false, codes "0") ∷ []) None
+unfolding lex_from past_gap token class_of local global group record_name is_name
+debug_records = (refl, refl)
 
 -- A comment holds any byte and ends with its line, or with the text.
 comments : both (seen (codes "= ; @5 \"\n, ; x\n | ;")) ((k.Equals, true, codes "=") ∷ (k.Comma, true, codes ",") ∷ (k.Bar, true, codes "|") ∷ []) None

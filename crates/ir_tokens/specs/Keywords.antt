@@ -18,7 +18,7 @@ item_words =
 -- the words of types
 abbrev pub type_words : List (Text × Kind)
 type_words =
-    (codes "void", k.Void) ∷ (codes "label", k.Label) ∷ (codes "x", k.X) ∷ []
+    (codes "void", k.Void) ∷ (codes "label", k.Label) ∷ (codes "x", k.X) ∷ (codes "ptr", k.Ptr) ∷ []
 
 -- the words of constants
 abbrev pub constant_words : List (Text × Kind)
@@ -46,7 +46,8 @@ condition_words =
 abbrev pub decoration_words : List (Text × Kind)
 decoration_words =
     (codes "align", k.Align) ∷ (codes "inbounds", k.Inbounds) ∷ (codes "volatile", k.Volatile) ∷
-    (codes "nsw", k.Nsw) ∷ (codes "nuw", k.Nuw) ∷ (codes "tail", k.Tail) ∷ (codes "notail", k.Notail) ∷ []
+    (codes "nsw", k.Nsw) ∷ (codes "nuw", k.Nuw) ∷ (codes "nusw", k.Nusw) ∷ (codes "nneg", k.Nneg) ∷
+    (codes "disjoint", k.Disjoint) ∷ (codes "samesign", k.Samesign) ∷ (codes "tail", k.Tail) ∷ (codes "notail", k.Notail) ∷ []
 
 -- words of forms that are left out
 abbrev pub left_out : List Text → List (Text × Kind)
@@ -71,10 +72,10 @@ part_words =
     codes "x86_mmx" ∷ codes "x86_amx" ∷ codes "extractelement" ∷ codes "insertelement" ∷ codes "shufflevector" ∷ codes "extractvalue" ∷
     codes "insertvalue" ∷ []
 
--- left out: pointers as numbers, and address spaces
+-- left out: pointers as numbers or with signatures, and address spaces
 abbrev pub pointer_words : List Text
 pointer_words =
-    codes "ptrtoint" ∷ codes "inttoptr" ∷ codes "addrspacecast" ∷ codes "addrspace" ∷ codes "ptr" ∷ []
+    codes "ptrtoint" ∷ codes "ptrtoaddr" ∷ codes "ptrauth" ∷ codes "inttoptr" ∷ codes "addrspacecast" ∷ codes "addrspace" ∷ []
 
 -- left out: other ways of control
 abbrev pub control_words : List Text

@@ -1,5 +1,5 @@
 -- The tokens of a text.
-use Rattle.std.specs.Prelude.{◌≡◌, ◌≢◌, ℕ, zero, suc, ◌+◌, ◌-◌, Bool, true, false, not, ◌||◌, if◌then◌else◌, ◌==◌, List, [], ◌∷◌, ◌++◌, length, take, Some, None, ◌⊎◌, MatchOption}
+use Rattle.std.specs.Prelude.{◌≡◌, ◌≢◌, ℕ, zero, suc, ◌+◌, ◌-◌, Bool, true, false, not, ◌&&◌, ◌||◌, if◌then◌else◌, ◌==◌, List, [], ◌∷◌, ◌++◌, length, take, Some, None, ◌⊎◌, MatchOption}
 use Rattle.std.specs.List.{list_any}
 use Rattle.ir_tokens.specs.declared.class.ByteClass.{ByteClass}
 use Rattle.ir_tokens.specs.declared.class.ByteClass.TheVariants as c
@@ -50,12 +50,27 @@ global_by _ = refuse
 unfoldable pub global : Form Kind
 global = skip >> look global_by
 
+-- the name of a debug record, which begins with `dbg_`
+abbrev pub is_record : Text → Bool
+is_record (d ∷ b ∷ g ∷ line ∷ name) = d == 100 && b == 98 && g == 103 && line == 95
+is_record _ = false
+
+-- a debug record, if its name is one
+abbrev pub record_by : Bool → Form Kind
+record_by true = pure k.DebugRecord
+record_by false = refuse
+
+-- the name of a debug record
+unfoldable pub record_name : Form Kind
+record_name = span is_name >>= λ name. record_by (is_record name)
+
 -- what follows `#`
 abbrev pub group_by : ByteClass → Form Kind
 group_by c.Digit = digits k.AttributeGroup
+group_by c.Letter = record_name
 group_by _ = refuse
 
--- `#` with a number
+-- `#` with a number, or with the name of a debug record
 unfoldable pub group : Form Kind
 group = skip >> look group_by
 

@@ -75,6 +75,26 @@ fn global(bytes: &[u8]) -> Spelled<'_>
     }
 }
 
+/// Whether a plain name begins with `dbg_`.
+fn is_record(name: &[u8]) -> bool
+    ensures { result ≡ spec.is_record name.now }
+{
+    matches!(name, [b'd', b'b', b'g', b'_', ..])
+}
+
+/// The name of a debug record.
+#[tactic(auto, unfolding(crate::specs::Tokens::record_name))]
+fn record_name(bytes: &[u8]) -> Spelled<'_>
+    ensures { shown (λ x. (x.0, x.1.now)) result ≡ spec.record_name.read bytes.now }
+{
+    let (name, rest) = bytes.split_at(name_len(bytes));
+    if is_record(name) {
+        Some((Kind::DebugRecord, rest))
+    } else {
+        None
+    }
+}
+
 #[tactic(auto, unfolding(crate::specs::Tokens::group))]
 fn group(bytes: &[u8]) -> Spelled<'_>
     requires { 0 < length bytes.now }
@@ -83,6 +103,7 @@ fn group(bytes: &[u8]) -> Spelled<'_>
     let bytes = &bytes[1..];
     match first_class(bytes) {
         ByteClass::Digit => digits(Kind::AttributeGroup, bytes),
+        ByteClass::Letter => record_name(bytes),
         _ => None,
     }
 }

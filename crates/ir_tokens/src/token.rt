@@ -29,6 +29,8 @@ pub enum Kind {
     Label,
     /// The word `x` between the length of an array and the type of its elements.
     X,
+    /// The word `ptr`: a pointer type that does not say what it points to.
+    Ptr,
     /// The letter `i` with digits after it, and nothing else.
     IntegerType,
 
@@ -82,6 +84,10 @@ pub enum Kind {
     Volatile,
     Nsw,
     Nuw,
+    Nusw,
+    Nneg,
+    Disjoint,
+    Samesign,
     Tail,
     Notail,
 
@@ -111,6 +117,8 @@ pub enum Kind {
     Number,
     /// `#5`.
     AttributeGroup,
+    /// `#dbg_value`, and any other `#` with a name that begins so.
+    DebugRecord,
     /// `!name`.
     MetadataName,
     /// `!5`.

@@ -3,9 +3,9 @@ use Rattle.std.specs.Prelude.{◌≡◌, ℕ, ◌<◌, true, length, Option, Som
 use Rattle.grammar.specs.Grammar.{pure, ◌>>◌, step, checked, refuse}
 use Rattle.grammar.specs.Takes.{Takes, TakesWhere, first_takes_where, checked_takes, step_takes}
 use Rattle.ir_tokens.specs.Bytes.{Text}
-use Rattle.name_text.specs.Reader.{Form, left, word, begins, after, line_ends, next_line, noted, after_falls, next_line_falls, noted_falls, after_takes, word_takes}
-use Rattle.name_text.specs.declared.found.Found.{Found}
-use Rattle.name_text.specs.declared.found.Found.TheVariants.{Syntax, Wrong}
+use Rattle.name_text.specs.Reader.{Form, left, word, begins, after, line_ends, next_line, recorded, after_falls, next_line_falls, recorded_falls, after_takes, word_takes}
+use Rattle.name_text.specs.declared.found.WordFault.{WordFault}
+use Rattle.name_text.specs.declared.found.WordFault.TheVariants.{Syntax, Wrong}
 
 module _ {D M : Type 0} where
   -- no form continues with the next word
@@ -38,8 +38,8 @@ module _ {D M : Type 0} where
   line_end = checked line_ends (λ i. Syntax (left i)) >> step (λ _. tt) next_line next_line_falls
 
   -- what is read changes so; nothing of the text is taken
-  abbrev pub note : (change : D → D) → Form D M (Unit {0})
-  note change = step (λ _. tt) (noted change) (noted_falls change)
+  abbrev pub update : (change : D → D) → Form D M (Unit {0})
+  update change = step (λ _. tt) (recorded change) (recorded_falls change)
 
 -- ---- words take something from what is left
 
@@ -47,7 +47,7 @@ module _ (D M : Type 0) where
   -- a word takes bytes where it is this one
   pub word_taken : (wanted : Text) → 0 < length wanted → TakesWhere (λ i. begins wanted i ≡ true) (skip {D = D} {M = M})
   unfolding skip
-  word_taken wanted some = step_takes (Found M) (λ i. begins wanted i ≡ true) (λ _. tt) after after_falls (after_takes wanted some)
+  word_taken wanted some = step_takes (WordFault M) (λ i. begins wanted i ≡ true) (λ _. tt) after after_falls (after_takes wanted some)
 
   -- a word that is wanted takes bytes
   pub expect_takes : (wanted : Text) → 0 < length wanted → Takes (expect {D = D} {M = M} wanted)
@@ -57,7 +57,7 @@ module _ (D M : Type 0) where
   -- the next word takes bytes where it has some
   pub skip_takes : TakesWhere (λ i. 0 < length (word i)) (skip {D = D} {M = M})
   unfolding skip
-  skip_takes = step_takes (Found M) (λ i. 0 < length (word i)) (λ _. tt) after after_falls word_takes
+  skip_takes = step_takes (WordFault M) (λ i. 0 < length (word i)) (λ _. tt) after after_falls word_takes
 
   -- so it does where it means a value
   pub taken_takes : {A : Type 0} (a : A) → TakesWhere (λ i. 0 < length (word i)) (taken {D = D} {M = M} a)

@@ -10,8 +10,8 @@ use Rattle.name_text.specs.Falls as words
 use Rattle.name_text.specs.Falls.{past_lines_len, after_word_falls, wanted_takes}
 use Rattle.name_text.specs.Numbers.{is_nil}
 use Rattle.name_text.specs.Words.{past_word, past_blanks, past_lines, word_at, ends_line}
-use Rattle.name_text.specs.declared.found.Found.{Found}
-use Rattle.name_text.specs.declared.found.Found.TheVariants.{Memory}
+use Rattle.name_text.specs.declared.found.WordFault.{WordFault}
+use Rattle.name_text.specs.declared.found.WordFault.TheVariants.{Memory}
 use Rattle.name_text.specs.declared.reader.Reader.{Reader}
 
 -- how many bytes are left
@@ -20,10 +20,10 @@ left i = length i.rest
 
 -- a form of a text of which this is read, and in which there may be such mistakes
 abbrev pub Form : (D M A : Type 0) → Type 1
-Form D M A = Grammar (Reader D) (Found M) left A
+Form D M A = Grammar (Reader D) (WordFault M) left A
 
 -- What a function that reads ensures: the outcome, unless memory runs out.
-abbrev pub Reads : {D M A : Type 0} → Outcome (Reader D) (Found M) A → Result A (Found M) → Reader D → Type 0
+abbrev pub Reads : {D M A : Type 0} → Outcome (Reader D) (WordFault M) A → Result A (WordFault M) → Reader D → Type 0
 Reads = outcome.Reads Memory
 
 -- whether the text ends here
@@ -51,8 +51,8 @@ unfoldable pub next_line : {D : Type 0} → Reader D → Reader D
 next_line i = record i { rest = past_lines false i.rest }
 
 -- with this change of what is read
-abbrev pub noted : {D : Type 0} → (change : D → D) → Reader D → Reader D
-noted change i = record i { read = change i.read }
+abbrev pub recorded : {D : Type 0} → (change : D → D) → Reader D → Reader D
+recorded change i = record i { read = change i.read }
 
 -- ---- what is left never grows, and after a word that has bytes it is shorter
 
@@ -65,8 +65,8 @@ module _ {D : Type 0} where
   unfolding next_line
   next_line_falls i = past_lines_len false i.rest
 
-  pub noted_falls : (change : D → D) (i : Reader D) → left (noted change i) ≤ left i
-  noted_falls change i = omega arith
+  pub recorded_falls : (change : D → D) (i : Reader D) → left (recorded change i) ≤ left i
+  recorded_falls change i = omega arith
 
   pub after_takes : (wanted : Text) → 0 < length wanted → (i : Reader D) → begins wanted i ≡ true → left (after i) < left i
   unfolding after

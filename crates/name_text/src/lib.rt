@@ -15,7 +15,7 @@ mod reader;
 mod words;
 
 pub use blank::Blank;
-pub use found::Found;
+pub use found::WordFault;
 pub use laws::name_law;
 pub use names::{is_plain, put_name, put_quoted, quoted_byte};
 pub use naming::{Sigil, layout_name_in, name_in};

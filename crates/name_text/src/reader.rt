@@ -5,7 +5,7 @@ ghost use Rattle.name_text.specs.Reader as spec;
 ghost use Rattle.name_text.specs.Reader.{Reads};
 ghost use Rattle.name_text.specs.Forms as form;
 
-use crate::found::Found;
+use crate::found::WordFault;
 use crate::words::{ends_line, past_blanks, past_lines, past_word, word};
 use std::marker::Model;
 
@@ -94,11 +94,11 @@ impl<'a, D> Reader<'a, D> {
 
     /// Reads this word.
     #[tactic(auto, unfolding(crate::specs::Forms::expect, crate::specs::Forms::skip))]
-    pub fn expect<M>(&mut self, wanted: &[u8]) -> Result<(), Found<M>>
+    pub fn expect<M>(&mut self, wanted: &[u8]) -> Result<(), WordFault<M>>
         ensures { Reads ((form.expect wanted.now).read self.old) result self.new }
     {
         if !self.begins(wanted) {
-            return Err(Found::Syntax(self.left()));
+            return Err(WordFault::Syntax(self.left()));
         }
         self.skip();
         Ok(())
@@ -120,11 +120,11 @@ impl<'a, D> Reader<'a, D> {
 
     /// Reads the end of a line or of the text, and empty lines.
     #[tactic(auto, unfolding(crate::specs::Forms::line_end))]
-    pub fn line_end<M>(&mut self) -> Result<(), Found<M>>
+    pub fn line_end<M>(&mut self) -> Result<(), WordFault<M>>
         ensures { Reads (form.line_end.read self.old) result self.new }
     {
         if !self.line_ends() {
-            return Err(Found::Syntax(self.left()));
+            return Err(WordFault::Syntax(self.left()));
         }
         self.go_to_next_line();
         Ok(())
