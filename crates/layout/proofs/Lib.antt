@@ -9,3 +9,5 @@ pub mod Tours
 pub mod TourSteps
 pub mod Grown
 pub mod Spans
+pub mod PointerRows
+pub mod FieldRows

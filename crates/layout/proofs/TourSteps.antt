@@ -8,12 +8,12 @@ use Rattle.ir_ast.specs.declared.module.Module.{Module}
 use Rattle.layout.specs.Layouts.{IsPartOf, IsPart, Holds, StructHoldsItself}
 use Rattle.layout.specs.Ring.{IsFirstIfAny}
 use Rattle.layout.specs.Rings.{holds_more}
-use Rattle.layout.specs.Tours.{State, at_start, with_top, opened, noted, cut, left, parts_of, is_placeless, is_new, new_among, lowest, Has, IsCount, IsUpTo, IsTour, LooksBack, Nothing, Ring, IsAdvance}
+use Rattle.layout.specs.Tours.{State, at_start, with_top, opened, recorded, cut, left, parts_of, is_placeless, is_new, new_among, lowest, Has, IsCount, IsUpTo, IsTour, LooksBack, Nothing, Ring, IsAdvance}
 use Rattle.layout.proofs.FirstRings.{named_body}
 use Rattle.types.specs.References.{layout_of_struct}
 use Rattle.layout.proofs.TourLists.{has_last, none_in, one_less_new, new_there, not_there, other_up_to, up_to_itself}
 use Rattle.layout.proofs.TourParts.{new_part, all_known, lowest_up_to, lowest_part}
-use Rattle.layout.proofs.Tours.{IsReady, left_apart, cut_keeps, note_keeps, ring_at, cut_low, holds_top, open_keeps, set_kept, set_met, leave_keeps, ring_keeps, no_bound, bound_is_top}
+use Rattle.layout.proofs.Tours.{IsReady, left_apart, cut_keeps, record_keeps, ring_at, cut_low, holds_top, open_keeps, set_kept, set_met, leave_keeps, ring_keeps, no_bound, bound_is_top}
 
 -- ---- steps
 
@@ -42,11 +42,11 @@ module _ (m : Module) (s : State) (p t : ℕ) (tour : IsTour m (with_top p s)) (
 
   -- with a lowest part
   ring_back : (i n : ℕ) → new_among s.places (parts_of m (slice_get m.types t)) ≡ None → lowest s.places s.met (parts_of m (slice_get m.types t)) ≡ Some i → IsCount s.bounds (i + 1) n
-      → LookedBack m s p t (noted (layout_of_struct m (slice_get m.types t)) (cut n s))
+      → LookedBack m s p t (recorded (layout_of_struct m (slice_get m.types t)) (cut n s))
   ring_back i n none lowest_is count = by (lowest_part m s.places s.met (slice_get m.types t) i lowest_is) where
-    by : (q : ℕ) × (IsPart m t q × (slice_get s.met i ≡ Some q)) → LookedBack m s p t (noted (layout_of_struct m (slice_get m.types t)) (cut n s))
+    by : (q : ℕ) × (IsPart m t q × (slice_get s.met i ≡ Some q)) → LookedBack m s p t (recorded (layout_of_struct m (slice_get m.types t)) (cut n s))
     by q = record {
-      tour = note_keeps m (cut n s) p t (cut_keeps m s p t tour at i q.0 n q.1.1 q.1.0 count) at (ring_at m s p t tour at i q.0 q.1.1 q.1.0);
+      tour = record_keeps m (cut n s) p t (cut_keeps m s p t tour at i q.0 n q.1.1 q.1.0 count) at (ring_at m s p t tour at i q.0 q.1.1 q.1.0);
       at = at;
       ready = record {
         low = λ r j b ip there w.

@@ -11,3 +11,5 @@ pub mod Steps
 pub mod AsMany
 pub mod Functions
 pub mod Grown
+pub mod PointerRows
+pub mod FieldRows

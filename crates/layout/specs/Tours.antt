@@ -50,8 +50,8 @@ least (Some one) None = Some one
 least None other = other
 
 -- what is known after a struct was found in a ring, if it is one
-abbrev pub noted : (struct : Option ℕ) → State → State
-noted struct s = record s { first = least s.first struct }
+abbrev pub recorded : (struct : Option ℕ) → State → State
+recorded struct s = record s { first = least s.first struct }
 
 -- what is known after the bounds from a number on were dropped
 abbrev pub cut : (count : ℕ) → State → State
@@ -183,11 +183,11 @@ pub record IsTour (m : Module) (s : State) : Type 0 where
       → layout_of_struct m (slice_get m.types written) ≡ Some struct → IsUpTo s.first struct
 
 -- What is known after looking back at the parts of a type. Where the group of one is not left, the bounds up to the lowest place of such a part are kept,
--- and the type is noted if it is a struct.
+-- and the type is recorded if it is a struct.
 pub data LooksBack (m : Module) (type : Option IrType) (s later : State) : Type 0 where
   Nothing : lowest s.places s.met (parts_of m type) ≡ None → later ≡ s → LooksBack m type s later
   Ring : (place count : ℕ) → lowest s.places s.met (parts_of m type) ≡ Some place → IsCount s.bounds (place + 1) count
-      → later ≡ noted (layout_of_struct m type) (cut count s) → LooksBack m type s later
+      → later ≡ recorded (layout_of_struct m type) (cut count s) → LooksBack m type s later
 
 -- how many types were not met
 abbrev pub new_count : List (Option ℕ) → ℕ

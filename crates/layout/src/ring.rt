@@ -1,7 +1,7 @@
 ghost use Rattle.std.specs.Prelude.{◌≡◌, [], slice_get, None, Some, OnOk, IfOk};
 ghost use Rattle.layout.specs.Layouts.{StructHoldsItself};
 ghost use Rattle.layout.specs.Ring.{IsFirstIfAny};
-ghost use Rattle.layout.specs.Tours.{IsTour, IsAdvance, IsSettling, AreIncreasing, IsCount, LooksBack, seen, at_start, with_top, opened, noted, parts_of, is_new, new_among, least, place_of, lowest, if_new};
+ghost use Rattle.layout.specs.Tours.{IsTour, IsAdvance, IsSettling, AreIncreasing, IsCount, LooksBack, seen, at_start, with_top, opened, recorded, parts_of, is_new, new_among, least, place_of, lowest, if_new};
 ghost use Rattle.types.specs.References.{layout_of_struct};
 
 use ir_ast::{IrType, Module, TypeId};
@@ -118,9 +118,9 @@ impl Tour {
         Ok(())
     }
 
-    /// Notes a type in a ring.
-    fn note(&mut self, module: &Module, written: TypeId)
-        ensures { seen self.new ≡ noted (layout_of_struct «module».now (slice_get «module».now.types written)) (seen self.old) }
+    /// Records a type in a ring.
+    fn record_one(&mut self, module: &Module, written: TypeId)
+        ensures { seen self.new ≡ recorded (layout_of_struct «module».now (slice_get «module».now.types written)) (seen self.old) }
     {
         self.first = least(self.first, named_struct(module, written));
     }
@@ -133,7 +133,7 @@ impl Tour {
         if let Some(at) = self.lowest(parts_of(module, written)) {
             let left = count_before(self.bounds.as_slice(), at + 1);
             self.bounds.truncate(left);
-            self.note(module, written);
+            self.record_one(module, written);
         }
     }
 

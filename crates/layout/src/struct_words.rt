@@ -63,7 +63,7 @@ fn struct_is_large(survey: &Survey, named: &StructType) -> bool
     }
 }
 
-fn span_of(mark: SizeMark) -> Span
+pub(crate) fn span_of(mark: SizeMark) -> Span
     ensures { result ≡ span_of mark }
 {
     match mark {
@@ -85,7 +85,7 @@ fn points_nowhere(survey: &Survey, module: &Module, named: &StructType) -> bool
 
 /// The fields at a span, as far as they are there.
 #[tactic(auto, using(crate::proofs::Spans::part_is))]
-fn fields_at(fields: &[TypeId], span: Span) -> &[TypeId]
+pub(crate) fn fields_at(fields: &[TypeId], span: Span) -> &[TypeId]
     ensures { result.now ≡ fields_at fields.now span }
 {
     let rest = &fields[span.start.min(fields.len())..];

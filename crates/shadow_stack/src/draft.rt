@@ -1,5 +1,5 @@
 ghost use Rattle.std.specs.Prelude.{◌≡◌, [], ◌∷◌, ◌++◌, length, replicate, IfOk, OnOk};
-ghost use Rattle.shadow_stack.specs.Slots.{put, origin_of, noted_op, noted, noted_blocks, draft_of};
+ghost use Rattle.shadow_stack.specs.Slots.{put, origin_of, recorded_op, recorded, recorded_blocks, draft_of};
 ghost use Rattle.shadow_stack.specs.declared.draft.Origin.TheVariants.{Nowhere};
 
 use crate::slot_id::SlotId;
@@ -36,30 +36,30 @@ impl Draft {
             origins: Items::from_vec(nowhere),
             held: Items::new(alloc),
         };
-        draft.note_blocks(function.blocks.as_slice())?;
+        draft.record_blocks(function.blocks.as_slice())?;
         Ok(draft)
     }
 
-    fn note_blocks(&mut self, blocks: &[Block]) -> Result<(), AllocError>
-        ensures { OnOk result (self.new ≡ noted_blocks blocks.now self.old) }
+    fn record_blocks(&mut self, blocks: &[Block]) -> Result<(), AllocError>
+        ensures { OnOk result (self.new ≡ recorded_blocks blocks.now self.old) }
     {
         for block in blocks {
-            self.note_all(block.body.as_slice())?;
+            self.record_all(block.body.as_slice())?;
         }
         Ok(())
     }
 
-    fn note_all(&mut self, body: &[Instr]) -> Result<(), AllocError>
-        ensures { OnOk result (self.new ≡ noted body.now self.old) }
+    fn record_all(&mut self, body: &[Instr]) -> Result<(), AllocError>
+        ensures { OnOk result (self.new ≡ recorded body.now self.old) }
     {
         for instr in body {
-            self.note(instr)?;
+            self.record_one(instr)?;
         }
         Ok(())
     }
 
-    fn note(&mut self, instr: &Instr) -> Result<(), AllocError>
-        ensures { OnOk result (self.new ≡ noted_op instr.now.result instr.now.op self.old) }
+    fn record_one(&mut self, instr: &Instr) -> Result<(), AllocError>
+        ensures { OnOk result (self.new ≡ recorded_op instr.now.result instr.now.op self.old) }
     {
         match &instr.op {
             Op::Memory(MemoryOp::Alloca(held)) => {

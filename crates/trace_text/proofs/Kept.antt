@@ -17,7 +17,7 @@ use Rattle.ir_tokens.specs.Bytes.{Text}
 use Rattle.name_text.specs.Numbers.{small, number_of_word, is_number}
 use Rattle.name_text.specs.Numbers as numbers
 use Rattle.name_text.specs.Naming.{name_in}
-use Rattle.name_text.specs.Reader.{noted}
+use Rattle.name_text.specs.Reader.{recorded}
 use Rattle.trace_text.specs.Numbers.{count_of_word}
 use Rattle.trace_text.specs.Names.{function_by, sort_at, function_named, function_of_word, layout_of_word}
 use Rattle.trace_text.specs.Input.{Input, start_of, with_pool, with_start, with_steps}
@@ -172,7 +172,7 @@ thread_keeps i o (Some n) b h = thread_by_keeps i o n b (nat_lt n (length i.read
 
 -- n more steps of the actor, within the limit
 abbrev Makes : Actor → (i o : Input) → Type 0
-Makes a i o = (count : ℕ) × (i.read.made + count ≤ 10000000) × (kept (noted (with_steps a count) i) ≡ kept o)
+Makes a i o = (count : ℕ) × (i.read.made + count ≤ 10000000) × (kept (recorded (with_steps a count) i) ≡ kept o)
 
 steps_by_kept : (a : Actor) (count : ℕ) (i o : Input) (u : Unit {0}) (t : Bool) → nat_le (i.read.made + count) 10000000 ≡ t → (steps_by a count t).says i u o → Makes a i o
 unfolding put_steps
@@ -196,7 +196,7 @@ makes_after : (a : Actor) (i m o : Input) → kept i ≡ kept m → Makes a m o 
 unfolding with_steps
 makes_after a i m o same r =
     let made : i.read.made ≡ m.read.made = ap (λ (j : Input). j.read.made) same in
-    (r.0, (let few = r.1 in omega (arith, made, few)), ap (λ (j : Input). kept (noted (with_steps a r.0) j)) same ∙ r.2)
+    (r.0, (let few = r.1 in omega (arith, made, few)), ap (λ (j : Input). kept (recorded (with_steps a r.0) j)) same ∙ r.2)
 
 -- a line of steps of one of the threads or of the collector
 abbrev MakesLine : (i o : Input) → Type 0

@@ -11,7 +11,7 @@ use Rattle.ir_tokens.specs.Tokens.{lex_from, past_gap}
 use Rattle.grammar.specs.Many.{Listed}
 use Rattle.ir_tokens.specs.Bytes.{Text}
 use Rattle.name_text.specs.Words.{past_blanks, stops}
-use Rattle.name_text.specs.Reader.{noted}
+use Rattle.name_text.specs.Reader.{recorded}
 use Rattle.trace_text.specs.Names.{function_of_word, layout_of_word}
 use Rattle.trace_text.specs.Arrivals.{arrival_of_word, start_word}
 use Rattle.trace_text.specs.Input.{Input, with_pool, with_start, with_steps}
@@ -74,7 +74,7 @@ Allows v begun = arrival_of_word v (start_word begun) ≡ Some begun
 
 module _ (m : Module) (more : Text) (fresh : IsFresh more) (i : Input) where
   pub pool_says : (layout count : ℕ) → layout_of_word m (layout_text m layout) ≡ Some layout → count < 2 ^ 32 → slice_get i.read.counts layout ≡ Some None
-      → (pool m).says (at (codes "pool " ++ (layout_text m layout ++ 32 ∷ (decimal count ++ 10 ∷ more))) i) tt (at more (noted (with_pool layout count) i))
+      → (pool m).says (at (codes "pool " ++ (layout_text m layout ++ 32 ∷ (decimal count ++ 10 ∷ more))) i) tt (at more (recorded (with_pool layout count) i))
   unfolding pool put_pool with_pool
   pool_says layout count named small free =
       let name = struct_name m (slice_get m.structs layout) in
@@ -104,7 +104,7 @@ module _ (m : Module) (more : Text) (fresh : IsFresh more) (i : Input) where
   function_by (Some f) function e = (signed_word 64 (name_text (name_at m.symbols f.symbol)) refl refl (name_word (name_at m.symbols f.symbol)), λ rest. refl)
 
   pub start_says : (v : Version) (s : Start) → Allows v s.arrival → function_of_word m (function_text m s.function) ≡ Some s.function → Arguments s.arguments → length i.read.starts < 64
-      → (start m v).says (at (start_word s.arrival ++ 32 ∷ (function_text m s.function ++ (arguments_text s.arguments ++ 10 ∷ more))) i) tt (at more (noted (with_start s.arrival s.function s.arguments) i))
+      → (start m v).says (at (start_word s.arrival ++ 32 ∷ (function_text m s.function ++ (arguments_text s.arguments ++ 10 ∷ more))) i) tt (at more (recorded (with_start s.arrival s.function s.arguments) i))
   unfolding start put_start with_start arguments
   start_says v s allowed named all room =
       let is_word = function_by (slice_get m.functions s.function) s.function named in
@@ -143,17 +143,17 @@ module _ (m : Module) (more : Text) (fresh : IsFresh more) (i : Input) where
 
 module _ (more : Text) (fresh : IsFresh more) (i : Input) where
   count_says : (actor : Actor) (count : ℕ) → i.read.made + count ≤ 10000000
-      → (steps_of actor).says (at (decimal count ++ 10 ∷ more) i) tt (at more (noted (with_steps actor count) i))
+      → (steps_of actor).says (at (decimal count ++ 10 ∷ more) i) tt (at more (recorded (with_steps actor count) i))
   count_says actor count few =
       let narrow : count < 2 ^ 32 = omega (arith, few) in
       let wide : count < 2 ^ 64 = omega (arith, few) in
-      (tt, at (10 ∷ more) (noted (with_steps actor count) i), steps_say count (10 ∷ more) (10 ∷ more) wide refl refl i narrow actor few, line_ended more (noted (with_steps actor count) i) fresh)
+      (tt, at (10 ∷ more) (recorded (with_steps actor count) i), steps_say count (10 ∷ more) (10 ∷ more) wide refl refl i narrow actor few, line_ended more (recorded (with_steps actor count) i) fresh)
 
   stands : (count : ℕ) → i.read.made + count ≤ 10000000 → past_blanks (decimal count ++ 10 ∷ more) ≡ decimal count ++ 10 ∷ more
   stands count few = let wide : count < 2 ^ 64 = omega (arith, few) in inner_stays (decimal count) (10 ∷ more) (number_has_bytes count wide) (number_is_inner count wide)
 
   pub thread_steps_say : (thread count : ℕ) → thread < length i.read.starts → length i.read.starts ≤ 64 → i.read.made + count ≤ 10000000
-      → steps_line.says (at (codes "t " ++ (decimal thread ++ 32 ∷ (decimal count ++ 10 ∷ more))) i) tt (at more (noted (with_steps (actor.Thread thread) count) i))
+      → steps_line.says (at (codes "t " ++ (decimal thread ++ 32 ∷ (decimal count ++ 10 ∷ more))) i) tt (at more (recorded (with_steps (actor.Thread thread) count) i))
   unfolding steps_line
   thread_steps_say thread count begun few_threads few =
       let narrow : thread < 2 ^ 32 = omega (arith, begun, few_threads) in
@@ -162,7 +162,7 @@ module _ (more : Text) (fresh : IsFresh more) (i : Input) where
       let text = codes "t " ++ (decimal thread ++ afterwards) in
       let here = inner_stays (decimal thread) afterwards (number_has_bytes thread wide) (number_is_inner thread wide) in
       let word = inner_word (codes "t") refl in
-      looked (begins (codes "t")) steps_by (at text i) true tt (at more (noted (with_steps (actor.Thread thread) count) i))
+      looked (begins (codes "t")) steps_by (at text i) true tt (at more (recorded (with_steps (actor.Thread thread) count) i))
       (begins_so (codes "t") (32 ∷ (decimal thread ++ afterwards)) (decimal thread ++ afterwards) word refl here i (codes "t")) (
         tt,
         at (decimal thread ++ afterwards) i,
@@ -176,12 +176,12 @@ module _ (more : Text) (fresh : IsFresh more) (i : Input) where
       )
 
   pub collector_steps_say : (count : ℕ) → i.read.made + count ≤ 10000000
-      → steps_line.says (at (codes "c " ++ (decimal count ++ 10 ∷ more)) i) tt (at more (noted (with_steps actor.Collector count) i))
+      → steps_line.says (at (codes "c " ++ (decimal count ++ 10 ∷ more)) i) tt (at more (recorded (with_steps actor.Collector count) i))
   unfolding steps_line
   collector_steps_say count few =
       let next = decimal count ++ 10 ∷ more in
       let word = inner_word (codes "c") refl in
-      looked (begins (codes "t")) steps_by (at (codes "c " ++ next) i) false tt (at more (noted (with_steps actor.Collector count) i))
+      looked (begins (codes "t")) steps_by (at (codes "c " ++ next) i) false tt (at more (recorded (with_steps actor.Collector count) i))
       (begins_so (codes "c") (32 ∷ next) next word refl (stands count few) i (codes "t"))
       (tt, at next i, expected (codes "c") (32 ∷ next) next word refl (stands count few) i, count_says actor.Collector count few)
 

@@ -10,7 +10,7 @@ use Rattle.ir_ast.specs.declared.module.Module.{Module}
 use Rattle.grammar.specs.Many.{Listed}
 use Rattle.layout.specs.Layouts.{LaidOut}
 use Rattle.ir_tokens.specs.Bytes.{Text}
-use Rattle.name_text.specs.Reader.{noted}
+use Rattle.name_text.specs.Reader.{recorded}
 use Rattle.trace_text.specs.Names.{layout_of_word}
 use Rattle.trace_text.specs.Input.{Input, with_pool, with_start, with_steps}
 use Rattle.trace_text.specs.Arrivals.{arrival_of_word, start_word, past_starts}
@@ -48,7 +48,7 @@ pools_from m layout (count ∷ counts) = pool_line m layout count ++ pools_from 
 
 -- what is left, and the counts that are listed so far
 abbrev pub with_counts : Text → List (Option ℕ) → Input → Input
-with_counts text counts i = at text (noted (λ p. record p { counts = counts }) i)
+with_counts text counts i = at text (recorded (λ p. record p { counts = counts }) i)
 
 abbrev line_of : Module → (layout count : ℕ) → Text
 line_of m layout count = codes "pool " ++ layout_text m layout ++ 32 ∷ (decimal count ++ 10 ∷ [])
@@ -136,7 +136,7 @@ pools_are m pools (count ∷ counts) layout same =
 
 -- what is left, and how the threads begin so far
 abbrev pub with_starts : Text → List Start → Input → Input
-with_starts text starts i = at text (noted (λ p. record p { starts = starts }) i)
+with_starts text starts i = at text (recorded (λ p. record p { starts = starts }) i)
 
 pub start_seam : (m : Module) (s : Start) (others tail : Text)
     → (start_text m s ++ others) ++ tail ≡ start_word s.arrival ++ 32 ∷ (function_text m s.function ++ (arguments_text s.arguments ++ 10 ∷ (others ++ tail)))
@@ -184,7 +184,7 @@ module _ (p : LaidOut) (named : AreRead p) (v : Version) (tail : Text) (past : (
 
 -- what is left, and the steps so far, with their number
 abbrev pub with_all : Text → List Steps → (made : ℕ) → Input → Input
-with_all text steps made i = at text (noted (λ p. record p { steps = steps; made = made }) i)
+with_all text steps made i = at text (recorded (λ p. record p { steps = steps; made = made }) i)
 
 pub fresh_steps : (steps : List Steps) (tail : Text) → IsFresh tail → IsFresh (flat_map print.steps_line steps ++ tail)
 fresh_steps [] tail fresh = fresh
@@ -208,14 +208,14 @@ collector_seam count more = ap (λ (text : Text). codes "c " ++ text) (append_as
 abbrev IsRead : Actor → (count : ℕ) → (more : Text) → Input → Type 0
 IsRead a count more i =
     (past_steps (at ((actor_text a ++ decimal count ++ 10 ∷ []) ++ more) i) ≡ false)
-    × steps_line.says (at ((actor_text a ++ decimal count ++ 10 ∷ []) ++ more) i) tt (at more (noted (with_steps a count) i))
+    × steps_line.says (at ((actor_text a ++ decimal count ++ 10 ∷ []) ++ more) i) tt (at more (recorded (with_steps a count) i))
 
 line_is_read : (a : Actor) (count : ℕ) (more : Text) (i : Input) → IsFresh more → IsActorOf (length i.read.starts) a → length i.read.starts ≤ 64 → i.read.made + count ≤ 10000000 → IsRead a count more i
 line_is_read (actor.Thread thread) count more i fresh begun few_threads few =
-    subst (λ (text : Text). (past_steps (at text i) ≡ false) × steps_line.says (at text i) tt (at more (noted (with_steps (actor.Thread thread) count) i))) (sym (thread_seam thread count more))
+    subst (λ (text : Text). (past_steps (at text i) ≡ false) × steps_line.says (at text i) tt (at more (recorded (with_steps (actor.Thread thread) count) i))) (sym (thread_seam thread count more))
     (thread_begins more fresh i thread count begun few_threads (codes "end"), thread_steps_say more fresh i thread count begun few_threads few)
 line_is_read actor.Collector count more i fresh begun few_threads few =
-    subst (λ (text : Text). (past_steps (at text i) ≡ false) × steps_line.says (at text i) tt (at more (noted (with_steps actor.Collector count) i))) (sym (collector_seam count more))
+    subst (λ (text : Text). (past_steps (at text i) ≡ false) × steps_line.says (at text i) tt (at more (recorded (with_steps actor.Collector count) i))) (sym (collector_seam count more))
     (collector_begins more fresh i count few (codes "end"), collector_steps_say more fresh i count few)
 
 module _ (threads : ℕ) (few_threads : threads ≤ 64) (tail : Text) (past : (i : Input) → past_steps (at tail i) ≡ true) (fresh : IsFresh tail) (i : Input) (begun : length i.read.starts ≡ threads) where

@@ -9,7 +9,7 @@ use Rattle.grammar.specs.Grammar.{look}
 use Rattle.ir_tokens.specs.Bytes.{Text}
 use Rattle.name_text.specs.Words.{past_blanks, past_lines, stops}
 use Rattle.name_text.specs.Numbers.{number_of_word}
-use Rattle.name_text.specs.Reader.{noted}
+use Rattle.name_text.specs.Reader.{recorded}
 use Rattle.trace_text.specs.Numbers.{count_of_word}
 use Rattle.trace_text.specs.Names.{function_of_word, layout_of_word}
 use Rattle.trace_text.specs.Input.{Input, Form, with_steps}
@@ -106,13 +106,13 @@ module _ (n : ℕ) (rest next : Text) (less : n < 2 ^ 64) (ends : stops rest ≡
       looked (λ i. count_of_word (word i)) thread_numbered (at (decimal n ++ rest) i) (Some n) n (at next i) (count_is narrow)
       (looked (λ i. nat_lt n (length i.read.starts)) (thread_by n) (at (decimal n ++ rest) i) true n (at next i) is_thread number_taken)
 
-  pub steps_say : n < 2 ^ 32 → (actor : Actor) → i.read.made + n ≤ 10000000 → (step_count actor).says (at (decimal n ++ rest) i) tt (at next (noted (with_steps actor n) i))
+  pub steps_say : n < 2 ^ 32 → (actor : Actor) → i.read.made + n ≤ 10000000 → (step_count actor).says (at (decimal n ++ rest) i) tt (at next (recorded (with_steps actor n) i))
   unfolding step_count put_steps with_steps
   steps_say narrow actor few =
       let fits : nat_le (i.read.made + n) 10000000 ≡ true = grind (arith, nat_tests) in
-      looked (λ i. count_of_word (word i)) (steps_counted actor) (at (decimal n ++ rest) i) (Some n) tt (at next (noted (with_steps actor n) i)) (count_is narrow)
-      (looked (λ i. nat_le (i.read.made + n) 10000000) (steps_by actor n) (at (decimal n ++ rest) i) true tt (at next (noted (with_steps actor n) i)) fits
-      (tt, at (decimal n ++ rest) (noted (with_steps actor n) i), (refl, refl), skipped (decimal n) rest next number_word ends blanks (noted (with_steps actor n) i)))
+      looked (λ i. count_of_word (word i)) (steps_counted actor) (at (decimal n ++ rest) i) (Some n) tt (at next (recorded (with_steps actor n) i)) (count_is narrow)
+      (looked (λ i. nat_le (i.read.made + n) 10000000) (steps_by actor n) (at (decimal n ++ rest) i) true tt (at next (recorded (with_steps actor n) i)) fits
+      (tt, at (decimal n ++ rest) (recorded (with_steps actor n) i), (refl, refl), skipped (decimal n) rest next number_word ends blanks (recorded (with_steps actor n) i)))
 
 -- the end of a line before such a text
 pub line_ended : (more : Text) (i : Input) → IsFresh more → (line_end {M = TraceMistake}).says (at (10 ∷ more) i) tt (at more i)

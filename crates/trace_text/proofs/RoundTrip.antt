@@ -10,7 +10,7 @@ use Rattle.lemmas.specs.Bools.{or_neither}
 use Rattle.layout.specs.Layouts.{LaidOut}
 use Rattle.pools.specs.Heap.{cells_in}
 use Rattle.ir_tokens.specs.Bytes.{Text}
-use Rattle.name_text.specs.Reader.{noted}
+use Rattle.name_text.specs.Reader.{recorded}
 use Rattle.trace_text.specs.Input.{Input, emptied}
 use Rattle.trace_text.specs.Arrivals.{is_late, start_word, arrival_of_word, past_starts, version_of}
 use Rattle.trace_text.specs.Text.{count_or_none, counts_of, if_fitting, pools_of, finished_by, finished, heading, pools, past_pools, starts, setup, all_steps, steps, file, IsTrace}
@@ -227,14 +227,14 @@ module _ (p : LaidOut) (trace : Trace) (named : AreRead p) (own : IsTraceOf p tr
         ),
       )
 
-  finished_says : (i : Input) → i.read.counts ≡ counts_read → i.read.starts ≡ trace.setup.starts → i.read.steps ≡ trace.steps → (finished p).says i trace (noted emptied i)
+  finished_says : (i : Input) → i.read.counts ≡ counts_read → i.read.starts ≡ trace.setup.starts → i.read.steps ≡ trace.steps → (finished p).says i trace (recorded emptied i)
   unfolding finished
   finished_says i same_counts same_starts same_steps =
-      looked (λ i. pools_of p i.read.counts) finished_by i (Some trace.setup.pools) trace (noted emptied i)
+      looked (λ i. pools_of p i.read.counts) finished_by i (Some trace.setup.pools) trace (recorded emptied i)
       (ap (pools_of p) same_counts ∙ pools_fit p trace.setup.pools own.one_each own.cells)
       (rw (same_starts, same_steps) refl, refl)
 
-  file_says : (file p).says (state whole (no_counts trace.setup.pools) [] [] 0) trace (noted emptied (state [] counts_read trace.setup.starts trace.steps (0 + step_sum trace.steps)))
+  file_says : (file p).says (state whole (no_counts trace.setup.pools) [] [] 0) trace (recorded emptied (state [] counts_read trace.setup.starts trace.steps (0 + step_sum trace.steps)))
   unfolding file
   file_says =
       let before = state whole (no_counts trace.setup.pools) [] [] 0 in
@@ -252,7 +252,7 @@ module _ (p : LaidOut) (trace : Trace) (named : AreRead p) (own : IsTraceOf p tr
 
   pub round_trip : IsTrace (trace_shown p trace) p trace
   round_trip =
-      let afterwards = noted emptied (state [] counts_read trace.setup.starts trace.steps (0 + step_sum trace.steps)) in
+      let afterwards = recorded emptied (state [] counts_read trace.setup.starts trace.steps (0 + step_sum trace.steps)) in
       let none : replicate (length p.layouts) None ≡ no_counts trace.setup.pools = ap (λ (n : ℕ). replicate n None) (sym own.one_each) ∙ no_counts_are trace.setup.pools in
       subst (λ (text : Text). IsTrace text p trace) (sym all_shown) (
         afterwards,

@@ -6,7 +6,7 @@ use Rattle.name_text.specs.Numbers.{number_of_word}
 use Rattle.trace_text.specs.Numbers.{count_of_word}
 use Rattle.trace_text.specs.Names.{function_of_word, layout_of_word}
 use Rattle.name_text.specs.Reader.{word}
-use Rattle.name_text.specs.Forms.{syntax, wrong, skip, taken, taken_as, note}
+use Rattle.name_text.specs.Forms.{syntax, wrong, skip, taken, taken_as, update}
 use Rattle.trace_text.specs.Input.{Form, with_pool, with_start, with_steps}
 use Rattle.trace_text.specs.declared.trace.Actor.{Actor}
 use Rattle.trace_text.specs.declared.trace.Arrival.{Arrival}
@@ -59,15 +59,15 @@ thread = look (λ i. count_of_word (word i)) thread_numbered
 
 -- the pool of this layout has `count` cells
 unfoldable pub put_pool : (layout count : ℕ) → Form (Unit {0})
-put_pool layout count = note (with_pool layout count)
+put_pool layout count = update (with_pool layout count)
 
 -- a thread begins so, at this function
 unfoldable pub put_start : Arrival → (function : ℕ) → (arguments : List ℕ) → Form (Unit {0})
-put_start arrival function arguments = note (with_start arrival function arguments)
+put_start arrival function arguments = update (with_start arrival function arguments)
 
 -- `count` more steps of this actor
 unfoldable pub put_steps : Actor → (count : ℕ) → Form (Unit {0})
-put_steps actor count = note (with_steps actor count)
+put_steps actor count = update (with_steps actor count)
 
 -- `count` more steps are within the limit
 abbrev pub steps_by : Actor → (count : ℕ) → Bool → Form (Unit {0})

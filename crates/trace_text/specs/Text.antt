@@ -10,7 +10,7 @@ use Rattle.name_text.specs.Places.{place}
 use Rattle.layout.specs.Layouts.{LaidOut}
 use Rattle.pools.specs.Heap.{cells_in}
 use Rattle.ir_tokens.specs.Bytes.{Text as Bytes}
-use Rattle.name_text.specs.Reader.{left, ended, begins, line_ends, noted, noted_falls}
+use Rattle.name_text.specs.Reader.{left, ended, begins, line_ends, recorded, recorded_falls}
 use Rattle.name_text.specs.Forms.{skip, expect, line_end, word_taken, expect_takes}
 use Rattle.trace_text.specs.Input.{Input, Form, start_of, emptied}
 use Rattle.trace_text.specs.Forms.{function_name, new_layout, cell_count, argument, thread, put_pool, put_start, step_count}
@@ -21,8 +21,8 @@ use Rattle.trace_text.specs.declared.trace.Actor.TheVariants as actor
 use Rattle.trace_text.specs.declared.trace.Arrival.{Arrival}
 use Rattle.trace_text.specs.declared.trace.Trace.{Trace}
 use Rattle.trace_text.specs.declared.versions.Version.{Version}
-use Rattle.name_text.specs.declared.found.Found.{Found}
-use Rattle.name_text.specs.declared.found.Found.TheVariants.{Syntax, Wrong, Memory}
+use Rattle.name_text.specs.declared.found.WordFault.{WordFault}
+use Rattle.name_text.specs.declared.found.WordFault.TheVariants.{Syntax, Wrong, Memory}
 use Rattle.trace_text.specs.declared.mistake.TraceMistake.{TraceMistake}
 use Rattle.trace_text.specs.declared.mistake.TraceMistake.TheVariants.{NoThread, TooManySteps, TooManyCells}
 use Rattle.trace_text.specs.declared.progress.TraceProgress.{TraceProgress}
@@ -151,7 +151,7 @@ trace_with pools i = record { setup = record { pools = pools; starts = i.read.st
 -- the trace with these pools, if they are within the limit
 abbrev pub finished_by : Option (List ℕ) → Form Trace
 finished_by None = refuse (λ _. Wrong TooManyCells)
-finished_by (Some pools) = step (trace_with pools) (noted emptied) (noted_falls emptied)
+finished_by (Some pools) = step (trace_with pools) (recorded emptied) (recorded_falls emptied)
 
 -- the trace, if its cells are within the limit
 unfoldable pub finished : LaidOut → Form Trace
@@ -192,7 +192,7 @@ abbrev pub IsTrace : Bytes → LaidOut → Trace → Type 0
 IsTrace bytes p trace = (o : Input) × (file p).says (start_of p bytes) trace o
 
 -- a fault with its place
-abbrev pub placed : Bytes → Found TraceMistake → TraceFault
+abbrev pub placed : Bytes → WordFault TraceMistake → TraceFault
 placed bytes (Syntax rest) = fault.Syntax (place bytes rest)
 placed bytes (Wrong (NoThread rest)) = fault.NoThread (place bytes rest)
 placed bytes (Wrong (TooManySteps rest)) = fault.TooManySteps (place bytes rest)
@@ -201,4 +201,4 @@ placed bytes Memory = fault.Memory
 
 -- the text is of the format up to a place, where it has this fault
 abbrev pub IsFault : Bytes → LaidOut → TraceFault → Type 0
-IsFault bytes p fault = (found : Found TraceMistake) × (file p).stuck (start_of p bytes) found × (placed bytes found ≡ fault)
+IsFault bytes p fault = (found : WordFault TraceMistake) × (file p).stuck (start_of p bytes) found × (placed bytes found ≡ fault)

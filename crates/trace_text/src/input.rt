@@ -7,4 +7,4 @@ use name_text::Reader;
 pub type Input<'a> = Reader<'a, TraceProgress>;
 
 /// A fault of a trace's text.
-pub type Found = name_text::Found<TraceMistake>;
+pub type WordFault = name_text::WordFault<TraceMistake>;

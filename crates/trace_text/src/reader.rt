@@ -11,13 +11,13 @@ ghost use Rattle.grammar.specs.Whole.{value_of};
 ghost use Rattle.trace_text.specs.declared.trace.Trace.{Trace as ATrace};
 ghost use Rattle.trace_text.specs.declared.fault.TraceFault.{TraceFault as AFault};
 ghost use Rattle.trace_text.specs.declared.fault.TraceFault.TheVariants as fault;
-ghost use Rattle.name_text.specs.declared.found.Found.TheVariants.{Memory};
+ghost use Rattle.name_text.specs.declared.found.WordFault.TheVariants.{Memory};
 
 use crate::fault::TraceFault;
 use crate::forms::{
     argument, arrival, cell_count, function_name, new_layout, step_count, thread, version,
 };
-use crate::input::{Found, Input};
+use crate::input::{Input, WordFault};
 use crate::mistake::TraceMistake;
 use crate::progress::TraceProgress;
 use crate::trace::{Actor, Setup, THREAD_LIMIT, Trace};
@@ -31,7 +31,7 @@ use std::alloc::{AllocError, Global};
 
 /// How many cells a layout has.
 #[tactic(auto, unfolding(crate::specs::Text::pool, crate::specs::Forms::put_pool))]
-fn pool(alloc: Global, input: &mut Input<'_>, module: &Module) -> Result<(), Found>
+fn pool(alloc: Global, input: &mut Input<'_>, module: &Module) -> Result<(), WordFault>
     ensures { Reads ((text.pool «module».now).read input.old) result input.new }
 {
     input.expect(b"pool")?;
@@ -49,7 +49,7 @@ fn past_pools(input: &Input<'_>) -> bool
 }
 
 #[tactic(auto, unfolding(crate::specs::Text::pools))]
-fn pools(alloc: Global, input: &mut Input<'_>, module: &Module) -> Result<(), Found>
+fn pools(alloc: Global, input: &mut Input<'_>, module: &Module) -> Result<(), WordFault>
     ensures { Reads ((text.pools «module».now).read input.old) result input.new }
 {
     for _turn in 0..input.left() + 1 {
@@ -63,7 +63,7 @@ fn pools(alloc: Global, input: &mut Input<'_>, module: &Module) -> Result<(), Fo
 
 /// Arguments up to the line's end.
 #[tactic(auto, unfolding(crate::specs::Text::arguments))]
-fn arguments(alloc: Global, input: &mut Input<'_>) -> Result<Items<u64>, Found>
+fn arguments(alloc: Global, input: &mut Input<'_>) -> Result<Items<u64>, WordFault>
     ensures { Reads (text.arguments.read input.old) result input.new }
 {
     let mut arguments = Items::new(alloc);
@@ -83,11 +83,11 @@ fn start(
     input: &mut Input<'_>,
     module: &Module,
     version: Version,
-) -> Result<(), Found>
+) -> Result<(), WordFault>
     ensures { Reads ((text.start «module».now version).read input.old) result input.new }
 {
     if input.read.threads() >= THREAD_LIMIT {
-        return Err(Found::Syntax(input.left()));
+        return Err(WordFault::Syntax(input.left()));
     }
     let arrival = arrival(input, version)?;
     let function = function_name(alloc, input, module)?;
@@ -109,7 +109,7 @@ fn starts(
     input: &mut Input<'_>,
     module: &Module,
     version: Version,
-) -> Result<(), Found>
+) -> Result<(), WordFault>
     ensures { Reads ((text.starts «module».now version).read input.old) result input.new }
 {
     for _turn in 0..input.left() + 1 {
@@ -123,7 +123,7 @@ fn starts(
 
 /// A line of steps.
 #[tactic(auto, unfolding(crate::specs::Text::steps_line, name_text::specs::Forms::skip))]
-fn steps_line(input: &mut Input<'_>) -> Result<(), Found>
+fn steps_line(input: &mut Input<'_>) -> Result<(), WordFault>
     ensures { Reads (text.steps_line.read input.old) result input.new }
 {
     if input.begins(b"t") {
@@ -144,7 +144,7 @@ fn past_steps(input: &Input<'_>) -> bool
 }
 
 #[tactic(auto, unfolding(crate::specs::Text::all_steps))]
-fn all_steps(input: &mut Input<'_>) -> Result<(), Found>
+fn all_steps(input: &mut Input<'_>) -> Result<(), WordFault>
     ensures { Reads (text.all_steps.read input.old) result input.new }
 {
     for _turn in 0..input.left() + 1 {
@@ -203,11 +203,11 @@ fn pools_of(
 
 /// The trace, where its cells are within the limit.
 #[tactic(auto, unfolding(crate::specs::Text::finished))]
-fn finished(alloc: Global, input: &mut Input<'_>, program: &Program) -> Result<Trace, Found>
+fn finished(alloc: Global, input: &mut Input<'_>, program: &Program) -> Result<Trace, WordFault>
     ensures { Reads ((text.finished program.now).read input.old) result input.new }
 {
     let Some(pools) = pools_of(alloc, program, input.read.counts())? else {
-        return Err(Found::Wrong(TraceMistake::TooManyCells));
+        return Err(WordFault::Wrong(TraceMistake::TooManyCells));
     };
     let (starts, steps) = input.read.take_all(alloc);
     Ok(Trace {
@@ -218,7 +218,7 @@ fn finished(alloc: Global, input: &mut Input<'_>, program: &Program) -> Result<T
 
 /// The first line.
 #[tactic(auto, unfolding(crate::specs::Text::heading))]
-fn heading(input: &mut Input<'_>) -> Result<Version, Found>
+fn heading(input: &mut Input<'_>) -> Result<Version, WordFault>
     ensures { Reads (text.heading.read input.old) result input.new }
 {
     input.expect(b"trace")?;
@@ -234,7 +234,7 @@ fn setup(
     input: &mut Input<'_>,
     module: &Module,
     version: Version,
-) -> Result<(), Found>
+) -> Result<(), WordFault>
     ensures { Reads ((text.setup «module».now version).read input.old) result input.new }
 {
     pools(alloc, input, module)?;
@@ -243,7 +243,7 @@ fn setup(
 
 /// Steps up to the text's end.
 #[tactic(auto, unfolding(crate::specs::Text::steps))]
-fn steps(input: &mut Input<'_>) -> Result<(), Found>
+fn steps(input: &mut Input<'_>) -> Result<(), WordFault>
     ensures { Reads (text.steps.read input.old) result input.new }
 {
     input.expect(b"steps")?;
@@ -252,13 +252,13 @@ fn steps(input: &mut Input<'_>) -> Result<(), Found>
     input.expect(b"end")?;
     input.line_end()?;
     if !input.ended() {
-        return Err(Found::Syntax(input.left()));
+        return Err(WordFault::Syntax(input.left()));
     }
     Ok(())
 }
 
 #[tactic(auto, unfolding(crate::specs::Text::file))]
-fn file(alloc: Global, input: &mut Input<'_>, program: &Program) -> Result<Trace, Found>
+fn file(alloc: Global, input: &mut Input<'_>, program: &Program) -> Result<Trace, WordFault>
     ensures { Reads ((text.file program.now).read input.old) result input.new }
 {
     let version = heading(input)?;
@@ -267,7 +267,7 @@ fn file(alloc: Global, input: &mut Input<'_>, program: &Program) -> Result<Trace
     finished(alloc, input, program)
 }
 
-fn trace_of(alloc: Global, bytes: &[u8], program: &Program) -> Result<Trace, Found>
+fn trace_of(alloc: Global, bytes: &[u8], program: &Program) -> Result<Trace, WordFault>
     ensures { Gives Memory result (value_of ((text.file program.now).read (start_of program.now bytes.now))) }
 {
     let mut input = Input::new(bytes, TraceProgress::new(alloc, program.layouts().count())?);
@@ -275,17 +275,17 @@ fn trace_of(alloc: Global, bytes: &[u8], program: &Program) -> Result<Trace, Fou
 }
 
 /// The fault with its line and column.
-fn placed(bytes: &[u8], found: Found) -> TraceFault
+fn placed(bytes: &[u8], found: WordFault) -> TraceFault
     ensures { result ≡ text.placed bytes.now found }
 {
     match found {
-        Found::Syntax(rest) => TraceFault::Syntax(place(bytes, rest)),
-        Found::Wrong(TraceMistake::NoThread(rest)) => TraceFault::NoThread(place(bytes, rest)),
-        Found::Wrong(TraceMistake::TooManySteps(rest)) => TraceFault::TooManySteps(place(
+        WordFault::Syntax(rest) => TraceFault::Syntax(place(bytes, rest)),
+        WordFault::Wrong(TraceMistake::NoThread(rest)) => TraceFault::NoThread(place(bytes, rest)),
+        WordFault::Wrong(TraceMistake::TooManySteps(rest)) => TraceFault::TooManySteps(place(
             bytes, rest,
         )),
-        Found::Wrong(TraceMistake::TooManyCells) => TraceFault::TooManyCells,
-        Found::Memory => TraceFault::Memory,
+        WordFault::Wrong(TraceMistake::TooManyCells) => TraceFault::TooManyCells,
+        WordFault::Memory => TraceFault::Memory,
     }
 }
 

@@ -4,7 +4,7 @@ use Rattle.grammar.specs.Many.{many_from}
 use Rattle.name_text.specs.Reader.{line_ends}
 use Rattle.trace_text.specs.Forms.{argument}
 use Rattle.trace_text.specs.Text.{arguments}
-use Rattle.name_text.specs.declared.found.Found.{Found}
+use Rattle.name_text.specs.declared.found.WordFault.{WordFault}
 use Rattle.trace_text.specs.declared.mistake.TraceMistake.{TraceMistake}
 use Rattle.grammar.specs.Collected.{list_ends, list_goes, list_breaks, no_list}
 use Rattle.grammar.specs.Turns.{one_more, no_more}
@@ -20,7 +20,7 @@ pub returns-in_err-argument : goal.returns-in_err-argument
 unfolding arguments
 returns-in_err-argument c =
     let e = one_more (λ n. many_from line_ends argument.read n c.loop-turn.arguments c.loop-turn.input) _ c.loop-turn._turn c.loop-turn-test.true c.loop-turn.invariant in
-    let breaks = λ (x : Found TraceMistake). list_breaks line_ends argument.read (c.left-turn-end.result + 1 - (c.loop-turn._turn + 1)) c.loop-turn.arguments c.loop-turn.input x (sym c.line_ends.ensures ∙ c.if-line_ends.false) in
+    let breaks = λ (x : WordFault TraceMistake). list_breaks line_ends argument.read (c.left-turn-end.result + 1 - (c.loop-turn._turn + 1)) c.loop-turn.arguments c.loop-turn.input x (sym c.line_ends.ensures ∙ c.if-line_ends.false) in
     first_of (search rules, grind (arith, common_steps))
 
 pub loop-turn-preserved : goal.loop-turn-preserved

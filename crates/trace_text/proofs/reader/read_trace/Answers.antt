@@ -1,5 +1,5 @@
 use Rattle.grammar.specs.Whole.{found, only, no_fault, no_value, has_fault, only_fault}
-use Rattle.name_text.specs.declared.found.Found.TheVariants.{Memory}
+use Rattle.name_text.specs.declared.found.WordFault.TheVariants.{Memory}
 use Rattle.trace_text.specs.Input.{start_of}
 use Rattle.trace_text.specs.Text.{file, placed}
 use Rattle.trace_text.proofs.Kept.{is_trace_of}

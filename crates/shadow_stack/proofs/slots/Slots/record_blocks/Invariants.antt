@@ -1,6 +1,6 @@
 use Rattle.std.proofs.Common.{◌≡◌, drop}
 use Rattle.shadow_stack.specs.Slots.{with_roots_of}
-use Rattle.shadow_stack.proofs.slots.Slots.note_blocks.Given as goal
+use Rattle.shadow_stack.proofs.slots.Slots.record_blocks.Given as goal
 
 abbrev pub invariant-loop-block : goal.invariant-loop-block
 invariant-loop-block l = record {

@@ -1,6 +1,6 @@
 use Rattle.std.proofs.Common.{◌≡◌, drop}
 use Rattle.shadow_stack.specs.Slots.{with_roots}
-use Rattle.shadow_stack.proofs.slots.Slots.note_roots.Given as goal
+use Rattle.shadow_stack.proofs.slots.Slots.record_roots.Given as goal
 
 abbrev pub invariant-loop-instr : goal.invariant-loop-instr
 invariant-loop-instr l = record {
