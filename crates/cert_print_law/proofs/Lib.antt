@@ -1,3 +1,4 @@
 mod Keys
 mod Names
 mod NamedTraces
+mod Unshaped

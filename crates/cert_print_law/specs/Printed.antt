@@ -1,11 +1,12 @@
 -- What holds of the certificates of a module that is read.
-use Rattle.std.specs.Prelude.{◌≡◌, ℕ, ◌^◌, ◌<◌, List, length, Some, slice_get}
+use Rattle.std.specs.Prelude.{◌≡◌, ℕ, ◌^◌, ◌<◌, false, List, length, Some, slice_get}
 use Rattle.ir_ast.specs.declared.function.Function.{Function}
 use Rattle.ir_ast.specs.declared.module.Module.{Module}
 use Rattle.ir_text.specs.Read.{IsText}
 use Rattle.ir_tokens.specs.Bytes.{Text}
 use Rattle.name_text.specs.Readings.{AreBytes}
-use Rattle.certs.specs.declared.section.Section.{Section}
+use Rattle.certs.specs.Families.{is_opaque_text}
+use Rattle.certs.specs.declared.certs.Certs.{Certs}
 use Rattle.certificate.specs.Named.{IsNamed}
 use Rattle.certificate.specs.Print.{name_text, key_text, cert_text}
 use Rattle.certificate.specs.Text.{IsCert}
@@ -24,6 +25,6 @@ pub record HasShortNames (m : Module) : Type 0 where
 abbrev pub AreNamed : Type 0
 AreNamed = (bytes : Text) (m : Module) → AreBytes bytes → IsText bytes m → HasShortNames m → IsNamed m
 
--- what is printed of certificates that are read for it is a text of them
+-- what is printed of certificates that are read for it is a text of them, where its text is typed
 abbrev pub AreReadAgain : Type 0
-AreReadAgain = (bytes text : Text) (m : Module) (certs : List Section) → AreBytes bytes → IsText bytes m → HasShortNames m → IsCert text m certs → IsCert (cert_text certs m) m certs
+AreReadAgain = (bytes text : Text) (m : Module) (certs : Certs) → AreBytes bytes → IsText bytes m → HasShortNames m → is_opaque_text m ≡ false → IsCert text m certs → IsCert (cert_text certs m) m certs

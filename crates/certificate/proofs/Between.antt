@@ -16,12 +16,12 @@ use Rattle.certs.specs.RootNames.{root_names}
 use Rattle.certificate.specs.Drafts.{draft_of, promised, wanting, listing, listing_slot, block_ended, is_in, first_unlisted}
 use Rattle.certs.specs.Families.{family_of_value}
 use Rattle.certificate.specs.Forms.{is_parameter, is_named}
-use Rattle.certs.specs.Fits.{fact_fits, promise_fits, parameter_fits, line_fits, lists, lists_slot, is_listed, lists_once, named_in, named_in_fact, lists_named, all_named_listed, lines_fit, entry_is_empty, parameters_fit}
+use Rattle.certs.specs.Fits.{fact_fits, promise_fits, parameter_fits, claim_fits, lists, lists_slot, is_listed, lists_once, named_in, named_in_fact, lists_named, all_named_listed, claims_fit, entry_is_empty, parameters_fit}
 use Rattle.certificate.specs.declared.draft.SectionDraft.{SectionDraft}
 use Rattle.certificate.specs.declared.draft.RequiredValue.{RequiredValue}
 use Rattle.certs.specs.declared.section.Fact.{Fact}
-use Rattle.certs.specs.declared.section.Line.{Line}
-use Rattle.certs.specs.declared.section.Line.TheVariants as line
+use Rattle.certs.specs.declared.section.Claim.{Claim}
+use Rattle.certs.specs.declared.section.Claim.TheVariants as line
 use Rattle.certs.specs.declared.section.Promise.{Promise}
 
 -- ---- lists
@@ -64,21 +64,21 @@ pub turned : (x y : ℕ) → (x == y) ≡ false → (y == x) ≡ false
 turned x y e = ne_eqb y x (λ h. let t = eq-eqb x y (sym h) in cc)
 
 -- a line that lists what no other one lists is not listed by them
-not_by : (new old : Line) (lines : List Line) → is_listed (old ∷ lines) new ≡ false → is_listed (new ∷ []) old ≡ false
+not_by : (new old : Claim) (lines : List Claim) → is_listed (old ∷ lines) new ≡ false → is_listed (new ∷ []) old ≡ false
 not_by (line.Value v fact) (line.Value w other) lines e = let h = or_neither (w == v) (list_any (lists v) lines) e in rw (turned w v h.0) refl
 not_by (line.Value v fact) (line.Slot s nonnull holds) lines e = refl
 not_by (line.Slot s nonnull holds) (line.Value w other) lines e = refl
 not_by (line.Slot s nonnull holds) (line.Slot t n h) lines e = let h = or_neither (t == s) (list_any (lists_slot s) lines) e in rw (turned t s h.0) refl
 
-rest_not : (new old : Line) (lines : List Line) → is_listed (old ∷ lines) new ≡ false → is_listed lines new ≡ false
+rest_not : (new old : Claim) (lines : List Claim) → is_listed (old ∷ lines) new ≡ false → is_listed lines new ≡ false
 rest_not (line.Value v fact) old lines e = (or_neither (lists v old) (list_any (lists v) lines) e).1
 rest_not (line.Slot s nonnull holds) old lines e = (or_neither (lists_slot s old) (list_any (lists_slot s) lines) e).1
 
-listed_more : (old : Line) (lines : List Line) (new : Line) → is_listed (lines ++ new ∷ []) old ≡ (is_listed lines old || is_listed (new ∷ []) old)
+listed_more : (old : Claim) (lines : List Claim) (new : Claim) → is_listed (lines ++ new ∷ []) old ≡ (is_listed lines old || is_listed (new ∷ []) old)
 listed_more (line.Value v fact) lines new = list_any-append (lists v) lines (new ∷ [])
 listed_more (line.Slot s nonnull holds) lines new = list_any-append (lists_slot s) lines (new ∷ [])
 
-once_more : (lines : List Line) (new : Line) → lists_once lines ≡ true → is_listed lines new ≡ false → lists_once (lines ++ new ∷ []) ≡ true
+once_more : (lines : List Claim) (new : Claim) → lists_once lines ≡ true → is_listed lines new ≡ false → lists_once (lines ++ new ∷ []) ≡ true
 once_more [] (line.Value v fact) once e = refl
 once_more [] (line.Slot s nonnull holds) once e = refl
 once_more (old ∷ lines) new once e =
@@ -123,7 +123,7 @@ pub record Fitting (m : Module) (f : Function) (IsNow : ℕ → Type 0) (d : Sec
   pub promises : parameters_fit m f d.parameters ≡ true
   pub as_many : length d.blocks ≡ length f.blocks
   pub entry : entry_is_empty d.blocks ≡ true
-  pub fit : list_all (lines_fit m f) d.blocks ≡ true
+  pub fit : list_all (claims_fit m f) d.blocks ≡ true
   pub entry_given : slice_get d.given 0 ≡ Some false → ⊥
   pub value_places : length d.values ≡ length f.locals
   pub slot_places : length d.slots ≡ length f.locals
@@ -132,7 +132,7 @@ pub record Fitting (m : Module) (f : Function) (IsNow : ℕ → Type 0) (d : Sec
 
 -- the lines that are read of this block fit, but for the values that it has to list
 pub record Lines (m : Module) (f : Function) (block : ℕ) (d : SectionDraft) : Type 0 where
-  pub each : list_all (line_fits m f) d.lines ≡ true
+  pub each : list_all (claim_fits m f) d.lines ≡ true
   pub once : lists_once d.lines ≡ true
   pub asked : list_all (λ line. is_wanted d.wanted (named_in line)) d.lines ≡ true
   pub values : (value : ℕ) → is_in block (slice_get d.values value) ≡ list_any (lists value) d.lines
@@ -155,7 +155,7 @@ no_promises : (m : Module) (f : Function) (ps : List Parameter) → list_all (λ
 no_promises m f [] = refl
 no_promises m f (p ∷ ps) = no_promises m f ps
 
-no_lines : (m : Module) (f : Function) {A : Type 0} (xs : List A) → list_all (lines_fit m f) (map (λ _. []) xs) ≡ true
+no_lines : (m : Module) (f : Function) {A : Type 0} (xs : List A) → list_all (claims_fit m f) (map (λ _. []) xs) ≡ true
 no_lines m f [] = refl
 no_lines m f (x ∷ xs) = no_lines m f xs
 
@@ -246,7 +246,7 @@ block_begins m f block d new h = (
     slots_before = λ b slot e. before b (h.0.slots_before b slot e);
   },
   record {
-    each = ap (list_all (line_fits m f)) h.1;
+    each = ap (list_all (claim_fits m f)) h.1;
     once = ap lists_once h.1;
     asked = ap (list_all (λ line. is_wanted d.wanted (named_in line))) h.1;
     values = λ value. never_true (is_in block (slice_get d.values value)) (λ e. none (h.0.values_before block value e)) ∙ sym (ap (list_any (lists value)) h.1);
@@ -269,7 +269,7 @@ all_listed m f block d h e = all_weaker (λ line. is_wanted d.wanted (named_in l
     weaker None w = refl
     weaker (Some value) w = sym (h.values value) ∙ wanted_in block d.values d.wanted value e w
 
-entry_stays : (blocks : List (List Line)) (given : List Bool) (block : ℕ) (lines : List Line) → (slice_get given 0 ≡ Some false → ⊥) → slice_get given block ≡ Some false → entry_is_empty blocks ≡ true → entry_is_empty (slice_set blocks block lines) ≡ true
+entry_stays : (blocks : List (List Claim)) (given : List Bool) (block : ℕ) (lines : List Claim) → (slice_get given 0 ≡ Some false → ⊥) → slice_get given block ≡ Some false → entry_is_empty blocks ≡ true → entry_is_empty (slice_set blocks block lines) ≡ true
 entry_stays blocks given zero lines none new e = absurd (none new)
 entry_stays [] given (suc block) lines none new e = refl
 entry_stays ([] ∷ blocks) given (suc block) lines none new e = refl
@@ -279,13 +279,13 @@ entry_stays ((l ∷ ls) ∷ blocks) given (suc block) lines none new e = absurd 
 pub block_ends : (m : Module) (f : Function) (block : ℕ) (d : SectionDraft) → slice_get d.given block ≡ Some false → first_unlisted block d.values d.wanted ≡ None → Within m f block d → Between m f (block_ended block d)
 block_ends m f block d new listed h =
     let lines = h.1 in
-    let here : lines_fit m f d.lines ≡ true = rw (lines.each, lines.once, all_listed m f block d lines listed) refl in (
+    let here : claims_fit m f d.lines ≡ true = rw (lines.each, lines.once, all_listed m f block d lines listed) refl in (
       record {
         roots = h.0.roots;
         promises = h.0.promises;
         as_many = length-set d.blocks block d.lines ∙ h.0.as_many;
         entry = entry_stays d.blocks d.given block d.lines h.0.entry_given new h.0.entry;
-        fit = all_set (lines_fit m f) d.blocks block d.lines h.0.fit here;
+        fit = all_set (claims_fit m f) d.blocks block d.lines h.0.fit here;
         entry_given = still_given;
         value_places = h.0.value_places;
         slot_places = h.0.slot_places;
@@ -378,7 +378,7 @@ with_value m f block value fact d within new fits wanted h =
         slots_before = h.0.slots_before;
       },
       record {
-        each = all_end (line_fits m f) d.lines one h.1.each fits;
+        each = all_end (claim_fits m f) d.lines one h.1.each fits;
         once = once_more d.lines one h.1.once (sym (h.1.values value) ∙ new);
         asked = all_end (λ line. is_wanted d.wanted (named_in line)) d.lines one h.1.asked wanted;
         values = λ u. listed_with block value d.values (λ u. list_any (lists u) d.lines) room h.1.values u ∙ sym (any_more (lists u) d.lines one);
@@ -388,7 +388,7 @@ with_value m f block value fact d within new fits wanted h =
 
 -- the block lists a slot more
 pub with_slot : (m : Module) (f : Function) (block slot : ℕ) (nonnull : Bool) (holds : Option ℕ) (d : SectionDraft) → slot < length f.locals → is_in block (slice_get d.slots slot) ≡ false
-    → line_fits m f (line.Slot slot nonnull holds) ≡ true → is_wanted d.wanted holds ≡ true → Within m f block d → Within m f block (listing_slot block slot (line.Slot slot nonnull holds) d)
+    → claim_fits m f (line.Slot slot nonnull holds) ≡ true → is_wanted d.wanted holds ≡ true → Within m f block d → Within m f block (listing_slot block slot (line.Slot slot nonnull holds) d)
 with_slot m f block slot nonnull holds d within new fits wanted h =
     let one = line.Slot slot nonnull holds in
     let room : slot < length d.slots = omega (arith, within, h.0.slot_places) in (
@@ -405,7 +405,7 @@ with_slot m f block slot nonnull holds d within new fits wanted h =
         slots_before = before_with block slot d.slots d.given h.0.slots_before;
       },
       record {
-        each = all_end (line_fits m f) d.lines one h.1.each fits;
+        each = all_end (claim_fits m f) d.lines one h.1.each fits;
         once = once_more d.lines one h.1.once (sym (h.1.slots slot) ∙ new);
         asked = all_end (λ line. is_wanted d.wanted (named_in line)) d.lines one h.1.asked wanted;
         values = λ u. h.1.values u ∙ sym (any_more (lists u) d.lines one ∙ or_false (list_any (lists u) d.lines));

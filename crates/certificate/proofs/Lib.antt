@@ -11,5 +11,17 @@ pub mod PrintedLines
 pub mod PrintedPromises
 pub mod PrintedBlocks
 pub mod PrintedCerts
-pub mod OfSections
 pub mod AnewFits
+mod TypedPointers
+mod Begun
+mod ReadShapes
+pub mod CertFits
+pub mod CertShapes
+mod CertWhole
+mod PrintedShapeLines
+mod PrintedRows
+mod PrintedShapeWords
+mod PrintedShapeGlobals
+mod PrintedShapeRoots
+mod PrintedShapes
+mod PrintedWhole

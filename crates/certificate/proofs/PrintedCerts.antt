@@ -16,24 +16,31 @@ use Rattle.ir_tokens.specs.Bytes.{Text}
 use Rattle.name_text.specs.Words.{past_blanks, past_lines, word_at, stops, is_word}
 use Rattle.certificate.specs.Names.{function_of_word}
 use Rattle.certificate.specs.Input.{Input, start_of, with_promise, begun, with_section, kept, emptied}
-use Rattle.name_text.specs.Reader.{noted, ended}
+use Rattle.name_text.specs.Forms.{taken}
+use Rattle.name_text.specs.Reader.{recorded, ended, word, begins}
 use Rattle.certificate.specs.Forms.{begin, mark_of_word, marked, new_function, function_named, function_by}
 use Rattle.name_text.specs.Numbers.{is_number}
 use Rattle.certificate.specs.Text as text
 use Rattle.certificate.specs.Text.{IsCert}
-use Rattle.certs.specs.Families.{family_of_type, family_of_value}
-use Rattle.certs.specs.Fits.{lines_fit, promise_fits, promised_fits, parameter_fits, parameters_fit, blocks_fit, section_fits, fits, entry_is_empty}
+use Rattle.certificate.specs.Starts.{goes_with, may_be_shaped, AreStart}
+use Rattle.certificate.specs.declared.mistake.Mistake.{Mistake}
+use Rattle.certificate.specs.declared.shape_draft.ShapeDraft.{ShapeDraft}
+use Rattle.certs.specs.Families.{family_of_type, family_of_value, is_opaque_text}
+use Rattle.certs.specs.Fits.{claims_fit, promise_fits, promised_fits, parameter_fits, parameters_fit, blocks_fit, section_fits, fits, entry_is_empty}
 use Rattle.certificate.specs.Named.{IsNamed, IsNamedFunction}
-use Rattle.certificate.specs.Print.{local_text, global_text, lines_text, block_text, blocks_text, promise_text, parameter_text, parameters_text, result_text, mark_text, section_text, sections_text, cert_text}
+use Rattle.certificate.specs.Print.{local_text, global_text, claims_text, block_text, blocks_text, promise_text, parameter_text, parameters_text, result_text, mark_text, section_text, sections_text, head_text, shapes_with, cert_text}
+use Rattle.certificate.specs.Laws.{ArePrintedAgain}
+use Rattle.certs.specs.declared.certs.Certs.{Certs}
+use Rattle.ir_ast.specs.declared.shapes.Shapes.{Shapes}
 use Rattle.name_text.specs.Seams.{word_on, blanks_on}
-use Rattle.certificate.proofs.PrintedLines.{at, ComesAfter, skip_on, word_is, taken_on, expect_on, line_end_on, as_on}
+use Rattle.certificate.proofs.PrintedLines.{at, ComesAfter, word_is, taken_on, expect_on, line_end_on, as_on}
 use Rattle.certificate.proofs.PrintedNames.{function_printed}
 use Rattle.certificate.proofs.PrintedPromises.{parameter_on, result_on}
 use Rattle.certificate.proofs.PrintedBlocks.{EndsLines, block_on}
 use Rattle.certificate.proofs.Between.{Between, at_start}
 use Rattle.certificate.proofs.ReadFits.{block_is, parameter_is}
 use Rattle.certificate.specs.declared.progress.Kept.{Kept}
-use Rattle.certs.specs.declared.section.Line.{Line}
+use Rattle.certs.specs.declared.section.Claim.{Claim}
 use Rattle.certs.specs.declared.section.Mark.{Mark}
 use Rattle.certs.specs.declared.section.Mark.TheVariants as mark
 use Rattle.certs.specs.declared.section.Section.{Section}
@@ -63,7 +70,7 @@ abbrev EndsBlocks : Text → Type 0
 EndsBlocks t = (word_at t ≡ codes "end") × (past_lines false t ≡ t)
 
 -- blocks that are the next text
-record BlocksOn (m : Module) (f : Function) (i : Input) (bs : List Block) (lists : List (List Line)) (done : List (List Line)) (t : Text) : Type 0 where
+record BlocksOn (m : Module) (f : Function) (i : Input) (bs : List Block) (lists : List (List Claim)) (done : List (List Claim)) (t : Text) : Type 0 where
   pub out : Input
   pub count : List (Unit {0})
   pub read : Listed text.past_blocks (text.block m f).says (at i (blocks_text m f bs lists ++ t)) count (at out t)
@@ -86,13 +93,13 @@ record ParametersOn (m : Module) (f : Function) (i : Input) (ps : List Parameter
 
 module _ (m : Module) (f : Function) (named : IsNamed m) (own : IsNamedFunction f) where
   -- what follows a block ends its lines
-  block_ends : (bs : List Block) (lists : List (List Line)) (t : Text) → EndsBlocks t → EndsLines (blocks_text m f bs lists ++ t)
+  block_ends : (bs : List Block) (lists : List (List Claim)) (t : Text) → EndsBlocks t → EndsLines (blocks_text m f bs lists ++ t)
   block_ends [] lists t ends = (ap (λ x. bytes_eq x (codes "block") || bytes_eq x (codes "end")) ends.0, ends.1)
   block_ends (b ∷ bs) [] t ends = (ap (λ x. bytes_eq x (codes "block") || bytes_eq x (codes "end")) ends.0, ends.1)
-  block_ends (b ∷ bs) (l ∷ lists) t ends = (ap (λ x. bytes_eq x (codes "block") || bytes_eq x (codes "end")) (word_on (codes "block") (32 ∷ (local_text f b.label ++ (10 ∷ lines_text m f l) ++ blocks_text m f bs lists ++ t)) refl refl), refl)
+  block_ends (b ∷ bs) (l ∷ lists) t ends = (ap (λ x. bytes_eq x (codes "block") || bytes_eq x (codes "end")) (word_on (codes "block") (32 ∷ (local_text f b.label ++ (10 ∷ claims_text m f l) ++ blocks_text m f bs lists ++ t)) refl refl), refl)
 
-  blocks_on_from : (bs : List Block) (lists : List (List Line)) (n : ℕ) (i : Input) (t : Text) (done : List (List Line)) (given : List Bool)
-      → ((k : ℕ) → slice_get f.blocks (n + k) ≡ slice_get bs k) → length lists ≡ length bs → list_all (lines_fit m f) lists ≡ true
+  blocks_on_from : (bs : List Block) (lists : List (List Claim)) (n : ℕ) (i : Input) (t : Text) (done : List (List Claim)) (given : List Bool)
+      → ((k : ℕ) → slice_get f.blocks (n + k) ≡ slice_get bs k) → length lists ≡ length bs → list_all (claims_fit m f) lists ≡ true
       → length done ≡ n → i.read.draft.blocks ≡ done ++ map (λ _. []) bs → length given ≡ n → list_all (λ b. b) given ≡ true → i.read.draft.given ≡ given ++ replicate (length bs) false
       → Between m f i.read.draft → EndsBlocks t → BlocksOn m f i bs lists done t
   blocks_on_from [] [] n i t done given at_place len fits dn blocks gn all are between ends = record {
@@ -112,15 +119,15 @@ module _ (m : Module) (f : Function) (named : IsNamed m) (own : IsNamedFunction 
       let is : slice_get f.blocks n ≡ Some b = ap (slice_get f.blocks) (sym here) ∙ at_place 0 in
       let new : slice_get i.read.draft.given n ≡ Some false = ap (λ x. slice_get x n) are ∙ get_mid given false (replicate (length bs) false) n gn in
       let rest = blocks_text m f bs lists ++ t in
-      let one = block_on m f named own i n b l rest is new between (and_first (lines_fit m f l) (list_all (lines_fit m f) lists) fits) (block_ends bs lists t ends) in
+      let one = block_on m f named own i n b l rest is new between (and_first (claims_fit m f l) (list_all (claims_fit m f) lists) fits) (block_ends bs lists t ends) in
       let after = block_is m f (at i (block_text m f b l ++ rest)) tt (at one.out rest) one.read between in
       let places : (k : ℕ) → slice_get f.blocks (suc n + k) ≡ slice_get bs k = λ k. (let e : suc n + k ≡ n + suc k = omega arith in ap (slice_get f.blocks) e ∙ at_place (suc k)) in
       let blocks_then : one.out.read.draft.blocks ≡ (done ++ l ∷ []) ++ map (λ _. []) bs = one.blocks ∙ ap (λ x. slice_set x n l) blocks ∙ set_mid done [] l (map (λ _. []) bs) n dn in
       let given_then : one.out.read.draft.given ≡ (given ++ true ∷ []) ++ replicate (length bs) false = one.given ∙ ap (λ x. slice_set x n true) are ∙ set_mid given false true (replicate (length bs) false) n gn in
-      let more = blocks_on_from bs lists (suc n) one.out t (done ++ l ∷ []) (given ++ true ∷ []) places (omega arith) (and_second (lines_fit m f l) (list_all (lines_fit m f) lists) fits)
+      let more = blocks_on_from bs lists (suc n) one.out t (done ++ l ∷ []) (given ++ true ∷ []) places (omega arith) (and_second (claims_fit m f l) (list_all (claims_fit m f) lists) fits)
       (longer done l n dn) blocks_then (longer given true n gn) (all_end (λ b. b) given true all refl) given_then after.0 ends in
       let whole : blocks_text m f (b ∷ bs) (l ∷ lists) ++ t ≡ block_text m f b l ++ rest = append_assoc (block_text m f b l) (blocks_text m f bs lists) t in
-      let first : text.past_blocks (at i (block_text m f b l ++ rest)) ≡ false = ap (λ x. not (bytes_eq x (codes "block"))) (word_on (codes "block") (32 ∷ (local_text f b.label ++ (10 ∷ lines_text m f l) ++ rest)) refl refl) in
+      let first : text.past_blocks (at i (block_text m f b l ++ rest)) ≡ false = ap (λ x. not (bytes_eq x (codes "block"))) (word_on (codes "block") (32 ∷ (local_text f b.label ++ (10 ∷ claims_text m f l) ++ rest)) refl refl) in
       record {
         out = more.out;
         count = tt ∷ more.count;
@@ -180,7 +187,7 @@ module _ (m : Module) (f : Function) (named : IsNamed m) (own : IsNamedFunction 
       let free : slice_get i.read.draft.parameters n ≡ Some None = ap (λ x. slice_get x n) are ∙ get_mid done None (replicate (length ps) None) n dn in
       let rest = parameters_text m f ps promises ++ t in
       let one = parameter_on m f named own i n p q rest rest is free (and_first (promise_fits m (family_of_value m f p.value) q) (list_all (λ p. parameter_fits m f p.0 p.1) (zip ps promises)) fits) (parameters_begin ps promises t ends.1) in
-      let next = noted (with_promise n q) i in
+      let next = recorded (with_promise n q) i in
       let after = parameter_is m f (at i (parameter_text m f p (Some q) ++ rest)) tt (at next rest) one between in
       let places : (k : ℕ) → slice_get f.parameters (suc n + k) ≡ slice_get ps k = λ k. (let e : suc n + k ≡ n + suc k = omega arith in ap (slice_get f.parameters) e ∙ at_place (suc k)) in
       let then_are : next.read.draft.parameters ≡ (done ++ Some q ∷ []) ++ replicate (length ps) None = ap (λ x. slice_set x n (Some q)) are ∙ set_mid done None (Some q) (replicate (length ps) None) n dn in
@@ -234,15 +241,15 @@ module _ (m : Module) (f : Function) (named : IsNamed m) (own : IsNamedFunction 
       promise_stops None true n t = refl
       promise_stops (Some l) nonnull n t = refl
 
-  blocks_word : (bs : List Block) (lists : List (List Line)) (t : Text) → EndsBlocks t → (bytes_eq (word_at (blocks_text m f bs lists ++ t)) (codes "param") ≡ false) × (bytes_eq (word_at (blocks_text m f bs lists ++ t)) (codes "result") ≡ false)
+  blocks_word : (bs : List Block) (lists : List (List Claim)) (t : Text) → EndsBlocks t → (bytes_eq (word_at (blocks_text m f bs lists ++ t)) (codes "param") ≡ false) × (bytes_eq (word_at (blocks_text m f bs lists ++ t)) (codes "result") ≡ false)
   blocks_word [] lists t ends = (ap (λ x. bytes_eq x (codes "param")) ends.0, ap (λ x. bytes_eq x (codes "result")) ends.0)
   blocks_word (b ∷ bs) [] t ends = (ap (λ x. bytes_eq x (codes "param")) ends.0, ap (λ x. bytes_eq x (codes "result")) ends.0)
-  blocks_word (b ∷ bs) (l ∷ lists) t ends = (ap (λ x. bytes_eq x (codes "param")) (word_on (codes "block") (32 ∷ (local_text f b.label ++ (10 ∷ lines_text m f l) ++ blocks_text m f bs lists ++ t)) refl refl), ap (λ x. bytes_eq x (codes "result")) (word_on (codes "block") (32 ∷ (local_text f b.label ++ (10 ∷ lines_text m f l) ++ blocks_text m f bs lists ++ t)) refl refl))
+  blocks_word (b ∷ bs) (l ∷ lists) t ends = (ap (λ x. bytes_eq x (codes "param")) (word_on (codes "block") (32 ∷ (local_text f b.label ++ (10 ∷ claims_text m f l) ++ blocks_text m f bs lists ++ t)) refl refl), ap (λ x. bytes_eq x (codes "result")) (word_on (codes "block") (32 ∷ (local_text f b.label ++ (10 ∷ claims_text m f l) ++ blocks_text m f bs lists ++ t)) refl refl))
 
   -- the blocks of a section that begins
-  all_blocks_on : (bs : List Block) (blocks : List (List Line)) (i : Input) (t : Text) → f.blocks ≡ bs → length blocks ≡ length bs → entry_is_empty blocks ≡ true → list_all (lines_fit m f) blocks ≡ true
+  all_blocks_on : (bs : List Block) (blocks : List (List Claim)) (i : Input) (t : Text) → f.blocks ≡ bs → length blocks ≡ length bs → entry_is_empty blocks ≡ true → list_all (claims_fit m f) blocks ≡ true
       → i.read.draft.blocks ≡ map (λ _. []) bs → i.read.draft.given ≡ slice_set (replicate (length bs) false) 0 true → Between m f i.read.draft → EndsBlocks t
-      → (done : List (List Line)) × BlocksOn m f i (drop 1 bs) (drop 1 blocks) done t × (done ++ drop 1 blocks ≡ blocks)
+      → (done : List (List Claim)) × BlocksOn m f i (drop 1 bs) (drop 1 blocks) done t × (done ++ drop 1 blocks ≡ blocks)
   all_blocks_on [] [] i t are len entry fits blocks given between ends =
       ([], blocks_on_from [] [] 0 i t [] [] (λ k. (let e : 0 + k ≡ k = omega arith in ap (slice_get f.blocks) e ∙ ap (λ x. slice_get x k) are)) refl refl refl blocks refl refl given between ends, refl)
   all_blocks_on [] (l ∷ blocks) i t are len entry fits bs given between ends = absurd (omega arith)
@@ -260,10 +267,10 @@ module _ (m : Module) (f : Function) (named : IsNamed m) (own : IsNamedFunction 
       let params_fit = and_first (parameters_fit m f section.parameters) (promised_fits m (family_of_type m f.returned) section.result) two in
       let result_fits = and_second (parameters_fit m f section.parameters) (promised_fits m (family_of_type m f.returned) section.result) two in
       let all_fit = and_second (parameters_fit m f section.parameters && promised_fits m (family_of_type m f.returned) section.result) (blocks_fit m f section.blocks) fits in
-      let blocks_two = and_first (length section.blocks == length f.blocks && entry_is_empty section.blocks) (list_all (lines_fit m f) section.blocks) all_fit in
+      let blocks_two = and_first (length section.blocks == length f.blocks && entry_is_empty section.blocks) (list_all (claims_fit m f) section.blocks) all_fit in
       let blocks_len = eqb-true (length section.blocks) (length f.blocks) (and_first (length section.blocks == length f.blocks) (entry_is_empty section.blocks) blocks_two) in
       let entry = and_second (length section.blocks == length f.blocks) (entry_is_empty section.blocks) blocks_two in
-      let lines = and_second (length section.blocks == length f.blocks && entry_is_empty section.blocks) (list_all (lines_fit m f) section.blocks) all_fit in
+      let lines = and_second (length section.blocks == length f.blocks && entry_is_empty section.blocks) (list_all (claims_fit m f) section.blocks) all_fit in
       let pairs = list_all (λ p. parameter_fits m f p.0 p.1) (zip f.parameters section.parameters) in
       let params_len = eqb-true (length section.parameters) (length f.parameters) (and_first (length section.parameters == length f.parameters) pairs params_fit) in
       let each_param = and_second (length section.parameters == length f.parameters) pairs params_fit in
@@ -281,12 +288,12 @@ module _ (m : Module) (f : Function) (named : IsNamed m) (own : IsNamedFunction 
       let after = block_ends (drop 1 f.blocks) (drop 1 section.blocks) x1 ends in
       let other = blocks_word (drop 1 f.blocks) (drop 1 section.blocks) x1 ends in
       let no_param = result_begins section.result x2 after.1 other.0 in
-      let s0 : Input = noted (begun m f) i in
+      let s0 : Input = recorded (begun m f) i in
       let params = parameters_on_from f.parameters section.parameters 0 s0 x3 [] (λ k. (let z : 0 + k ≡ k = omega arith in ap (slice_get f.parameters) z)) params_len each_param refl refl (at_start m f) no_param in
       let result = result_on m f named own params.out section.result x2 x2 result_fits after.1 after.1 other.1 refl in
       let blocks = all_blocks_on f.blocks section.blocks params.out x1 refl blocks_len entry lines (sym params.blocks) (sym params.given) params.between ends in
       let out = blocks.1.out in
-      let o : Input = noted (with_section n section.mark section.result) out in
+      let o : Input = recorded (with_section n section.mark section.result) out in
       let printed = function_printed m n f named is in
       let a = mk ++ (10 ∷ x4) in
       let mark_here = mark_is section.mark (10 ∷ x4) in
@@ -352,7 +359,7 @@ module _ (m : Module) (f : Function) (named : IsNamed m) (own : IsNamedFunction 
         ap (λ x. slice_set x n (Some (kept section.mark section.result out.read.draft))) (sym sections_same) ∙ ap (slice_set i.read.sections n) kept_same,
       )
     where
-      kept_of : Mark → Option Promise → List (Option Promise) → List (List Line) → Option ℕ → Kept
+      kept_of : Mark → Option Promise → List (Option Promise) → List (List Claim) → Option ℕ → Kept
       kept_of mark result parameters blocks missing = record { section = record { mark = mark; parameters = parameters; result = result; blocks = blocks }; missing = missing }
 
 -- ---- the whole
@@ -361,7 +368,7 @@ module _ (m : Module) (named : IsNamed m) where
   abbrev kept_whole : List Section → List (Option Kept)
   kept_whole sections = map (λ section. Some (record { section = section; missing = None })) sections
 
-  sections_begin : (fs : List Function) (ss : List Section) → past_lines false (sections_text m fs ss) ≡ sections_text m fs ss
+  pub sections_begin : (fs : List Function) (ss : List Section) → past_lines false (sections_text m fs ss) ≡ sections_text m fs ss
   sections_begin [] ss = refl
   sections_begin (f ∷ fs) [] = refl
   sections_begin (f ∷ fs) (s ∷ ss) = refl
@@ -397,42 +404,66 @@ module _ (m : Module) (named : IsNamed m) where
   all_there [] = refl
   all_there (s ∷ ss) = ap (λ (x : List Section). s ∷ x) (all_there ss)
 
-  -- what is printed of certificates that fit is a text of them
-  pub cert_printed : (ss : List Section) → fits m ss ≡ true → IsCert (cert_text ss m) m ss
-  unfolding text.file text.version text.sections text.finished emptied
-  cert_printed ss e =
+  -- sections that fit are read where none is read so far
+  pub sections_printed : (i : Input) (ss : List Section) → fits m ss ≡ true → i.read.sections ≡ map (λ _. None) m.functions
+      → (o : Input) × (text.sections m).says (at i (sections_text m m.functions ss)) tt (at o []) × text.finished.says (at o []) ss (recorded emptied (at o []))
+  unfolding text.sections text.finished emptied
+  sections_printed i ss e none =
       let pairs = list_all (λ p. section_fits m p.0 p.1) (zip m.functions ss) in
       let len = eqb-true (length ss) (length m.functions) (and_first (length ss == length m.functions) pairs e) in
       let each = and_second (length ss == length m.functions) pairs e in
+      let read = sections_on_from m.functions ss 0 i [] (λ k. (let z : 0 + k ≡ k = omega arith in ap (slice_get m.functions) z)) len each refl none in
+      let o = read.0 in
+      let gap : text.first_gap 0 o.read.sections ≡ None = ap (text.first_gap 0) read.3 ∙ no_gap 0 ss in
+      let out = recorded emptied (at o []) in
+      let last : text.finished.says (at o []) ss out = subst (λ x. (text.finished_by x).says (at o []) ss out) (sym gap) (ap text.sections_in read.3 ∙ all_there ss, refl) in
+      (o, (read.1, at o [], read.2, (refl, refl)), last)
+
+  goes_one : (one two opaque may : Bool) → one ≡ true → opaque ≡ false → ((one && not opaque) || (two && may)) ≡ true
+  goes_one true two false may a b = refl
+  goes_one true two true may a b = absurd cc
+  goes_one false two opaque may a b = absurd cc
+
+  -- what is printed of certificates of a typed text is a text of them
+  pub typed_printed : (shapes : ShapeDraft) (ss : List Section) → AreStart m shapes → is_opaque_text m ≡ false → fits m ss ≡ true
+      → IsCert ((codes "cert 1" ++ 10 ∷ []) ++ sections_text m m.functions ss) m (record { sections = ss; shapes = None })
+  unfolding text.file text.version text.without_shapes emptied
+  typed_printed shapes ss start typed e =
       let rest = sections_text m m.functions ss in
-      let i : Input = start_of m (cert_text ss m) in
-      let read = sections_on_from m.functions ss 0 i [] (λ k. (let z : 0 + k ≡ k = omega arith in ap (slice_get m.functions) z)) len each refl refl in
+      let i : Input = start_of m shapes ((codes "cert 1" ++ 10 ∷ []) ++ rest) in
+      let read = sections_printed i ss e refl in
       let o = read.0 in
       let afterwards : ComesAfter (32 ∷ (codes "1" ++ 10 ∷ rest)) (codes "1" ++ 10 ∷ rest) = (refl, refl) in
       let one = word_is i (codes "1") (10 ∷ rest) (10 ∷ rest) refl (refl, refl) in
-      let gap : text.first_gap 0 o.read.sections ≡ None = ap (text.first_gap 0) read.3 ∙ no_gap 0 ss in
-      let out = noted emptied (at o []) in
-      let last : text.finished.says (at o []) ss out = subst (λ x. (text.finished_by x).says (at o []) ss out) (sym gap) (ap text.sections_in read.3 ∙ all_there ss, refl) in (
-        out,
+      let j : Input = at i (codes "1" ++ 10 ∷ rest) in
+      let goes : goes_with m (word j) ≡ true = ap (goes_with m) one ∙ goes_one (bytes_eq (codes "1") (49 ∷ [])) (bytes_eq (codes "1") (50 ∷ [])) (is_opaque_text m) (may_be_shaped m) refl typed in
+      let two : begins (50 ∷ []) j ≡ false = ap (λ x. bytes_eq x (50 ∷ [])) one in
+      let number : (text.version m).says j false (at i (10 ∷ rest)) =
+      (tt, j, (ap is_number one, refl), (tt, j, (goes, refl), subst (λ (b : Bool). (taken {M = Mistake} b).says j false (at i (10 ∷ rest))) (sym two) (taken_on false i (codes "1") (10 ∷ rest) (10 ∷ rest) refl (refl, refl)))) in (
+        shapes,
+        start,
+        recorded emptied (at o []),
         (
           tt,
-          at i (codes "1" ++ 10 ∷ rest),
+          j,
           expect_on i (codes "cert") (32 ∷ (codes "1" ++ 10 ∷ rest)) (codes "1" ++ 10 ∷ rest) refl afterwards,
           (
-            tt,
+            false,
             at i (10 ∷ rest),
-            (
-              tt,
-              at i (codes "1" ++ 10 ∷ rest),
-              (ap is_number one, refl),
-              (tt, at i (codes "1" ++ 10 ∷ rest), (ap (λ x. bytes_eq x (codes "1")) one, refl), skip_on i (codes "1") (10 ∷ rest) (10 ∷ rest) refl (refl, refl)),
-            ),
+            number,
             (
               tt,
               at i rest,
               line_end_on i rest rest (sections_begin m.functions ss),
-              (tt, at o [], (read.1, at o [], read.2, (refl, refl)), last),
+              (tt, at o [], read.1, (ss, recorded emptied (at o []), read.2, (refl, refl))),
             ),
           ),
         ),
       )
+
+pub cert_printed : ArePrintedAgain
+cert_printed m certs begun start named typed own none fit =
+    let rest = sections_text m m.functions certs.sections in
+    let text : (codes "cert 1" ++ 10 ∷ []) ++ rest ≡ cert_text certs m = ap (λ x. head_text m x ++ rest) (sym (ap (λ x. shapes_with x m.shapes) none ∙ own)) in
+    let same : ◌≡◌ {A = Certs} (record { sections = certs.sections; shapes = None }) certs = ap (λ (x : Option Shapes). record { sections = certs.sections; shapes = x }) (sym none) in
+    subst (λ x. IsCert x m certs) text (subst (λ x. IsCert ((codes "cert 1" ++ 10 ∷ []) ++ rest) m x) same (typed_printed m named begun certs.sections start typed fit))

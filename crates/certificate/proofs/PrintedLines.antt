@@ -20,14 +20,14 @@ use Rattle.certificate.specs.Names.{value_of_word, global_of_word, layout_of_wor
 use Rattle.certs.specs.Families.{family_of_value, family_of_sort, is_reference, is_address, refers_to, same_bits}
 use Rattle.certs.specs.RootNames.{root_names}
 use Rattle.certificate.specs.Drafts.{wanting, listing, listing_slot, is_in}
-use Rattle.certificate.specs.Input.{Input, wants, with_line, with_slot_line}
-use Rattle.name_text.specs.Reader.{noted, left, word, begins, after, next_line}
+use Rattle.certificate.specs.Input.{Input, wants, with_claim, with_slot_claim}
+use Rattle.name_text.specs.Reader.{recorded, left, word, begins, after, next_line}
 use Rattle.certificate.specs.Forms.{taken_if, flag, flag_by, count, word_set, age, age_by, age_of_word, free_by, new_value, new_value_named, new_slot, root_by, slot_named, want, listed_by, listed_name, layout_by, layout_name, put_value, put_slot}
 use Rattle.name_text.specs.Forms.{skip, taken, taken_as, expect, line_end}
-use Rattle.certificate.specs.Lines.{number_head, head_by, below_by, below, listed_if, listed_after, number, reference, words_of_cell, global_by, global_address, address_by, address, fact_by, fact_of, fact_end, slot_end, value_line, slot_line, line_by, line}
-use Rattle.certs.specs.Fits.{is_count, below_fits, stands_for, layout_fits, words_fit, fact_fits, is_value_sort, is_value, line_fits, named_in_fact, named_in}
+use Rattle.certificate.specs.Lines.{number_head, head_by, below_by, below, listed_if, listed_after, number, reference, words_of_cell, global_by, global_address, address_by, address, fact_by, fact_of, fact_end, slot_end, value_claim, slot_claim, line_by, line}
+use Rattle.certs.specs.Fits.{is_count, below_fits, stands_for, layout_fits, words_fit, fact_fits, is_value_sort, is_value, claim_fits, named_in_fact, named_in}
 use Rattle.certificate.specs.Named.{IsNamed, IsNamedFunction}
-use Rattle.certificate.specs.Print.{word_if, below_text, value_text, age_text, words_text, fact_text, line_text, local_text, global_text, layout_text}
+use Rattle.certificate.specs.Print.{word_if, below_text, value_text, age_text, words_text, fact_text, claim_text, local_text, global_text, layout_text}
 use Rattle.name_text.specs.Seams.{past_word_on, word_on, blanks_on, all_bytes}
 use Rattle.name_text.specs.Equal.{same_bytes}
 use Rattle.certificate.proofs.PrintedWords.{small_is, count_read, bits_read}
@@ -40,8 +40,8 @@ use Rattle.certs.specs.declared.section.Age.{Age}
 use Rattle.certs.specs.declared.section.Age.TheVariants as ages
 use Rattle.certs.specs.declared.section.Fact.{Fact}
 use Rattle.certs.specs.declared.section.Fact.TheVariants as fact
-use Rattle.certs.specs.declared.section.Line.{Line}
-use Rattle.certs.specs.declared.section.Line.TheVariants as line
+use Rattle.certs.specs.declared.section.Claim.{Claim}
+use Rattle.certs.specs.declared.section.Claim.TheVariants as line
 use Rattle.certificate.specs.declared.mistake.Mistake.{Mistake}
 
 -- ---- one word
@@ -109,7 +109,7 @@ below_on i (Some n) t e =
 -- with a value that the block has to list, if there is one
 abbrev pub noting : Option ℕ → (left : ℕ) → Input → Input
 noting None left i = i
-noting (Some value) left i = noted (λ p. record p { draft = wanting value left p.draft }) i
+noting (Some value) left i = recorded (λ p. record p { draft = wanting value left p.draft }) i
 
 -- the value that a line names besides its own is a value
 abbrev pub IsValue : Function → Option ℕ → Type 0
@@ -117,12 +117,12 @@ IsValue f None = Unit {0}
 IsValue f (Some value) = is_value f value ≡ true
 
 -- with this line of the block
-abbrev pub lined : (block left : ℕ) → Line → Input → Input
-lined block left (line.Value value fact) i = noted (λ p. record p { draft = listing block value (line.Value value fact) p.draft }) (noting (named_in_fact fact) left i)
-lined block left (line.Slot slot nonnull holds) i = noted (λ p. record p { draft = listing_slot block slot (line.Slot slot nonnull holds) p.draft }) (noting holds left i)
+abbrev pub lined : (block left : ℕ) → Claim → Input → Input
+lined block left (line.Value value fact) i = recorded (λ p. record p { draft = listing block value (line.Value value fact) p.draft }) (noting (named_in_fact fact) left i)
+lined block left (line.Slot slot nonnull holds) i = recorded (λ p. record p { draft = listing_slot block slot (line.Slot slot nonnull holds) p.draft }) (noting holds left i)
 
 -- the block does not list it so far
-abbrev pub IsNew : (block : ℕ) → Line → Input → Type 0
+abbrev pub IsNew : (block : ℕ) → Claim → Input → Type 0
 IsNew block (line.Value value fact) i = is_in block (slice_get i.read.draft.values value) ≡ false
 IsNew block (line.Slot slot nonnull holds) i = (unwrap_or (slice_get i.read.draft.roots slot) false ≡ true) × (is_in block (slice_get i.read.draft.slots slot) ≡ false)
 
@@ -130,6 +130,7 @@ IsNew block (line.Slot slot nonnull holds) i = (unwrap_or (slice_get i.read.draf
 pub refers_is : (family : Family) (layout : ℕ) → refers_to layout family ≡ true → is_reference family ≡ true
 refers_is (fam.Reference own) layout e = refl
 refers_is fam.AnyReference layout e = refl
+refers_is fam.Opaque layout e = refl
 refers_is (fam.Number bits) layout e = absurd cc
 refers_is fam.Address layout e = absurd cc
 refers_is fam.Nothing layout e = absurd cc
@@ -244,6 +245,7 @@ module _ (m : Module) (f : Function) (named : IsNamed m) (own : IsNamedFunction 
       head_is (fam.Reference l) e = absurd cc
       head_is fam.AnyReference e = absurd cc
       head_is fam.Address e = absurd cc
+      head_is fam.Opaque e = absurd cc
       head_is fam.Nothing e = absurd cc
 
       none : (family : Family) → is_some (same_bits family None) ≡ true → ⊥
@@ -251,6 +253,7 @@ module _ (m : Module) (f : Function) (named : IsNamed m) (own : IsNamedFunction 
       none (fam.Reference l) e = cc
       none fam.AnyReference e = cc
       none fam.Address e = cc
+      none fam.Opaque e = cc
       none fam.Nothing e = cc
 
       by : (x : Option ℕ) → small bits ≡ x → is_some (same_bits family x) ≡ true → (is_some x ≡ true) × (number_head (same_bits family (Some bits)) ≡ head.Number bits)
@@ -415,17 +418,17 @@ module _ (m : Module) (f : Function) (named : IsNamed m) (own : IsNamedFunction 
   unfolding slot_end
   slot_end_on i nonnull holds t u e = (tt, at i (10 ∷ t), (refl, refl), line_end_on i t u e)
 
-  value_line_on : (i : Input) (block value : ℕ) (fact : Fact) (t u : Text) → is_value f value ≡ true → fact_fits m (family_of_value m f value) fact ≡ true → IsValue f (named_in_fact fact) → is_in block (slice_get i.read.draft.values value) ≡ false → past_lines false t ≡ u
-      → (n : ℕ) × (line m f block).says (at i (line_text m f (line.Value value fact) ++ 10 ∷ t)) tt (at (lined block n (line.Value value fact) i) u)
-  unfolding line value_line put_value with_line
-  value_line_on i block value fact t u is fits names new e =
+  value_claim_on : (i : Input) (block value : ℕ) (fact : Fact) (t u : Text) → is_value f value ≡ true → fact_fits m (family_of_value m f value) fact ≡ true → IsValue f (named_in_fact fact) → is_in block (slice_get i.read.draft.values value) ≡ false → past_lines false t ≡ u
+      → (n : ℕ) × (line m f block).says (at i (claim_text m f (line.Value value fact) ++ 10 ∷ t)) tt (at (lined block n (line.Value value fact) i) u)
+  unfolding line value_claim put_value with_claim
+  value_claim_on i block value fact t u is fits names new e =
       let w = local_text f value in
       let a = fact_text m f fact ++ 10 ∷ t in
       let p = value_printed f value own is in
       let said = fact_on i (family_of_value m f value) fact t fits names in
       let n = said.1 in
       let now = noting (named_in_fact fact) n i in
-      let one : line_text m f (line.Value value fact) ++ 10 ∷ t ≡ w ++ a = append_assoc w (fact_text m f fact) (10 ∷ t) in
+      let one : claim_text m f (line.Value value fact) ++ 10 ∷ t ≡ w ++ a = append_assoc w (fact_text m f fact) (10 ∷ t) in
       let b : ComesAfter a (past_blanks a) = (said.0, refl) in
       let kind : begins (codes "slot") (at i (w ++ a)) ≡ false = ap (λ x. bytes_eq x (codes "slot")) (word_is i w a (past_blanks a) p.1 b) in
       let out = at (lined block n (line.Value value fact) i) u in (
@@ -457,16 +460,16 @@ module _ (m : Module) (f : Function) (named : IsNamed m) (own : IsNamedFunction 
   holds_first None t = (no_word t, refl, refl)
   holds_first (Some value) t = (word_on (codes "holds") (32 ∷ (local_text f value ++ 10 ∷ t)) refl refl, refl, refl)
 
-  slot_line_on : (i : Input) (block slot : ℕ) (nonnull : Bool) (holds : Option ℕ) (t u : Text) → is_value f slot ≡ true → unwrap_or (slice_get i.read.draft.roots slot) false ≡ true → IsValue f holds → is_in block (slice_get i.read.draft.slots slot) ≡ false → past_lines false t ≡ u
-      → (n : ℕ) × (line m f block).says (at i (line_text m f (line.Slot slot nonnull holds) ++ 10 ∷ t)) tt (at (lined block n (line.Slot slot nonnull holds) i) u)
-  unfolding line slot_line put_slot with_slot_line
-  slot_line_on i block slot nonnull holds t u is root names new e =
+  slot_claim_on : (i : Input) (block slot : ℕ) (nonnull : Bool) (holds : Option ℕ) (t u : Text) → is_value f slot ≡ true → unwrap_or (slice_get i.read.draft.roots slot) false ≡ true → IsValue f holds → is_in block (slice_get i.read.draft.slots slot) ≡ false → past_lines false t ≡ u
+      → (n : ℕ) × (line m f block).says (at i (claim_text m f (line.Slot slot nonnull holds) ++ 10 ∷ t)) tt (at (lined block n (line.Slot slot nonnull holds) i) u)
+  unfolding line slot_claim put_slot with_slot_claim
+  slot_claim_on i block slot nonnull holds t u is root names new e =
       let w = local_text f slot in
       let c = holds_end holds t in
       let a = word_if nonnull (codes " nonnull") ++ c in
       let p = value_printed f slot own is in
       let h = holds_first holds t in
-      let one : line_text m f (line.Slot slot nonnull holds) ++ 10 ∷ t ≡ codes "slot " ++ (w ++ a) =
+      let one : claim_text m f (line.Slot slot nonnull holds) ++ 10 ∷ t ≡ codes "slot " ++ (w ++ a) =
       ap (λ (x : Text). codes "slot " ++ x) (append_assoc (w ++ word_if nonnull (codes " nonnull")) (value_text f (codes " holds ") holds) (10 ∷ t)
       ∙ append_assoc w (word_if nonnull (codes " nonnull")) (holds_end holds t)) in
       let first : ComesAfter (32 ∷ (w ++ a)) (w ++ a) = (refl, blanks_on w a p.1) in
@@ -532,8 +535,8 @@ module _ (m : Module) (f : Function) (named : IsNamed m) (own : IsNamedFunction 
       by None is e = absurd (none said e)
 
   -- a printed line that fits is read, where the block does not list it so far
-  pub line_on : (i : Input) (block : ℕ) (said : Line) (t u : Text) → line_fits m f said ≡ true → IsValue f (named_in said) → IsNew block said i → past_lines false t ≡ u
-      → (n : ℕ) × (line m f block).says (at i (line_text m f said ++ 10 ∷ t)) tt (at (lined block n said i) u)
-  line_on i block (line.Value value fact) t u fits names new e = value_line_on i block value fact t u (value_is value fact fits) fits names new e
+  pub line_on : (i : Input) (block : ℕ) (said : Claim) (t u : Text) → claim_fits m f said ≡ true → IsValue f (named_in said) → IsNew block said i → past_lines false t ≡ u
+      → (n : ℕ) × (line m f block).says (at i (claim_text m f said ++ 10 ∷ t)) tt (at (lined block n said i) u)
+  line_on i block (line.Value value fact) t u fits names new e = value_claim_on i block value fact t u (value_is value fact fits) fits names new e
   line_on i block (line.Slot slot nonnull holds) t u fits names new e =
-      slot_line_on i block slot nonnull holds t u (and_first (is_value f slot) (unwrap_or (slice_get (root_names m f) slot) false) fits) new.0 names new.1 e
+      slot_claim_on i block slot nonnull holds t u (and_first (is_value f slot) (unwrap_or (slice_get (root_names m f) slot) false) fits) new.0 names new.1 e

@@ -16,7 +16,7 @@ use Rattle.name_text.specs.Words.{past_blanks, past_lines, word_at, stops}
 use Rattle.certificate.specs.Names.{value_of_word}
 use Rattle.certs.specs.Families.{family_of_type, family_of_value, family_of_sort, is_reference, is_integer, refers_to}
 use Rattle.certificate.specs.Input.{Input, with_promise}
-use Rattle.name_text.specs.Reader.{noted, word}
+use Rattle.name_text.specs.Reader.{recorded, word}
 use Rattle.certificate.specs.Forms.{is_parameter, is_named, unpromised, parameter_by, parameter_named, new_parameter}
 use Rattle.certificate.specs.Lines.{no_promise, promised_by, promise_by, promised_fact, more_facts, promise}
 use Rattle.certificate.specs.Text as text
@@ -87,6 +87,7 @@ module _ (m : Module) (f : Function) (named : IsNamed m) (own : IsNamedFunction 
   not_both fam.AnyReference e g = cc
   not_both (fam.Number bits) e g = cc
   not_both fam.Address e g = cc
+  not_both fam.Opaque e g = cc
   not_both fam.Nothing e g = cc
 
   -- what is promised, and the line's end
@@ -198,7 +199,7 @@ module _ (m : Module) (f : Function) (named : IsNamed m) (own : IsNamedFunction 
   -- with what is promised of a parameter
   pub parameter_on : (i : Input) (place : ℕ) (parameter : Parameter) (p : Promise) (t u : Text) → slice_get f.parameters place ≡ Some parameter → slice_get i.read.draft.parameters place ≡ Some None
       → promise_fits m (family_of_value m f parameter.value) p ≡ true → past_lines false t ≡ u
-      → (text.parameter m f).says (at i (parameter_text m f parameter (Some p) ++ t)) tt (at (noted (with_promise place p) i) u)
+      → (text.parameter m f).says (at i (parameter_text m f parameter (Some p) ++ t)) tt (at (recorded (with_promise place p) i) u)
   unfolding text.parameter new_parameter with_promise
   parameter_on i place parameter p t u is free fits e =
       let same : parameter.value ≡ place = own.parameters place parameter is in
@@ -216,11 +217,11 @@ module _ (m : Module) (f : Function) (named : IsNamed m) (own : IsNamedFunction 
       subst (λ x. (parameter_named f x).says (at i (w ++ a)) value (at i (past_blanks a))) (sym (ap (value_of_word f) (word_is i w a (past_blanks a) printed.1 b) ∙ printed.0))
       (subst (λ x. (parameter_by value x).says (at i (w ++ a)) value (at i (past_blanks a))) (sym is_one)
       (subst (λ x. (unpromised value x).says (at i (w ++ a)) value (at i (past_blanks a))) (sym still_free) (taken_on value i w a (past_blanks a) printed.1 b))) in
-      subst (λ x. (text.parameter m f).says (at i x) tt (at (noted (with_promise place p) i) u)) (sym one) (
+      subst (λ x. (text.parameter m f).says (at i x) tt (at (recorded (with_promise place p) i) u)) (sym one) (
         tt,
         at i (w ++ a),
         expect_on i (codes "param") (32 ∷ (w ++ a)) (w ++ a) refl first,
-        (value, at i (past_blanks a), name, (p, at i u, said.1, (refl, ap (λ x. at (noted (with_promise x p) i) u) same))),
+        (value, at i (past_blanks a), name, (p, at i u, said.1, (refl, ap (λ x. at (recorded (with_promise x p) i) u) same))),
       )
 
   -- with the line of the result, if something is promised of it

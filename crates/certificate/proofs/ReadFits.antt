@@ -18,12 +18,12 @@ use Rattle.certificate.specs.Names.{global_of_word, value_of_word}
 use Rattle.certs.specs.Families.{family_of_type, family_of_value, is_reference, is_integer, is_address, same_bits}
 use Rattle.certs.specs.RootNames.{root_names}
 use Rattle.certificate.specs.Drafts.{wanting, listing, listing_slot, block_ended, is_in, first_unlisted}
-use Rattle.certificate.specs.Input.{Input, start_of, begun, with_promise, wants, with_line, with_slot_line, with_block, with_section, kept}
-use Rattle.name_text.specs.Reader.{noted, left, ended, word, begins, line_ends}
+use Rattle.certificate.specs.Input.{Input, begun, with_promise, wants, with_claim, with_slot_claim, with_block, with_section, kept}
+use Rattle.name_text.specs.Reader.{recorded, left, ended, word, begins, line_ends}
 use Rattle.certificate.specs.Forms.{free_by, new_function, function_named, function_by, new_parameter, is_parameter, unpromised, parameter_by, parameter_named, new_block, block_by, block_named, new_value, new_value_named, new_slot, root_by, slot_named, want, listed_by, listed_name, begin, put_value, put_slot}
-use Rattle.certificate.specs.Lines.{no_promise, fact_if, promised_by, promise_by, promised_fact, more_by, more_facts, promise, number_head, head_by, below_by, below, listed_if, listed_after, number, reference, words_of_cell, global_by, global_address, address_by, address, fact_by, fact_of, fact_end, slot_end, value_line, slot_line, line_by, line}
+use Rattle.certificate.specs.Lines.{no_promise, fact_if, promised_by, promise_by, promised_fact, more_by, more_facts, promise, number_head, head_by, below_by, below, listed_if, listed_after, number, reference, words_of_cell, global_by, global_address, address_by, address, fact_by, fact_of, fact_end, slot_end, value_claim, slot_claim, line_by, line}
 use Rattle.certificate.specs.Text as text
-use Rattle.certificate.specs.Text.{IsCert, file, first_gap, gap_in, gap_or, sections_in, finished_by}
+use Rattle.certificate.specs.Text.{first_gap, gap_in, gap_or, sections_in, finished_by}
 use Rattle.certs.specs.Fits.{below_fits, says_something, promised_layout_fits, promised_below_fits, promise_fits, promised_fits, fact_fits, is_value, named_in_fact, section_fits, fits}
 use Rattle.certificate.proofs.Between.{all_set_zip, Between, Within, is_wanted, last_wanted, at_start, with_parameter, block_begins, block_ends, with_wanted, with_value, with_slot}
 use Rattle.certificate.specs.declared.draft.SectionDraft.{SectionDraft}
@@ -39,7 +39,7 @@ use Rattle.certificate.specs.declared.promises.Promised.{Promised}
 use Rattle.certificate.specs.declared.promises.Promised.TheVariants as promised
 use Rattle.certs.specs.declared.section.Fact.{Fact}
 use Rattle.certs.specs.declared.section.Fact.TheVariants as facts
-use Rattle.certs.specs.declared.section.Line.TheVariants as line
+use Rattle.certs.specs.declared.section.Claim.TheVariants as line
 use Rattle.certs.specs.declared.section.Mark.{Mark}
 use Rattle.certs.specs.declared.section.Promise.{Promise}
 use Rattle.certs.specs.declared.section.Section.{Section}
@@ -133,7 +133,7 @@ promise_is m family i p o h =
 -- a value is named that the block has to list, if one is
 abbrev Asks : Option ℕ → Input → Input → Type 0
 Asks None i o = still i ≡ still o
-Asks (Some v) i o = (n : ℕ) × (still (noted (λ p. record p { draft = wanting v n p.draft }) i) ≡ still o)
+Asks (Some v) i o = (n : ℕ) × (still (recorded (λ p. record p { draft = wanting v n p.draft }) i) ≡ still o)
 
 listed_name_is : (f : Function) (i : Input) (v : ℕ) (o : Input) → (listed_name f).says i v o → Asks (Some v) i o
 unfolding listed_name want wants
@@ -144,11 +144,11 @@ listed_name_is f i v o h = by (value_of_word f (word i)) h
     by naming.Unknown h = absurd h
     by (naming.Named k) h =
         let same : k ≡ v = h.3.0 in
-        (left i, ap (λ x. still (noted (λ p. record p { draft = wanting x (left i) p.draft }) i)) (sym same) ∙ ap still h.2.2.1 ∙ still_skip h.2.1 h.0 h.1 h.2.3 ∙ ap still h.3.1)
+        (left i, ap (λ x. still (recorded (λ p. record p { draft = wanting x (left i) p.draft }) i)) (sym same) ∙ ap still h.2.2.1 ∙ still_skip h.2.1 h.0 h.1 h.2.3 ∙ ap still h.3.1)
 
 asks_before : (v : Option ℕ) (i j o : Input) → still i ≡ still j → Asks v j o → Asks v i o
 asks_before None i j o e h = e ∙ h
-asks_before (Some v) i j o e h = (h.0, ap (λ (x : Input). noted (λ p. record p { draft = wanting v h.0 p.draft }) x) e ∙ h.1)
+asks_before (Some v) i j o e h = (h.0, ap (λ (x : Input). recorded (λ p. record p { draft = wanting v h.0 p.draft }) x) e ∙ h.1)
 
 asks_after : (v : Option ℕ) (i j o : Input) → Asks v i j → still j ≡ still o → Asks v i o
 asks_after None i j o h e = h ∙ e
@@ -239,6 +239,7 @@ bits_fit (family.Number own) (Some b) bits e = by (own == b) refl e
 bits_fit (family.Reference l) x bits e = absurd cc
 bits_fit family.AnyReference x bits e = absurd cc
 bits_fit family.Address x bits e = absurd cc
+bits_fit family.Opaque x bits e = absurd cc
 bits_fit family.Nothing x bits e = absurd cc
 
 head_address : (family : Family) (w : Bytes) (a b : Bool) → (if a then (if is_reference family then head.Reference else head.Other) else (if b then (if is_address family then head.Address else head.Other) else number_head (same_bits family (bits_of_word w)))) ≡ head.Address → is_address family ≡ true
@@ -348,9 +349,9 @@ asked m f block (Some v) i o h within =
       ap (λ (x : Input). x.read.draft.roots) e,
     )
 
-value_line_is : (m : Module) (f : Function) (block : ℕ) (i : Input) (u : Unit {0}) (o : Input) → (value_line m f block).says i u o → InBlock m f block i o
-unfolding value_line put_value with_line
-value_line_is m f block i u o h within =
+value_claim_is : (m : Module) (f : Function) (block : ℕ) (i : Input) (u : Unit {0}) (o : Input) → (value_claim m f block).says i u o → InBlock m f block i o
+unfolding value_claim put_value with_claim
+value_claim_is m f block i u o h within =
     let v = h.0 in
     let new = new_value_is f block i v h.1 h.2 in
     let b = h.3 in
@@ -363,9 +364,9 @@ value_line_is m f block i u o h within =
     let put : Within m f block (listing block v (line.Value v fact) b.3.1.read.draft) = with_value m f block v fact b.3.1.read.draft new.0 free said.0 at.1 at.0 in
     (subst (λ (x : Input). Within m f block x.read.draft) b.3.3.1 put, at.2 ∙ ap (λ (x : Input). x.read.sections) b.3.3.1, at.3 ∙ ap (λ (x : Input). x.read.draft.given) b.3.3.1)
 
-slot_line_is : (m : Module) (f : Function) (block : ℕ) (i : Input) (u : Unit {0}) (o : Input) → (slot_line f block).says i u o → InBlock m f block i o
-unfolding slot_line put_slot with_slot_line
-slot_line_is m f block i u o h within =
+slot_claim_is : (m : Module) (f : Function) (block : ℕ) (i : Input) (u : Unit {0}) (o : Input) → (slot_claim f block).says i u o → InBlock m f block i o
+unfolding slot_claim put_slot with_slot_claim
+slot_claim_is m f block i u o h within =
     let word = still_expect (codes "slot") i h.0 h.1 h.2 in
     let b = h.3 in
     let s = b.0 in
@@ -388,8 +389,8 @@ unfolding line
 line_is m f block i u o h = by (begins (codes "slot") i) h
   where
     by : (b : Bool) → (line_by m f block b).says i u o → InBlock m f block i o
-    by true h = slot_line_is m f block i u o h
-    by false h = value_line_is m f block i u o h
+    by true h = slot_claim_is m f block i u o h
+    by false h = value_claim_is m f block i u o h
 
 lines_are : (m : Module) (f : Function) (block : ℕ) (i : Input) (xs : List (Unit {0})) (o : Input) → Listed text.past_lines (line m f block).says i xs o → InBlock m f block i o
 lines_are m f block i [] o h within = (subst (λ (x : Input). Within m f block x.read.draft) h.1 within, ap (λ (x : Input). x.read.sections) h.1, ap (λ (x : Input). x.read.draft.given) h.1)
@@ -446,7 +447,7 @@ block_is m f i u o h between =
     let here : Within m f block d.1.read.draft = subst (λ (x : Input). Within m f block x.read.draft) afterwards read.0 in
     let given_here : slice_get d.1.read.draft.given block ≡ Some false = sym (ap (λ x. slice_get x block) (read.2 ∙ ap (λ (x : Input). x.read.draft.given) afterwards)) ∙ given in
     let ended : Between m f (block_ended block d.1.read.draft) = block_ends m f block d.1.read.draft given_here listed.0 here in
-    let out : noted (with_block block) d.1 ≡ o = ap (noted (with_block block)) listed.1 ∙ e.3.1 in (
+    let out : recorded (with_block block) d.1 ≡ o = ap (recorded (with_block block)) listed.1 ∙ e.3.1 in (
       subst (λ (x : Input). Between m f x.read.draft) out ended,
       ap (λ (x : Input). x.read.sections) same ∙ read.1 ∙ ap (λ (x : Input). x.read.sections) afterwards ∙ ap (λ (x : Input). x.read.sections) out,
     )
@@ -535,7 +536,7 @@ section_fits_between m f mark p d h fits =
     rw (h.0.promises, fits, same, h.0.entry, h.0.fit) refl
 
 -- what is kept of a function is a section that fits
-abbrev kept_fits : Module → Function × Option Kept → Bool
+abbrev pub kept_fits : Module → Function × Option Kept → Bool
 kept_fits m p = kept_by p.0 p.1
   where
     kept_by : Function → Option Kept → Bool
@@ -543,7 +544,7 @@ kept_fits m p = kept_by p.0 p.1
     kept_by f (Some k) = section_fits m f k.section
 
 -- what is read of each function fits
-abbrev Fine : Module → Input → Type 0
+abbrev pub Fine : Module → Input → Type 0
 Fine m i = (length i.read.sections ≡ length m.functions) × (list_all (kept_fits m) (zip m.functions i.read.sections) ≡ true)
 
 -- the section that is read fits, and is kept at this place
@@ -596,14 +597,14 @@ section_is m i u o h fine =
     by None is g fine = absurd g
     by (Some f) is g fine = section_of_is m h.3.0 f h.3.1 u o is g fine
 
-sections_are : (m : Module) (i : Input) (xs : List (Unit {0})) (o : Input) → Listed (λ i. ended i) (text.section m).says i xs o → Fine m i → Fine m o
+pub sections_are : (m : Module) (i : Input) (xs : List (Unit {0})) (o : Input) → Listed (λ i. ended i) (text.section m).says i xs o → Fine m i → Fine m o
 sections_are m i [] o h fine = subst (Fine m) h.1 fine
 sections_are m i (u ∷ xs) o h fine = sections_are m h.1 xs o h.3 (section_is m i u h.1 h.2 fine)
 
-abbrev unkept : List Function → List (Option Kept)
+abbrev pub unkept : List Function → List (Option Kept)
 unkept fs = map (λ _. None) fs
 
-none_kept : (m : Module) (fs : List Function) → (length (unkept fs) ≡ length fs) × (list_all (kept_fits m) (zip fs (unkept fs)) ≡ true)
+pub none_kept : (m : Module) (fs : List Function) → (length (unkept fs) ≡ length fs) × (list_all (kept_fits m) (zip fs (unkept fs)) ≡ true)
 none_kept m [] = (refl, refl)
 none_kept m (f ∷ fs) = let more = none_kept m fs in (ap suc more.0, more.1)
 
@@ -630,11 +631,7 @@ all_kept m n (f ∷ fs) (Some k ∷ ks) len gap all =
     second true b e = e
     second false b e = absurd cc
 
-still_version : Still text.version
-unfolding text.version
-still_version i a o h = ap still h.2.1 ∙ ap still h.3.2.1 ∙ still_skip h.3.1 a o h.3.3
-
-finished_is : (m : Module) (i : Input) (s : List Section) (o : Input) → text.finished.says i s o → Fine m i → fits m s ≡ true
+pub finished_is : (m : Module) (i : Input) (s : List Section) (o : Input) → text.finished.says i s o → Fine m i → fits m s ≡ true
 unfolding text.finished
 finished_is m i s o h fine = by (first_gap 0 i.read.sections) refl h
   where
@@ -643,17 +640,3 @@ finished_is m i s o h fine = by (first_gap 0 i.read.sections) refl h
         let all = all_kept m 0 m.functions i.read.sections fine.0 is fine.1 in
         subst (λ x. fits m x ≡ true) h.0 (and_true (length (sections_in i.read.sections) == length m.functions) (list_all (λ p. section_fits m p.0 p.1) (zip m.functions (sections_in i.read.sections))) (eq-eqb (length (sections_in i.read.sections)) (length m.functions) all.0) all.1)
     by (Some gap) is h = absurd h
-
--- what a text is fits the module
-pub cert_fits : (bytes : Bytes) (m : Module) (s : List Section) → IsCert bytes m s → fits m s ≡ true
-unfolding text.file text.sections
-cert_fits bytes m s h =
-    let o = h.0 in
-    let a = h.1 in
-    let b = a.3 in
-    let c = b.3 in
-    let d = c.3 in
-    let same = still_expect (codes "cert") (start_of m bytes) a.0 a.1 a.2 ∙ still_version a.1 b.0 b.1 b.2 ∙ still_line_end b.1 c.0 c.1 c.2 in
-    let start : Fine m c.1 = subst (λ (x : Input). Fine m x) same (none_kept m m.functions) in
-    let read : Fine m d.1 = subst (Fine m) d.2.3.1 (sections_are m c.1 d.2.0 d.2.1 d.2.2 start) in
-    finished_is m d.1 s o d.3 read

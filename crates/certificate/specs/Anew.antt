@@ -5,15 +5,16 @@ use Rattle.ir_ast.specs.declared.module.Module.{Module}
 use Rattle.grammar.specs.Grammar.{◌>>◌, step, checked, look, refuse}
 use Rattle.ir_tokens.specs.Bytes.{Text as Bytes}
 use Rattle.name_text.specs.Words.{past_lines}
-use Rattle.name_text.specs.Reader.{left, ended, word, noted, noted_falls}
+use Rattle.name_text.specs.Reader.{left, ended, word, recorded, recorded_falls}
 use Rattle.name_text.specs.Forms.{skip, expect}
-use Rattle.name_text.specs.declared.found.Found.{Found}
-use Rattle.name_text.specs.declared.found.Found.TheVariants.{Syntax, Wrong}
+use Rattle.name_text.specs.declared.found.WordFault.{WordFault}
+use Rattle.name_text.specs.declared.found.WordFault.TheVariants.{Syntax, Wrong}
 use Rattle.certs.specs.declared.section.Section.{Section}
 use Rattle.certificate.specs.Drafts.{no_draft}
 use Rattle.certificate.specs.Forms.{unknown}
 use Rattle.certificate.specs.Input.{Input, Form, emptied}
 use Rattle.certificate.specs.Names.{function_of_word}
+use Rattle.certificate.specs.ShapeDrafts.{no_shapes}
 use Rattle.certificate.specs.Text.{section_of, gap_in, placed}
 use Rattle.certificate.specs.declared.fault.CertFault.{CertFault}
 use Rattle.certificate.specs.declared.mistake.Mistake.{Mistake}
@@ -24,7 +25,7 @@ use Rattle.certificate.specs.declared.progress.Kept.{Kept}
 
 -- the state before a text: the one function has no section
 abbrev pub start_anew : Bytes → Input
-start_anew bytes = record { rest = past_lines false bytes; read = record { sections = None ∷ []; draft = no_draft } }
+start_anew bytes = record { rest = past_lines false bytes; read = record { sections = None ∷ []; draft = no_draft; shapes = no_shapes } }
 
 -- whether a word names this function
 abbrev pub is_function : (function : ℕ) → Naming → Bool
@@ -47,7 +48,7 @@ only_kept (kept ∷ more) = kept
 
 -- the section, if nothing of it is missing
 abbrev pub whole_by : Option Mistake → Section → Form Section
-whole_by None section = step (λ _. section) (noted emptied) (noted_falls emptied)
+whole_by None section = step (λ _. section) (recorded emptied) (recorded_falls emptied)
 whole_by (Some gap) section = refuse (λ _. Wrong gap)
 
 -- the section that is kept of this function
@@ -55,7 +56,7 @@ abbrev pub kept_by : (function : ℕ) → Option Kept → Form Section
 kept_by function None = refuse (λ _. Wrong (Missing function))
 kept_by function (Some kept) = whole_by (gap_in function kept.missing) kept.section
 
--- each of the function's blocks has its lines
+-- each of the function's blocks has its claims
 unfoldable pub finished_anew : (function : ℕ) → Form Section
 finished_anew function = look (λ i. only_kept i.read.sections) (kept_by function)
 
@@ -74,4 +75,4 @@ IsSection bytes m function section = (o : Input) × (file_anew m function).says 
 
 -- the text is a section of the function up to a place, where it has this fault
 abbrev pub IsSectionFault : Bytes → Module → (function : ℕ) → CertFault → Type 0
-IsSectionFault bytes m function fault = (found : Found Mistake) × (file_anew m function).stuck (start_anew bytes) found × (placed bytes found ≡ fault)
+IsSectionFault bytes m function fault = (found : WordFault Mistake) × (file_anew m function).stuck (start_anew bytes) found × (placed bytes found ≡ fault)

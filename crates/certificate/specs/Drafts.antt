@@ -5,7 +5,7 @@ use Rattle.ir_ast.specs.declared.module.Module.{Module}
 use Rattle.certs.specs.RootNames.{root_names}
 use Rattle.certificate.specs.declared.draft.SectionDraft.{SectionDraft}
 use Rattle.certificate.specs.declared.draft.RequiredValue.{RequiredValue}
-use Rattle.certs.specs.declared.section.Line.{Line}
+use Rattle.certs.specs.declared.section.Claim.{Claim}
 use Rattle.certs.specs.declared.section.Promise.{Promise}
 
 -- ---- drafts
@@ -14,7 +14,7 @@ use Rattle.certs.specs.declared.section.Promise.{Promise}
 abbrev pub no_draft : SectionDraft
 no_draft = record { roots = []; parameters = []; given = []; blocks = []; lines = []; values = []; slots = []; wanted = [] }
 
--- nothing is read so far; the entry has no lines to come
+-- nothing is read so far; the entry has no claims to come
 abbrev pub draft_of : Module → Function → SectionDraft
 draft_of m f = record {
   roots = root_names m f;
@@ -36,14 +36,14 @@ abbrev pub wanting : (value left : ℕ) → SectionDraft → SectionDraft
 wanting value left draft = record draft { wanted = draft.wanted ++ record { value = value; left = left } ∷ [] }
 
 -- the block lists this value
-abbrev pub listing : (block value : ℕ) → Line → SectionDraft → SectionDraft
+abbrev pub listing : (block value : ℕ) → Claim → SectionDraft → SectionDraft
 listing block value line draft = record draft { lines = draft.lines ++ line ∷ []; values = slice_set draft.values value (Some block) }
 
 -- the block lists this slot
-abbrev pub listing_slot : (block slot : ℕ) → Line → SectionDraft → SectionDraft
+abbrev pub listing_slot : (block slot : ℕ) → Claim → SectionDraft → SectionDraft
 listing_slot block slot line draft = record draft { lines = draft.lines ++ line ∷ []; slots = slice_set draft.slots slot (Some block) }
 
--- the block that is read has had its lines
+-- the block that is read has had its claims
 abbrev pub block_ended : (block : ℕ) → SectionDraft → SectionDraft
 block_ended block draft = record draft { given = slice_set draft.given block true; blocks = slice_set draft.blocks block draft.lines; lines = []; wanted = [] }
 
@@ -57,6 +57,6 @@ abbrev pub first_unlisted : (block : ℕ) → (values : List (Option ℕ)) → L
 first_unlisted block values [] = None
 first_unlisted block values (wanted ∷ more) = if is_in block (slice_get values wanted.value) then first_unlisted block values more else Some wanted.left
 
--- the first block that has not had its lines
+-- the first block that has not had its claims
 abbrev pub first_missing : SectionDraft → Option ℕ
 first_missing draft = position not draft.given

@@ -12,7 +12,7 @@ use Rattle.name_text.specs.Reader.{word, begins}
 use Rattle.name_text.specs.Forms.{expect, expect_takes, taken_takes}
 use Rattle.certificate.specs.Input.{Progress}
 use Rattle.certificate.specs.Forms.{free_by, new_value, new_value_named}
-use Rattle.certificate.specs.Lines.{line, line_by, slot_line, slot_after, value_line, value_after}
+use Rattle.certificate.specs.Lines.{line, line_by, slot_claim, slot_after, value_claim, value_after}
 use Rattle.certificate.specs.declared.naming.Naming.{Naming}
 use Rattle.certificate.specs.declared.naming.Naming.TheVariants.{NoName, Unknown, Named}
 use Rattle.certificate.specs.declared.mistake.Mistake.{Mistake}
@@ -38,21 +38,21 @@ new_value_takes f block = look_takes (λ i. value_of_word f (word i)) (new_value
     each Unknown i a o p h = absurd h
     each (Named value) i a o p h = free_takes value (is_in block (slice_get i.read.draft.values value)) i a o (named_has_bytes f (word i) value p) h
 
--- the line of a slot takes bytes
-slot_line_takes : (f : Function) (block : ℕ) → Takes (slot_line f block)
-unfolding slot_line
-slot_line_takes f block = first_takes (expect (codes "slot")) (λ _. slot_after f block) (expect_takes Progress Mistake (codes "slot") (lit< tt))
+-- a claim about a slot takes bytes
+slot_claim_takes : (f : Function) (block : ℕ) → Takes (slot_claim f block)
+unfolding slot_claim
+slot_claim_takes f block = first_takes (expect (codes "slot")) (λ _. slot_after f block) (expect_takes Progress Mistake (codes "slot") (lit< tt))
 
--- the line of a value takes bytes
-value_line_takes : (m : Module) (f : Function) (block : ℕ) → Takes (value_line m f block)
-unfolding value_line
-value_line_takes m f block = first_takes (new_value f block) (λ value. value_after m f block value) (new_value_takes f block)
+-- a claim about a value takes bytes
+value_claim_takes : (m : Module) (f : Function) (block : ℕ) → Takes (value_claim m f block)
+unfolding value_claim
+value_claim_takes m f block = first_takes (new_value f block) (λ value. value_after m f block value) (new_value_takes f block)
 
--- a line of a block takes bytes
+-- a claim of a block takes bytes
 pub line_takes : (m : Module) (f : Function) (block : ℕ) → Takes (line m f block)
 unfolding line
 line_takes m f block = look_takes (begins (codes "slot")) (line_by m f block) each
   where
     each : (k : Bool) → TakesWhere (λ i. begins (codes "slot") i ≡ k) (line_by m f block k)
-    each true i a o p h = slot_line_takes f block i a o h
-    each false i a o p h = value_line_takes m f block i a o h
+    each true i a o p h = slot_claim_takes f block i a o h
+    each false i a o p h = value_claim_takes m f block i a o h

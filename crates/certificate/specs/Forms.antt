@@ -12,14 +12,14 @@ use Rattle.certificate.specs.Names.{function_of_word, value_of_word, block_of_wo
 use Rattle.certs.specs.Families.{refers_to}
 use Rattle.certificate.specs.Drafts.{is_in}
 use Rattle.name_text.specs.Reader.{left, word, begins}
-use Rattle.name_text.specs.Forms.{syntax, wrong, skip, taken, taken_as, note}
-use Rattle.certificate.specs.Input.{Form, begun, wants, with_line, with_slot_line}
+use Rattle.name_text.specs.Forms.{syntax, wrong, skip, taken, taken_as, update}
+use Rattle.certificate.specs.Input.{Form, begun, wants, with_claim, with_slot_claim}
 use Rattle.certs.specs.declared.family.Family.{Family}
 use Rattle.certificate.specs.declared.progress.Kept.{Kept}
 use Rattle.certs.specs.declared.section.Age.{Age}
 use Rattle.certs.specs.declared.section.Age.TheVariants as ages
 use Rattle.certs.specs.declared.section.Fact.{Fact}
-use Rattle.certs.specs.declared.section.Line.TheVariants as line
+use Rattle.certs.specs.declared.section.Claim.TheVariants as line
 use Rattle.certs.specs.declared.section.Mark.{Mark}
 use Rattle.certs.specs.declared.section.Mark.TheVariants as mark
 use Rattle.certs.specs.declared.section.Promise.{Promise}
@@ -133,19 +133,19 @@ parameter_named f (Named value) = parameter_by value (is_parameter f value)
 unfoldable pub new_parameter : Function → Form ℕ
 new_parameter f = look (λ i. value_of_word f (word i)) (parameter_named f)
 
--- a block whose lines did not come so far
+-- a block whose claims did not come so far
 abbrev pub block_by : (block : ℕ) → Option Bool → Form ℕ
 block_by block None = unknown
 block_by block (Some true) = twice
 block_by block (Some false) = taken block
 
--- the lines of the block that is named did not come so far
+-- the claims of the block that is named did not come so far
 abbrev pub block_named : Naming → Form ℕ
 block_named NoName = syntax
 block_named Unknown = unknown
 block_named (Named block) = look (λ i. slice_get i.read.draft.given block) (block_by block)
 
--- the name of a block, not the entry, whose lines did not come so far
+-- the name of a block, not the entry, whose claims did not come so far
 unfoldable pub new_block : Function → Form ℕ
 new_block f = look (λ i. block_of_word f (word i)) block_named
 
@@ -176,7 +176,7 @@ new_slot f block = look (λ i. value_of_word f (word i)) (slot_named block)
 
 -- the block has to list this value, which the next word names
 unfoldable pub want : (value : ℕ) → Form (Unit {0})
-want value = look left (λ left. note (wants value left))
+want value = look left (λ left. update (wants value left))
 
 -- the block has to list the value that is named
 abbrev pub listed_by : Naming → Form ℕ
@@ -202,12 +202,12 @@ layout_name m family = look (λ i. layout_of_word m (word i)) (layout_by family)
 
 -- the section of this function begins
 unfoldable pub begin : Module → Function → Form (Unit {0})
-begin m f = note (begun m f)
+begin m f = update (begun m f)
 
--- a line of the block says this of a value
+-- a claim of the block says this of a value
 unfoldable pub put_value : (block value : ℕ) → Fact → Form (Unit {0})
-put_value block value fact = note (with_line block value (line.Value value fact))
+put_value block value fact = update (with_claim block value (line.Value value fact))
 
--- a line of the block says this of a slot
+-- a claim of the block says this of a slot
 unfoldable pub put_slot : (block slot : ℕ) → (nonnull : Bool) → (holds : Option ℕ) → Form (Unit {0})
-put_slot block slot nonnull holds = note (with_slot_line block slot (line.Slot slot nonnull holds))
+put_slot block slot nonnull holds = update (with_slot_claim block slot (line.Slot slot nonnull holds))

@@ -7,10 +7,12 @@ use Rattle.name_text.specs.Words.{past_lines}
 use Rattle.name_text.specs.Reader as reader
 use Rattle.name_text.specs.declared.reader.Reader.{Reader}
 use Rattle.certificate.specs.Drafts.{no_draft, draft_of, promised, wanting, listing, listing_slot, block_ended, first_missing}
+use Rattle.certificate.specs.ShapeDrafts.{no_shapes}
 use Rattle.certificate.specs.declared.draft.SectionDraft.{SectionDraft}
 use Rattle.certificate.specs.declared.mistake.Mistake.{Mistake}
+use Rattle.certificate.specs.declared.shape_draft.ShapeDraft.{ShapeDraft}
 use Rattle.certificate.specs.declared.progress.Kept.{Kept}
-use Rattle.certs.specs.declared.section.Line.{Line}
+use Rattle.certs.specs.declared.section.Claim.{Claim}
 use Rattle.certs.specs.declared.section.Mark.{Mark}
 use Rattle.certs.specs.declared.section.Promise.{Promise}
 
@@ -18,6 +20,7 @@ use Rattle.certs.specs.declared.section.Promise.{Promise}
 pub record Progress : Type 0 where
   pub sections : List (Option Kept)  -- by the numbers of the functions
   pub draft : SectionDraft  -- of the section that is read
+  pub shapes : ShapeDraft
 
 -- a certificate's text, and what is read of it so far
 abbrev pub Input : Type 0
@@ -27,9 +30,13 @@ Input = Reader Progress
 abbrev pub Form : Type 0 → Type 1
 Form A = reader.Form Progress Mistake A
 
--- the state before a text: no function has a section
-abbrev pub start_of : Module → Text → Input
-start_of m bytes = record { rest = past_lines false bytes; read = record { sections = map (λ _. None) m.functions; draft = no_draft } }
+-- nothing is read so far: no function has a section
+abbrev pub nothing_read : Module → ShapeDraft → Progress
+nothing_read m shapes = record { sections = map (λ _. None) m.functions; draft = no_draft; shapes = shapes }
+
+-- the state before a text
+abbrev pub start_of : Module → ShapeDraft → Text → Input
+start_of m shapes bytes = record { rest = past_lines false bytes; read = nothing_read m shapes }
 
 -- at the beginning of this function's section
 unfoldable pub begun : Module → Function → Progress → Progress
@@ -43,15 +50,15 @@ with_promise place promise p = record p { draft = promised place promise p.draft
 unfoldable pub wants : (value left : ℕ) → Progress → Progress
 wants value left p = record p { draft = wanting value left p.draft }
 
--- with this line of a value
-unfoldable pub with_line : (block value : ℕ) → Line → Progress → Progress
-with_line block value line p = record p { draft = listing block value line p.draft }
+-- with this claim about a value
+unfoldable pub with_claim : (block value : ℕ) → Claim → Progress → Progress
+with_claim block value line p = record p { draft = listing block value line p.draft }
 
--- with this line of a slot
-unfoldable pub with_slot_line : (block slot : ℕ) → Line → Progress → Progress
-with_slot_line block slot line p = record p { draft = listing_slot block slot line p.draft }
+-- with this claim about a slot
+unfoldable pub with_slot_claim : (block slot : ℕ) → Claim → Progress → Progress
+with_slot_claim block slot line p = record p { draft = listing_slot block slot line p.draft }
 
--- after the lines of this block
+-- after the claims of this block
 unfoldable pub with_block : (block : ℕ) → Progress → Progress
 with_block block p = record p { draft = block_ended block p.draft }
 
@@ -66,3 +73,11 @@ with_section function mark promise p = record p { sections = slice_set p.section
 -- with no section left
 unfoldable pub emptied : Progress → Progress
 emptied p = record p { sections = [] }
+
+-- with this change of the shapes
+unfoldable pub shaping : (change : ShapeDraft → ShapeDraft) → Progress → Progress
+shaping change p = record p { shapes = change p.shapes }
+
+-- with no shapes left
+unfoldable pub unshaped : Progress → Progress
+unshaped p = record p { shapes = no_shapes }

@@ -1,4 +1,4 @@
--- The forms of facts and lines.
+-- The forms of facts and claims: a claim is a line.
 use Rattle.std.specs.Prelude.{ℕ, Bool, true, false, not, ◌&&◌, ◌||◌, ◌==◌, if◌then◌else◌, Option, Some, None, is_some, codes}
 use Rattle.std.specs.Str.{bytes_eq}
 use Rattle.ir_ast.specs.declared.function.Function.{Function}
@@ -25,7 +25,7 @@ use Rattle.certs.specs.declared.section.Age.TheVariants as ages
 use Rattle.certs.specs.declared.section.Fact.{Fact}
 use Rattle.certs.specs.declared.section.Fact.TheVariants as fact
 use Rattle.certs.specs.declared.section.Promise.{Promise}
-use Rattle.name_text.specs.declared.found.Found.TheVariants.{Wrong}
+use Rattle.name_text.specs.declared.found.WordFault.TheVariants.{Wrong}
 use Rattle.certificate.specs.declared.mistake.Mistake.TheVariants.{ListedTwice}
 
 -- ---- promises
@@ -195,18 +195,18 @@ slot_end nonnull holds = checked (λ i. line_ends i || not (slot_has_word nonnul
 
 -- ---- lines
 
--- a line of a value after the value's name
+-- a claim about a value after the value's name
 abbrev pub value_after : Module → Function → (block value : ℕ) → Form (Unit {0})
 value_after m f block value = do
   fact ← fact_of m f (family_of_value m f value)
   fact_end fact
   put_value block value fact
 
--- a line of a value
-unfoldable pub value_line : Module → Function → (block : ℕ) → Form (Unit {0})
-value_line m f block = new_value f block >>= λ value. value_after m f block value
+-- a claim about a value
+unfoldable pub value_claim : Module → Function → (block : ℕ) → Form (Unit {0})
+value_claim m f block = new_value f block >>= λ value. value_after m f block value
 
--- a line of a slot after its first word
+-- a claim about a slot after its first word
 abbrev pub slot_after : Function → (block : ℕ) → Form (Unit {0})
 slot_after f block = do
   slot ← new_slot f block
@@ -215,15 +215,15 @@ slot_after f block = do
   slot_end nonnull holds
   put_slot block slot nonnull holds
 
--- a line of a slot
-unfoldable pub slot_line : Function → (block : ℕ) → Form (Unit {0})
-slot_line f block = expect (codes "slot") >> slot_after f block
+-- a claim about a slot
+unfoldable pub slot_claim : Function → (block : ℕ) → Form (Unit {0})
+slot_claim f block = expect (codes "slot") >> slot_after f block
 
--- a line of a slot, or else of a value
+-- a claim about a slot, or else about a value
 abbrev pub line_by : Module → Function → (block : ℕ) → Bool → Form (Unit {0})
-line_by m f block true = slot_line f block
-line_by m f block false = value_line m f block
+line_by m f block true = slot_claim f block
+line_by m f block false = value_claim m f block
 
--- a line of a block
+-- a claim of a block
 unfoldable pub line : Module → Function → (block : ℕ) → Form (Unit {0})
 line m f block = look (begins (codes "slot")) (line_by m f block)

@@ -7,6 +7,7 @@ use Rattle.ir_ast.specs.declared.block.Block.{Block}
 use Rattle.ir_ast.specs.declared.function.Function.{Function}
 use Rattle.ir_ast.specs.declared.function.LocalSort.TheVariants as local
 use Rattle.ir_ast.specs.declared.function.Parameter.{Parameter}
+use Rattle.ir_ast.specs.declared.items_of_module.Global.{Global as AGlobal}
 use Rattle.ir_ast.specs.declared.items_of_module.StructType.{StructType}
 use Rattle.ir_ast.specs.declared.items_of_module.SymbolSort.TheVariants as sort
 use Rattle.ir_ast.specs.declared.module.Module.{Module}
@@ -15,6 +16,7 @@ use Rattle.name_text.specs.Readings.{IsShort}
 use Rattle.name_text.specs.declared.blank.Blank.TheVariants as blank
 use Rattle.types.specs.Globals.{global_named}
 use Rattle.certs.specs.Fits.{is_value}
+use Rattle.certs.specs.RootNames.{root_names}
 
 -- each name of a table is such a name, and is found at its place
 abbrev pub AreNames : List Text → Type 0
@@ -46,3 +48,15 @@ pub record IsNamed (m : Module) : Type 0 where
   pub structs : AreNames m.struct_names
   pub layouts : (layout name : ℕ) → slice_get m.struct_of name ≡ Some (Some layout) → (struct : StructType) × (slice_get m.structs layout ≡ Some struct) × (struct.name ≡ name) × (name < length m.struct_names)
   pub functions : (number : ℕ) (f : Function) → slice_get m.functions number ≡ Some f → (f.symbol < length m.symbols) × (slice_get m.sorts f.symbol ≡ Some (sort.Defined number)) × IsNamedFunction f
+
+-- each global is what its name names
+abbrev pub HasGlobals : Module → Type 0
+HasGlobals m = (number : ℕ) (global : AGlobal) → slice_get m.globals number ≡ Some global → slice_get m.sorts global.symbol ≡ Some (sort.Global number)
+
+-- each struct is what its name names
+abbrev pub HasStructs : Module → Type 0
+HasStructs m = (layout : ℕ) (struct : StructType) → slice_get m.structs layout ≡ Some struct → slice_get m.struct_of struct.name ≡ Some (Some layout)
+
+-- each root slot's name is that of a value
+abbrev pub HasRootValues : Module → Type 0
+HasRootValues m = (function : ℕ) (f : Function) → slice_get m.functions function ≡ Some f → (slot : ℕ) → slice_get (root_names m f) slot ≡ Some true → is_value f slot ≡ true

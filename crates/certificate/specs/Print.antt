@@ -8,42 +8,22 @@ use Rattle.ir_ast.specs.declared.block.Block.{Block}
 use Rattle.ir_ast.specs.declared.function.Function.{Function}
 use Rattle.ir_ast.specs.declared.function.Parameter.{Parameter}
 use Rattle.ir_ast.specs.declared.module.Module.{Module}
+use Rattle.ir_ast.specs.declared.shapes.Shapes.{Shapes}
 use Rattle.ir_tokens.specs.Bytes.{Text}
-use Rattle.name_text.specs.Names as names
-use Rattle.name_text.specs.declared.blank.Blank.TheVariants as blank
+pub use Rattle.certificate.specs.NameTexts.{name_text, key_text, local_text, global_text, layout_text}
+use Rattle.certificate.specs.ShapesPrint.{shapes_text}
 use Rattle.pools.specs.WordSets.{has_word}
+use Rattle.certs.specs.declared.certs.Certs.{Certs}
 use Rattle.certs.specs.declared.section.Age.{Age}
 use Rattle.certs.specs.declared.section.Age.TheVariants as ages
 use Rattle.certs.specs.declared.section.Fact.{Fact}
 use Rattle.certs.specs.declared.section.Fact.TheVariants as fact
-use Rattle.certs.specs.declared.section.Line.{Line}
-use Rattle.certs.specs.declared.section.Line.TheVariants as line
+use Rattle.certs.specs.declared.section.Claim.{Claim}
+use Rattle.certs.specs.declared.section.Claim.TheVariants as line
 use Rattle.certs.specs.declared.section.Mark.{Mark}
 use Rattle.certs.specs.declared.section.Mark.TheVariants as mark
 use Rattle.certs.specs.declared.section.Promise.{Promise}
 use Rattle.certs.specs.declared.section.Section.{Section}
-
--- ---- names
-
--- a name, in quotes where it is not plain
-abbrev pub name_text : Text → Text
-name_text = names.name_text blank.Kept
-
--- what has this key: the number of a value or a block without a name as it is, and otherwise the name
-abbrev pub key_text : Text → Text
-key_text = names.key_text blank.Kept
-
--- a local name with its sign
-abbrev pub local_text : Function → (value : ℕ) → Text
-local_text f value = names.local_text blank.Kept f.locals value
-
--- a global name with its sign
-abbrev pub global_text : Module → (symbol : ℕ) → Text
-global_text = names.global_text blank.Kept
-
--- the name of a layout's type, without its sign
-abbrev pub layout_text : Module → (layout : ℕ) → Text
-layout_text = names.layout_text blank.Kept
 
 -- ---- facts
 
@@ -86,33 +66,33 @@ fact_text m f (fact.Reference layout nonnull age same) = codes " ref " ++ layout
 fact_text m f (fact.Address base words) = codes " addr " ++ local_text f base ++ 32 ∷ words_text words.members
 fact_text m f (fact.GlobalAddress symbol) = codes " addr " ++ global_text m symbol
 
--- a line of a block, without its end
-abbrev pub line_text : Module → Function → Line → Text
-line_text m f (line.Value value fact) = local_text f value ++ fact_text m f fact
-line_text m f (line.Slot slot nonnull holds) = codes "slot " ++ local_text f slot ++ word_if nonnull (codes " nonnull") ++ value_text f (codes " holds ") holds
+-- a claim of a block as a line, without the line's end
+abbrev pub claim_text : Module → Function → Claim → Text
+claim_text m f (line.Value value fact) = local_text f value ++ fact_text m f fact
+claim_text m f (line.Slot slot nonnull holds) = codes "slot " ++ local_text f slot ++ word_if nonnull (codes " nonnull") ++ value_text f (codes " holds ") holds
 
--- ---- one line
+-- ---- one claim
 
--- the lines of a block
-abbrev pub lines_at : Section → (block : ℕ) → Option (List Line)
+-- the claims of a block
+abbrev pub lines_at : Section → (block : ℕ) → Option (List Claim)
 lines_at section block = slice_get section.blocks block
 
--- the line at a place of some lines
-abbrev pub line_in : (place : ℕ) → Option (List Line) → Option Line
+-- the claim at a place of some claims
+abbrev pub line_in : (place : ℕ) → Option (List Claim) → Option Claim
 line_in place None = None
 line_in place (Some lines) = slice_get lines place
 
--- the line at a place of a block of a section
-abbrev pub line_at : Option Section → (block place : ℕ) → Option Line
+-- the claim at a place of a block of a section
+abbrev pub line_at : Option Section → (block place : ℕ) → Option Claim
 line_at None block place = None
 line_at (Some section) block place = line_in place (lines_at section block)
 
--- a line of a function, if both are there
-abbrev pub shown_line : Module → Option Function → Option Line → Text
-shown_line m (Some f) (Some line) = line_text m f line
+-- a claim of a function, if both are there
+abbrev pub shown_line : Module → Option Function → Option Claim → Text
+shown_line m (Some f) (Some line) = claim_text m f line
 shown_line m _ _ = []
 
--- the line at this place of a block's lines, without its end
+-- the claim at this place of a block as a line, without the line's end
 abbrev pub line_shown : List Section → Module → (function block place : ℕ) → Text
 line_shown sections m function block place = shown_line m (slice_get m.functions function) (line_at (slice_get sections function) block place)
 
@@ -141,16 +121,16 @@ abbrev pub result_text : Module → Option Promise → Text
 result_text m None = []
 result_text m (Some promise) = codes "result" ++ promise_text m promise
 
--- the lines of a block
-abbrev pub lines_text : Module → Function → List Line → Text
-lines_text m f lines = flat_map (λ line. line_text m f line ++ 10 ∷ []) lines
+-- the claims of a block
+abbrev pub claims_text : Module → Function → List Claim → Text
+claims_text m f lines = flat_map (λ line. claim_text m f line ++ 10 ∷ []) lines
 
--- a block and its lines
-abbrev pub block_text : Module → Function → Block → List Line → Text
-block_text m f block lines = codes "block " ++ local_text f block.label ++ 10 ∷ lines_text m f lines
+-- a block and its claims
+abbrev pub block_text : Module → Function → Block → List Claim → Text
+block_text m f block lines = codes "block " ++ local_text f block.label ++ 10 ∷ claims_text m f lines
 
--- blocks and their lines
-abbrev pub blocks_text : Module → Function → List Block → List (List Line) → Text
+-- blocks and their claims
+abbrev pub blocks_text : Module → Function → List Block → List (List Claim) → Text
 blocks_text m f blocks lists = flat_map (λ p. block_text m f p.0 p.1) (zip blocks lists)
 
 -- how a function is marked
@@ -162,7 +142,7 @@ mark_text mark.None = codes " none"
 abbrev pub heading_text : Module → Function → Mark → Text
 heading_text m f mark = codes "function " ++ global_text m f.symbol ++ mark_text mark ++ 10 ∷ []
 
--- the section of a function; the entry block has no lines
+-- the section of a function; the entry block has no claims
 abbrev pub section_text : Module → Function → Section → Text
 section_text m f section =
     heading_text m f section.mark
@@ -175,6 +155,16 @@ section_text m f section =
 abbrev pub sections_text : Module → List Function → List Section → Text
 sections_text m functions sections = flat_map (λ p. section_text m p.0 p.1) (zip functions sections)
 
+-- the shapes of certificates, or those that the module has
+abbrev pub shapes_with : Option Shapes → (own : Option Shapes) → Option Shapes
+shapes_with None own = own
+shapes_with (Some shapes) own = Some shapes
+
+-- the first line and the shapes
+abbrev pub head_text : Module → Option Shapes → Text
+head_text m None = codes "cert 1" ++ 10 ∷ []
+head_text m (Some shapes) = codes "cert 2" ++ 10 ∷ shapes_text m shapes
+
 -- the text of certificates, by the numbers of their functions
-abbrev pub cert_text : List Section → Module → Text
-cert_text sections m = codes "cert 1" ++ 10 ∷ sections_text m m.functions sections
+abbrev pub cert_text : Certs → Module → Text
+cert_text certs m = head_text m (shapes_with certs.shapes m.shapes) ++ sections_text m m.functions certs.sections

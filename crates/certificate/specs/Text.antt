@@ -1,39 +1,44 @@
 -- The forms of sections, and a certificate's text.
-use Rattle.std.specs.Prelude.{◌≡◌, ℕ, ◌+◌, Bool, true, false, not, ◌||◌, List, [], ◌∷◌, Option, Some, None, slice_get, codes}
+use Rattle.std.specs.Prelude.{◌≡◌, ℕ, ◌+◌, Bool, true, false, not, ◌||◌, if◌then◌else◌, List, [], ◌∷◌, Option, Some, None, slice_get, codes}
 use Rattle.ir_ast.specs.declared.function.Function.{Function}
 use Rattle.ir_ast.specs.declared.module.Module.{Module}
+use Rattle.ir_ast.specs.declared.shapes.Shapes.{Shapes}
 use Rattle.grammar.specs.Grammar.{pure, ◌>>=◌, ◌>>◌, step, checked, look, refuse}
 use Rattle.grammar.specs.Many.{many}
 use Rattle.grammar.specs.Takes.{Takes}
 use Rattle.ir_tokens.specs.Bytes.{Text as Bytes}
 use Rattle.name_text.specs.Numbers.{is_number}
-use Rattle.certs.specs.Families.{family_of_type, family_of_value}
+use Rattle.certs.specs.Families.{family_of_type, family_of_value, is_opaque_text}
+use Rattle.certs.specs.declared.certs.Certs.{Certs}
 use Rattle.certificate.specs.Drafts.{first_unlisted}
-use Rattle.name_text.specs.Reader.{left, ended, word, begins, noted, noted_falls}
-use Rattle.name_text.specs.Forms.{skip, expect, expect_takes, line_end, note}
+use Rattle.name_text.specs.Reader.{left, ended, word, begins, recorded, recorded_falls}
+use Rattle.name_text.specs.Forms.{skip, taken, expect, expect_takes, line_end, update}
 use Rattle.certificate.specs.Input.{Progress, Input, Form, start_of, with_promise, with_block, with_section, emptied}
 use Rattle.certificate.specs.Forms.{unknown, marked, new_function, new_parameter, new_block, begin}
 use Rattle.certificate.specs.Lines.{promise, line}
 use Rattle.certificate.specs.Ends.{line_takes}
+use Rattle.certificate.specs.ShapeForms.{shape_lines, taken_shapes, none_missing}
+use Rattle.certificate.specs.Starts.{goes_with, AreStart}
+use Rattle.certificate.specs.declared.shape_draft.ShapeDraft.{ShapeDraft}
 use Rattle.certificate.specs.declared.progress.Kept.{Kept}
 use Rattle.certs.specs.declared.section.Promise.{Promise}
 use Rattle.certs.specs.declared.section.Section.{Section}
-use Rattle.name_text.specs.declared.found.Found.{Found}
-use Rattle.name_text.specs.declared.found.Found.TheVariants.{Syntax, Wrong, Memory}
+use Rattle.name_text.specs.declared.found.WordFault.{WordFault}
+use Rattle.name_text.specs.declared.found.WordFault.TheVariants.{Syntax, Wrong, Memory}
 use Rattle.certificate.specs.declared.mistake.Mistake.{Mistake}
-use Rattle.certificate.specs.declared.mistake.Mistake.TheVariants.{Version, UnknownName, ListedTwice, Missing, MissingBlock}
+use Rattle.certificate.specs.declared.mistake.Mistake.TheVariants.{Version, UnknownName, ListedTwice, MissingWord, MissingGlobal, MissingRoot, Missing, MissingBlock}
 use Rattle.certificate.specs.declared.fault.CertFault.{CertFault}
 use Rattle.certificate.specs.declared.fault.CertFault.TheVariants as fault
 use Rattle.name_text.specs.Places.{place}
 use Rattle.grammar.specs.Takes.{first_takes}
 use Rattle.std.proofs.Common.{lit<}
 
--- the number 1
-unfoldable pub version : Form (Unit {0})
-version = do
+-- the number of the version that goes with the module; what is read is whether it is the one with shapes
+unfoldable pub version : Module → Form Bool
+version m = do
   checked (λ i. is_number (word i)) (λ i. Syntax (left i))
-  checked (begins (49 ∷ [])) (λ i. Wrong (Version (left i)))
-  skip
+  checked (λ i. goes_with m (word i)) (λ i. Wrong (Version (left i)))
+  look (begins (50 ∷ [])) taken
 
 -- ---- parameters and the result
 
@@ -42,7 +47,7 @@ abbrev pub parameter_after : Module → Function → Form (Unit {0})
 parameter_after m f = do
   place ← new_parameter f
   promise ← promise m (family_of_value m f place)
-  note (with_promise place promise)
+  update (with_promise place promise)
 
 -- what is promised of a parameter
 unfoldable pub parameter : Module → Function → Form (Unit {0})
@@ -76,7 +81,7 @@ result_line m f = look (begins (codes "result")) (result_by m f)
 abbrev pub past_lines : Input → Bool
 past_lines i = begins (codes "block") i || begins (codes "end") i
 
--- the lines of a block
+-- the claims of a block
 unfoldable pub lines : Module → Function → (block : ℕ) → Form (Unit {0})
 lines m f block = many past_lines (line m f block) (line_takes m f block) >> pure tt
 
@@ -96,9 +101,9 @@ block_after m f = do
   line_end
   lines m f block
   all_listed block
-  note (with_block block)
+  update (with_block block)
 
--- a block and its lines
+-- a block and its claims
 unfoldable pub block : Module → Function → Form (Unit {0})
 block m f = expect (codes "block") >> block_after m f
 
@@ -134,7 +139,7 @@ section_of m function f = do
   promise ← body m f
   expect (codes "end")
   line_end
-  note (with_section function mark promise)
+  update (with_section function mark promise)
 
 -- the section of this function, if it is defined
 abbrev pub section_by : Module → (function : ℕ) → Option Function → Form (Unit {0})
@@ -188,36 +193,64 @@ sections_in (Some kept ∷ more) = kept.section ∷ sections_in more
 
 -- the sections, if nothing is missing
 abbrev pub finished_by : Option Mistake → Form (List Section)
-finished_by None = step (λ i. sections_in i.read.sections) (noted emptied) (noted_falls emptied)
+finished_by None = step (λ i. sections_in i.read.sections) (recorded emptied) (recorded_falls emptied)
 finished_by (Some gap) = refuse (λ _. Wrong gap)
 
 -- each function and each of its blocks has a section
 unfoldable pub finished : Form (List Section)
 finished = look (λ i. first_gap 0 i.read.sections) finished_by
 
+-- the shapes that go with a module: none with a typed text
+abbrev pub shapes_of : Module → Shapes → Option Shapes
+shapes_of m shapes = if is_opaque_text m then Some shapes else None
+
+-- certificates behind the first line, without shapes
+unfoldable pub without_shapes : Module → Form Certs
+without_shapes m = do
+  sections m
+  own ← finished
+  pure (record { sections = own; shapes = None })
+
+-- certificates behind the first line, with shapes, of which none is missing
+unfoldable pub with_shapes : Module → Form Certs
+with_shapes m = do
+  shape_lines m
+  draft ← taken_shapes
+  sections m
+  none_missing m draft
+  own ← finished
+  pure (record { sections = own; shapes = shapes_of m draft.shapes })
+
+-- with shapes or without them
+abbrev pub certs_by : Module → (shaped : Bool) → Form Certs
+certs_by m true = with_shapes m
+certs_by m false = without_shapes m
+
 -- a text of certificates
-unfoldable pub file : Module → Form (List Section)
+unfoldable pub file : Module → Form Certs
 file m = do
   expect (codes "cert")
-  version
+  shaped ← version m
   line_end
-  sections m
-  finished
+  certs_by m shaped
 
--- the text is one of these sections, by the numbers of their functions
-abbrev pub IsCert : Bytes → Module → List Section → Type 0
-IsCert bytes m sections = (o : Input) × (file m).says (start_of m bytes) sections o
+-- the text is one of these certificates
+abbrev pub IsCert : Bytes → Module → Certs → Type 0
+IsCert bytes m certs = (shapes : ShapeDraft) × AreStart m shapes × (o : Input) × (file m).says (start_of m shapes bytes) certs o
 
 -- a fault with its place
-abbrev pub placed : Bytes → Found Mistake → CertFault
+abbrev pub placed : Bytes → WordFault Mistake → CertFault
 placed bytes (Syntax rest) = fault.Syntax (place bytes rest)
 placed bytes (Wrong (Version rest)) = fault.Version (place bytes rest)
 placed bytes (Wrong (UnknownName rest)) = fault.UnknownName (place bytes rest)
 placed bytes (Wrong (ListedTwice rest)) = fault.ListedTwice (place bytes rest)
+placed bytes (Wrong (MissingWord layout word)) = fault.MissingWord layout word
+placed bytes (Wrong (MissingGlobal symbol)) = fault.MissingGlobal symbol
+placed bytes (Wrong (MissingRoot function slot)) = fault.MissingRoot function slot
 placed bytes (Wrong (Missing function)) = fault.Missing function
 placed bytes (Wrong (MissingBlock function block)) = fault.MissingBlock function block
 placed bytes Memory = fault.Memory
 
 -- the text is of the format up to a place, where it has this fault
 abbrev pub IsFault : Bytes → Module → CertFault → Type 0
-IsFault bytes m fault = (found : Found Mistake) × (file m).stuck (start_of m bytes) found × (placed bytes found ≡ fault)
+IsFault bytes m fault = (shapes : ShapeDraft) × AreStart m shapes × (found : WordFault Mistake) × (file m).stuck (start_of m shapes bytes) found × (placed bytes found ≡ fault)

@@ -2,6 +2,6 @@
 use Rattle.certificate.specs.declared.progress.Progress.TheInside.{Inside}
 use Rattle.certificate.specs.Input.{Progress}
 
--- the sections that are read, and the draft of the next one
+-- the sections that are read, the draft of the next one, and the shapes
 abbrev pub progress_of : Inside → Progress
-progress_of p = record { sections = p.sections.items; draft = p.draft }
+progress_of p = record { sections = p.sections.items; draft = p.draft; shapes = p.shapes }

@@ -9,14 +9,15 @@ ghost use Rattle.certs.specs.declared.section.Section.{Section as ASection};
 ghost use Rattle.grammar.specs.Outcome.{Gives};
 ghost use Rattle.grammar.specs.Whole.{value_of};
 ghost use Rattle.name_text.specs.Reader.{Reads};
-ghost use Rattle.name_text.specs.declared.found.Found.TheVariants.{Memory};
+ghost use Rattle.name_text.specs.declared.found.WordFault.TheVariants.{Memory};
 
 use crate::fault::CertFault;
-use crate::input::{Found, Input};
+use crate::input::{Input, WordFault};
 use crate::mistake::Mistake;
 use crate::naming::{Naming, function_of_word};
 use crate::progress::{Kept, Progress};
 use crate::reader::{placed, section_of};
+use crate::shape_draft::ShapeDraft;
 use certs::Section;
 use ir_ast::{FuncId, Function, Module};
 use std::alloc::{AllocError, Global};
@@ -38,12 +39,12 @@ fn own_name(
     input: &mut Input<'_>,
     module: &Module,
     function: FuncId,
-) -> Result<(), Found>
+) -> Result<(), WordFault>
     ensures { Reads ((form.own_name «module».now function).read input.old) result input.new }
 {
     let naming = function_of_word(alloc, module, input.word())?;
     if !is_function(function, naming) {
-        return Err(Found::Syntax(input.left()));
+        return Err(WordFault::Syntax(input.left()));
     }
     input.skip();
     Ok(())
@@ -55,27 +56,31 @@ fn own_section(
     input: &mut Input<'_>,
     module: &Module,
     function: Option<&Function>,
-) -> Result<(), Found>
+) -> Result<(), WordFault>
     ensures { Reads ((form.own_section «module».now (option_copied function.entry)).read input.old) result input.new }
 {
     match function {
-        None => Err(Found::Wrong(Mistake::UnknownName(input.left()))),
+        None => Err(WordFault::Wrong(Mistake::UnknownName(input.left()))),
         Some(function) => section_of(alloc, input, module, FuncId::new(0), function),
     }
 }
 
 /// The section, where nothing of it is missing.
 #[tactic(auto, unfolding(crate::specs::Anew::finished_anew))]
-fn finished_anew(alloc: Global, input: &mut Input<'_>, function: FuncId) -> Result<Section, Found>
+fn finished_anew(
+    alloc: Global,
+    input: &mut Input<'_>,
+    function: FuncId,
+) -> Result<Section, WordFault>
     ensures { Reads ((form.finished_anew function).read input.old) result input.new }
 {
     let function = function.number() as usize;
     match input.read.take_sections(alloc).into_iter().next() {
         Some(Some(kept)) => match kept.missing {
             None => Ok(kept.section),
-            Some(block) => Err(Found::Wrong(Mistake::MissingBlock(function, block))),
+            Some(block) => Err(WordFault::Wrong(Mistake::MissingBlock(function, block))),
         },
-        _ => Err(Found::Wrong(Mistake::Missing(function))),
+        _ => Err(WordFault::Wrong(Mistake::Missing(function))),
     }
 }
 
@@ -86,7 +91,7 @@ fn file_anew(
     input: &mut Input<'_>,
     module: &Module,
     function: FuncId,
-) -> Result<Section, Found>
+) -> Result<Section, WordFault>
     ensures { Reads ((form.file_anew «module».now function).read input.old) result input.new }
 {
     input.expect(b"function")?;
@@ -98,7 +103,7 @@ fn file_anew(
         module.functions.get(function.number() as usize),
     )?;
     if !input.ended() {
-        return Err(Found::Syntax(input.left()));
+        return Err(WordFault::Syntax(input.left()));
     }
     finished_anew(alloc, input, function)
 }
@@ -117,10 +122,13 @@ fn section_of_text(
     bytes: &[u8],
     module: &Module,
     function: FuncId,
-) -> Result<Section, Found>
+) -> Result<Section, WordFault>
     ensures { Gives Memory result (value_of ((form.file_anew «module».now function).read (start_anew bytes.now))) }
 {
-    let mut input = Input::new(bytes, Progress::new(alloc, no_section(alloc)?));
+    let mut input = Input::new(
+        bytes,
+        Progress::new(alloc, no_section(alloc)?, ShapeDraft::none(alloc)),
+    );
     file_anew(alloc, &mut input, module, function)
 }
 

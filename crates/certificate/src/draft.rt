@@ -4,7 +4,7 @@ ghost use Rattle.certs.specs.RootNames as root_spec;
 ghost use Rattle.certificate.specs.Drafts as spec;
 ghost use Rattle.certificate.specs.declared.draft.SectionDraft.{SectionDraft as ADraft};
 
-use certs::{Line, Promise};
+use certs::{Claim, Promise};
 use ir_ast::{Block, BlockId, Function, Instr, MemoryOp, Module, Op, ValueId};
 use items::Items;
 use shadow_stack::{Slots, slots_of};
@@ -24,11 +24,11 @@ pub struct SectionDraft {
     /// Whether each local name is that of a root slot.
     pub roots: Items<bool>,
     pub parameters: Items<Option<Promise>>,
-    /// Whether each block has had its lines; the entry has none, and no more are to come.
+    /// Whether each block has had its claims; the entry has none, and no more are to come.
     pub given: Items<bool>,
-    pub blocks: Items<Items<Line>>,
-    /// The lines of the block that is read.
-    pub lines: Items<Line>,
+    pub blocks: Items<Items<Claim>>,
+    /// The claims of the block that is read.
+    pub lines: Items<Claim>,
     /// The block that lists each value last.
     pub values: Items<Option<BlockId>>,
     /// The block that lists each slot last, by the names of slots.
@@ -46,8 +46,8 @@ fn is_root(slots: &Slots, value: ValueId) -> bool
     }
 }
 
-fn note_root(roots: &mut Items<bool>, slots: &Slots, instr: &Instr)
-    ensures { roots.new ≡ root_spec.root_noted slots.now instr.now.op instr.now.result roots.old }
+fn record_root(roots: &mut Items<bool>, slots: &Slots, instr: &Instr)
+    ensures { roots.new ≡ root_spec.root_recorded slots.now instr.now.op instr.now.result roots.old }
 {
     match (&instr.op, instr.result) {
         (Op::Memory(MemoryOp::Alloca(_)), Some(value)) => {
@@ -60,24 +60,24 @@ fn note_root(roots: &mut Items<bool>, slots: &Slots, instr: &Instr)
     }
 }
 
-fn note_roots(roots: &mut Items<bool>, slots: &Slots, body: &[Instr])
-    ensures { roots.new ≡ root_spec.roots_noted slots.now body.now roots.old }
+fn record_roots(roots: &mut Items<bool>, slots: &Slots, body: &[Instr])
+    ensures { roots.new ≡ root_spec.roots_recorded slots.now body.now roots.old }
 {
     for instr in body {
-        note_root(roots, slots, instr);
+        record_root(roots, slots, instr);
     }
 }
 
-fn note_blocks(roots: &mut Items<bool>, slots: &Slots, blocks: &[Block])
+fn record_blocks(roots: &mut Items<bool>, slots: &Slots, blocks: &[Block])
     ensures { roots.new ≡ root_spec.roots_of_blocks slots.now blocks.now roots.old }
 {
     for block in blocks {
-        note_roots(roots, slots, block.body.as_slice());
+        record_roots(roots, slots, block.body.as_slice());
     }
 }
 
 /// Whether each local name is that of a root slot: of its alloca.
-fn root_names(
+pub fn root_names(
     alloc: Global,
     module: &Module,
     function: &Function,
@@ -87,12 +87,12 @@ fn root_names(
     let slots = slots_of(alloc, module, function)?;
     let none = vec![in alloc; false; function.locals.count()]?;
     let mut roots = Items::from_vec(none);
-    note_blocks(&mut roots, &slots, function.blocks.as_slice());
+    record_blocks(&mut roots, &slots, function.blocks.as_slice());
     Ok(roots)
 }
 
-/// No block has a line.
-fn no_lines(alloc: Global, function: &Function) -> Result<Items<Items<Line>>, AllocError>
+/// No block has a claim.
+fn no_lines(alloc: Global, function: &Function) -> Result<Items<Items<Claim>>, AllocError>
     ensures { IfOk result (λ blocks. blocks ≡ map (λ _. []) function.now.blocks) }
 {
     let mut blocks = Items::new(alloc);
@@ -102,7 +102,7 @@ fn no_lines(alloc: Global, function: &Function) -> Result<Items<Items<Line>>, Al
     Ok(blocks)
 }
 
-/// The entry alone has had its lines.
+/// The entry alone has had its claims.
 fn entry_given(alloc: Global, function: &Function) -> Result<Items<bool>, AllocError>
     ensures { IfOk result (λ given. given ≡ slice_set (replicate (length function.now.blocks) false) 0 true) }
 {

@@ -1,16 +1,16 @@
-//! Facts, and the lines of a block.
+//! Facts, and the claims of a block.
 ghost use Rattle.std.specs.Prelude.{◌≡◌};
 ghost use Rattle.name_text.specs.Reader.{Reads};
 ghost use Rattle.certificate.specs.Lines as form;
 ghost use Rattle.name_text.specs.Words.{begins_with};
-ghost use Rattle.certs.specs.declared.section.Line.TheVariants.{Slot};
+ghost use Rattle.certs.specs.declared.section.Claim.TheVariants.{Slot};
 
 use crate::forms::{age, count, flag, layout_name, listed_name, new_slot, new_value, word_set};
-use crate::input::{Found, Input};
+use crate::input::{Input, WordFault};
 use crate::mistake::Mistake;
 use crate::naming::{Naming, global_of_word};
 use crate::numbers::bits_of_word;
-use certs::{Age, Fact, Family, Line, family_of_value};
+use certs::{Age, Claim, Fact, Family, family_of_value};
 use ir_ast::{BlockId, Function, Module, SymbolId, ValueId};
 use std::alloc::Global;
 
@@ -48,7 +48,7 @@ fn head_by(family: Family, word: &[u8]) -> Head
 }
 
 #[tactic(auto, unfolding(crate::specs::Lines::below, name_text::specs::Forms::skip))]
-fn below(input: &mut Input<'_>) -> Result<Option<u64>, Found>
+fn below(input: &mut Input<'_>) -> Result<Option<u64>, WordFault>
     ensures { Reads (form.below.read input.old) result input.new }
 {
     if !input.begins(b"below") {
@@ -66,7 +66,7 @@ fn listed_after(
     input: &mut Input<'_>,
     function: &Function,
     wanted: &[u8],
-) -> Result<Option<ValueId>, Found>
+) -> Result<Option<ValueId>, WordFault>
     ensures { Reads ((form.listed_after function.now wanted.now).read input.old) result input.new }
 {
     if !input.begins(wanted) {
@@ -78,7 +78,7 @@ fn listed_after(
 }
 
 #[tactic(auto, unfolding(crate::specs::Lines::number, name_text::specs::Forms::skip))]
-fn number(input: &mut Input<'_>, bits: u32) -> Result<Fact, Found>
+fn number(input: &mut Input<'_>, bits: u32) -> Result<Fact, WordFault>
     ensures { Reads ((form.number bits).read input.old) result input.new }
 {
     input.skip();
@@ -93,7 +93,7 @@ fn reference(
     module: &Module,
     function: &Function,
     family: &Family,
-) -> Result<Fact, Found>
+) -> Result<Fact, WordFault>
     ensures { Reads ((form.reference «module».now function.now family.now).read input.old) result input.new }
 {
     input.skip();
@@ -110,7 +110,11 @@ fn reference(
 }
 
 #[tactic(auto, unfolding(crate::specs::Lines::words_of_cell))]
-fn words_of_cell(alloc: Global, input: &mut Input<'_>, function: &Function) -> Result<Fact, Found>
+fn words_of_cell(
+    alloc: Global,
+    input: &mut Input<'_>,
+    function: &Function,
+) -> Result<Fact, WordFault>
     ensures { Reads ((form.words_of_cell function.now).read input.old) result input.new }
 {
     let base = listed_name(alloc, input, function)?;
@@ -120,12 +124,12 @@ fn words_of_cell(alloc: Global, input: &mut Input<'_>, function: &Function) -> R
 
 /// The address of the global that is named.
 #[tactic(auto, unfolding(crate::specs::Lines::global_address, name_text::specs::Forms::skip))]
-fn global_address(alloc: Global, input: &mut Input<'_>, module: &Module) -> Result<Fact, Found>
+fn global_address(alloc: Global, input: &mut Input<'_>, module: &Module) -> Result<Fact, WordFault>
     ensures { Reads ((form.global_address «module».now).read input.old) result input.new }
 {
     match global_of_word(alloc, module, input.word())? {
-        Naming::NoName => Err(Found::Syntax(input.left())),
-        Naming::Unknown => Err(Found::Wrong(Mistake::UnknownName(input.left()))),
+        Naming::NoName => Err(WordFault::Syntax(input.left())),
+        Naming::Unknown => Err(WordFault::Wrong(Mistake::UnknownName(input.left()))),
         Naming::Named(symbol) => {
             input.skip();
             Ok(Fact::GlobalAddress(SymbolId::new(symbol)))
@@ -149,7 +153,7 @@ fn address(
     input: &mut Input<'_>,
     module: &Module,
     function: &Function,
-) -> Result<Fact, Found>
+) -> Result<Fact, WordFault>
     ensures { Reads ((form.address «module».now function.now).read input.old) result input.new }
 {
     input.skip();
@@ -168,14 +172,14 @@ fn fact_of(
     module: &Module,
     function: &Function,
     family: &Family,
-) -> Result<Fact, Found>
+) -> Result<Fact, WordFault>
     ensures { Reads ((form.fact_of «module».now function.now family.now).read input.old) result input.new }
 {
     match head_by(*family, input.word()) {
         Head::Number(bits) => number(input, bits),
         Head::Reference => reference(alloc, input, module, function, family),
         Head::Address => address(alloc, input, module, function),
-        Head::Other => Err(Found::Syntax(input.left())),
+        Head::Other => Err(WordFault::Syntax(input.left())),
     }
 }
 
@@ -222,11 +226,11 @@ fn has_word(fact: &Fact, word: &[u8]) -> bool
 }
 
 #[tactic(auto, unfolding(crate::specs::Lines::fact_end))]
-fn fact_end(input: &mut Input<'_>, fact: &Fact) -> Result<(), Found>
+fn fact_end(input: &mut Input<'_>, fact: &Fact) -> Result<(), WordFault>
     ensures { Reads ((form.fact_end fact.now).read input.old) result input.new }
 {
     if !input.line_ends() && has_word(fact, input.word()) {
-        return Err(Found::Wrong(Mistake::ListedTwice(input.left())));
+        return Err(WordFault::Wrong(Mistake::ListedTwice(input.left())));
     }
     input.line_end()
 }
@@ -238,25 +242,25 @@ fn slot_has_word(nonnull: bool, holds: Option<ValueId>, word: &[u8]) -> bool
 }
 
 #[tactic(auto, unfolding(crate::specs::Lines::slot_end))]
-fn slot_end(input: &mut Input<'_>, nonnull: bool, holds: Option<ValueId>) -> Result<(), Found>
+fn slot_end(input: &mut Input<'_>, nonnull: bool, holds: Option<ValueId>) -> Result<(), WordFault>
     ensures { Reads ((form.slot_end nonnull holds).read input.old) result input.new }
 {
     if !input.line_ends() && slot_has_word(nonnull, holds, input.word()) {
-        return Err(Found::Wrong(Mistake::ListedTwice(input.left())));
+        return Err(WordFault::Wrong(Mistake::ListedTwice(input.left())));
     }
     input.line_end()
 }
 
-/// A line of a value.
-#[tactic(auto, unfolding(crate::specs::Lines::value_line, crate::specs::Forms::put_value))]
-fn value_line(
+/// A claim about a value.
+#[tactic(auto, unfolding(crate::specs::Lines::value_claim, crate::specs::Forms::put_value))]
+fn value_claim(
     alloc: Global,
     input: &mut Input<'_>,
     module: &Module,
     function: &Function,
     block: BlockId,
-) -> Result<(), Found>
-    ensures { Reads ((form.value_line «module».now function.now block).read input.old) result input.new }
+) -> Result<(), WordFault>
+    ensures { Reads ((form.value_claim «module».now function.now block).read input.old) result input.new }
 {
     let value = new_value(alloc, input, function, block)?;
     let family = family_of_value(module, function, value);
@@ -266,26 +270,26 @@ fn value_line(
     Ok(())
 }
 
-/// What a line says of a slot.
-fn slot_said(slot: ValueId, nonnull: bool, holds: &Option<ValueId>) -> Line
+/// What a claim says of a slot.
+fn slot_said(slot: ValueId, nonnull: bool, holds: &Option<ValueId>) -> Claim
     ensures { result ≡ Slot slot nonnull holds.now }
 {
-    Line::Slot {
+    Claim::Slot {
         slot,
         nonnull,
         holds: *holds,
     }
 }
 
-/// A line of a slot.
-#[tactic(auto, unfolding(crate::specs::Lines::slot_line, crate::specs::Forms::put_slot))]
-fn slot_line(
+/// A claim about a slot.
+#[tactic(auto, unfolding(crate::specs::Lines::slot_claim, crate::specs::Forms::put_slot))]
+fn slot_claim(
     alloc: Global,
     input: &mut Input<'_>,
     function: &Function,
     block: BlockId,
-) -> Result<(), Found>
-    ensures { Reads ((form.slot_line function.now block).read input.old) result input.new }
+) -> Result<(), WordFault>
+    ensures { Reads ((form.slot_claim function.now block).read input.old) result input.new }
 {
     input.expect(b"slot")?;
     let slot = new_slot(alloc, input, function, block)?;
@@ -297,7 +301,7 @@ fn slot_line(
     Ok(())
 }
 
-/// A line of a block.
+/// A claim of a block.
 #[tactic(auto, unfolding(crate::specs::Lines::line))]
 pub fn line(
     alloc: Global,
@@ -305,12 +309,12 @@ pub fn line(
     module: &Module,
     function: &Function,
     block: BlockId,
-) -> Result<(), Found>
+) -> Result<(), WordFault>
     ensures { Reads ((form.line «module».now function.now block).read input.old) result input.new }
 {
     if input.begins(b"slot") {
-        slot_line(alloc, input, function, block)
+        slot_claim(alloc, input, function, block)
     } else {
-        value_line(alloc, input, module, function, block)
+        value_claim(alloc, input, module, function, block)
     }
 }

@@ -16,6 +16,15 @@ pub enum CertFault {
     /// The fault C4.
     #[error("listed twice at {}:{}", .0.line, .0.column)]
     ListedTwice(Position),
+    /// The fault C6: this word of this layout, of type `ptr`, has no shape.
+    #[error("word {1} of layout {0} has no shape")]
+    MissingWord(usize, usize),
+    /// The fault C6: the global of this symbol, of type `ptr`, has no shape.
+    #[error("global {0} has no shape")]
+    MissingGlobal(usize),
+    /// The fault C6: of this function, by its number, the root slot with this local name has no shape.
+    #[error("slot {1} of function {0} has no shape")]
+    MissingRoot(usize, usize),
     /// The fault C5: this defined function, by its number, has no section.
     #[error("function {0} has no section")]
     Missing(usize),

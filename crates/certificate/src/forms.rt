@@ -4,7 +4,7 @@ ghost use Rattle.certificate.specs.Drafts.{is_in};
 ghost use Rattle.certificate.specs.Forms as form;
 ghost use Rattle.name_text.specs.Reader.{Reads};
 
-use crate::input::{Found, Input};
+use crate::input::{Input, WordFault};
 use crate::mistake::Mistake;
 use crate::naming::{Naming, block_of_word, function_of_word, layout_of_word, value_of_word};
 use crate::numbers::{count_of_word, words_of_word};
@@ -48,7 +48,7 @@ fn is_parameter(function: &Function, value: ValueId) -> bool
 
 /// This word or not.
 #[tactic(auto, unfolding(crate::specs::Forms::flag, name_text::specs::Forms::skip))]
-pub fn flag(input: &mut Input<'_>, wanted: &[u8]) -> Result<bool, Found>
+pub fn flag(input: &mut Input<'_>, wanted: &[u8]) -> Result<bool, WordFault>
     ensures { Reads ((form.flag wanted.now).read input.old) result input.new }
 {
     let begins = input.begins(wanted);
@@ -60,11 +60,11 @@ pub fn flag(input: &mut Input<'_>, wanted: &[u8]) -> Result<bool, Found>
 
 /// A number from 1.
 #[tactic(auto, unfolding(crate::specs::Forms::count, name_text::specs::Forms::skip))]
-pub fn count(input: &mut Input<'_>) -> Result<u64, Found>
+pub fn count(input: &mut Input<'_>) -> Result<u64, WordFault>
     ensures { Reads (form.count.read input.old) result input.new }
 {
     match count_of_word(input.word()) {
-        None => Err(Found::Syntax(input.left())),
+        None => Err(WordFault::Syntax(input.left())),
         Some(count) => {
             input.skip();
             Ok(count)
@@ -74,11 +74,11 @@ pub fn count(input: &mut Input<'_>) -> Result<u64, Found>
 
 /// Some words of a cell.
 #[tactic(auto, unfolding(crate::specs::Forms::word_set, name_text::specs::Forms::skip))]
-pub fn word_set(input: &mut Input<'_>) -> Result<WordSet, Found>
+pub fn word_set(input: &mut Input<'_>) -> Result<WordSet, WordFault>
     ensures { Reads (form.word_set.read input.old) result input.new }
 {
     match words_of_word(input.word()) {
-        None => Err(Found::Syntax(input.left())),
+        None => Err(WordFault::Syntax(input.left())),
         Some(words) => {
             input.skip();
             Ok(words)
@@ -88,11 +88,11 @@ pub fn word_set(input: &mut Input<'_>) -> Result<WordSet, Found>
 
 /// `may` or `none`.
 #[tactic(auto, unfolding(crate::specs::Forms::marked, name_text::specs::Forms::skip))]
-pub fn mark(input: &mut Input<'_>) -> Result<Mark, Found>
+pub fn mark(input: &mut Input<'_>) -> Result<Mark, WordFault>
     ensures { Reads (form.marked.read input.old) result input.new }
 {
     match mark_of_word(input.word()) {
-        None => Err(Found::Syntax(input.left())),
+        None => Err(WordFault::Syntax(input.left())),
         Some(mark) => {
             input.skip();
             Ok(mark)
@@ -102,7 +102,7 @@ pub fn mark(input: &mut Input<'_>) -> Result<Mark, Found>
 
 /// `stale`, `fresh` or neither.
 #[tactic(auto, unfolding(crate::specs::Forms::age, name_text::specs::Forms::skip))]
-pub fn age(input: &mut Input<'_>) -> Result<Age, Found>
+pub fn age(input: &mut Input<'_>) -> Result<Age, WordFault>
     ensures { Reads (form.age.read input.old) result input.new }
 {
     match age_of_word(input.word()) {
@@ -116,15 +116,19 @@ pub fn age(input: &mut Input<'_>) -> Result<Age, Found>
 
 /// The name of a defined function that has no section so far.
 #[tactic(auto, unfolding(crate::specs::Forms::new_function, name_text::specs::Forms::skip))]
-pub fn new_function(alloc: Global, input: &mut Input<'_>, module: &Module) -> Result<FuncId, Found>
+pub fn new_function(
+    alloc: Global,
+    input: &mut Input<'_>,
+    module: &Module,
+) -> Result<FuncId, WordFault>
     ensures { Reads ((form.new_function «module».now).read input.old) result input.new }
 {
     match function_of_word(alloc, module, input.word())? {
-        Naming::NoName => Err(Found::Syntax(input.left())),
-        Naming::Unknown => Err(Found::Wrong(Mistake::UnknownName(input.left()))),
+        Naming::NoName => Err(WordFault::Syntax(input.left())),
+        Naming::Unknown => Err(WordFault::Wrong(Mistake::UnknownName(input.left()))),
         Naming::Named(function) => match input.read.sections().get(function as usize) {
-            None => Err(Found::Wrong(Mistake::UnknownName(input.left()))),
-            Some(Some(_)) => Err(Found::Wrong(Mistake::ListedTwice(input.left()))),
+            None => Err(WordFault::Wrong(Mistake::UnknownName(input.left()))),
+            Some(Some(_)) => Err(WordFault::Wrong(Mistake::ListedTwice(input.left()))),
             Some(None) => {
                 input.skip();
                 Ok(FuncId::new(function))
@@ -139,19 +143,19 @@ pub fn new_parameter(
     alloc: Global,
     input: &mut Input<'_>,
     function: &Function,
-) -> Result<ValueId, Found>
+) -> Result<ValueId, WordFault>
     ensures { Reads ((form.new_parameter function.now).read input.old) result input.new }
 {
     match value_of_word(alloc, function, input.word())? {
-        Naming::NoName => Err(Found::Syntax(input.left())),
-        Naming::Unknown => Err(Found::Wrong(Mistake::UnknownName(input.left()))),
+        Naming::NoName => Err(WordFault::Syntax(input.left())),
+        Naming::Unknown => Err(WordFault::Wrong(Mistake::UnknownName(input.left()))),
         Naming::Named(value) => {
             if !is_parameter(function, ValueId::new(value)) {
-                return Err(Found::Wrong(Mistake::UnknownName(input.left())));
+                return Err(WordFault::Wrong(Mistake::UnknownName(input.left())));
             }
             match input.read.draft().parameters.get(value as usize) {
-                None => Err(Found::Wrong(Mistake::UnknownName(input.left()))),
-                Some(Some(_)) => Err(Found::Wrong(Mistake::ListedTwice(input.left()))),
+                None => Err(WordFault::Wrong(Mistake::UnknownName(input.left()))),
+                Some(Some(_)) => Err(WordFault::Wrong(Mistake::ListedTwice(input.left()))),
                 Some(None) => {
                     input.skip();
                     Ok(ValueId::new(value))
@@ -161,21 +165,21 @@ pub fn new_parameter(
     }
 }
 
-/// The name of a block, not the entry, whose lines did not come so far.
+/// The name of a block, not the entry, whose claims did not come so far.
 #[tactic(auto, unfolding(crate::specs::Forms::new_block, name_text::specs::Forms::skip))]
 pub fn new_block(
     alloc: Global,
     input: &mut Input<'_>,
     function: &Function,
-) -> Result<BlockId, Found>
+) -> Result<BlockId, WordFault>
     ensures { Reads ((form.new_block function.now).read input.old) result input.new }
 {
     match block_of_word(alloc, function, input.word())? {
-        Naming::NoName => Err(Found::Syntax(input.left())),
-        Naming::Unknown => Err(Found::Wrong(Mistake::UnknownName(input.left()))),
+        Naming::NoName => Err(WordFault::Syntax(input.left())),
+        Naming::Unknown => Err(WordFault::Wrong(Mistake::UnknownName(input.left()))),
         Naming::Named(block) => match input.read.draft().given.get(block as usize) {
-            None => Err(Found::Wrong(Mistake::UnknownName(input.left()))),
-            Some(true) => Err(Found::Wrong(Mistake::ListedTwice(input.left()))),
+            None => Err(WordFault::Wrong(Mistake::UnknownName(input.left()))),
+            Some(true) => Err(WordFault::Wrong(Mistake::ListedTwice(input.left()))),
             Some(false) => {
                 input.skip();
                 Ok(BlockId::new(block))
@@ -218,16 +222,16 @@ pub fn new_value(
     input: &mut Input<'_>,
     function: &Function,
     block: BlockId,
-) -> Result<ValueId, Found>
+) -> Result<ValueId, WordFault>
     ensures { Reads ((form.new_value function.now block).read input.old) result input.new }
 {
     match value_of_word(alloc, function, input.word())? {
-        Naming::NoName => Err(Found::Syntax(input.left())),
-        Naming::Unknown => Err(Found::Wrong(Mistake::UnknownName(input.left()))),
+        Naming::NoName => Err(WordFault::Syntax(input.left())),
+        Naming::Unknown => Err(WordFault::Wrong(Mistake::UnknownName(input.left()))),
         Naming::Named(number) => {
             let value = ValueId::new(number);
             if lists(input, block, value) {
-                return Err(Found::Wrong(Mistake::ListedTwice(input.left())));
+                return Err(WordFault::Wrong(Mistake::ListedTwice(input.left())));
             }
             input.skip();
             Ok(value)
@@ -242,19 +246,19 @@ pub fn new_slot(
     input: &mut Input<'_>,
     function: &Function,
     block: BlockId,
-) -> Result<ValueId, Found>
+) -> Result<ValueId, WordFault>
     ensures { Reads ((form.new_slot function.now block).read input.old) result input.new }
 {
     match value_of_word(alloc, function, input.word())? {
-        Naming::NoName => Err(Found::Syntax(input.left())),
-        Naming::Unknown => Err(Found::Wrong(Mistake::UnknownName(input.left()))),
+        Naming::NoName => Err(WordFault::Syntax(input.left())),
+        Naming::Unknown => Err(WordFault::Wrong(Mistake::UnknownName(input.left()))),
         Naming::Named(number) => {
             let slot = ValueId::new(number);
             if !is_root(input, slot) {
-                return Err(Found::Wrong(Mistake::UnknownName(input.left())));
+                return Err(WordFault::Wrong(Mistake::UnknownName(input.left())));
             }
             if lists_slot(input, block, slot) {
-                return Err(Found::Wrong(Mistake::ListedTwice(input.left())));
+                return Err(WordFault::Wrong(Mistake::ListedTwice(input.left())));
             }
             input.skip();
             Ok(slot)
@@ -268,12 +272,12 @@ pub fn listed_name(
     alloc: Global,
     input: &mut Input<'_>,
     function: &Function,
-) -> Result<ValueId, Found>
+) -> Result<ValueId, WordFault>
     ensures { Reads ((form.listed_name function.now).read input.old) result input.new }
 {
     match value_of_word(alloc, function, input.word())? {
-        Naming::NoName => Err(Found::Syntax(input.left())),
-        Naming::Unknown => Err(Found::Wrong(Mistake::UnknownName(input.left()))),
+        Naming::NoName => Err(WordFault::Syntax(input.left())),
+        Naming::Unknown => Err(WordFault::Wrong(Mistake::UnknownName(input.left()))),
         Naming::Named(number) => {
             let value = ValueId::new(number);
             let left = input.left();
@@ -291,16 +295,16 @@ pub fn layout_name(
     input: &mut Input<'_>,
     module: &Module,
     family: Family,
-) -> Result<LayoutId, Found>
+) -> Result<LayoutId, WordFault>
     ensures { Reads ((form.layout_name «module».now family).read input.old) result input.new }
 {
     match layout_of_word(alloc, module, input.word())? {
-        Naming::NoName => Err(Found::Syntax(input.left())),
-        Naming::Unknown => Err(Found::Wrong(Mistake::UnknownName(input.left()))),
+        Naming::NoName => Err(WordFault::Syntax(input.left())),
+        Naming::Unknown => Err(WordFault::Wrong(Mistake::UnknownName(input.left()))),
         Naming::Named(number) => {
             let layout = LayoutId::new(number);
             if !family.refers_to(layout) {
-                return Err(Found::Syntax(input.left()));
+                return Err(WordFault::Syntax(input.left()));
             }
             input.skip();
             Ok(layout)

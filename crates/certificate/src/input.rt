@@ -7,4 +7,4 @@ use name_text::Reader;
 pub type Input<'a> = Reader<'a, Progress>;
 
 /// A fault of a certificate's text.
-pub type Found = name_text::Found<Mistake>;
+pub type WordFault = name_text::WordFault<Mistake>;

@@ -1,9 +1,9 @@
-//! The text of the lines of certificates.
+//! The text of the claims of certificates.
 ghost use Rattle.std.specs.Prelude.{◌≡◌, ◌++◌, OnOk, IfOk, drop, slice_get};
 ghost use Rattle.std.specs.Option.{option_copied};
 ghost use Rattle.certificate.specs.Print as spec;
 
-use certs::{Age, Certs, Fact, Line};
+use certs::{Age, Certs, Claim, Fact};
 use ir_ast::{BlockId, FuncId, Function, Module, ValueId};
 use name_text::{Blank, put_global, put_layout, put_local, put_number};
 use pools::WordSet;
@@ -138,22 +138,22 @@ fn put_fact(
     }
 }
 
-/// A line without its end.
-pub(crate) fn put_line(
+/// A claim as a line, without the line's end.
+pub(crate) fn put_claim(
     alloc: Global,
     out: &mut Vec<u8>,
     module: &Module,
     function: &Function,
-    line: &Line,
+    line: &Claim,
 ) -> Result<(), AllocError>
-    ensures { OnOk result (out.new.items ≡ out.old.items ++ spec.line_text «module».now function.now line.now) }
+    ensures { OnOk result (out.new.items ≡ out.old.items ++ spec.claim_text «module».now function.now line.now) }
 {
     match line {
-        Line::Value { value, fact } => {
+        Claim::Value { value, fact } => {
             put_local(out, &function.locals, *value, Blank::Kept)?;
             put_fact(alloc, out, module, function, fact)
         }
-        Line::Slot {
+        Claim::Slot {
             slot,
             nonnull,
             holds,
@@ -166,7 +166,7 @@ pub(crate) fn put_line(
     }
 }
 
-fn line_at(certs: &Certs, function: FuncId, block: BlockId, place: usize) -> Option<&Line>
+fn line_at(certs: &Certs, function: FuncId, block: BlockId, place: usize) -> Option<&Claim>
     ensures { option_copied result ≡ spec.line_at (slice_get certs.now.sections function) block place }
 {
     let section = certs.section(function)?;
@@ -174,8 +174,8 @@ fn line_at(certs: &Certs, function: FuncId, block: BlockId, place: usize) -> Opt
     lines.get(place)
 }
 
-/// The line at this place of a block's lines as the certificates' text writes it, without its end. The text is empty where
-/// there is no such line.
+/// The claim at this place of a block as a line of the certificates' text, without the line's end. The text is empty where
+/// there is no such claim.
 pub fn print_line(
     alloc: Global,
     certs: &Certs,
@@ -190,7 +190,7 @@ pub fn print_line(
     let body = module.functions.get(function.number() as usize);
     let line = line_at(certs, function, block, place);
     if let (Some(body), Some(line)) = (body, line) {
-        put_line(alloc, &mut out, module, body, line)?;
+        put_claim(alloc, &mut out, module, body, line)?;
     }
     Ok(out)
 }

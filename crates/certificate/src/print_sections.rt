@@ -1,13 +1,12 @@
 //! The text of certificates.
-ghost use Rattle.std.specs.Prelude.{◌≡◌, ◌++◌, true, OnOk, IfOk, drop};
-ghost use Rattle.certs.specs.Fits.{fits};
-ghost use Rattle.certificate.specs.Named.{IsNamed};
+ghost use Rattle.std.specs.Prelude.{◌≡◌, ◌++◌, OnOk, IfOk, drop};
+ghost use Rattle.std.specs.Option.{option_copied};
 ghost use Rattle.certificate.specs.Print as spec;
-ghost use Rattle.certificate.specs.Text.{IsCert};
 
-use crate::print::{put_below, put_if, put_line};
-use certs::{Certs, Line, Mark, Promise, Section};
-use ir_ast::{Block, Function, Module, Parameter};
+use crate::print::{put_below, put_claim, put_if};
+use crate::print_shapes::put_shapes;
+use certs::{Certs, Claim, Mark, Promise, Section};
+use ir_ast::{Block, Function, Module, Parameter, Shapes};
 use items::Items;
 use name_text::{Blank, put_global, put_layout, put_local};
 use pools::LayoutId;
@@ -97,17 +96,17 @@ fn put_result(
     }
 }
 
-fn put_lines(
+fn put_claims(
     alloc: Global,
     out: &mut Vec<u8>,
     module: &Module,
     function: &Function,
-    lines: &[Line],
+    lines: &[Claim],
 ) -> Result<(), AllocError>
-    ensures { OnOk result (out.new.items ≡ out.old.items ++ spec.lines_text «module».now function.now lines.now) }
+    ensures { OnOk result (out.new.items ≡ out.old.items ++ spec.claims_text «module».now function.now lines.now) }
 {
     for line in lines {
-        put_line(alloc, out, module, function, line)?;
+        put_claim(alloc, out, module, function, line)?;
         out.push(b'\n')?;
     }
     Ok(())
@@ -119,14 +118,14 @@ fn put_block(
     module: &Module,
     function: &Function,
     block: &Block,
-    lines: &[Line],
+    lines: &[Claim],
 ) -> Result<(), AllocError>
     ensures { OnOk result (out.new.items ≡ out.old.items ++ spec.block_text «module».now function.now block.now lines.now) }
 {
     out.extend_from_slice(b"block ")?;
     put_local(out, &function.locals, block.label, Blank::Kept)?;
     out.push(b'\n')?;
-    put_lines(alloc, out, module, function, lines)
+    put_claims(alloc, out, module, function, lines)
 }
 
 fn put_blocks(
@@ -135,7 +134,7 @@ fn put_blocks(
     module: &Module,
     function: &Function,
     blocks: &[Block],
-    lists: &[Items<Line>],
+    lists: &[Items<Claim>],
 ) -> Result<(), AllocError>
     ensures { OnOk result (out.new.items ≡ out.old.items ++ spec.blocks_text «module».now function.now blocks.now lists.now) }
 {
@@ -162,13 +161,13 @@ fn put_heading(
     }
 }
 
-/// The blocks but the entry, which has no lines.
+/// The blocks but the entry, which has no claims.
 fn put_other_blocks(
     alloc: Global,
     out: &mut Vec<u8>,
     module: &Module,
     function: &Function,
-    lists: &[Items<Line>],
+    lists: &[Items<Claim>],
 ) -> Result<(), AllocError>
     ensures { OnOk result (out.new.items ≡ out.old.items ++ spec.blocks_text «module».now function.now (drop 1 function.now.blocks) (drop 1 lists.now)) }
 {
@@ -224,15 +223,41 @@ pub fn print_section(
     Ok(out)
 }
 
-/// The text of certificates: sections in the module's order, parameters and blocks in their function's, lines as they
-/// were given.
+/// The shapes of certificates, or those that the module has.
+fn shapes_with<'a>(certs: &'a Certs, module: &'a Module) -> Option<&'a Shapes>
+    ensures { option_copied result ≡ spec.shapes_with certs.now.shapes «module».now.shapes }
+{
+    match certs.shapes() {
+        None => module.shapes.as_ref(),
+        Some(shapes) => Some(shapes),
+    }
+}
+
+/// The first line and the shapes.
+fn put_head(
+    alloc: Global,
+    out: &mut Vec<u8>,
+    module: &Module,
+    shapes: Option<&Shapes>,
+) -> Result<(), AllocError>
+    ensures { OnOk result (out.new.items ≡ out.old.items ++ spec.head_text «module».now (option_copied shapes.entry)) }
+{
+    match shapes {
+        None => out.extend_from_slice(b"cert 1\n"),
+        Some(shapes) => {
+            out.extend_from_slice(b"cert 2\n")?;
+            put_shapes(alloc, out, module, shapes)
+        }
+    }
+}
+
+/// The text of certificates: shapes, where they or the module have some, and sections, each in the module's order, parameters and
+/// blocks in their function's, claims as they were given.
 pub fn print_cert(alloc: Global, certs: &Certs, module: &Module) -> Result<Vec<u8>, AllocError>
-    ensures text { IfOk result (λ text. text.items ≡ spec.cert_text certs.now.sections «module».now) }
-    // It is a text of certificates that fit, where each of the module's names is of bytes, is printed in fewer than 2 to the 24 of them, and is found as what it names.
-    ensures same { IsNamed «module».now → fits «module».now certs.now.sections ≡ true → IfOk result (λ text. IsCert text.items «module».now certs.now.sections) }
+    ensures { IfOk result (λ text. text.items ≡ spec.cert_text certs.now «module».now) }
 {
     let mut out = Vec::new(alloc);
-    out.extend_from_slice(b"cert 1\n")?;
+    put_head(alloc, &mut out, module, shapes_with(certs, module))?;
     let functions = module.functions.as_slice();
     put_sections(
         alloc,

@@ -2,12 +2,15 @@
 ghost use Rattle.std.specs.Prelude.{◌≡◌, OnOk};
 ghost use Rattle.certificate.specs.Input as spec;
 ghost use Rattle.certificate.specs.Drafts.{no_draft, first_missing};
-ghost use Rattle.certs.specs.declared.section.Line.TheVariants as a_line;
+ghost use Rattle.certificate.specs.ShapeDrafts.{with_word_shape, with_global_shape, with_root_shape};
+ghost use Rattle.certs.specs.declared.section.Claim.TheVariants as a_line;
 
 use crate::draft::{RequiredValue, SectionDraft};
-use certs::{Fact, Line, Mark, Promise, Section};
-use ir_ast::{BlockId, FuncId, Function, Module, ValueId};
+use crate::shape_draft::ShapeDraft;
+use certs::{Claim, Fact, Mark, Promise, Section};
+use ir_ast::{BlockId, FuncId, Function, Module, SymbolId, ValueId};
 use items::Items;
+use pools::LayoutId;
 use std::alloc::{AllocError, Global};
 use std::marker::Model;
 use std::mem;
@@ -20,11 +23,12 @@ pub struct Kept {
     pub missing: Option<usize>,
 }
 
-/// The sections that are read, and the draft of the next one.
+/// The sections that are read, the draft of the next one, and the shapes.
 #[derive(Drop)]
 pub struct Progress {
     sections: Vec<Option<Kept>>,
     draft: SectionDraft,
+    shapes: ShapeDraft,
 }
 
 impl Model for Progress {
@@ -39,12 +43,13 @@ impl Model for Progress {
 
 impl Progress {
     /// No section is begun.
-    pub fn new(alloc: Global, sections: Vec<Option<Kept>>) -> Progress
-        ensures { result ≡ record { sections = sections.items; draft = no_draft } }
+    pub fn new(alloc: Global, sections: Vec<Option<Kept>>, shapes: ShapeDraft) -> Progress
+        ensures { result ≡ record { sections = sections.items; draft = no_draft; shapes = shapes } }
     {
         Progress {
             sections,
             draft: SectionDraft::none(alloc),
+            shapes,
         }
     }
 
@@ -60,6 +65,59 @@ impl Progress {
         ensures { result.now ≡ self.now.draft }
     {
         &self.draft
+    }
+
+    /// The shapes that are read so far.
+    pub fn shapes(&self) -> &ShapeDraft
+        ensures { result.now ≡ self.now.shapes }
+    {
+        &self.shapes
+    }
+
+    /// Gives the shape of a word.
+    #[tactic(auto, unfolding(crate::specs::Input::shaping))]
+    pub fn shape_word(
+        &mut self,
+        alloc: Global,
+        module: &Module,
+        layout: LayoutId,
+        word: usize,
+        target: LayoutId,
+    )
+        ensures { self.new ≡ spec.shaping (with_word_shape «module».now layout word target) self.old }
+    {
+        self.shapes.put_word(alloc, module, layout, word, target);
+    }
+
+    /// Gives the shape of a global.
+    #[tactic(auto, unfolding(crate::specs::Input::shaping))]
+    pub fn shape_global(&mut self, symbol: SymbolId, target: LayoutId)
+        ensures { self.new ≡ spec.shaping (with_global_shape symbol target) self.old }
+    {
+        self.shapes.put_global(symbol, target);
+    }
+
+    /// Gives the shape of a root slot of a function.
+    #[tactic(auto, unfolding(crate::specs::Input::shaping))]
+    pub fn shape_root(
+        &mut self,
+        alloc: Global,
+        function: &Function,
+        slot: ValueId,
+        target: LayoutId,
+    ) -> Result<(), AllocError>
+        ensures { OnOk result (self.new ≡ spec.shaping (with_root_shape function.now slot target) self.old) }
+    {
+        self.shapes.put_root(alloc, function, slot, target)
+    }
+
+    /// Takes the shapes out.
+    #[tactic(auto, unfolding(crate::specs::Input::unshaped))]
+    pub fn take_shapes(&mut self, alloc: Global) -> ShapeDraft
+        ensures shapes { result ≡ self.old.shapes }
+        ensures rest { self.new ≡ spec.unshaped self.old }
+    {
+        mem::replace(&mut self.shapes, ShapeDraft::none(alloc))
     }
 
     /// Begins the section of a function.
@@ -95,18 +153,18 @@ impl Progress {
         Ok(())
     }
 
-    /// Adds a line of a value to the lines of the block.
-    #[tactic(auto, unfolding(crate::specs::Input::with_line))]
+    /// Adds a claim about a value to the claims of the block.
+    #[tactic(auto, unfolding(crate::specs::Input::with_claim))]
     pub fn put_value(
         &mut self,
         block: BlockId,
         value: ValueId,
         fact: &Fact,
     ) -> Result<(), AllocError>
-        ensures { OnOk result (self.new ≡ spec.with_line block value (a_line.Value value fact.now) self.old) }
+        ensures { OnOk result (self.new ≡ spec.with_claim block value (a_line.Value value fact.now) self.old) }
     {
         let fact = *fact;
-        self.draft.lines.push(Line::Value { value, fact })?;
+        self.draft.lines.push(Claim::Value { value, fact })?;
         let at = value.number() as usize;
         if at < self.draft.values.len() {
             self.draft.values.set(at, Some(block));
@@ -114,18 +172,23 @@ impl Progress {
         Ok(())
     }
 
-    /// Adds a line of a slot to the lines of the block.
-    #[tactic(auto, unfolding(crate::specs::Input::with_slot_line))]
-    pub fn put_slot(&mut self, block: BlockId, slot: ValueId, line: &Line) -> Result<(), AllocError>
-        ensures { OnOk result (self.new ≡ spec.with_slot_line block slot line.now self.old) }
+    /// Adds a claim about a slot to the claims of the block.
+    #[tactic(auto, unfolding(crate::specs::Input::with_slot_claim))]
+    pub fn put_slot(
+        &mut self,
+        block: BlockId,
+        slot: ValueId,
+        line: &Claim,
+    ) -> Result<(), AllocError>
+        ensures { OnOk result (self.new ≡ spec.with_slot_claim block slot line.now self.old) }
     {
         match *line {
-            Line::Value { value, fact } => self.draft.lines.push(Line::Value { value, fact })?,
-            Line::Slot {
+            Claim::Value { value, fact } => self.draft.lines.push(Claim::Value { value, fact })?,
+            Claim::Slot {
                 slot,
                 nonnull,
                 holds,
-            } => self.draft.lines.push(Line::Slot {
+            } => self.draft.lines.push(Claim::Slot {
                 slot,
                 nonnull,
                 holds,
@@ -138,7 +201,7 @@ impl Progress {
         Ok(())
     }
 
-    /// Ends the lines of a block.
+    /// Ends the claims of a block.
     #[tactic(auto, unfolding(crate::specs::Input::with_block))]
     pub fn end_block(&mut self, alloc: Global, block: BlockId)
         ensures { self.new ≡ spec.with_block block self.old }
@@ -154,7 +217,7 @@ impl Progress {
         }
     }
 
-    /// The first block that has not had its lines.
+    /// The first block that has not had its claims.
     fn first_missing(&self) -> Option<usize>
         ensures { result ≡ first_missing self.now.draft }
     {

@@ -4,7 +4,7 @@ ghost use Rattle.name_text.specs.Reader.{Reads};
 ghost use Rattle.certificate.specs.Lines as form;
 
 use crate::forms::{count, layout_name};
-use crate::input::{Found, Input};
+use crate::input::{Input, WordFault};
 use crate::mistake::Mistake;
 use certs::{Family, Promise};
 use ir_ast::Module;
@@ -75,12 +75,12 @@ fn promised_fact(
     module: &Module,
     family: &Family,
     promise: &Promise,
-) -> Result<Promise, Found>
+) -> Result<Promise, WordFault>
     ensures { Reads ((form.promised_fact «module».now family.now promise.now).read input.old) result input.new }
 {
     match promised_by(*family, promise, input.word()) {
-        Promised::Again => Err(Found::Wrong(Mistake::ListedTwice(input.left()))),
-        Promised::Other => Err(Found::Syntax(input.left())),
+        Promised::Again => Err(WordFault::Wrong(Mistake::ListedTwice(input.left()))),
+        Promised::Other => Err(WordFault::Syntax(input.left())),
         Promised::Layout => {
             input.skip();
             let layout = Some(layout_name(alloc, input, module, *family)?);
@@ -108,7 +108,7 @@ fn more_facts(
     module: &Module,
     family: &Family,
     promise: &Promise,
-) -> Result<Promise, Found>
+) -> Result<Promise, WordFault>
     ensures { Reads ((form.more_facts «module».now family.now promise.now).read input.old) result input.new }
 {
     if input.line_ends() {
@@ -124,7 +124,7 @@ pub fn promise(
     input: &mut Input<'_>,
     module: &Module,
     family: Family,
-) -> Result<Promise, Found>
+) -> Result<Promise, WordFault>
     ensures { Reads ((form.promise «module».now family).read input.old) result input.new }
 {
     let one = promised_fact(alloc, input, module, &family, &no_promise())?;

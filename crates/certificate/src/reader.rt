@@ -1,46 +1,53 @@
 //! The reader of certificates.
-ghost use Rattle.std.specs.Prelude.{◌≡◌, ◌≢◌, ◌+◌, List, None, true, map, slice_get, IfOk, IfErr, Ok, Err};
+ghost use Rattle.std.specs.Prelude.{◌≡◌, ◌≢◌, ◌+◌, None, true, map, slice_get, IfOk, IfErr, Ok, Err};
 ghost use Rattle.certificate.specs.Drafts as drafts;
 ghost use Rattle.certificate.specs.Drafts.{is_in};
 ghost use Rattle.certs.specs.Fits.{fits};
+ghost use Rattle.certs.specs.ShapesFit.{shapes_fit};
+ghost use Rattle.certs.specs.declared.certs.Certs.{Certs as SomeCerts};
 ghost use Rattle.certificate.specs.Input.{start_of};
 ghost use Rattle.name_text.specs.Reader.{Reads};
+ghost use Rattle.certificate.specs.Named.{HasGlobals};
+ghost use Rattle.certificate.specs.Starts.{AreStart};
 ghost use Rattle.certificate.specs.Text as text;
 ghost use Rattle.certificate.specs.Text.{IsCert, IsFault};
 ghost use Rattle.grammar.specs.Outcome.{Gives};
 ghost use Rattle.grammar.specs.Whole.{value_of};
-ghost use Rattle.certs.specs.declared.section.Section.{Section as ASection};
 ghost use Rattle.certificate.specs.declared.fault.CertFault.{CertFault as AFault};
 ghost use Rattle.certificate.specs.declared.fault.CertFault.TheVariants as fault;
-ghost use Rattle.name_text.specs.declared.found.Found.TheVariants.{Memory};
+ghost use Rattle.name_text.specs.declared.found.WordFault.TheVariants.{Memory};
 
 use crate::draft::{RequiredValue, SectionDraft};
 use crate::facts::line;
 use crate::fault::CertFault;
 use crate::forms::{mark, new_block, new_function, new_parameter};
-use crate::input::{Found, Input};
+use crate::input::{Input, WordFault};
 use crate::mistake::Mistake;
 use crate::progress::{Kept, Progress};
 use crate::promises::promise;
-use certs::{Certs, Promise, Section, family_of_type, family_of_value};
-use ir_ast::{BlockId, FuncId, Function, Module};
+use crate::shape_draft::ShapeDraft;
+use crate::shape_forms::{none_missing, shape_lines};
+use crate::starts::{goes_with, shapes_at_start};
+use certs::{Certs, Promise, Section, family_of_type, family_of_value, is_opaque_text};
+use ir_ast::{BlockId, FuncId, Function, Module, Shapes};
 use items::Items;
 use name_text::{is_number, place};
 use std::alloc::{AllocError, Global};
 
-/// The number of the format's version.
+/// The number of the version that goes with the module, and whether it is the one with shapes.
 #[tactic(auto, unfolding(crate::specs::Text::version, name_text::specs::Forms::skip))]
-fn version(input: &mut Input<'_>) -> Result<(), Found>
-    ensures { Reads (text.version.read input.old) result input.new }
+fn version(input: &mut Input<'_>, module: &Module) -> Result<bool, WordFault>
+    ensures { Reads ((text.version «module».now).read input.old) result input.new }
 {
     if !is_number(input.word()) {
-        return Err(Found::Syntax(input.left()));
+        return Err(WordFault::Syntax(input.left()));
     }
-    if !input.begins(b"1") {
-        return Err(Found::Wrong(Mistake::Version(input.left())));
+    if !goes_with(module, input.word()) {
+        return Err(WordFault::Wrong(Mistake::Version(input.left())));
     }
+    let shaped = input.begins(b"2");
     input.skip();
-    Ok(())
+    Ok(shaped)
 }
 
 /// What is promised of a parameter.
@@ -50,7 +57,7 @@ fn parameter(
     input: &mut Input<'_>,
     module: &Module,
     function: &Function,
-) -> Result<(), Found>
+) -> Result<(), WordFault>
     ensures { Reads ((text.parameter «module».now function.now).read input.old) result input.new }
 {
     input.expect(b"param")?;
@@ -82,7 +89,7 @@ fn parameters(
     input: &mut Input<'_>,
     module: &Module,
     function: &Function,
-) -> Result<(), Found>
+) -> Result<(), WordFault>
     ensures { Reads ((text.parameters «module».now function.now).read input.old) result input.new }
 {
     for _turn in 0..input.left() + 1 {
@@ -101,7 +108,7 @@ fn result_line(
     input: &mut Input<'_>,
     module: &Module,
     function: &Function,
-) -> Result<Option<Promise>, Found>
+) -> Result<Option<Promise>, WordFault>
     ensures { Reads ((text.result_line «module».now function.now).read input.old) result input.new }
 {
     if !input.begins(b"result") {
@@ -130,7 +137,7 @@ fn lines(
     module: &Module,
     function: &Function,
     block: BlockId,
-) -> Result<(), Found>
+) -> Result<(), WordFault>
     ensures { Reads ((text.lines «module».now function.now block).read input.old) result input.new }
 {
     for _turn in 0..input.left() + 1 {
@@ -169,24 +176,24 @@ fn first_unlisted(
 
 /// The block lists each value that it has to list.
 #[tactic(auto, unfolding(crate::specs::Text::all_listed))]
-fn all_listed(input: &mut Input<'_>, block: BlockId) -> Result<(), Found>
+fn all_listed(input: &mut Input<'_>, block: BlockId) -> Result<(), WordFault>
     ensures { Reads ((text.all_listed block).read input.old) result input.new }
 {
     let draft = input.read.draft();
     match first_unlisted(block, draft.values.as_slice(), draft.wanted.as_slice()) {
         None => Ok(()),
-        Some(left) => Err(Found::Wrong(Mistake::UnknownName(left))),
+        Some(left) => Err(WordFault::Wrong(Mistake::UnknownName(left))),
     }
 }
 
-/// A block and its lines.
+/// A block and its claims.
 #[tactic(auto, unfolding(crate::specs::Text::block))]
 fn block(
     alloc: Global,
     input: &mut Input<'_>,
     module: &Module,
     function: &Function,
-) -> Result<(), Found>
+) -> Result<(), WordFault>
     ensures { Reads ((text.block «module».now function.now).read input.old) result input.new }
 {
     input.expect(b"block")?;
@@ -210,7 +217,7 @@ fn blocks(
     input: &mut Input<'_>,
     module: &Module,
     function: &Function,
-) -> Result<(), Found>
+) -> Result<(), WordFault>
     ensures { Reads ((text.blocks «module».now function.now).read input.old) result input.new }
 {
     for _turn in 0..input.left() + 1 {
@@ -229,7 +236,7 @@ fn body(
     input: &mut Input<'_>,
     module: &Module,
     function: &Function,
-) -> Result<Option<Promise>, Found>
+) -> Result<Option<Promise>, WordFault>
     ensures { Reads ((text.body «module».now function.now).read input.old) result input.new }
 {
     input.read.begin(alloc, module, function)?;
@@ -247,7 +254,7 @@ pub fn section_of(
     module: &Module,
     number: FuncId,
     function: &Function,
-) -> Result<(), Found>
+) -> Result<(), WordFault>
     ensures { Reads ((text.section_of «module».now number function.now).read input.old) result input.new }
 {
     let mark = mark(input)?;
@@ -275,18 +282,18 @@ pub fn section_of(
 
 /// A section after its first word.
 #[tactic(auto, unfolding(crate::specs::Text::section_after))]
-fn section_after(alloc: Global, input: &mut Input<'_>, module: &Module) -> Result<(), Found>
+fn section_after(alloc: Global, input: &mut Input<'_>, module: &Module) -> Result<(), WordFault>
     ensures { Reads ((text.section_after «module».now).read input.old) result input.new }
 {
     let number = new_function(alloc, input, module)?;
     match module.functions.get(number.number() as usize) {
-        None => Err(Found::Wrong(Mistake::UnknownName(input.left()))),
+        None => Err(WordFault::Wrong(Mistake::UnknownName(input.left()))),
         Some(function) => section_of(alloc, input, module, number, function),
     }
 }
 
 #[tactic(auto, unfolding(crate::specs::Text::section))]
-fn section(alloc: Global, input: &mut Input<'_>, module: &Module) -> Result<(), Found>
+fn section(alloc: Global, input: &mut Input<'_>, module: &Module) -> Result<(), WordFault>
     ensures { Reads ((text.section «module».now).read input.old) result input.new }
 {
     input.expect(b"function")?;
@@ -295,7 +302,7 @@ fn section(alloc: Global, input: &mut Input<'_>, module: &Module) -> Result<(), 
 
 /// The sections up to the text's end.
 #[tactic(auto, unfolding(crate::specs::Text::sections))]
-fn sections(alloc: Global, input: &mut Input<'_>, module: &Module) -> Result<(), Found>
+fn sections(alloc: Global, input: &mut Input<'_>, module: &Module) -> Result<(), WordFault>
     ensures { Reads ((text.sections «module».now).read input.old) result input.new }
 {
     for _turn in 0..input.left() + 1 {
@@ -346,29 +353,72 @@ fn first_gap(sections: &[Option<Kept>]) -> Option<Mistake>
 
 /// The sections, where none is missing.
 #[tactic(auto, unfolding(crate::specs::Text::finished))]
-fn finished(alloc: Global, input: &mut Input<'_>) -> Result<Items<Section>, Found>
+fn finished(alloc: Global, input: &mut Input<'_>) -> Result<Items<Section>, WordFault>
     ensures { Reads (text.finished.read input.old) result input.new }
 {
     if let Some(gap) = first_gap(input.read.sections()) {
-        return Err(Found::Wrong(gap));
+        return Err(WordFault::Wrong(gap));
     }
     let kept = input.read.take_sections(alloc);
     Ok(sections_in(alloc, kept)?)
 }
 
+/// Certificates behind the first line, without shapes.
+#[tactic(auto, unfolding(crate::specs::Text::without_shapes))]
+fn without_shapes(alloc: Global, input: &mut Input<'_>, module: &Module) -> Result<Certs, WordFault>
+    ensures { Reads ((text.without_shapes «module».now).read input.old) result input.new }
+{
+    sections(alloc, input, module)?;
+    let sections = finished(alloc, input)?;
+    Ok(Certs {
+        sections,
+        shapes: None,
+    })
+}
+
+/// Of a typed text there are no shapes.
+fn shapes_of(module: &Module, shapes: Shapes) -> Option<Shapes>
+    ensures { result ≡ text.shapes_of «module».now shapes }
+{
+    if is_opaque_text(module) {
+        Some(shapes)
+    } else {
+        None
+    }
+}
+
+/// Certificates behind the first line, with shapes.
+#[tactic(auto, unfolding(crate::specs::Text::with_shapes, crate::specs::ShapeForms::taken_shapes))]
+fn with_shapes(alloc: Global, input: &mut Input<'_>, module: &Module) -> Result<Certs, WordFault>
+    ensures { Reads ((text.with_shapes «module».now).read input.old) result input.new }
+{
+    shape_lines(alloc, input, module)?;
+    let draft = input.read.take_shapes(alloc);
+    sections(alloc, input, module)?;
+    none_missing(input, module, &draft)?;
+    let sections = finished(alloc, input)?;
+    Ok(Certs {
+        sections,
+        shapes: shapes_of(module, draft.shapes),
+    })
+}
+
 #[tactic(auto, unfolding(crate::specs::Text::file))]
-fn file(alloc: Global, input: &mut Input<'_>, module: &Module) -> Result<Items<Section>, Found>
+fn file(alloc: Global, input: &mut Input<'_>, module: &Module) -> Result<Certs, WordFault>
     ensures { Reads ((text.file «module».now).read input.old) result input.new }
 {
     input.expect(b"cert")?;
-    version(input)?;
+    let shaped = version(input, module)?;
     input.line_end()?;
-    sections(alloc, input, module)?;
-    finished(alloc, input)
+    if shaped {
+        with_shapes(alloc, input, module)
+    } else {
+        without_shapes(alloc, input, module)
+    }
 }
 
 /// No function has a section.
-fn no_sections(alloc: Global, module: &Module) -> Result<Vec<Option<Kept>>, AllocError>
+pub(crate) fn no_sections(alloc: Global, module: &Module) -> Result<Vec<Option<Kept>>, AllocError>
     ensures { IfOk result (λ sections. sections.items ≡ map (λ _. None) «module».now.functions) }
 {
     let mut sections = Vec::new(alloc);
@@ -378,45 +428,79 @@ fn no_sections(alloc: Global, module: &Module) -> Result<Vec<Option<Kept>>, Allo
     Ok(sections)
 }
 
-fn sections_of(alloc: Global, bytes: &[u8], module: &Module) -> Result<Items<Section>, Found>
-    ensures { Gives Memory result (value_of ((text.file «module».now).read (start_of «module».now bytes.now))) }
+fn certs_in(
+    alloc: Global,
+    bytes: &[u8],
+    module: &Module,
+    shapes: ShapeDraft,
+) -> Result<Certs, WordFault>
+    ensures { Gives Memory result (value_of ((text.file «module».now).read (start_of «module».now shapes bytes.now))) }
 {
-    let mut input = Input::new(bytes, Progress::new(alloc, no_sections(alloc, module)?));
+    let sections = no_sections(alloc, module)?;
+    let mut input = Input::new(bytes, Progress::new(alloc, sections, shapes));
     file(alloc, &mut input, module)
 }
 
 /// The fault with its line and column.
-pub fn placed(bytes: &[u8], found: Found) -> CertFault
+pub fn placed(bytes: &[u8], found: WordFault) -> CertFault
     ensures { result ≡ text.placed bytes.now found }
 {
     match found {
-        Found::Syntax(rest) => CertFault::Syntax(place(bytes, rest)),
-        Found::Wrong(Mistake::Version(rest)) => CertFault::Version(place(bytes, rest)),
-        Found::Wrong(Mistake::UnknownName(rest)) => CertFault::UnknownName(place(bytes, rest)),
-        Found::Wrong(Mistake::ListedTwice(rest)) => CertFault::ListedTwice(place(bytes, rest)),
-        Found::Wrong(Mistake::Missing(function)) => CertFault::Missing(function),
-        Found::Wrong(Mistake::MissingBlock(function, block)) => CertFault::MissingBlock(
+        WordFault::Syntax(rest) => CertFault::Syntax(place(bytes, rest)),
+        WordFault::Wrong(Mistake::Version(rest)) => CertFault::Version(place(bytes, rest)),
+        WordFault::Wrong(Mistake::UnknownName(rest)) => CertFault::UnknownName(place(bytes, rest)),
+        WordFault::Wrong(Mistake::ListedTwice(rest)) => CertFault::ListedTwice(place(bytes, rest)),
+        WordFault::Wrong(Mistake::MissingWord(layout, word)) => {
+            CertFault::MissingWord(layout, word)
+        }
+        WordFault::Wrong(Mistake::MissingGlobal(symbol)) => CertFault::MissingGlobal(symbol),
+        WordFault::Wrong(Mistake::MissingRoot(function, slot)) => {
+            CertFault::MissingRoot(function, slot)
+        }
+        WordFault::Wrong(Mistake::Missing(function)) => CertFault::Missing(function),
+        WordFault::Wrong(Mistake::MissingBlock(function, block)) => CertFault::MissingBlock(
             function, block,
         ),
-        Found::Memory => CertFault::Memory,
+        WordFault::Memory => CertFault::Memory,
+    }
+}
+
+/// Reads the certificates of a text before which these are the shapes.
+fn certs_after(
+    alloc: Global,
+    bytes: &[u8],
+    module: &Module,
+    shapes: ShapeDraft,
+) -> Result<Certs, CertFault>
+    requires start { AreStart «module».now shapes }
+    ensures found { IfOk result (IsCert bytes.now «module».now) }
+    ensures only { (certs : SomeCerts) → IsCert bytes.now «module».now certs → Gives fault.Memory result (Ok certs) }
+    ensures fault { IfErr result (λ e. e ≢ fault.Memory → IsFault bytes.now «module».now e) }
+    ensures only_fault { (e : AFault) → IsFault bytes.now «module».now e → Gives fault.Memory result (Err e) }
+{
+    match certs_in(alloc, bytes, module, shapes) {
+        Ok(certs) => Ok(certs),
+        Err(found) => Err(placed(bytes, found)),
     }
 }
 
 /// Reads the certificates of a module.
 pub fn read_cert(alloc: Global, bytes: &[u8], module: &Module) -> Result<Certs, CertFault>
     // What is read is a text of these certificates.
-    ensures found { IfOk result (λ certs. IsCert bytes.now «module».now certs.sections) }
+    ensures found { IfOk result (IsCert bytes.now «module».now) }
     // They are certificates of the module.
     ensures fits { IfOk result (λ certs. fits «module».now certs.sections ≡ true) }
+    // Those of an opaque text have its shapes, those of a typed text none.
+    ensures shapes { HasGlobals «module».now → IfOk result (λ certs. shapes_fit «module».now certs.shapes ≡ true) }
     // What is a text of some certificates is read, unless memory runs out.
-    ensures only { (sections : List ASection) → IsCert bytes.now «module».now sections → Gives fault.Memory result (Ok (record { sections = sections })) }
+    ensures only { (certs : SomeCerts) → IsCert bytes.now «module».now certs → Gives fault.Memory result (Ok certs) }
     // What is refused is refused for its first fault.
     ensures fault { IfErr result (λ e. e ≢ fault.Memory → IsFault bytes.now «module».now e) }
     // What has a first fault is refused for it, unless memory runs out.
     ensures only_fault { (e : AFault) → IsFault bytes.now «module».now e → Gives fault.Memory result (Err e) }
 {
-    match sections_of(alloc, bytes, module) {
-        Ok(sections) => Ok(Certs { sections }),
-        Err(found) => Err(placed(bytes, found)),
+    match shapes_at_start(alloc, module) {
+        Ok(shapes) => certs_after(alloc, bytes, module, shapes),
+        Err(_refused) => Err(CertFault::Memory),
     }
 }

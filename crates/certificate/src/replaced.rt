@@ -11,12 +11,16 @@ ghost use Rattle.std.specs.Prelude.{List};
 
 use crate::anew::read_section;
 use crate::fault::CertFault;
-use certs::{Certs, Line, Section};
+use certs::{Certs, Claim, Section};
+use copies::copy_shapes;
 use ir_ast::{FuncId, Module};
 use items::Items;
 use std::alloc::{AllocError, Global};
 
-fn copied_blocks(alloc: Global, blocks: &[Items<Line>]) -> Result<Items<Items<Line>>, AllocError>
+pub(crate) fn copied_blocks(
+    alloc: Global,
+    blocks: &[Items<Claim>],
+) -> Result<Items<Items<Claim>>, AllocError>
     ensures { IfOk result (λ copies. copies ≡ blocks.now) }
 {
     let mut copies = Items::new(alloc);
@@ -26,7 +30,7 @@ fn copied_blocks(alloc: Global, blocks: &[Items<Line>]) -> Result<Items<Items<Li
     Ok(copies)
 }
 
-fn copied_section(alloc: Global, section: &Section) -> Result<Section, AllocError>
+pub(crate) fn copied_section(alloc: Global, section: &Section) -> Result<Section, AllocError>
     ensures { IfOk result (λ copy. copy ≡ section.now) }
 {
     let parameters = Items::from_slice(alloc, section.parameters.as_slice())?;
@@ -49,7 +53,15 @@ fn copied_sections(alloc: Global, sections: &[Section]) -> Result<Items<Section>
     Ok(copies)
 }
 
-/// Certificates of a module in which the section of one function is the one of this text. All others are copied.
+pub(crate) fn copied_certs(alloc: Global, certs: &Certs) -> Result<Certs, AllocError>
+    ensures { IfOk result (λ copy. copy ≡ certs.now) }
+{
+    let sections = copied_sections(alloc, certs.sections.as_slice())?;
+    let shapes = copy_shapes(alloc, &certs.shapes)?;
+    Ok(Certs { sections, shapes })
+}
+
+/// Certificates of a module in which the section of one function is the one of this text. All others, and the shapes, are copied.
 pub fn replace_section(
     alloc: Global,
     certs: &Certs,
@@ -63,7 +75,7 @@ pub fn replace_section(
     // They are certificates of the module where all other sections are.
     ensures fits { FitOthers «module».now function certs.now.sections → IfOk result (λ new. fits «module».now new.sections ≡ true) }
     // What is a text of some section is read, unless memory runs out.
-    ensures only { (new : List ASection) → IsReplaced bytes.now «module».now function certs.now.sections new → Gives fault.Memory result (Ok (record { sections = new })) }
+    ensures only { (new : List ASection) → IsReplaced bytes.now «module».now function certs.now.sections new → Gives fault.Memory result (Ok (record { sections = new; shapes = certs.now.shapes })) }
     // What is refused is refused for its first fault.
     ensures fault { IfErr result (λ e. e ≢ fault.Memory → IsSectionFault bytes.now «module».now function e) }
     // What has a first fault is refused for it, unless memory runs out.
@@ -73,10 +85,10 @@ pub fn replace_section(
         Ok(section) => section,
         Err(fault) => return Err(fault),
     };
-    let mut sections = match copied_sections(alloc, certs.sections.as_slice()) {
-        Ok(sections) => sections,
+    let mut new = match copied_certs(alloc, certs) {
+        Ok(copy) => copy,
         Err(_) => return Err(CertFault::Memory),
     };
-    sections.set(function.number() as usize, section);
-    Ok(Certs { sections })
+    new.sections.set(function.number() as usize, section);
+    Ok(new)
 }

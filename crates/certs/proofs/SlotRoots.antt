@@ -23,10 +23,10 @@ use Rattle.shadow_stack.specs.declared.draft.Draft.{Draft}
 use Rattle.shadow_stack.specs.declared.draft.Origin.{Origin}
 use Rattle.shadow_stack.specs.declared.draft.Origin.TheVariants as origin
 use Rattle.shadow_stack.specs.Hops.{hops_nowhere, hops_slot, hops_address}
-use Rattle.shadow_stack.specs.Slots.{slots_of, is_among, put, origin_of, noted_op, noted, noted_blocks, draft_of, origin_at, hop, hops, slot_at, names_of, is_reference_held, operand_slot, first_slot, slot_rooted, slot_rooted_by, with_root, with_roots, with_roots_of}
+use Rattle.shadow_stack.specs.Slots.{slots_of, is_among, put, origin_of, recorded_op, recorded, recorded_blocks, draft_of, origin_at, hop, hops, slot_at, names_of, is_reference_held, operand_slot, first_slot, slot_rooted, slot_rooted_by, with_root, with_roots, with_roots_of}
 use Rattle.types.specs.RuntimeCall.{runtime_called}
-use Rattle.certs.specs.RootNames.{is_among_roots, is_root, root_noted, roots_noted, roots_of_blocks, root_names}
-use Rattle.certs.specs.Roots.{nowhere, source_of_operand, source_noted, source_after, source_after_blocks, source_of, allocated_at, allocated_by, allocated_within, allocated, is_alloca_of, leads_to, first_leads_to, roots_by, roots, some_roots, is_rooted, is_alloca, some_alloca, has_alloca, is_root_alloca, is_root_found}
+use Rattle.certs.specs.RootNames.{is_among_roots, is_root, root_recorded, roots_recorded, roots_of_blocks, root_names}
+use Rattle.certs.specs.Roots.{nowhere, source_of_operand, source_recorded, source_after, source_after_blocks, source_of, allocated_at, allocated_by, allocated_within, allocated, is_alloca_of, leads_to, first_leads_to, roots_by, roots, some_roots, is_rooted, is_alloca, some_alloca, has_alloca, is_root_alloca, is_root_found}
 use Rattle.certs.specs.declared.roots.Source.{Source}
 use Rattle.certs.specs.declared.roots.Source.TheVariants.{Nowhere, Held, Same}
 use Rattle.certs.specs.declared.roots.SlotName.{SlotName}
@@ -81,38 +81,38 @@ put_length : (name : Option ℕ) (o : Origin) (os : List Origin) → length (put
 put_length None o os = refl
 put_length (Some value) o os = length-set os value o
 
-noted_length : (name : Option ℕ) (op : Op) (d : Draft) → length (noted_op name op d).origins ≡ length d.origins
-noted_length name (Memory (Alloca held)) d = put_length name (origin.Slot (length d.held)) d.origins
-noted_length name (Element x) d = put_length name origin.Address d.origins
-noted_length name (Cast x) d = put_length name (origin_of x.operand) d.origins
-noted_length name _ d = refl
+recorded_length : (name : Option ℕ) (op : Op) (d : Draft) → length (recorded_op name op d).origins ≡ length d.origins
+recorded_length name (Memory (Alloca held)) d = put_length name (origin.Slot (length d.held)) d.origins
+recorded_length name (Element x) d = put_length name origin.Address d.origins
+recorded_length name (Cast x) d = put_length name (origin_of x.operand) d.origins
+recorded_length name _ d = refl
 
-noted_agrees : (value : ℕ) (name : Option ℕ) (op : Op) (d : Draft) (s : Source) → value < length d.origins → Agrees d.held s (origin_at d.origins value)
-    → Agrees (noted_op name op d).held (source_noted value name op s) (origin_at (noted_op name op d).origins value)
-noted_agrees value None (Memory (Alloca held)) d s within h = agrees_more d.held held s (origin_at d.origins value) h
-noted_agrees value (Some name) (Memory (Alloca held)) d s within h =
+recorded_agrees : (value : ℕ) (name : Option ℕ) (op : Op) (d : Draft) (s : Source) → value < length d.origins → Agrees d.held s (origin_at d.origins value)
+    → Agrees (recorded_op name op d).held (source_recorded value name op s) (origin_at (recorded_op name op d).origins value)
+recorded_agrees value None (Memory (Alloca held)) d s within h = agrees_more d.held held s (origin_at d.origins value) h
+recorded_agrees value (Some name) (Memory (Alloca held)) d s within h =
     set_agrees value name (d.held ++ held ∷ []) d.origins (Held held) s (origin.Slot (length d.held)) within (get_end d.held held) (agrees_more d.held held s (origin_at d.origins value) h)
-noted_agrees value None (Element x) d s within h = h
-noted_agrees value (Some name) (Element x) d s within h = set_agrees value name d.held d.origins nowhere s origin.Address within tt h
-noted_agrees value None (Cast x) d s within h = h
-noted_agrees value (Some name) (Cast x) d s within h =
+recorded_agrees value None (Element x) d s within h = h
+recorded_agrees value (Some name) (Element x) d s within h = set_agrees value name d.held d.origins nowhere s origin.Address within tt h
+recorded_agrees value None (Cast x) d s within h = h
+recorded_agrees value (Some name) (Cast x) d s within h =
     set_agrees value name d.held d.origins (source_of_operand x.operand) s (origin_of x.operand) within (operand_agrees d.held x.operand) h
-noted_agrees value name _ d s within h = h
+recorded_agrees value name _ d s within h = h
 
 after_agrees : (value : ℕ) (instrs : List Instr) (d : Draft) (s : Source) → value < length d.origins → Agrees d.held s (origin_at d.origins value)
-    → (length (noted instrs d).origins ≡ length d.origins) × Agrees (noted instrs d).held (source_after value instrs s) (origin_at (noted instrs d).origins value)
+    → (length (recorded instrs d).origins ≡ length d.origins) × Agrees (recorded instrs d).held (source_after value instrs s) (origin_at (recorded instrs d).origins value)
 after_agrees value [] d s within h = (refl, h)
 after_agrees value (instr ∷ instrs) d s within h =
-    let len = noted_length instr.result instr.op d in
-    let r = after_agrees value instrs (noted_op instr.result instr.op d) (source_noted value instr.result instr.op s) (omega (arith, len)) (noted_agrees value instr.result instr.op d s within h) in
+    let len = recorded_length instr.result instr.op d in
+    let r = after_agrees value instrs (recorded_op instr.result instr.op d) (source_recorded value instr.result instr.op s) (omega (arith, len)) (recorded_agrees value instr.result instr.op d s within h) in
     (r.0 ∙ len, r.1)
 
 blocks_agree : (value : ℕ) (blocks : List Block) (d : Draft) (s : Source) → value < length d.origins → Agrees d.held s (origin_at d.origins value)
-    → Agrees (noted_blocks blocks d).held (source_after_blocks value blocks s) (origin_at (noted_blocks blocks d).origins value)
+    → Agrees (recorded_blocks blocks d).held (source_after_blocks value blocks s) (origin_at (recorded_blocks blocks d).origins value)
 blocks_agree value [] d s within h = h
 blocks_agree value (block ∷ blocks) d s within h =
     let r = after_agrees value block.body d s within h in
-    blocks_agree value blocks (noted block.body d) (source_after value block.body s) (omega (arith, r.0)) r.1
+    blocks_agree value blocks (recorded block.body d) (source_after value block.body s) (omega (arith, r.0)) r.1
 
 -- ---- no two names are of one slot
 
@@ -195,22 +195,22 @@ no_slot (Local value) slot e = cc
 no_slot (Global symbol) slot e = cc
 no_slot (CastGlobal from symbol to) slot e = cc
 
-noted_apart : (name : Option ℕ) (op : Op) (d : Draft) → Apart d → Apart (noted_op name op d)
-noted_apart None (Memory (Alloca held)) d h = held_apart d.origins d.held held h
-noted_apart (Some name) (Memory (Alloca held)) d h = slot_apart d.origins d.held name held h
-noted_apart None (Element x) d h = h
-noted_apart (Some name) (Element x) d h = other_apart d.origins d.held name origin.Address (λ slot e. cc) h
-noted_apart None (Cast x) d h = h
-noted_apart (Some name) (Cast x) d h = other_apart d.origins d.held name (origin_of x.operand) (no_slot x.operand) h
-noted_apart name _ d h = h
+recorded_apart : (name : Option ℕ) (op : Op) (d : Draft) → Apart d → Apart (recorded_op name op d)
+recorded_apart None (Memory (Alloca held)) d h = held_apart d.origins d.held held h
+recorded_apart (Some name) (Memory (Alloca held)) d h = slot_apart d.origins d.held name held h
+recorded_apart None (Element x) d h = h
+recorded_apart (Some name) (Element x) d h = other_apart d.origins d.held name origin.Address (λ slot e. cc) h
+recorded_apart None (Cast x) d h = h
+recorded_apart (Some name) (Cast x) d h = other_apart d.origins d.held name (origin_of x.operand) (no_slot x.operand) h
+recorded_apart name _ d h = h
 
-after_apart : (instrs : List Instr) (d : Draft) → Apart d → Apart (noted instrs d)
+after_apart : (instrs : List Instr) (d : Draft) → Apart d → Apart (recorded instrs d)
 after_apart [] d h = h
-after_apart (instr ∷ instrs) d h = after_apart instrs (noted_op instr.result instr.op d) (noted_apart instr.result instr.op d h)
+after_apart (instr ∷ instrs) d h = after_apart instrs (recorded_op instr.result instr.op d) (recorded_apart instr.result instr.op d h)
 
-blocks_apart : (blocks : List Block) (d : Draft) → Apart d → Apart (noted_blocks blocks d)
+blocks_apart : (blocks : List Block) (d : Draft) → Apart d → Apart (recorded_blocks blocks d)
 blocks_apart [] d h = h
-blocks_apart (block ∷ blocks) d h = blocks_apart blocks (noted block.body d) (after_apart block.body d h)
+blocks_apart (block ∷ blocks) d h = blocks_apart blocks (recorded block.body d) (after_apart block.body d h)
 
 nowhere_at : (n i : ℕ) → origin_at (replicate n origin.Nowhere) i ≡ origin.Nowhere
 nowhere_at zero i = refl
@@ -223,13 +223,13 @@ none_apart n = (λ i j slot e g. absurd (none i slot e), λ i slot e. absurd (no
     none : (i slot : ℕ) → origin_at (replicate n origin.Nowhere) i ≡ origin.Slot slot → ⊥
     none i slot e = let z = nowhere_at n i in cc
 
-after_length : (instrs : List Instr) (d : Draft) → length (noted instrs d).origins ≡ length d.origins
+after_length : (instrs : List Instr) (d : Draft) → length (recorded instrs d).origins ≡ length d.origins
 after_length [] d = refl
-after_length (instr ∷ instrs) d = after_length instrs (noted_op instr.result instr.op d) ∙ noted_length instr.result instr.op d
+after_length (instr ∷ instrs) d = after_length instrs (recorded_op instr.result instr.op d) ∙ recorded_length instr.result instr.op d
 
-blocks_length : (blocks : List Block) (d : Draft) → length (noted_blocks blocks d).origins ≡ length d.origins
+blocks_length : (blocks : List Block) (d : Draft) → length (recorded_blocks blocks d).origins ≡ length d.origins
 blocks_length [] d = refl
-blocks_length (block ∷ blocks) d = blocks_length blocks (noted block.body d) ∙ after_length block.body d
+blocks_length (block ∷ blocks) d = blocks_length blocks (recorded block.body d) ∙ after_length block.body d
 
 past_end : (os : List Origin) (i : ℕ) → length os ≤ i → origin_at os i ≡ origin.Nowhere
 past_end [] i le = refl
@@ -423,65 +423,65 @@ module _ (m : Module) (f : Function) where
   -- ---- the names of root slots
 
   module _ (value : ℕ) where
-    abbrev noted_is : List Bool → Bool
-    noted_is rs = slice_index_or rs value false
+    abbrev recorded_is : List Bool → Bool
+    recorded_is rs = slice_index_or rs value false
 
     abbrev rooted : Bool
     rooted = is_root (slots_of m f) value
 
-    op_noted : (name : Option ℕ) (op : Op) (rs : List Bool) → value < length rs → (length (root_noted (slots_of m f) op name rs) ≡ length rs) × (noted_is (root_noted (slots_of m f) op name rs) ≡ cond (is_alloca name value op) rooted (noted_is rs))
-    op_noted None (Memory (Alloca h)) rs within = (refl, refl)
-    op_noted (Some name) (Memory (Alloca h)) rs within = (
+    op_recorded : (name : Option ℕ) (op : Op) (rs : List Bool) → value < length rs → (length (root_recorded (slots_of m f) op name rs) ≡ length rs) × (recorded_is (root_recorded (slots_of m f) op name rs) ≡ cond (is_alloca name value op) rooted (recorded_is rs))
+    op_recorded None (Memory (Alloca h)) rs within = (refl, refl)
+    op_recorded (Some name) (Memory (Alloca h)) rs within = (
       length-set rs name (is_root (slots_of m f) name),
       elim (cases_eq name value) [
-        | inl same ↦ rw (eq-eqb name value same) (ap (λ (x : ℕ). noted_is (slice_set rs x (is_root (slots_of m f) x))) same ∙ get_or-set_same rs value rooted false within)
+        | inl same ↦ rw (eq-eqb name value same) (ap (λ (x : ℕ). recorded_is (slice_set rs x (is_root (slots_of m f) x))) same ∙ get_or-set_same rs value rooted false within)
         | inr other ↦ rw (ne_eqb name value other) (get_or-set_other rs name value (is_root (slots_of m f) name) false (λ e. other (sym e)))
       ],
     )
-    op_noted name _ rs within = (refl, refl)
+    op_recorded name _ rs within = (refl, refl)
 
-    either_noted : (a b x y : Bool) → cond b x (cond a x y) ≡ cond (a || b) x y
-    either_noted true true x y = refl
-    either_noted true false x y = refl
-    either_noted false b x y = refl
+    either_recorded : (a b x y : Bool) → cond b x (cond a x y) ≡ cond (a || b) x y
+    either_recorded true true x y = refl
+    either_recorded true false x y = refl
+    either_recorded false b x y = refl
 
-    instrs_noted : (instrs : List Instr) (rs : List Bool) → value < length rs → (length (roots_noted (slots_of m f) instrs rs) ≡ length rs) × (noted_is (roots_noted (slots_of m f) instrs rs) ≡ cond (some_alloca value instrs) rooted (noted_is rs))
-    instrs_noted [] rs within = (refl, refl)
-    instrs_noted (instr ∷ instrs) rs within =
-        let one = op_noted instr.result instr.op rs within in
-        let more = instrs_noted instrs (root_noted (slots_of m f) instr.op instr.result rs) (omega (arith, one.0, within)) in
-        (more.0 ∙ one.0, more.1 ∙ ap (λ b. cond (some_alloca value instrs) rooted b) one.1 ∙ either_noted (is_alloca instr.result value instr.op) (some_alloca value instrs) rooted (noted_is rs))
+    instrs_recorded : (instrs : List Instr) (rs : List Bool) → value < length rs → (length (roots_recorded (slots_of m f) instrs rs) ≡ length rs) × (recorded_is (roots_recorded (slots_of m f) instrs rs) ≡ cond (some_alloca value instrs) rooted (recorded_is rs))
+    instrs_recorded [] rs within = (refl, refl)
+    instrs_recorded (instr ∷ instrs) rs within =
+        let one = op_recorded instr.result instr.op rs within in
+        let more = instrs_recorded instrs (root_recorded (slots_of m f) instr.op instr.result rs) (omega (arith, one.0, within)) in
+        (more.0 ∙ one.0, more.1 ∙ ap (λ b. cond (some_alloca value instrs) rooted b) one.1 ∙ either_recorded (is_alloca instr.result value instr.op) (some_alloca value instrs) rooted (recorded_is rs))
 
     abbrev some_block_alloca : List Block → Bool
     some_block_alloca blocks = list_any (λ (block : Block). some_alloca value block.body) blocks
 
-    blocks_noted : (blocks : List Block) (rs : List Bool) → value < length rs → noted_is (roots_of_blocks (slots_of m f) blocks rs) ≡ cond (some_block_alloca blocks) rooted (noted_is rs)
-    blocks_noted [] rs within = refl
-    blocks_noted (block ∷ blocks) rs within =
-        let one = instrs_noted block.body rs within in
-        blocks_noted blocks (roots_noted (slots_of m f) block.body rs) (omega (arith, one.0, within))
-        ∙ ap (λ b. cond (some_block_alloca blocks) rooted b) one.1 ∙ either_noted (some_alloca value block.body) (some_block_alloca blocks) rooted (noted_is rs)
+    blocks_recorded : (blocks : List Block) (rs : List Bool) → value < length rs → recorded_is (roots_of_blocks (slots_of m f) blocks rs) ≡ cond (some_block_alloca blocks) rooted (recorded_is rs)
+    blocks_recorded [] rs within = refl
+    blocks_recorded (block ∷ blocks) rs within =
+        let one = instrs_recorded block.body rs within in
+        blocks_recorded blocks (roots_recorded (slots_of m f) block.body rs) (omega (arith, one.0, within))
+        ∙ ap (λ b. cond (some_block_alloca blocks) rooted b) one.1 ∙ either_recorded (some_alloca value block.body) (some_block_alloca blocks) rooted (recorded_is rs)
 
-    none_noted : (n : ℕ) → noted_is (replicate n false) ≡ false
-    none_noted n = none n value
+    none_recorded : (n : ℕ) → recorded_is (replicate n false) ≡ false
+    none_recorded n = none n value
       where
         none : (n i : ℕ) → slice_index_or (replicate n false) i false ≡ false
         none zero i = refl
         none (suc n) zero = refl
         none (suc n) (suc i) = none n i
 
-    op_length : (name : Option ℕ) (op : Op) (rs : List Bool) → length (root_noted (slots_of m f) op name rs) ≡ length rs
+    op_length : (name : Option ℕ) (op : Op) (rs : List Bool) → length (root_recorded (slots_of m f) op name rs) ≡ length rs
     op_length None (Memory (Alloca h)) rs = refl
     op_length (Some name) (Memory (Alloca h)) rs = length-set rs name (is_root (slots_of m f) name)
     op_length name _ rs = refl
 
-    instrs_length : (instrs : List Instr) (rs : List Bool) → length (roots_noted (slots_of m f) instrs rs) ≡ length rs
+    instrs_length : (instrs : List Instr) (rs : List Bool) → length (roots_recorded (slots_of m f) instrs rs) ≡ length rs
     instrs_length [] rs = refl
-    instrs_length (instr ∷ instrs) rs = instrs_length instrs (root_noted (slots_of m f) instr.op instr.result rs) ∙ op_length instr.result instr.op rs
+    instrs_length (instr ∷ instrs) rs = instrs_length instrs (root_recorded (slots_of m f) instr.op instr.result rs) ∙ op_length instr.result instr.op rs
 
-    blocks_noted_length : (blocks : List Block) (rs : List Bool) → length (roots_of_blocks (slots_of m f) blocks rs) ≡ length rs
-    blocks_noted_length [] rs = refl
-    blocks_noted_length (block ∷ blocks) rs = blocks_noted_length blocks (roots_noted (slots_of m f) block.body rs) ∙ instrs_length block.body rs
+    blocks_recorded_length : (blocks : List Block) (rs : List Bool) → length (roots_of_blocks (slots_of m f) blocks rs) ≡ length rs
+    blocks_recorded_length [] rs = refl
+    blocks_recorded_length (block ∷ blocks) rs = blocks_recorded_length blocks (roots_recorded (slots_of m f) block.body rs) ∙ instrs_length block.body rs
 
     past_names : (rs : List Bool) (i : ℕ) → length rs ≤ i → slice_index_or rs i false ≡ false
     past_names [] i le = refl
@@ -495,12 +495,12 @@ module _ (m : Module) (f : Function) where
     abbrev unnamed : List Bool
     unnamed = replicate (length f.locals) false
 
-    found_by : (b : Bool) → nat_lt value (length f.locals) ≡ b → noted_is (root_names m f) ≡ (b && has_alloca f value && is_root_alloca m f (allocated f value))
+    found_by : (b : Bool) → nat_lt value (length f.locals) ≡ b → recorded_is (root_names m f) ≡ (b && has_alloca f value && is_root_alloca m f (allocated f value))
     found_by true e =
         let within : value < length unnamed = grind (arith, e, length_replicate (length f.locals) false) in
-        blocks_noted f.blocks unnamed within ∙ ap (λ b. cond (has_alloca f value) rooted b) (none_noted (length f.locals)) ∙ as_and (has_alloca f value) rooted (is_root_alloca m f (allocated f value)) (root_same value)
+        blocks_recorded f.blocks unnamed within ∙ ap (λ b. cond (has_alloca f value) rooted b) (none_recorded (length f.locals)) ∙ as_and (has_alloca f value) rooted (is_root_alloca m f (allocated f value)) (root_same value)
     found_by false e =
-        past_names (root_names m f) value (grind (arith, e, length_replicate (length f.locals) false, blocks_noted_length f.blocks unnamed))
+        past_names (root_names m f) value (grind (arith, e, length_replicate (length f.locals) false, blocks_recorded_length f.blocks unnamed))
 
   pub is_root_same : (value : ℕ) → is_root_found m f value ≡ unwrap_or (slice_get (root_names m f) value) false
   is_root_same value = sym (unwrap_or-slice_get (root_names m f) value false ∙ found_by value (nat_lt value (length f.locals)) refl)

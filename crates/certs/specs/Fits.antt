@@ -14,8 +14,8 @@ use Rattle.certs.specs.Families.{family_of_type, family_of_value, is_reference, 
 use Rattle.certs.specs.declared.family.Family.{Family}
 use Rattle.certs.specs.declared.section.Fact.{Fact}
 use Rattle.certs.specs.declared.section.Fact.TheVariants as fact
-use Rattle.certs.specs.declared.section.Line.{Line}
-use Rattle.certs.specs.declared.section.Line.TheVariants as line
+use Rattle.certs.specs.declared.section.Claim.{Claim}
+use Rattle.certs.specs.declared.section.Claim.TheVariants as claim
 use Rattle.certs.specs.declared.section.Promise.{Promise}
 use Rattle.certs.specs.declared.section.Section.{Section}
 
@@ -96,7 +96,7 @@ promised_fits m family (Some promise) = promise_fits m family promise
 abbrev pub parameter_fits : Module → Function → Parameter → Option Promise → Bool
 parameter_fits m f parameter promise = promised_fits m (family_of_value m f parameter.value) promise
 
--- ---- lines
+-- ---- claims
 
 -- a fact that may be given of such a value
 abbrev pub fact_fits : Module → Family → Fact → Bool
@@ -120,30 +120,30 @@ is_value f value = is_value_sort (slice_get f.sorts value)
 abbrev pub is_root_name : Module → Function → (slot : ℕ) → Bool
 is_root_name m f slot = is_value f slot && unwrap_or (slice_get (root_names m f) slot) false
 
--- a line that is allowed, wherever it is
-abbrev pub line_fits : Module → Function → Line → Bool
-line_fits m f (line.Value value fact) = fact_fits m (family_of_value m f value) fact
-line_fits m f (line.Slot slot nonnull holds) = is_root_name m f slot
+-- a claim that is allowed, wherever it is
+abbrev pub claim_fits : Module → Function → Claim → Bool
+claim_fits m f (claim.Value value fact) = fact_fits m (family_of_value m f value) fact
+claim_fits m f (claim.Slot slot nonnull holds) = is_root_name m f slot
 
--- a line lists this value
-abbrev pub lists : (value : ℕ) → Line → Bool
-lists value (line.Value own fact) = own == value
-lists value (line.Slot slot nonnull holds) = false
+-- a claim lists this value
+abbrev pub lists : (value : ℕ) → Claim → Bool
+lists value (claim.Value own fact) = own == value
+lists value (claim.Slot slot nonnull holds) = false
 
--- a line lists this slot
-abbrev pub lists_slot : (slot : ℕ) → Line → Bool
-lists_slot slot (line.Value value fact) = false
-lists_slot slot (line.Slot own nonnull holds) = own == slot
+-- a claim lists this slot
+abbrev pub lists_slot : (slot : ℕ) → Claim → Bool
+lists_slot slot (claim.Value value fact) = false
+lists_slot slot (claim.Slot own nonnull holds) = own == slot
 
--- some line lists what this one lists
-abbrev pub is_listed : List Line → Line → Bool
-is_listed lines (line.Value value fact) = list_any (lists value) lines
-is_listed lines (line.Slot slot nonnull holds) = list_any (lists_slot slot) lines
+-- some claim lists what this one lists
+abbrev pub is_listed : List Claim → Claim → Bool
+is_listed claims (claim.Value value fact) = list_any (lists value) claims
+is_listed claims (claim.Slot slot nonnull holds) = list_any (lists_slot slot) claims
 
 -- no value and no slot is listed twice
-abbrev pub lists_once : List Line → Bool
+abbrev pub lists_once : List Claim → Bool
 lists_once [] = true
-lists_once (line ∷ lines) = not (is_listed lines line) && lists_once lines
+lists_once (claim ∷ claims) = not (is_listed claims claim) && lists_once claims
 
 -- the value that a fact names besides its own
 abbrev pub named_in_fact : Fact → Option ℕ
@@ -151,39 +151,39 @@ named_in_fact (fact.Reference layout nonnull age same) = same
 named_in_fact (fact.Address base words) = Some base
 named_in_fact _ = None
 
--- the value that a line names besides the one that it lists
-abbrev pub named_in : Line → Option ℕ
-named_in (line.Value value fact) = named_in_fact fact
-named_in (line.Slot slot nonnull holds) = holds
+-- the value that a claim names besides the one that it lists
+abbrev pub named_in : Claim → Option ℕ
+named_in (claim.Value value fact) = named_in_fact fact
+named_in (claim.Slot slot nonnull holds) = holds
 
--- some line lists the value, if there is one
-abbrev pub lists_named : List Line → Option ℕ → Bool
-lists_named lines None = true
-lists_named lines (Some value) = list_any (lists value) lines
+-- some claim lists the value, if there is one
+abbrev pub lists_named : List Claim → Option ℕ → Bool
+lists_named claims None = true
+lists_named claims (Some value) = list_any (lists value) claims
 
--- the lines list each value that one of them names
-abbrev pub all_named_listed : List Line → Bool
-all_named_listed lines = list_all (λ line. lists_named lines (named_in line)) lines
+-- the claims list each value that one of them names
+abbrev pub all_named_listed : List Claim → Bool
+all_named_listed claims = list_all (λ claim. lists_named claims (named_in claim)) claims
 
--- the lines of a block
-abbrev pub lines_fit : Module → Function → List Line → Bool
-lines_fit m f lines = list_all (line_fits m f) lines && lists_once lines && all_named_listed lines
+-- the claims of a block
+abbrev pub claims_fit : Module → Function → List Claim → Bool
+claims_fit m f claims = list_all (claim_fits m f) claims && lists_once claims && all_named_listed claims
 
 -- ---- sections
 
--- the entry has no lines
-abbrev pub entry_is_empty : List (List Line) → Bool
+-- the entry has no claims
+abbrev pub entry_is_empty : List (List Claim) → Bool
 entry_is_empty [] = true
 entry_is_empty ([] ∷ blocks) = true
-entry_is_empty ((line ∷ lines) ∷ blocks) = false
+entry_is_empty ((claim ∷ claims) ∷ blocks) = false
 
 -- one promise for each parameter, or none
 abbrev pub parameters_fit : Module → Function → List (Option Promise) → Bool
 parameters_fit m f promises = (length promises == length f.parameters) && list_all (λ p. parameter_fits m f p.0 p.1) (zip f.parameters promises)
 
--- lines for each block
-abbrev pub blocks_fit : Module → Function → List (List Line) → Bool
-blocks_fit m f blocks = (length blocks == length f.blocks) && entry_is_empty blocks && list_all (lines_fit m f) blocks
+-- claims for each block
+abbrev pub blocks_fit : Module → Function → List (List Claim) → Bool
+blocks_fit m f blocks = (length blocks == length f.blocks) && entry_is_empty blocks && list_all (claims_fit m f) blocks
 
 -- the certificate of a function
 abbrev pub section_fits : Module → Function → Section → Bool

@@ -3,3 +3,4 @@ pub mod Roots
 pub mod RootNames
 pub mod Fits
 pub mod Families
+pub mod ShapesFit

@@ -19,19 +19,19 @@ abbrev pub is_root : SlotTable → (value : ℕ) → Bool
 is_root slots value = is_among_roots slots (slot_of slots value)
 
 -- an alloca's name is that of a root slot if its slot is a root
-abbrev pub root_noted : SlotTable → Op → (name : Option ℕ) → List Bool → List Bool
-root_noted slots (Memory (Alloca held)) (Some value) roots = slice_set roots value (is_root slots value)
-root_noted slots _ _ roots = roots
+abbrev pub root_recorded : SlotTable → Op → (name : Option ℕ) → List Bool → List Bool
+root_recorded slots (Memory (Alloca held)) (Some value) roots = slice_set roots value (is_root slots value)
+root_recorded slots _ _ roots = roots
 
 -- with the root slots that these instructions name
-abbrev pub roots_noted : SlotTable → List Instr → List Bool → List Bool
-roots_noted slots [] roots = roots
-roots_noted slots (instr ∷ instrs) roots = roots_noted slots instrs (root_noted slots instr.op instr.result roots)
+abbrev pub roots_recorded : SlotTable → List Instr → List Bool → List Bool
+roots_recorded slots [] roots = roots
+roots_recorded slots (instr ∷ instrs) roots = roots_recorded slots instrs (root_recorded slots instr.op instr.result roots)
 
 -- with the root slots that these blocks name
 abbrev pub roots_of_blocks : SlotTable → List Block → List Bool → List Bool
 roots_of_blocks slots [] roots = roots
-roots_of_blocks slots (block ∷ blocks) roots = roots_of_blocks slots blocks (roots_noted slots block.body roots)
+roots_of_blocks slots (block ∷ blocks) roots = roots_of_blocks slots blocks (roots_recorded slots block.body roots)
 
 -- whether each local name is that of a root slot's alloca
 abbrev pub root_names : Module → Function → List Bool

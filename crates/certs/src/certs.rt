@@ -1,11 +1,13 @@
-ghost use Rattle.std.specs.Prelude.{◌≡◌, ◌<◌, Some, length, slice_get, slice_set};
+ghost use Rattle.std.specs.Prelude.{◌≡◌, ◌<◌, ◌&&◌, Some, length, slice_get, slice_set};
 ghost use Rattle.std.specs.Option.{option_copied};
 ghost use Rattle.certs.specs.Certs.{mark_of};
 ghost use Rattle.certs.specs.Fits as spec;
+ghost use Rattle.certs.specs.ShapesFit.{shapes_fit};
 
 use crate::fits::sections_fit;
 use crate::section::{Mark, Section};
-use ir_ast::{FuncId, Module};
+use crate::shapes::shapes_fit;
+use ir_ast::{FuncId, Module, Shapes};
 use items::Items;
 
 /// The certificates of a module's functions.
@@ -13,6 +15,8 @@ use items::Items;
 pub struct Certs {
     /// By the numbers of the functions.
     pub sections: Items<Section>,
+    /// What the words, globals and slots of type `ptr` refer to. Those of a typed text have none.
+    pub shapes: Option<Shapes>,
 }
 
 impl Certs {
@@ -36,13 +40,21 @@ impl Certs {
         requires { function < length self.old.sections }
         ensures given_back { slice_get self.old.sections function ≡ Some result }
         ensures new { self.new.sections ≡ slice_set self.old.sections function section }
+        ensures shapes { self.new.shapes ≡ self.old.shapes }
     {
         self.sections.replace(function.number() as usize, section)
     }
 
-    /// Whether these are certificates of this module. It takes no memory: of each block the lines are compared with one
+    /// What the words, globals and slots of type `ptr` refer to, if these are certificates of an opaque text.
+    pub fn shapes(&self) -> Option<&Shapes>
+        ensures { option_copied result ≡ self.now.shapes }
+    {
+        self.shapes.as_ref()
+    }
+
+    /// Whether the sections are those of this module. It takes no memory: of each block the claims are compared with one
     /// another, and for each slot the function's instructions are gone over once for each bitcast between an alloca and a gcroot call.
-    pub fn fits(&self, module: &Module) -> bool
+    pub fn sections_fit(&self, module: &Module) -> bool
         ensures { result ≡ spec.fits «module».now self.now.sections }
     {
         self.sections.len() == module.functions.len()
@@ -51,5 +63,13 @@ impl Certs {
                 module.functions.as_slice(),
                 self.sections.as_slice(),
             )
+    }
+
+    /// Whether these are certificates of this module: its sections, and shapes exactly where its text writes `ptr`, which name layouts of it,
+    /// one for each global and each root slot of type `ptr`. Whether each word of that type has one is told by the layouts. It takes no memory.
+    pub fn fits(&self, module: &Module) -> bool
+        ensures { result ≡ spec.fits «module».now self.now.sections && shapes_fit «module».now self.now.shapes }
+    {
+        self.sections_fit(module) && shapes_fit(module, &self.shapes)
     }
 }

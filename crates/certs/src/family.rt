@@ -1,11 +1,13 @@
 //! The facts that fit a type.
 ghost use Rattle.std.specs.Prelude.{◌≡◌, slice_get};
 ghost use Rattle.certs.specs.Families as spec;
+ghost use Rattle.ir_ast.specs.declared.op.Op.TheVariants.{Element as OfElement};
 ghost use Rattle.types.specs.References.{layout_of_struct, struct_named};
+ghost use Rattle.types.specs.ValueTypes.{instruction_at};
 
-use ir_ast::{Function, IrType, LocalSort, Module, TypeId, ValueId};
+use ir_ast::{BlockId, Element, Function, IrType, LocalSort, Module, Op, TypeId, ValueId};
 use pools::LayoutId;
-use types::element_of;
+use types::{element_type, is_opaque};
 
 /// What a value is, and so which facts may be given of it.
 #[derive(Clone, Copy)]
@@ -16,8 +18,10 @@ pub enum Family {
     Reference(LayoutId),
     /// `i8*`, a reference to cells of a layout that the type leaves open.
     AnyReference,
-    /// Any other pointer.
+    /// Any other pointer that says what it points to.
     Address,
+    /// `ptr`, a reference to cells of whatever layout, or another pointer.
+    Opaque,
     /// No value, or one that no register holds.
     Nothing,
 }
@@ -63,6 +67,61 @@ pub fn family_of_type(module: &Module, written: TypeId) -> Family
     match written {
         IrType::Integer(bits) => Family::Number(bits),
         IrType::Pointer(part) => family_of_pointer(module, part),
+        IrType::Opaque => Family::Opaque,
+        _ => Family::Nothing,
+    }
+}
+
+/// Whether a module's text writes the type `ptr`.
+pub fn is_opaque_text(module: &Module) -> bool
+    ensures { result ≡ spec.is_opaque_text «module».now }
+{
+    module.types.find(IrType::Opaque).is_some()
+}
+
+/// What the name of a slot is.
+fn family_of_slot(module: &Module, held: TypeId) -> Family
+    ensures { result ≡ spec.family_of_slot «module».now held }
+{
+    if is_opaque_text(module) {
+        Family::Opaque
+    } else {
+        family_of_pointer(module, held)
+    }
+}
+
+/// What the value of a getelementptr is.
+fn family_of_part(module: &Module, element: &Element) -> Family
+    ensures { result ≡ spec.family_of_op «module».now (OfElement element.now) }
+{
+    if is_opaque(module, element.base_type) {
+        return Family::Opaque;
+    }
+    match element_type(module, element.source, element.indices.as_slice()) {
+        Some(part) => family_of_pointer(module, part),
+        None => Family::Nothing,
+    }
+}
+
+/// What the value of the getelementptr at a place of a block's body is.
+fn family_of_element(module: &Module, function: &Function, block: BlockId, place: u32) -> Family
+    ensures { result ≡ spec.family_of_element «module».now (instruction_at function.now block place) }
+{
+    let Some(block) = function.blocks.get(block.number() as usize) else {
+        return Family::Nothing;
+    };
+    match block.body.get(place as usize) {
+        Some(instr) => family_of_op(module, &instr.op),
+        None => Family::Nothing,
+    }
+}
+
+/// What the value of an instruction is, if it is a getelementptr.
+fn family_of_op(module: &Module, op: &Op) -> Family
+    ensures { result ≡ spec.family_of_op «module».now op.now }
+{
+    match op {
+        Op::Element(element) => family_of_part(module, element),
         _ => Family::Nothing,
     }
 }
@@ -73,12 +132,9 @@ pub fn family_of_value(module: &Module, function: &Function, value: ValueId) -> 
 {
     match function.sorts.get(value.number() as usize) {
         Some(LocalSort::Value(written)) => family_of_type(module, *written),
-        Some(LocalSort::Slot(held)) => family_of_pointer(module, *held),
+        Some(LocalSort::Slot(held)) => family_of_slot(module, *held),
         Some(LocalSort::Element { block, place }) => {
-            match element_of(module, function, *block, *place) {
-                Some(part) => family_of_pointer(module, part),
-                None => Family::Nothing,
-            }
+            family_of_element(module, function, *block, *place)
         }
         _ => Family::Nothing,
     }
@@ -89,7 +145,10 @@ impl Family {
     pub fn is_reference(self) -> bool
         ensures { result ≡ spec.is_reference self }
     {
-        matches!(self, Family::Reference(_) | Family::AnyReference)
+        matches!(
+            self,
+            Family::Reference(_) | Family::AnyReference | Family::Opaque
+        )
     }
 
     /// Whether it is a reference to cells of this layout.
@@ -98,7 +157,7 @@ impl Family {
     {
         match self {
             Family::Reference(own) => own == layout,
-            Family::AnyReference => true,
+            Family::AnyReference | Family::Opaque => true,
             _ => false,
         }
     }
@@ -119,10 +178,10 @@ impl Family {
         matches!(self, Family::Number(_))
     }
 
-    /// Whether it is a pointer that is no reference.
+    /// Whether it is a pointer that may be no reference.
     pub fn is_address(self) -> bool
         ensures { result ≡ spec.is_address self }
     {
-        matches!(self, Family::Address)
+        matches!(self, Family::Address | Family::Opaque)
     }
 }

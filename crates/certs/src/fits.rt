@@ -6,7 +6,7 @@ ghost use Rattle.certs.specs.Fits as spec;
 
 use crate::family::{Family, family_of_type, family_of_value};
 use crate::roots::is_root_found;
-use crate::section::{Fact, Line, Promise, Section};
+use crate::section::{Claim, Fact, Promise, Section};
 use ir_ast::{Function, LocalSort, Module, Parameter, ValueId};
 use items::Items;
 use pools::{LayoutId, WordSet};
@@ -36,7 +36,8 @@ fn stands_for(layout: LayoutId, own: &Option<LayoutId>) -> bool
     }
 }
 
-fn is_layout(module: &Module, layout: LayoutId) -> bool
+/// Whether it is a layout of the module.
+pub(crate) fn is_layout(module: &Module, layout: LayoutId) -> bool
     ensures { result ≡ list_any (spec.stands_for layout) «module».now.struct_of }
 {
     module
@@ -165,71 +166,71 @@ fn is_value(function: &Function, value: ValueId) -> bool
 }
 
 /// Whether it is the name of a root slot's alloca.
-fn is_root_name(module: &Module, function: &Function, slot: ValueId) -> bool
+pub(crate) fn is_root_name(module: &Module, function: &Function, slot: ValueId) -> bool
     ensures { result ≡ spec.is_root_name «module».now function.now slot }
 {
     is_value(function, slot) && is_root_found(module, function, slot)
 }
 
-/// Whether a line is allowed, wherever it is.
-fn line_fits(module: &Module, function: &Function, line: &Line) -> bool
-    ensures { result ≡ spec.line_fits «module».now function.now line.now }
+/// Whether a claim is allowed, wherever it is.
+fn claim_fits(module: &Module, function: &Function, claim: &Claim) -> bool
+    ensures { result ≡ spec.claim_fits «module».now function.now claim.now }
 {
-    match line {
-        Line::Value { value, fact } => {
+    match claim {
+        Claim::Value { value, fact } => {
             fact_fits(module, family_of_value(module, function, *value), fact)
         }
-        Line::Slot { slot, .. } => is_root_name(module, function, *slot),
+        Claim::Slot { slot, .. } => is_root_name(module, function, *slot),
     }
 }
 
-fn lists(value: ValueId, line: &Line) -> bool
-    ensures { result ≡ spec.lists value line.now }
+fn lists(value: ValueId, claim: &Claim) -> bool
+    ensures { result ≡ spec.lists value claim.now }
 {
-    match line {
-        Line::Value { value: own, .. } => *own == value,
-        Line::Slot { .. } => false,
+    match claim {
+        Claim::Value { value: own, .. } => *own == value,
+        Claim::Slot { .. } => false,
     }
 }
 
-fn lists_slot(slot: ValueId, line: &Line) -> bool
-    ensures { result ≡ spec.lists_slot slot line.now }
+fn lists_slot(slot: ValueId, claim: &Claim) -> bool
+    ensures { result ≡ spec.lists_slot slot claim.now }
 {
-    match line {
-        Line::Value { .. } => false,
-        Line::Slot { slot: own, .. } => *own == slot,
+    match claim {
+        Claim::Value { .. } => false,
+        Claim::Slot { slot: own, .. } => *own == slot,
     }
 }
 
-fn some_lists(lines: &[Line], value: ValueId) -> bool
-    ensures { result ≡ list_any (spec.lists value) lines.now }
+fn some_lists(claims: &[Claim], value: ValueId) -> bool
+    ensures { result ≡ list_any (spec.lists value) claims.now }
 {
-    lines.iter().any(|line| lists(value, line))
+    claims.iter().any(|claim| lists(value, claim))
 }
 
-fn some_lists_slot(lines: &[Line], slot: ValueId) -> bool
-    ensures { result ≡ list_any (spec.lists_slot slot) lines.now }
+fn some_lists_slot(claims: &[Claim], slot: ValueId) -> bool
+    ensures { result ≡ list_any (spec.lists_slot slot) claims.now }
 {
-    lines.iter().any(|line| lists_slot(slot, line))
+    claims.iter().any(|claim| lists_slot(slot, claim))
 }
 
-/// Whether some line lists what this one lists.
-fn is_listed(lines: &[Line], line: &Line) -> bool
-    ensures { result ≡ spec.is_listed lines.now line.now }
+/// Whether some claim lists what this one lists.
+fn is_listed(claims: &[Claim], claim: &Claim) -> bool
+    ensures { result ≡ spec.is_listed claims.now claim.now }
 {
-    match line {
-        Line::Value { value, .. } => some_lists(lines, *value),
-        Line::Slot { slot, .. } => some_lists_slot(lines, *slot),
+    match claim {
+        Claim::Value { value, .. } => some_lists(claims, *value),
+        Claim::Slot { slot, .. } => some_lists_slot(claims, *slot),
     }
 }
 
 /// Whether no value and no slot is listed twice.
-fn lists_once(lines: &[Line]) -> bool
-    ensures { result ≡ spec.lists_once lines.now }
+fn lists_once(claims: &[Claim]) -> bool
+    ensures { result ≡ spec.lists_once claims.now }
 {
-    let mut rest = lines;
-    while let [line, afterwards @ ..] = rest {
-        if is_listed(afterwards, line) {
+    let mut rest = claims;
+    while let [claim, afterwards @ ..] = rest {
+        if is_listed(afterwards, claim) {
             return false;
         }
         rest = afterwards;
@@ -247,45 +248,49 @@ fn named_in_fact(fact: &Fact) -> Option<ValueId>
     }
 }
 
-/// The value that a line names besides the one that it lists.
-fn named_in(line: &Line) -> Option<ValueId>
-    ensures { result ≡ spec.named_in line.now }
+/// The value that a claim names besides the one that it lists.
+fn named_in(claim: &Claim) -> Option<ValueId>
+    ensures { result ≡ spec.named_in claim.now }
 {
-    match line {
-        Line::Value { fact, .. } => named_in_fact(fact),
-        Line::Slot { holds, .. } => *holds,
+    match claim {
+        Claim::Value { fact, .. } => named_in_fact(fact),
+        Claim::Slot { holds, .. } => *holds,
     }
 }
 
-fn lists_named(lines: &[Line], value: Option<ValueId>) -> bool
-    ensures { result ≡ spec.lists_named lines.now value }
+fn lists_named(claims: &[Claim], value: Option<ValueId>) -> bool
+    ensures { result ≡ spec.lists_named claims.now value }
 {
     match value {
         None => true,
-        Some(value) => some_lists(lines, value),
+        Some(value) => some_lists(claims, value),
     }
 }
 
-fn each_line_fits(module: &Module, function: &Function, lines: &[Line]) -> bool
-    ensures { result ≡ list_all (spec.line_fits «module».now function.now) lines.now }
+fn each_claim_fits(module: &Module, function: &Function, claims: &[Claim]) -> bool
+    ensures { result ≡ list_all (spec.claim_fits «module».now function.now) claims.now }
 {
-    lines.iter().all(|line| line_fits(module, function, line))
+    claims
+        .iter()
+        .all(|claim| claim_fits(module, function, claim))
 }
 
-fn all_named_listed(lines: &[Line]) -> bool
-    ensures { result ≡ spec.all_named_listed lines.now }
+fn all_named_listed(claims: &[Claim]) -> bool
+    ensures { result ≡ spec.all_named_listed claims.now }
 {
-    lines.iter().all(|line| lists_named(lines, named_in(line)))
+    claims
+        .iter()
+        .all(|claim| lists_named(claims, named_in(claim)))
 }
 
-/// Whether they may be the lines of a block.
-fn lines_fit(module: &Module, function: &Function, lines: &[Line]) -> bool
-    ensures { result ≡ spec.lines_fit «module».now function.now lines.now }
+/// Whether they may be the claims of a block.
+fn claims_fit(module: &Module, function: &Function, claims: &[Claim]) -> bool
+    ensures { result ≡ spec.claims_fit «module».now function.now claims.now }
 {
-    each_line_fits(module, function, lines) && lists_once(lines) && all_named_listed(lines)
+    each_claim_fits(module, function, claims) && lists_once(claims) && all_named_listed(claims)
 }
 
-fn entry_is_empty(blocks: &[Items<Line>]) -> bool
+fn entry_is_empty(blocks: &[Items<Claim>]) -> bool
     ensures { result ≡ spec.entry_is_empty blocks.now }
 {
     match blocks {
@@ -294,15 +299,15 @@ fn entry_is_empty(blocks: &[Items<Line>]) -> bool
     }
 }
 
-fn each_block_fits(module: &Module, function: &Function, blocks: &[Items<Line>]) -> bool
-    ensures { result ≡ list_all (spec.lines_fit «module».now function.now) blocks.now }
+fn each_block_fits(module: &Module, function: &Function, blocks: &[Items<Claim>]) -> bool
+    ensures { result ≡ list_all (spec.claims_fit «module».now function.now) blocks.now }
 {
     blocks
         .iter()
-        .all(|lines| lines_fit(module, function, lines.as_slice()))
+        .all(|claims| claims_fit(module, function, claims.as_slice()))
 }
 
-fn blocks_fit(module: &Module, function: &Function, blocks: &[Items<Line>]) -> bool
+fn blocks_fit(module: &Module, function: &Function, blocks: &[Items<Claim>]) -> bool
     ensures { result ≡ spec.blocks_fit «module».now function.now blocks.now }
 {
     blocks.len() == function.blocks.len()

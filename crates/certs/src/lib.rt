@@ -6,7 +6,8 @@ mod family;
 mod fits;
 mod roots;
 mod section;
+mod shapes;
 
 pub use certs::Certs;
-pub use family::{Family, family_of_type, family_of_value};
-pub use section::{Age, Fact, Line, Mark, Promise, Section};
+pub use family::{Family, family_of_type, family_of_value, is_opaque_text};
+pub use section::{Age, Claim, Fact, Mark, Promise, Section};

@@ -29,7 +29,7 @@ pub enum Age {
     Stale,
 }
 
-/// What a line of a block says of its value.
+/// What a claim of a block says of its value.
 #[derive(Clone, Copy)]
 pub enum Fact {
     Number {
@@ -51,9 +51,9 @@ pub enum Fact {
     GlobalAddress(SymbolId),
 }
 
-/// A line of a block.
+/// A claim of a block.
 #[derive(Clone, Copy)]
-pub enum Line {
+pub enum Claim {
     Value {
         value: ValueId,
         fact: Fact,
@@ -70,9 +70,9 @@ pub enum Line {
 #[derive(Drop)]
 pub struct Section {
     pub mark: Mark,
-    /// One for each parameter; none where no line names it.
+    /// One for each parameter; none where no claim names it.
     pub parameters: Items<Option<Promise>>,
     pub result: Option<Promise>,
-    /// The lines of each block, by its number; the entry has none.
-    pub blocks: Items<Items<Line>>,
+    /// The claims of each block, by its number; the entry has none.
+    pub blocks: Items<Items<Claim>>,
 }

@@ -1,5 +1,5 @@
 use Rattle.grammar.specs.Whole.{found, only, no_fault, no_value, has_fault, only_fault}
-use Rattle.name_text.specs.declared.found.Found.TheVariants.{Memory}
+use Rattle.name_text.specs.declared.found.WordFault.TheVariants.{Memory}
 use Rattle.certificate.specs.Anew.{start_anew, file_anew}
 use Rattle.certificate.specs.Text.{placed}
 use Rattle.certificate.proofs.anew.read_section.Goals as goal

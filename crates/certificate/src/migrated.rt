@@ -1,0 +1,185 @@
+//! Certificates of the opaque text of a module.
+ghost use Rattle.std.specs.Prelude.{◌≡◌, ◌⊎◌, slice_get, IfOk, Err};
+ghost use Rattle.certificate.specs.Migrated as spec;
+ghost use Rattle.certificate.specs.Migrated.{IsMigration};
+ghost use Rattle.certificate.specs.declared.fault.CertFault.TheVariants as fault;
+
+use crate::fault::CertFault;
+use crate::input::WordFault;
+use crate::reader::placed;
+use crate::replaced::{copied_blocks, copied_certs, copied_section};
+use crate::shape_draft::shapes_gap;
+use crate::typed_shapes::typed_draft;
+use certs::{Certs, Promise, Section, is_opaque_text};
+use ir_ast::{Function, Module, Parameter, TypeId};
+use items::Items;
+use layout::field_rows;
+use opaque::opaque;
+use pools::LayoutId;
+use std::alloc::{AllocError, Global};
+use types::is_reference;
+
+/// What is promised of a value that refers to this layout, if it does.
+fn with_reference(layout: Option<LayoutId>, promise: Option<Promise>) -> Option<Promise>
+    ensures { result ≡ spec.with_reference layout promise }
+{
+    match (layout, promise) {
+        (None, _) => promise,
+        (Some(layout), None) => Some(Promise {
+            layout: Some(layout),
+            nonnull: false,
+            below: None,
+        }),
+        (Some(layout), Some(promise)) => Some(Promise {
+            layout: Some(promise.layout.unwrap_or(layout)),
+            nonnull: promise.nonnull,
+            below: promise.below,
+        }),
+    }
+}
+
+fn parameter_layout(module: &Module, parameters: &[Parameter], number: usize) -> Option<LayoutId>
+    ensures { result ≡ spec.parameter_layout «module».now (slice_get parameters.now number) }
+{
+    match parameters.get(number) {
+        Some(parameter) => is_reference(module, parameter.written),
+        None => None,
+    }
+}
+
+fn migrated_parameters(
+    alloc: Global,
+    module: &Module,
+    parameters: &[Parameter],
+    promises: &[Option<Promise>],
+) -> Result<Items<Option<Promise>>, AllocError>
+    ensures { IfOk result (λ migrated. migrated ≡ spec.parameters_from «module».now parameters.now 0 promises.now) }
+{
+    let mut migrated = Items::new(alloc);
+    for promise in promises {
+        let layout = parameter_layout(module, parameters, migrated.len());
+        migrated.push(with_reference(layout, *promise))?;
+    }
+    Ok(migrated)
+}
+
+fn migrated_section(
+    alloc: Global,
+    module: &Module,
+    function: &Function,
+    section: &Section,
+) -> Result<Section, AllocError>
+    ensures { IfOk result (λ migrated. migrated ≡ spec.migrated_section «module».now function.now section.now) }
+{
+    let parameters = migrated_parameters(
+        alloc,
+        module,
+        function.parameters.as_slice(),
+        section.parameters.as_slice(),
+    )?;
+    let blocks = copied_blocks(alloc, section.blocks.as_slice())?;
+    let layout = is_reference(module, function.returned);
+    Ok(Section {
+        mark: section.mark,
+        parameters,
+        result: with_reference(layout, section.result),
+        blocks,
+    })
+}
+
+fn migrated_section_at(
+    alloc: Global,
+    module: &Module,
+    number: usize,
+    section: &Section,
+) -> Result<Section, AllocError>
+    ensures { IfOk result (λ migrated. migrated ≡ spec.migrated_section_in «module».now (slice_get «module».now.functions number) section.now) }
+{
+    match module.functions.get(number) {
+        Some(function) => migrated_section(alloc, module, function, section),
+        None => copied_section(alloc, section),
+    }
+}
+
+fn migrated_sections(
+    alloc: Global,
+    module: &Module,
+    sections: &[Section],
+) -> Result<Items<Section>, AllocError>
+    ensures { IfOk result (λ migrated. migrated ≡ spec.sections_from «module».now 0 sections.now) }
+{
+    let mut migrated = Items::new(alloc);
+    for section in sections {
+        let number = migrated.len();
+        migrated.push(migrated_section_at(alloc, module, number, section)?)?;
+    }
+    Ok(migrated)
+}
+
+/// Certificates with the shapes that the types say, or the first shape that none says.
+fn migrated_typed(
+    alloc: Global,
+    certs: &Certs,
+    module: &Module,
+    opaque: &Module,
+    rows: &[Items<TypeId>],
+) -> Result<Result<Certs, CertFault>, AllocError>
+    ensures { IfOk result (λ answer. answer ≡ spec.migrated_typed «module».now opaque.now rows.now certs.now) }
+{
+    let draft = typed_draft(alloc, module, opaque, rows)?;
+    if let Some(gap) = shapes_gap(&draft, opaque) {
+        return Ok(Err(placed(&[], WordFault::Wrong(gap))));
+    }
+    let sections = migrated_sections(alloc, module, certs.sections.as_slice())?;
+    Ok(Ok(Certs {
+        sections,
+        shapes: Some(draft.shapes),
+    }))
+}
+
+/// Whether a text writes typed pointers, and no `ptr`. Its opaque text is given.
+pub fn is_typed_text(module: &Module, opaque: &Module) -> bool
+    ensures { result ≡ spec.is_typed_text «module».now opaque.now }
+{
+    !is_opaque_text(module) && is_opaque_text(opaque)
+}
+
+/// What comes of certificates, where these are the scalar fields of each struct.
+fn answer_by(
+    alloc: Global,
+    certs: &Certs,
+    module: &Module,
+    rows: &[Items<TypeId>],
+) -> Result<Result<Certs, CertFault>, AllocError>
+    ensures { IfOk result (λ answer. answer ≡ spec.migrated_certs «module».now rows.now certs.now) }
+{
+    let made = opaque(alloc, module)?;
+    if is_typed_text(module, &made) {
+        migrated_typed(alloc, certs, module, &made, rows)
+    } else {
+        Ok(Ok(copied_certs(alloc, certs)?))
+    }
+}
+
+fn answer(
+    alloc: Global,
+    certs: &Certs,
+    module: &Module,
+) -> Result<Result<Certs, CertFault>, AllocError>
+    ensures { IfOk result (IsMigration «module».now certs.now) }
+{
+    let rows = field_rows(alloc, module)?;
+    answer_by(alloc, certs, module, rows.as_slice())
+}
+
+/// Certificates of the opaque text of a module. What its types said stands in them: the shapes of words, globals and root slots, and `ref L`
+/// of each parameter and result. All else is kept. A pointer whose type names no layout has no shape, and the first one is answered.
+/// Certificates of a text without a typed pointer are answered as they are.
+pub fn migrate(alloc: Global, certs: &Certs, module: &Module) -> Result<Certs, CertFault>
+    ensures { (result ≡ Err fault.Memory) ⊎ IsMigration «module».now certs.now result }
+{
+    match answer(alloc, certs, module) {
+        Ok(answer) => answer,
+        Err(_) => Err(CertFault::Memory),
+    }
+}

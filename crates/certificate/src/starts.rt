@@ -1,0 +1,64 @@
+//! With which version of the format a module's text goes, and the shapes before a text.
+ghost use Rattle.std.specs.Prelude.{◌≡◌, IfOk};
+ghost use Rattle.certificate.specs.Starts as spec;
+ghost use Rattle.certificate.specs.Starts.{AreBegun, AreStart};
+
+use crate::shape_draft::ShapeDraft;
+use certs::is_opaque_text;
+use ir_ast::{IrType, Module, TypeId, Types};
+use layout::pointer_rows;
+use std::alloc::{AllocError, Global};
+
+/// Whether this is a pointer that says what it points to.
+fn is_typed_at(written: Option<IrType>) -> bool
+    ensures { result ≡ spec.is_typed_at written }
+{
+    matches!(written, Some(IrType::Pointer(_)))
+}
+
+/// Whether a pointer that says what it points to is among these types.
+fn has_typed(types: &Types) -> bool
+    ensures { result ≡ spec.has_typed types.now }
+{
+    for number in 0..types.count() {
+        if is_typed_at(types.get(TypeId::new(number as u32))) {
+            return true;
+        }
+    }
+    false
+}
+
+fn may_be_shaped(module: &Module) -> bool
+    ensures { result ≡ spec.may_be_shaped «module».now }
+{
+    is_opaque_text(module) || !has_typed(&module.types)
+}
+
+/// Whether this is the version with which the module's text goes.
+pub fn goes_with(module: &Module, version: &[u8]) -> bool
+    ensures { result ≡ spec.goes_with «module».now version.now }
+{
+    if version == b"1".as_slice() && !is_opaque_text(module) {
+        return true;
+    }
+    version == b"2".as_slice() && may_be_shaped(module)
+}
+
+/// No shape is given so far.
+pub fn shapes_begun(alloc: Global, module: &Module) -> Result<ShapeDraft, AllocError>
+    ensures { IfOk result (AreBegun «module».now) }
+{
+    let pointers = pointer_rows(alloc, module)?;
+    ShapeDraft::of(alloc, module, pointers)
+}
+
+/// The shapes before a text of certificates: where it may have none, nothing is kept for them.
+pub fn shapes_at_start(alloc: Global, module: &Module) -> Result<ShapeDraft, AllocError>
+    ensures { IfOk result (AreStart «module».now) }
+{
+    if may_be_shaped(module) {
+        shapes_begun(alloc, module)
+    } else {
+        Ok(ShapeDraft::none(alloc))
+    }
+}
