@@ -10,7 +10,7 @@ use Rattle.ir_ast.specs.declared.op.Op.{Op}
 use Rattle.ir_ast.specs.declared.op.Op.TheVariants as op
 use Rattle.certs.specs.declared.section.Section.{Section}
 use Rattle.layout.specs.Layouts.{LaidOut}
-use Rattle.block_rules.specs.Standing.{block_body, body_of}
+use Rattle.block_rules.specs.InstrContext.{block_body, body_of}
 use Rattle.block_rules.specs.declared.block_fault.Refusal.{Refusal}
 use Rattle.locality.specs.Local.{with_functions, laid_with, interface_of, called_by, IfThere, OfEachCalled, LooksSame, SameScope}
 use Rattle.locality.specs.Laws.{StayCertified, StayRefused}

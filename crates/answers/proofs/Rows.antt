@@ -1,17 +1,19 @@
 -- What is kept of functions is what their blocks begin with, and stays so where another one is replaced.
-use Rattle.std.proofs.Common.{◌≡◌, ◌≢◌, ◌==◌, ◌++◌, ℕ, zero, suc, Bool, true, false, List, [], ◌∷◌, map, length, slice_get, Option, Some, None, refl, ap, sym, subst, ◌∙◌, eqb-true, eq-eqb}
+use Rattle.std.proofs.Common.{◌≡◌, ◌≢◌, ◌==◌, ◌++◌, ℕ, zero, suc, Bool, true, false, List, [], ◌∷◌, map, length, slice_get, Option, Some, None, is_some, refl, ap, sym, subst, ◌∙◌, eqb-true, eq-eqb}
 use Rattle.std.specs.List.{range_with_len}
 use Rattle.std.specs.Prelude.{slice_set, unwrap_or, IfSome}
+use Rattle.std.specs.Borrow.{Bor}
+use Rattle.std.specs.Option.{option_copied}
 use Rattle.lemmas.specs.Lists.{set_is, set_other}
 use Rattle.ir_ast.specs.declared.function.Function.{Function}
 use Rattle.certs.specs.declared.section.Section.{Section}
 use Rattle.layout.specs.Layouts.{LaidOut}
 use Rattle.facts.specs.Facts.{FactSet}
-use Rattle.block_rules.specs.Certified.{scene_of}
+use Rattle.block_rules.specs.Certified.{context_of}
 use Rattle.block_check.specs.Rows.{given_all, AreRowsIn, AreRowsOf}
 use Rattle.locality.specs.Laws.{StayGiven}
 use Rattle.locality.specs.Local.{laid_with}
-use Rattle.answers.specs.KeptRows.{rows_at, AreEmpty, AreKept, AreOthersKept, RowsStay, OthersStay}
+use Rattle.answers.specs.KeptRows.{rows_at, AreEmpty, AreKept, AreOthersKept, StayKept, RowsStay, OthersStay}
 
 abbrev Places : Type 0
 Places = List (Option (List FactSet))
@@ -19,7 +21,7 @@ Places = List (Option (List FactSet))
 -- ---- they stay
 
 module _ (stay : StayGiven) (p : LaidOut) (certs : List Section) (fs : List Function) (others : List Section) where
-  all_same : (f : Function) (section : Option Section) → given_all (scene_of (laid_with p fs) others f section) ≡ given_all (scene_of p certs f section)
+  all_same : (f : Function) (section : Option Section) → given_all (context_of (laid_with p fs) others f section) ≡ given_all (context_of p certs f section)
   all_same f section = λ along. map (λ (block : ℕ). stay p certs fs others f section block along) (range_with_len 0 (length f.blocks))
 
   in_same : (section : Option Section) (x : Option Function) (rows : List FactSet) → AreRowsIn p certs section x rows → AreRowsIn (laid_with p fs) others section x rows
@@ -77,6 +79,19 @@ kept_more program certs replaced func rows places after is apart here h =
     by other found at false e =
         let away : other ≢ func = λ s. let t = eq-eqb other func s in absurd cc in
         h.1 other found (sym (at_other places func (Some rows) other away) ∙ at)
+
+-- what is kept of the others is kept on, where something is put in a place in which nothing was, or in that of the one function
+pub put_new : (replaced func : ℕ) (put : Option (List FactSet)) (places after : Places) → after ≡ slice_set places func put → rows_at places func ≡ None → StayKept replaced places after
+put_new replaced func put places after is none = λ other rows differs at.
+    ap (λ (l : Places). rows_at l other) is ∙ at_other places func put other (is_other places func other rows none at) ∙ at
+
+pub put_own : (func : ℕ) (put : Option (List FactSet)) (places after : Places) → after ≡ slice_set places func put → StayKept func places after
+put_own func put places after is = λ other rows differs at. ap (λ (l : Places). rows_at l other) is ∙ at_other places func put other differs ∙ at
+
+-- nothing is kept of a function where nothing is found
+pub none_found : {A : Type 0} (found : Option (Bor A)) → is_some found ≡ false → option_copied found ≡ None
+none_found None e = refl
+none_found (Some rows) e = absurd cc
 
 -- a place is emptied
 none_there : (places : Places) (func : ℕ) (x : Option (Option (List FactSet))) → slice_get (slice_set places func None) func ≡ x → unwrap_or x None ≡ None

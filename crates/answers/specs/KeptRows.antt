@@ -1,5 +1,5 @@
 -- What the blocks of functions begin with, kept in places at the numbers of the functions.
-use Rattle.std.specs.Prelude.{◌≡◌, ℕ, List, Option, Some, None, slice_get, unwrap_or}
+use Rattle.std.specs.Prelude.{◌≡◌, ◌≢◌, ℕ, List, Option, Some, None, slice_get, unwrap_or}
 use Rattle.ir_ast.specs.declared.function.Function.{Function}
 use Rattle.certs.specs.declared.section.Section.{Section}
 use Rattle.layout.specs.Layouts.{LaidOut}
@@ -24,6 +24,10 @@ AreKept program certs places = (func : ℕ) (rows : List FactSet) → rows_at pl
 -- so it is, and nothing is kept of this function
 abbrev pub AreOthersKept : LaidOut → (certs : List Section) → (func : ℕ) → List (Option (List FactSet)) → Type 0
 AreOthersKept program certs func places = (rows_at places func ≡ None) × AreKept program certs places
+
+-- what is kept of the other functions is kept on
+abbrev pub StayKept : (func : ℕ) → (places after : List (Option (List FactSet))) → Type 0
+StayKept func places after = (other : ℕ) (rows : List FactSet) → other ≢ func → rows_at places other ≡ Some rows → rows_at after other ≡ Some rows
 
 -- what the blocks of a function begin with stays so, where its code and its certificate are the same
 abbrev pub RowsStay : Type 0

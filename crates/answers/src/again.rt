@@ -5,7 +5,7 @@ ghost use Rattle.layout.specs.Layouts.{LaidOut};
 ghost use Rattle.answers.specs.Answers.{AreAnswers};
 ghost use Rattle.answers.specs.Edited as spec;
 ghost use Rattle.answers.specs.Edited.{IsEdited, AreWithin, AreAnswersTo};
-ghost use Rattle.answers.specs.KeptRows.{AreKept, AreOthersKept};
+ghost use Rattle.answers.specs.KeptRows.{AreKept, AreOthersKept, StayKept};
 
 use crate::answers::answer_to;
 use crate::callers::{Callers, touched_by};
@@ -32,7 +32,8 @@ fn find_rows(
 )
     requires within { func < length program.now.of_module.functions }
     requires kept { AreOthersKept program.now certs.now.sections replaced kept.old }
-    ensures { AreOthersKept program.now certs.now.sections replaced kept.new }
+    ensures rows { AreOthersKept program.now certs.now.sections replaced kept.new }
+    ensures stay { StayKept replaced kept.old kept.new }
 {
     if func == replaced {
         return;
@@ -57,7 +58,8 @@ fn find_all_rows(
 )
     requires within { AreWithin (length program.now.of_module.functions) funcs.now }
     requires kept { AreOthersKept program.now certs.now.sections replaced kept.old }
-    ensures { AreOthersKept program.now certs.now.sections replaced kept.new }
+    ensures rows { AreOthersKept program.now certs.now.sections replaced kept.new }
+    ensures stay { StayKept replaced kept.old kept.new }
 {
     for place in 0..funcs.len() {
         find_rows(alloc, program, certs, replaced, funcs[place], kept);
@@ -116,8 +118,9 @@ fn put_answers(funcs: &[FuncId], anew: &[Option<Refusal>], answers: &mut Items<O
 }
 
 /// Makes the answers those after one function or its certificate was replaced: the function is checked again, and so are its
-/// callers where they see a change. What the blocks of the callers begin with is kept for the next time. Returns how many functions'
-/// answers may change: the one, and its callers where they see a change. Where memory is refused, the answers are as before.
+/// callers where they see a change. What the blocks of the callers begin with is kept for the next time, and what was kept of the
+/// other functions is kept on. Returns how many functions' answers may change: the one, and its callers where they see a change.
+/// Where memory is refused, the answers are as before.
 pub fn answers_again(
     alloc: Global,
     program: &Program,
@@ -133,6 +136,7 @@ pub fn answers_again(
     ensures checked { IfOk result (λ count. count ≡ length (spec.touched program.now.of_module replaced callers)) }
     ensures kept { OnErr result (kept.new.answers ≡ kept.old.answers) }
     ensures rows { AreOthersKept program.now certs.now.sections replaced kept.new.rows }
+    ensures stay { StayKept replaced kept.old.rows kept.new.rows }
 {
     locality_law();
     let touched = touched_by(alloc, program.module(), replaced, callers)?;

@@ -3,7 +3,7 @@ ghost use Rattle.std.specs.Prelude.{◌≡◌, List, [], Some, slice_set};
 ghost use Rattle.std.specs.Option.{option_copied};
 ghost use Rattle.certs.specs.declared.section.Section.{Section};
 ghost use Rattle.layout.specs.Layouts.{LaidOut};
-ghost use Rattle.answers.specs.KeptRows.{AreEmpty, AreKept, AreOthersKept, rows_at};
+ghost use Rattle.answers.specs.KeptRows.{AreEmpty, AreKept, AreOthersKept, StayKept, rows_at};
 
 use block_check::Rows;
 use ir_ast::FuncId;
@@ -55,7 +55,8 @@ impl KeptRows {
 
     /// What the blocks of this function begin with is kept no longer.
     pub fn forget(&mut self, func: FuncId)
-        ensures { (program : LaidOut) (certs : List Section) → AreKept program certs self.old → AreOthersKept program certs func self.new }
+        ensures rows { (program : LaidOut) (certs : List Section) → AreKept program certs self.old → AreOthersKept program certs func self.new }
+        ensures stay { StayKept func self.old self.new }
     {
         self.put(func, None);
     }

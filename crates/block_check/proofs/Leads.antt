@@ -5,8 +5,8 @@ use Rattle.std.proofs.lemmas.List.Folds.{list_any_more}
 use Rattle.std.specs.Prelude.{◌==◌, ◌&&◌, ◌||◌, nat_lt}
 use Rattle.std.specs.List.{list_any}
 use Rattle.ir_ast.specs.declared.function.Function.{Function}
-use Rattle.block_rules.specs.Standing.{block_end}
-use Rattle.block_rules.specs.Ways.{end_leads, is_predecessor}
+use Rattle.block_rules.specs.InstrContext.{block_end}
+use Rattle.block_rules.specs.Edges.{end_leads, is_predecessor}
 use Rattle.block_check.specs.Predecessors.{is_listed, Adds, ArePredecessors}
 
 -- ---- truth values
@@ -73,7 +73,7 @@ adds_more leads xs i x from a b c lt is h k =
 
 -- ---- the blocks one after another
 
--- the blocks with lower numbers are noted
+-- the blocks with lower numbers are recorded
 pub record ListsBelow (f : Function) (lists : List (List ℕ)) (n : ℕ) : Type 0 where
   pub as_many : length lists ≡ length f.blocks
   pub are : (to other : ℕ) → to < length f.blocks → is_listed lists to other ≡ (nat_lt other n && is_predecessor f to other)
@@ -90,7 +90,7 @@ none_listed [] to other = refl
 none_listed (x ∷ xs) zero other = refl
 none_listed (x ∷ xs) (suc to) other = none_listed xs to other
 
--- at first none is noted
+-- at first none is recorded
 pub none_below : (f : Function) (lists : List (List ℕ)) → lists ≡ map none_here f.blocks → ListsBelow f lists 0
 none_below f lists e = record {
   as_many = ap length e ∙ none_length f.blocks;
@@ -122,7 +122,7 @@ below_more f n a b h k = record {
 pub beyond : (f : Function) (to from : ℕ) → length f.blocks ≤ from → is_predecessor f to from ≡ false
 beyond f to from ge = ap (λ b. elim (block_end b) [ None ↦ false | Some x ↦ end_leads f to x ]) (none_past f.blocks from ge)
 
--- at the end each is noted
+-- at the end each is recorded
 pub all_below : (f : Function) (lists : List (List ℕ)) (n : ℕ) → length f.blocks ≡ n → ListsBelow f lists n → ArePredecessors f lists
 all_below f lists n len h = record {
   as_many = h.as_many;

@@ -1,7 +1,7 @@
 mod Leads
-mod GivenLists
+mod EntryFactsLists
 mod Undecided
-mod NotedEntries
+mod RecordedEntries
 mod Operands
 mod PhiSteps
 mod Refused

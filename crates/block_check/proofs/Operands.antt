@@ -10,7 +10,7 @@ use Rattle.ir_ast.specs.declared.choices.Phi.{Phi}
 use Rattle.ir_ast.specs.declared.function.Function.{Function}
 use Rattle.ir_ast.specs.declared.operand.Operand.{Operand}
 use Rattle.types.specs.ValueTypes.{target_of}
-use Rattle.block_rules.specs.Ways.{is_number, operand_from}
+use Rattle.block_rules.specs.Edges.{is_number, operand_from}
 use Rattle.block_check.specs.PhiOperands.{OperandTable, operand_at, AddsAt, AreOperands, AreOperandTables, entries_at}
 use Rattle.block_check.proofs.Leads.{same_truth}
 
@@ -50,7 +50,7 @@ one_place place from p other x =
     pick true false = refl
     pick false c = refl
 
--- an operand that is noted stays
+-- an operand that is recorded stays
 pub adds_no_other : (a : OperandTable) (place from : ℕ) (first operand : Operand) → Some first ≡ operand_at a place from → AddsAt a a place (λ other. if from == other then Some operand else None)
 adds_no_other a place from first operand there = λ p other.
     pick p other (cases_Bool ((place == p) && (from == other)))
@@ -63,7 +63,7 @@ adds_no_other a place from first operand there = λ p other.
         subst (λ o. o ≡ option_or o (cond ((place == p) && (from == other)) (Some operand) None)) here refl
     pick p other (inr e) = sym (or_none (operand_at a p other)) ∙ ap (λ b. option_or (operand_at a p other) (cond b (Some operand) None)) (sym e)
 
--- an operand is noted where none was
+-- an operand is recorded where none was
 pub adds_one : (a b : OperandTable) (place from : ℕ) (operand : Operand) → None ≡ operand_at a place from → ((key : ℕ × ℕ) → operand_at b key.0 key.1 ≡ cond ((place == key.0) && (from == key.1)) (Some operand) (operand_at a key.0 key.1)) → AddsAt a b place (λ other. if from == other then Some operand else None)
 adds_one a b place from operand none updates = λ p other.
     updates (p, other)
@@ -117,7 +117,7 @@ last_is f (x ∷ xs) phi (suc p) from =
     ap (λ b. option_or (operand_from f from (entries_at xs p)) (if b then operand_from f from phi.incoming else None)) (same_truth (suc p == suc (length xs)) (p == length xs) (λ t. eq-eqb p (length xs) (omega (arith, eqb-true (suc p) (suc (length xs)) t))) (λ t. eq-eqb (suc p) (suc (length xs)) (omega (arith, eqb-true p (length xs) t))))
     ∙ last_is f xs phi p from
 
--- at first nothing is noted
+-- at first nothing is recorded
 pub operands_none : (f : Function) (a : OperandTable) → a ≡ [] → AreOperands f [] a
 operands_none f a e = λ p from. ap (λ t. operand_at t p from) e
 

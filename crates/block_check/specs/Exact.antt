@@ -8,19 +8,19 @@ use Rattle.block_rules.specs.declared.block_fault.BlockFault.{BlockFault}
 use Rattle.block_rules.specs.declared.block_fault.BlockFault.TheVariants.{Refused, Memory}
 use Rattle.block_rules.specs.declared.block_fault.Breach.{Breach}
 use Rattle.block_rules.specs.declared.block_fault.Refusal.{Refusal}
-use Rattle.block_rules.specs.Certified.{scene_of, IsCertifiedIn, BreaksIn, BlockCertified, FirstRefusal, IfRefused}
+use Rattle.block_rules.specs.Certified.{context_of, IsCertifiedIn, BreaksIn, BlockCertified, FirstRefusal, IfRefused}
 use Rattle.block_rules.specs.Functions.{AreBlocksCertified, IsFirstInFunction, IsFunctionFault}
 use Rattle.block_check.specs.Follows.{never_both, one_break}
 
 not_both : (program : LaidOut) (certs : List Section) (section : Option Section) (f : Option Function) (b place : ℕ) (broken : Breach) → IsCertifiedIn program certs section f b → BreaksIn program certs section f b place broken → ⊥
 not_both program certs section None b place broken h k = h
 not_both program certs section (Some f) b place broken h k =
-    never_both (scene_of program certs f section) b place broken h k
+    never_both (context_of program certs f section) b place broken h k
 
 one_place : (program : LaidOut) (certs : List Section) (section : Option Section) (f : Option Function) (b p q : ℕ) (r t : Breach) → BreaksIn program certs section f b p r → BreaksIn program certs section f b q t → (p ≡ q) × (r ≡ t)
 one_place program certs section None b p q r t h k = absurd h
 one_place program certs section (Some f) b p q r t h k =
-    one_break (scene_of program certs f section) b p q r t h k
+    one_break (context_of program certs f section) b p q r t h k
 
 same_refusal : (a b : Refusal) → a.func ≡ b.func → a.block ≡ b.block → a.instr ≡ b.instr → a.rule ≡ b.rule → a.detail ≡ b.detail → a ≡ b
 same_refusal a b func block instr rule detail =

@@ -8,8 +8,8 @@ use Rattle.ir_ast.specs.declared.ends.End.{End}
 use Rattle.ir_ast.specs.declared.instr.Instr.{Instr}
 use Rattle.facts.specs.Facts.{FactSet}
 use Rattle.block_rules.specs.Rules.{after}
-use Rattle.block_rules.specs.Standing.{phis_of, body_of, end_of}
-use Rattle.block_rules.specs.Ways.{Scene, given_at}
+use Rattle.block_rules.specs.InstrContext.{phis_of, body_of, end_of}
+use Rattle.block_rules.specs.Edges.{RuleContext, entry_facts_at}
 use Rattle.block_rules.specs.declared.block_fault.Breach.{Breach}
 use Rattle.block_rules.specs.Certified.{stands, phi_breach, breach, end_breach, PhisPass, Passes, Follows, EndPasses, phi_count, end_place, IsCertified, BreaksAt, AtPhi, InBody, AtEnd}
 
@@ -27,7 +27,7 @@ got_in_front (x ∷ xs) i zero lt = absurd (omega (arith, lt))
 got_in_front (x ∷ xs) zero (suc n) lt = refl
 got_in_front (x ∷ xs) (suc i) (suc n) lt = got_in_front xs i n (omega (arith, lt))
 
-module _ (s : Scene) (b : ℕ) where
+module _ (s : RuleContext) (b : ℕ) where
   -- ---- phis
 
   -- one phi more
@@ -91,8 +91,8 @@ module _ (s : Scene) (b : ℕ) where
   abbrev first : ℕ
   first = phi_count s b
 
-  abbrev given : FactSet
-  given = given_at s b
+  abbrev entry_facts : FactSet
+  entry_facts = entry_facts_at s b
 
   -- the end of a block that obeys the rules breaks none
   end_obeys : (last : FactSet) (found : Option End) (x : End) (broken : Breach) → EndPasses s b (end_place s b) last found → found ≡ Some x → end_breach s b (stands s b (end_place s b)) last x ≡ Some broken → ⊥
@@ -106,9 +106,9 @@ module _ (s : Scene) (b : ℕ) where
   -- a certified block breaks no rule
   pub never_both : (place : ℕ) (broken : Breach) → IsCertified s b → BreaksAt s b place broken → ⊥
   never_both place broken h (AtPhi at phi found passes is k) = phi_obeys 0 at at phis phi found (omega arith) h.phis is k
-  never_both place broken h (InBody i instr before found passes follows is k) = obeys first (first + i) i body instr given h.last before found refl h.body follows is k
+  never_both place broken h (InBody i instr before found passes follows is k) = obeys first (first + i) i body instr entry_facts h.last before found refl h.body follows is k
   never_both place broken h (AtEnd x before found passes follows is k) =
-      end_obeys before (end_of s.function b) x found (subst (λ y. EndPasses s b (end_place s b) y (end_of s.function b)) (same_facts first given body h.last before h.body follows) h.end) is k
+      end_obeys before (end_of s.function b) x found (subst (λ y. EndPasses s b (end_place s b) y (end_of s.function b)) (same_facts first entry_facts body h.last before h.body follows) h.end) is k
 
   -- no phi is the first to break a rule after one that does
   phi_order : (i j : ℕ) (x : Phi) (r : Breach) → i < j → slice_get phis i ≡ Some x → phi_breach s b (stands s b i) x ≡ Some r → PhisPass s b 0 (take j phis) → ⊥
@@ -128,46 +128,46 @@ module _ (s : Scene) (b : ℕ) where
       pick (inr (inr lt)) = absurd (phi_order j i y t lt is_too k_too passes)
 
   -- no instruction is the first to break a rule after one that does
-  body_order : (i j : ℕ) (x : Instr) (before last : FactSet) (r : Breach) → i < j → Follows s b first given (take i body) before → slice_get body i ≡ Some x → breach s (stands s b (first + i)) before x ≡ Some r
-      → Follows s b first given (take j body) last → ⊥
+  body_order : (i j : ℕ) (x : Instr) (before last : FactSet) (r : Breach) → i < j → Follows s b first entry_facts (take i body) before → slice_get body i ≡ Some x → breach s (stands s b (first + i)) before x ≡ Some r
+      → Follows s b first entry_facts (take j body) last → ⊥
   body_order i j x before last r lt follows is k further =
       let front : take i (take j body) ≡ take i body = take-take i j body (omega (arith, lt)) in
-      obeys first (first + i) i (take j body) x given last before r refl further (subst (λ ys. Follows s b first given ys before) (sym front) follows) (got_in_front body i j lt ∙ is) k
+      obeys first (first + i) i (take j body) x entry_facts last before r refl further (subst (λ ys. Follows s b first entry_facts ys before) (sym front) follows) (got_in_front body i j lt ∙ is) k
 
-  one_in_body : (i j : ℕ) (x y : Instr) (c d : FactSet) (r t : Breach) → Follows s b first given (take i body) c → slice_get body i ≡ Some x → breach s (stands s b (first + i)) c x ≡ Some r
-      → Follows s b first given (take j body) d → slice_get body j ≡ Some y → breach s (stands s b (first + j)) d y ≡ Some t → (first + i ≡ first + j) × (r ≡ t)
+  one_in_body : (i j : ℕ) (x y : Instr) (c d : FactSet) (r t : Breach) → Follows s b first entry_facts (take i body) c → slice_get body i ≡ Some x → breach s (stands s b (first + i)) c x ≡ Some r
+      → Follows s b first entry_facts (take j body) d → slice_get body j ≡ Some y → breach s (stands s b (first + j)) d y ≡ Some t → (first + i ≡ first + j) × (r ≡ t)
   one_in_body i j x y c d r t follows is k follows_too is_too k_too = pick (cases_order i j)
     where
       pick : (i ≡ j) ⊎ ((i < j) ⊎ (j < i)) → (first + i ≡ first + j) × (r ≡ t)
       pick (inl e) =
           let there : Some x ≡ Some y = sym is ∙ ap (λ n. slice_get body n) e ∙ is_too in
           let same : x ≡ y = cc in
-          let known : c ≡ d = same_facts first given (take i body) c d follows (subst (λ n. Follows s b first given (take n body) d) (sym e) follows_too) in
+          let known : c ≡ d = same_facts first entry_facts (take i body) c d follows (subst (λ n. Follows s b first entry_facts (take n body) d) (sym e) follows_too) in
           let broken : Some r ≡ Some t =
           sym k ∙ ap (λ n. breach s (stands s b (first + n)) c x) e ∙ ap (λ z. breach s (stands s b (first + j)) c z) same ∙ ap (λ z. breach s (stands s b (first + j)) z y) known ∙ k_too in
           (ap (λ n. first + n) e, cc)
       pick (inr (inl lt)) = absurd (body_order i j x c d r lt follows is k follows_too)
       pick (inr (inr lt)) = absurd (body_order j i y d c t lt follows_too is_too k_too follows)
 
-  one_end : (x y : End) (c d : FactSet) (r t : Breach) → Follows s b first given body c → end_of s.function b ≡ Some x → end_breach s b (stands s b (end_place s b)) c x ≡ Some r
-      → Follows s b first given body d → end_of s.function b ≡ Some y → end_breach s b (stands s b (end_place s b)) d y ≡ Some t → r ≡ t
+  one_end : (x y : End) (c d : FactSet) (r t : Breach) → Follows s b first entry_facts body c → end_of s.function b ≡ Some x → end_breach s b (stands s b (end_place s b)) c x ≡ Some r
+      → Follows s b first entry_facts body d → end_of s.function b ≡ Some y → end_breach s b (stands s b (end_place s b)) d y ≡ Some t → r ≡ t
   one_end x y c d r t follows is k follows_too is_too k_too =
       let there : Some x ≡ Some y = sym is ∙ is_too in
       let same : x ≡ y = cc in
-      let known : c ≡ d = same_facts first given body c d follows follows_too in
+      let known : c ≡ d = same_facts first entry_facts body c d follows follows_too in
       let broken : Some r ≡ Some t = sym k ∙ ap (λ z. end_breach s b (stands s b (end_place s b)) c z) same ∙ ap (λ z. end_breach s b (stands s b (end_place s b)) z y) known ∙ k_too in
       cc
 
-  -- a block breaks at one place, and in one way
+  -- a block breaks at one place, and in one edge
   pub one_break : (p q : ℕ) (r t : Breach) → BreaksAt s b p r → BreaksAt s b q t → (p ≡ q) × (r ≡ t)
   one_break p q r t (AtPhi i x found passes is k) (AtPhi j y other passes_too is_too k_too) = one_phi i j x y found other passes is k passes_too is_too k_too
   one_break p q r t (AtPhi i x found passes is k) (InBody j y d other all follows_too is_too k_too) = absurd (phi_obeys 0 i i phis x found (omega arith) all is k)
   one_break p q r t (AtPhi i x found passes is k) (AtEnd y d other all follows_too is_too k_too) = absurd (phi_obeys 0 i i phis x found (omega arith) all is k)
   one_break p q r t (InBody i x c found all follows is k) (AtPhi j y other passes_too is_too k_too) = absurd (phi_obeys 0 j j phis y other (omega arith) all is_too k_too)
   one_break p q r t (InBody i x c found all follows is k) (InBody j y d other all_too follows_too is_too k_too) = one_in_body i j x y c d found other follows is k follows_too is_too k_too
-  one_break p q r t (InBody i x c found all follows is k) (AtEnd y d other all_too follows_too is_too k_too) = absurd (obeys first (first + i) i body x given d c found refl follows_too follows is k)
+  one_break p q r t (InBody i x c found all follows is k) (AtEnd y d other all_too follows_too is_too k_too) = absurd (obeys first (first + i) i body x entry_facts d c found refl follows_too follows is k)
   one_break p q r t (AtEnd x c found all follows is k) (AtPhi j y other passes_too is_too k_too) = absurd (phi_obeys 0 j j phis y other (omega arith) all is_too k_too)
-  one_break p q r t (AtEnd x c found all follows is k) (InBody j y d other all_too follows_too is_too k_too) = absurd (obeys first (first + j) j body y given c d other refl follows follows_too is_too k_too)
+  one_break p q r t (AtEnd x c found all follows is k) (InBody j y d other all_too follows_too is_too k_too) = absurd (obeys first (first + j) j body y entry_facts c d other refl follows follows_too is_too k_too)
   one_break p q r t (AtEnd x c found all follows is k) (AtEnd y d other all_too follows_too is_too k_too) = (refl, one_end x y c d found other follows is k follows_too is_too k_too)
 
   -- ---- the steps of a walk
@@ -194,11 +194,11 @@ module _ (s : Scene) (b : ℕ) where
       subst (λ xs. Follows s b place start xs next) (sym more) k
 
   -- an instruction of the body breaks a rule
-  pub breaks_in_body : (items : List Instr) (i : ℕ) (instr : Instr) (before : FactSet) (broken : Breach) → i < length items → instr ≡ get_or items i instr → items ≡ body → PhisPass s b 0 phis → Follows s b first given (take i items) before
+  pub breaks_in_body : (items : List Instr) (i : ℕ) (instr : Instr) (before : FactSet) (broken : Breach) → i < length items → instr ≡ get_or items i instr → items ≡ body → PhisPass s b 0 phis → Follows s b first entry_facts (take i items) before
       → Some broken ≡ breach s (stands s b (first + i)) before instr → BreaksAt s b (first + i) broken
   breaks_in_body items i instr before broken lt is all passes follows found =
-      InBody i instr before broken passes (subst (λ xs. Follows s b first given (take i xs) before) all follows) (subst (λ xs. slice_get xs i ≡ Some instr) all (got_at items i instr lt is)) (sym found)
+      InBody i instr before broken passes (subst (λ xs. Follows s b first entry_facts (take i xs) before) all follows) (subst (λ xs. slice_get xs i ≡ Some instr) all (got_at items i instr lt is)) (sym found)
 
   -- the end breaks a rule
-  pub breaks_at_end : (x : End) (before : FactSet) (broken : Breach) → PhisPass s b 0 phis → Follows s b first given body before → end_of s.function b ≡ Some x → Some broken ≡ end_breach s b (stands s b (end_place s b)) before x → BreaksAt s b (end_place s b) broken
+  pub breaks_at_end : (x : End) (before : FactSet) (broken : Breach) → PhisPass s b 0 phis → Follows s b first entry_facts body before → end_of s.function b ≡ Some x → Some broken ≡ end_breach s b (stands s b (end_place s b)) before x → BreaksAt s b (end_place s b) broken
   breaks_at_end x before broken passes follows is found = AtEnd x before broken passes follows is (sym found)

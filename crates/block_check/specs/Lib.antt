@@ -1,9 +1,9 @@
 pub mod Rows
-pub mod Subject
+pub mod FunctionUnderCheck
 pub mod FunctionTables
 pub mod Decided
 pub mod Predecessors
-pub mod Shown
+pub mod Implied
 pub mod PhiOperands
 pub mod Entries
 pub mod BlockWalk

@@ -8,13 +8,13 @@ use Rattle.ir_ast.specs.declared.choices.Incoming.{Incoming}
 use Rattle.ir_ast.specs.declared.choices.Phi.{Phi}
 use Rattle.ir_ast.specs.declared.function.Function.{Function}
 use Rattle.ir_ast.specs.declared.operand.Operand.{Operand}
-use Rattle.block_rules.specs.Ways.{operand_from}
+use Rattle.block_rules.specs.Edges.{operand_from}
 
 -- a table: an operand for each place and block
 abbrev pub OperandTable : Type 0
 OperandTable = List ((ℕ × ℕ) × Operand)
 
--- the operand that is noted for a place and a block
+-- the operand that is recorded for a place and a block
 abbrev pub operand_at : OperandTable → (place from : ℕ) → Option Operand
 operand_at operands place from = lookup (λ key. (place == key.0) && (from == key.1)) operands
 
@@ -27,11 +27,11 @@ entries_in (Some phi) = phi.incoming
 abbrev pub entries_at : List Phi → (place : ℕ) → List Incoming
 entries_at phis place = entries_in (slice_get phis place)
 
--- at one place operands were added for the blocks for which none was noted there, and nothing else changed
+-- at one place operands were added for the blocks for which none was recorded there, and nothing else changed
 abbrev pub AddsAt : (old new : OperandTable) → (place : ℕ) → (added : ℕ → Option Operand) → Type 0
 AddsAt old new place added = (p from : ℕ) → operand_at new p from ≡ option_or (operand_at old p from) (if p == place then added from else None)
 
--- what is noted is what comes in to these phis
+-- what is recorded is what comes in to these phis
 abbrev pub AreOperands : Function → List Phi → OperandTable → Type 0
 AreOperands f phis operands = (place from : ℕ) → operand_at operands place from ≡ operand_from f from (entries_at phis place)
 

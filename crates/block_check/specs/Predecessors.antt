@@ -2,7 +2,7 @@
 use Rattle.std.specs.Prelude.{◌≡◌, ◌<◌, ℕ, ◌==◌, Bool, ◌&&◌, ◌||◌, List, [], length, slice_index_or}
 use Rattle.std.specs.List.{list_any}
 use Rattle.ir_ast.specs.declared.function.Function.{Function}
-use Rattle.block_rules.specs.Ways.{is_predecessor}
+use Rattle.block_rules.specs.Edges.{is_predecessor}
 
 -- a block is in a list
 abbrev pub is_in : List ℕ → (block : ℕ) → Bool

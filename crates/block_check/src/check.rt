@@ -1,17 +1,17 @@
 ghost use Rattle.std.specs.Prelude.{◌≡◌, ◌<◌, ◌⊎◌, length, Err, IsOkUnless, MatchOption, MatchResult};
 ghost use Rattle.block_rules.specs.Certified.{BlockCertified, FirstRefusal, IfRefused};
 ghost use Rattle.block_rules.specs.declared.block_fault.BlockFault.TheVariants.{Refused, Memory};
-ghost use Rattle.block_check.specs.Rows.{AreRowsOf, AreGivenOf};
-ghost use Rattle.block_check.specs.Subject.{IsReady};
+ghost use Rattle.block_check.specs.Rows.{AreRowsOf, AreEntryFactsOf};
+ghost use Rattle.block_check.specs.FunctionUnderCheck.{IsReady};
 ghost use Rattle.block_rules.specs.Functions.{blocks_in, AreBlocksCertified, IsFunctionCertified, IsFirstInFunction, IsFunctionFault};
 
 use crate::block_walk::BlockWalk;
+use crate::edges::EdgeScratch;
+use crate::entry_facts::blank_facts;
 use crate::function_tables::FunctionTables;
-use crate::given::blank_facts;
 use crate::kept_rows::Rows;
-use crate::subject::{Subject, function_of};
-use crate::ways::Rooms;
-use block_rules::{BlockFault, Refusal, Scene};
+use crate::under_check::{FunctionUnderCheck, function_of};
+use block_rules::{BlockFault, Refusal, RuleContext};
 use certs::Certs;
 use facts::{Facts, KeptFacts};
 use ir_ast::{BlockId, FuncId};
@@ -93,33 +93,37 @@ fn answer_block(
     block: BlockId,
 ) -> Result<(), BlockFault>
     requires func { func < length program.now.of_module.functions }
-    requires rows { AreGivenOf program.now certs.now.sections func rows.now }
+    requires rows { AreEntryFactsOf program.now certs.now.sections func rows.now }
     ensures { MatchResult result (λ _. BlockCertified program.now certs.now.sections func block) (λ fault. IfRefused fault (FirstRefusal program.now certs.now.sections func block)) }
 {
     let function = function_of(program.module(), func);
     let tables = FunctionTables::of(alloc, program.module(), function)?;
-    let scene = Scene {
+    let context = RuleContext {
         program,
         certs,
         function,
         slots: &tables.slots,
     };
-    let answer = answer_alone(alloc, &tables.subject(scene, func, rows), block);
+    let answer = answer_alone(alloc, &tables.under_check(context, func, rows), block);
     drop(tables);
     answer
 }
 
-fn answer_alone(alloc: Global, subject: &Subject, block: BlockId) -> Result<(), BlockFault>
-    requires { IsReady subject.now }
-    ensures { MatchResult result (λ _. BlockCertified subject.now.scene.program.now subject.now.scene.certs.now.sections subject.now.func block) (λ fault. IfRefused fault (FirstRefusal subject.now.scene.program.now subject.now.scene.certs.now.sections subject.now.func block)) }
+fn answer_alone(
+    alloc: Global,
+    under_check: &FunctionUnderCheck,
+    block: BlockId,
+) -> Result<(), BlockFault>
+    requires { IsReady under_check.now }
+    ensures { MatchResult result (λ _. BlockCertified under_check.now.context.program.now under_check.now.context.certs.now.sections under_check.now.func block) (λ fault. IfRefused fault (FirstRefusal under_check.now.context.program.now under_check.now.context.certs.now.sections under_check.now.func block)) }
 {
-    let mut facts = blank_facts(alloc, subject)?;
-    let Ok(mut rooms) = Rooms::new(alloc, subject) else {
+    let mut facts = blank_facts(alloc, under_check)?;
+    let Ok(mut scratch) = EdgeScratch::new(alloc, under_check) else {
         drop(facts);
         return Err(BlockFault::Memory);
     };
-    let answer = answer(alloc, subject, &mut facts, &mut rooms, block);
-    drop(rooms);
+    let answer = answer(alloc, under_check, &mut facts, &mut scratch, block);
+    drop(scratch);
     drop(facts);
     answer
 }
@@ -132,7 +136,7 @@ fn answer_function(
     func: FuncId,
 ) -> Result<(), BlockFault>
     requires func { func < length program.now.of_module.functions }
-    requires rows { AreGivenOf program.now certs.now.sections func rows.now }
+    requires rows { AreEntryFactsOf program.now certs.now.sections func rows.now }
     ensures { MatchResult result (λ _. IsFunctionCertified program.now certs.now.sections func) (IsFunctionFault program.now certs.now.sections func (blocks_in program.now func)) }
 {
     let function = function_of(program.module(), func);
@@ -141,28 +145,32 @@ fn answer_function(
         return Err(BlockFault::Memory);
     };
     let tables = FunctionTables::of(alloc, program.module(), function)?;
-    let scene = Scene {
+    let context = RuleContext {
         program,
         certs,
         function,
         slots: &tables.slots,
     };
-    let answer = answer_blocks(alloc, &tables.subject(scene, func, rows), count);
+    let answer = answer_blocks(alloc, &tables.under_check(context, func, rows), count);
     drop(tables);
     answer
 }
 
-fn answer_blocks(alloc: Global, subject: &Subject, count: u32) -> Result<(), BlockFault>
-    requires { IsReady subject.now }
-    ensures { MatchResult result (λ _. AreBlocksCertified subject.now.scene.program.now subject.now.scene.certs.now.sections subject.now.func count) (IsFunctionFault subject.now.scene.program.now subject.now.scene.certs.now.sections subject.now.func count) }
+fn answer_blocks(
+    alloc: Global,
+    under_check: &FunctionUnderCheck,
+    count: u32,
+) -> Result<(), BlockFault>
+    requires { IsReady under_check.now }
+    ensures { MatchResult result (λ _. AreBlocksCertified under_check.now.context.program.now under_check.now.context.certs.now.sections under_check.now.func count) (IsFunctionFault under_check.now.context.program.now under_check.now.context.certs.now.sections under_check.now.func count) }
 {
-    let mut facts = blank_facts(alloc, subject)?;
-    let Ok(mut rooms) = Rooms::new(alloc, subject) else {
+    let mut facts = blank_facts(alloc, under_check)?;
+    let Ok(mut scratch) = EdgeScratch::new(alloc, under_check) else {
         drop(facts);
         return Err(BlockFault::Memory);
     };
-    let fault = first_fault(alloc, subject, &mut facts, &mut rooms, count);
-    drop(rooms);
+    let fault = first_fault(alloc, under_check, &mut facts, &mut scratch, count);
+    drop(scratch);
     drop(facts);
     match fault {
         Some(fault) => Err(fault),
@@ -173,16 +181,16 @@ fn answer_blocks(alloc: Global, subject: &Subject, count: u32) -> Result<(), Blo
 /// The first fault in the first `count` blocks, in text order.
 fn first_fault(
     alloc: Global,
-    subject: &Subject,
+    under_check: &FunctionUnderCheck,
     facts: &mut Facts,
-    rooms: &mut Rooms,
+    scratch: &mut EdgeScratch,
     count: u32,
 ) -> Option<BlockFault>
-    requires { IsReady subject.now }
-    ensures { MatchOption result (AreBlocksCertified subject.now.scene.program.now subject.now.scene.certs.now.sections subject.now.func count) (IsFunctionFault subject.now.scene.program.now subject.now.scene.certs.now.sections subject.now.func count) }
+    requires { IsReady under_check.now }
+    ensures { MatchOption result (AreBlocksCertified under_check.now.context.program.now under_check.now.context.certs.now.sections under_check.now.func count) (IsFunctionFault under_check.now.context.program.now under_check.now.context.certs.now.sections under_check.now.func count) }
 {
     for number in 0..count {
-        if let Err(fault) = answer(alloc, subject, facts, rooms, BlockId::new(number)) {
+        if let Err(fault) = answer(alloc, under_check, facts, scratch, BlockId::new(number)) {
             return Some(fault);
         }
     }
@@ -191,18 +199,18 @@ fn first_fault(
 
 fn answer(
     alloc: Global,
-    subject: &Subject,
+    under_check: &FunctionUnderCheck,
     facts: &mut Facts,
-    rooms: &mut Rooms,
+    scratch: &mut EdgeScratch,
     block: BlockId,
 ) -> Result<(), BlockFault>
-    requires { IsReady subject.now }
-    ensures { MatchResult result (λ _. BlockCertified subject.now.scene.program.now subject.now.scene.certs.now.sections subject.now.func block) (λ fault. IfRefused fault (FirstRefusal subject.now.scene.program.now subject.now.scene.certs.now.sections subject.now.func block)) }
+    requires { IsReady under_check.now }
+    ensures { MatchResult result (λ _. BlockCertified under_check.now.context.program.now under_check.now.context.certs.now.sections under_check.now.func block) (λ fault. IfRefused fault (FirstRefusal under_check.now.context.program.now under_check.now.context.certs.now.sections under_check.now.func block)) }
 {
-    match BlockWalk::over(subject, block).first_breach(alloc, facts, rooms)? {
+    match BlockWalk::over(under_check, block).first_breach(alloc, facts, scratch)? {
         None => Ok(()),
         Some((instr, broken)) => Err(BlockFault::Refused(Refusal {
-            func: subject.func,
+            func: under_check.func,
             block,
             instr,
             rule: broken.rule,

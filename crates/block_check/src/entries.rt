@@ -1,65 +1,94 @@
 //! K16: whether the entries of a phi are those of its block's predecessors.
 ghost use Rattle.std.specs.Prelude.{◌≡◌, ◌<◌, ◌&&◌, length};
 ghost use Rattle.std.specs.List.{list_all};
-ghost use Rattle.block_rules.specs.Standing.{phis_of};
-ghost use Rattle.block_rules.specs.Ways.{is_same_constant, is_same_operand, is_operand, are_entries};
-ghost use Rattle.block_check.specs.Entries.{noted_from, is_entry_noted, has_each_noted};
+ghost use Rattle.block_rules.specs.InstrContext.{phis_of};
+ghost use Rattle.block_rules.specs.Edges.{is_same_constant, is_same_operand, is_operand, are_entries};
+ghost use Rattle.block_check.specs.Entries.{recorded_from, is_entry_recorded, has_each_recorded};
 ghost use Rattle.block_check.specs.PhiOperands.{entries_at};
-ghost use Rattle.block_check.specs.Subject.{IsReady};
+ghost use Rattle.block_check.specs.FunctionUnderCheck.{IsReady};
 
-use crate::subject::Subject;
+use crate::under_check::FunctionUnderCheck;
 use ir_ast::{BlockId, Constant, Incoming, Operand};
 use types::target_of;
 
 /// Whether the entries of the phi at a place of a block are those of the predecessors of the block.
-pub fn are_entries(subject: &Subject, to: BlockId, place: usize, incoming: &[Incoming]) -> bool
-    requires ready { IsReady subject.now }
-    requires within { to < length subject.now.scene.function.now.blocks }
-    requires at { entries_at (phis_of subject.now.scene.function.now to) place ≡ incoming.now }
-    ensures { result ≡ are_entries subject.now.scene.function.now to incoming.now }
+pub fn are_entries(
+    under_check: &FunctionUnderCheck,
+    to: BlockId,
+    place: usize,
+    incoming: &[Incoming],
+) -> bool
+    requires ready { IsReady under_check.now }
+    requires within { to < length under_check.now.context.function.now.blocks }
+    requires at { entries_at (phis_of under_check.now.context.function.now to) place ≡ incoming.now }
+    ensures { result ≡ are_entries under_check.now.context.function.now to incoming.now }
 {
-    are_noted(subject, to, place, incoming)
+    are_recorded(under_check, to, place, incoming)
 }
 
-fn are_noted(subject: &Subject, to: BlockId, place: usize, incoming: &[Incoming]) -> bool
-    ensures { result ≡ (list_all (is_entry_noted subject.now to place) incoming.now && has_each_noted subject.now to place) }
+fn are_recorded(
+    under_check: &FunctionUnderCheck,
+    to: BlockId,
+    place: usize,
+    incoming: &[Incoming],
+) -> bool
+    ensures { result ≡ (list_all (is_entry_recorded under_check.now to place) incoming.now && has_each_recorded under_check.now to place) }
 {
-    all_noted(subject, to, place, incoming) && has_each(subject, to, place)
+    all_recorded(under_check, to, place, incoming) && has_each(under_check, to, place)
 }
 
-fn all_noted(subject: &Subject, to: BlockId, place: usize, incoming: &[Incoming]) -> bool
-    ensures { result ≡ list_all (is_entry_noted subject.now to place) incoming.now }
+fn all_recorded(
+    under_check: &FunctionUnderCheck,
+    to: BlockId,
+    place: usize,
+    incoming: &[Incoming],
+) -> bool
+    ensures { result ≡ list_all (is_entry_recorded under_check.now to place) incoming.now }
 {
     incoming
         .iter()
-        .all(|entry| is_entry_noted(subject, to, place, *entry))
+        .all(|entry| is_entry_recorded(under_check, to, place, *entry))
 }
 
-fn is_entry_noted(subject: &Subject, to: BlockId, place: usize, entry: Incoming) -> bool
-    ensures { result ≡ is_entry_noted subject.now to place entry }
+fn is_entry_recorded(
+    under_check: &FunctionUnderCheck,
+    to: BlockId,
+    place: usize,
+    entry: Incoming,
+) -> bool
+    ensures { result ≡ is_entry_recorded under_check.now to place entry }
 {
-    match target_of(subject.scene.function, entry.from) {
+    match target_of(under_check.context.function, entry.from) {
         Some(from) => {
-            subject.predecessors.has(to, from) && is_noted(subject, to, place, &entry.operand, from)
+            under_check.predecessors.has(to, from)
+                && is_recorded(under_check, to, place, &entry.operand, from)
         }
         None => false,
     }
 }
 
-fn is_noted(subject: &Subject, to: BlockId, place: usize, operand: &Operand, from: BlockId) -> bool
-    ensures { result ≡ is_operand operand.now (noted_from subject.now to place from) }
+fn is_recorded(
+    under_check: &FunctionUnderCheck,
+    to: BlockId,
+    place: usize,
+    operand: &Operand,
+    from: BlockId,
+) -> bool
+    ensures { result ≡ is_operand operand.now (recorded_from under_check.now to place from) }
 {
-    match subject.noted_from(to, place, from) {
+    match under_check.recorded_from(to, place, from) {
         Some(other) => is_same_operand(&other, operand),
         None => true,
     }
 }
 
-fn has_each(subject: &Subject, to: BlockId, place: usize) -> bool
-    ensures { result ≡ has_each_noted subject.now to place }
+fn has_each(under_check: &FunctionUnderCheck, to: BlockId, place: usize) -> bool
+    ensures { result ≡ has_each_recorded under_check.now to place }
 {
-    subject.predecessors.list(to).iter().all(|from| {
-        subject.noted_from(to, place, BlockId::new(*from)).is_some()
+    under_check.predecessors.list(to).iter().all(|from| {
+        under_check
+            .recorded_from(to, place, BlockId::new(*from))
+            .is_some()
     })
 }
 

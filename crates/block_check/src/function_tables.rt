@@ -1,13 +1,13 @@
 ghost use Rattle.std.specs.Prelude.{◌≡◌, Some, slice_get, IfOk};
-ghost use Rattle.block_rules.specs.Certified.{scene_of};
-ghost use Rattle.block_check.specs.Rows.{AreGiven};
+ghost use Rattle.block_rules.specs.Certified.{context_of};
+ghost use Rattle.block_check.specs.Rows.{AreEntryFacts};
 ghost use Rattle.block_check.specs.FunctionTables.{IsOf};
-ghost use Rattle.block_check.specs.Subject.{IsReady};
+ghost use Rattle.block_check.specs.FunctionUnderCheck.{IsReady};
 
 use crate::phi_operands::{PhiOperands, operands_of};
 use crate::predecessors::Predecessors;
-use crate::subject::Subject;
-use block_rules::Scene;
+use crate::under_check::FunctionUnderCheck;
+use block_rules::RuleContext;
 use facts::KeptFacts;
 use ir_ast::{FuncId, Function, Module};
 use shadow_stack::{Slots, slots_of};
@@ -40,24 +40,24 @@ impl FunctionTables {
     }
 
     /// The function as it is checked. What its first blocks begin with may have been found before.
-    pub fn subject<'a>(
+    pub fn under_check<'a>(
         &'a self,
-        scene: Scene<'a>,
+        context: RuleContext<'a>,
         func: FuncId,
         rows: &'a [KeptFacts],
-    ) -> Subject<'a>
-        requires of { IsOf scene.program.now.of_module scene.function.now self.now }
-        requires slots { scene.slots.now ≡ self.now.slots }
-        requires there { slice_get scene.program.now.of_module.functions func ≡ Some scene.function.now }
-        requires rows { AreGiven (scene_of scene.program.now scene.certs.now.sections scene.function.now (slice_get scene.certs.now.sections func)) rows.now }
+    ) -> FunctionUnderCheck<'a>
+        requires of { IsOf context.program.now.of_module context.function.now self.now }
+        requires slots { context.slots.now ≡ self.now.slots }
+        requires there { slice_get context.program.now.of_module.functions func ≡ Some context.function.now }
+        requires rows { AreEntryFacts (context_of context.program.now context.certs.now.sections context.function.now (slice_get context.certs.now.sections func)) rows.now }
         ensures ready { IsReady result }
         ensures func { result.func ≡ func }
-        ensures program { result.scene.program.now ≡ scene.entry.program.now }
-        ensures certs { result.scene.certs.now.sections ≡ scene.entry.certs.now.sections }
+        ensures program { result.context.program.now ≡ context.entry.program.now }
+        ensures certs { result.context.certs.now.sections ≡ context.entry.certs.now.sections }
     {
-        Subject {
+        FunctionUnderCheck {
             func,
-            scene,
+            context,
             predecessors: &self.predecessors,
             operands: self.operands.as_slice(),
             rows,

@@ -1,22 +1,22 @@
-//! One block, or each block of a function, against its certificate: the rules of every instruction, and what each edge out shows.
+//! One block, or each block of a function, against its certificate: the rules of every instruction, and what each edge out implies.
 #![tactic(auto)]
 
 mod block_set;
 mod block_walk;
 mod breach;
 mod check;
+mod edges;
 mod entries;
+mod entry_facts;
+mod entry_rows;
 mod function_tables;
-mod given;
-mod given_rows;
 mod kept_rows;
 mod phi_operands;
 mod phis;
 mod predecessors;
-mod subject;
-mod ways;
+mod under_check;
 
 pub use block_rules::{BlockFault, Breach, Detail, Refusal, Rule};
 pub use check::{check_block, check_function, check_function_rows, check_rows};
-pub use given_rows::rows;
+pub use entry_rows::rows;
 pub use kept_rows::Rows;

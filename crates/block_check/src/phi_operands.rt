@@ -1,6 +1,6 @@
 //! The operands that come in to the phis of each block, looked up by their hashes.
 ghost use Rattle.std.specs.Prelude.{◌≡◌, ◌==◌, if◌then◌else◌, ◌∷◌, [], Some, None, OnOk, IfOk};
-ghost use Rattle.block_rules.specs.Ways.{operand_from};
+ghost use Rattle.block_rules.specs.Edges.{operand_from};
 ghost use Rattle.block_check.specs.PhiOperands.{operand_at, AddsAt, AreOperands, AreOperandTables};
 
 use indexmap::IndexMap;
@@ -32,7 +32,7 @@ impl PhiOperands {
             each: IndexMap::new(alloc),
         };
         for (place, phi) in phis.iter().enumerate() {
-            operands.note_entries(function, place, phi.incoming.as_slice())?;
+            operands.record_entries(function, place, phi.incoming.as_slice())?;
         }
         Ok(operands)
     }
@@ -44,7 +44,7 @@ impl PhiOperands {
         self.each.get(&(place, from.number())).copied()
     }
 
-    fn note_entries(
+    fn record_entries(
         &mut self,
         function: &Function,
         place: usize,
@@ -53,12 +53,12 @@ impl PhiOperands {
         ensures { OnOk result (AddsAt self.old self.new place (λ from. operand_from function.now from incoming.now)) }
     {
         for entry in incoming {
-            self.note_entry(function, place, *entry)?;
+            self.record_entry(function, place, *entry)?;
         }
         Ok(())
     }
 
-    fn note_entry(
+    fn record_entry(
         &mut self,
         function: &Function,
         place: usize,
@@ -67,13 +67,18 @@ impl PhiOperands {
         ensures { OnOk result (AddsAt self.old self.new place (λ from. operand_from function.now from (entry ∷ []))) }
     {
         match target_of(function, entry.from) {
-            Some(from) => self.note(place, from, entry.operand),
+            Some(from) => self.record_one(place, from, entry.operand),
             None => Ok(()),
         }
     }
 
-    /// Notes an operand, unless one is noted for this place and this block.
-    fn note(&mut self, place: usize, from: BlockId, operand: Operand) -> Result<(), AllocError>
+    /// Records an operand, unless one is recorded for this place and this block.
+    fn record_one(
+        &mut self,
+        place: usize,
+        from: BlockId,
+        operand: Operand,
+    ) -> Result<(), AllocError>
         ensures { OnOk result (AddsAt self.old self.new place (λ other. if from == other then Some operand else None)) }
     {
         match self.operand_from(place, from) {

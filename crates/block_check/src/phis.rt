@@ -1,11 +1,11 @@
 //! What the phis of a block take where it is entered from another.
 ghost use Rattle.std.specs.Prelude.{◌≡◌, OnOk};
-ghost use Rattle.block_rules.specs.Standing.{phis_of};
-ghost use Rattle.block_rules.specs.Ways.{operand_from, number_comes_in, constant_comes_in, known_comes_in, comes_in};
+ghost use Rattle.block_rules.specs.InstrContext.{phis_of};
+ghost use Rattle.block_rules.specs.Edges.{operand_from, number_comes_in, constant_comes_in, known_comes_in, comes_in};
 ghost use Rattle.block_check.specs.PhiOperands.{entries_at};
-ghost use Rattle.block_check.specs.Subject.{IsReady};
+ghost use Rattle.block_check.specs.FunctionUnderCheck.{IsReady};
 
-use crate::subject::{Subject, phis_of};
+use crate::under_check::{FunctionUnderCheck, phis_of};
 use block_rules::{TypeKind, below_next, known_of};
 use facts::{Entry, Facts, Known};
 use ir_ast::{BlockId, Constant, Operand};
@@ -45,29 +45,34 @@ fn known_comes_in(facts: &Facts, kind: TypeKind, operand: &Option<Operand>) -> K
 }
 
 /// The operand that comes in from a block to the phi at a place of another: the first that is named for it.
-fn operand_from(subject: &Subject, to: BlockId, place: usize, from: BlockId) -> Option<Operand>
-    requires { IsReady subject.now }
-    ensures { result ≡ operand_from subject.now.scene.function.now from (entries_at (phis_of subject.now.scene.function.now to) place) }
+fn operand_from(
+    under_check: &FunctionUnderCheck,
+    to: BlockId,
+    place: usize,
+    from: BlockId,
+) -> Option<Operand>
+    requires { IsReady under_check.now }
+    ensures { result ≡ operand_from under_check.now.context.function.now from (entries_at (phis_of under_check.now.context.function.now to) place) }
 {
-    subject.noted_from(to, place, from)
+    under_check.recorded_from(to, place, from)
 }
 
 /// The phis of a block, each with what is known of what comes in from another.
-pub fn note_entries(
-    subject: &Subject,
+pub fn record_entries(
+    under_check: &FunctionUnderCheck,
     from: BlockId,
     facts: &Facts,
     to: BlockId,
     entries: &mut Items<Entry>,
 ) -> Result<(), AllocError>
-    requires { IsReady subject.now }
-    ensures { OnOk result (entries.new ≡ comes_in subject.now.scene.program.now.of_module subject.now.scene.function.now from facts.now (phis_of subject.now.scene.function.now to)) }
+    requires { IsReady under_check.now }
+    ensures { OnOk result (entries.new ≡ comes_in under_check.now.context.program.now.of_module under_check.now.context.function.now from facts.now (phis_of under_check.now.context.function.now to)) }
 {
     entries.clear();
-    let phis = phis_of(subject.scene.function, to);
+    let phis = phis_of(under_check.context.function, to);
     for (place, phi) in phis.iter().enumerate() {
-        let operand = operand_from(subject, to, place, from);
-        let kind = TypeKind::of(subject.scene.module(), phi.written);
+        let operand = operand_from(under_check, to, place, from);
+        let kind = TypeKind::of(under_check.context.module(), phi.written);
         let known = known_comes_in(facts, kind, &operand);
         entries.push(Entry {
             phi: phi.value,

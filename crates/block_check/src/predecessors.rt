@@ -2,11 +2,11 @@
 ghost use Rattle.std.specs.Prelude.{◌≡◌, [], Some, map, length, slice_index_or, OnOk, IfOk};
 ghost use Rattle.std.specs.List.{list_any};
 ghost use Rattle.types.specs.ValueTypes.{target_of};
-ghost use Rattle.block_rules.specs.Ways.{is_number, open_way, end_leads, is_predecessor};
+ghost use Rattle.block_rules.specs.Edges.{is_number, open_edge, end_leads, is_predecessor};
 ghost use Rattle.block_check.specs.Predecessors.{is_listed, Adds, ArePredecessors};
 
 use crate::block_set::BlockSet;
-use crate::subject::end_of;
+use crate::under_check::end_of;
 use ir_ast::{Block, BlockId, Case, End, Function};
 use std::alloc::{AllocError, Global};
 use std::marker::Model;
@@ -36,7 +36,7 @@ impl Predecessors {
             return Err(AllocError);
         };
         let mut lists = no_blocks(alloc, function.blocks.as_slice())?;
-        note_blocks(&mut lists, function, count)?;
+        record_blocks(&mut lists, function, count)?;
         Ok(Predecessors { lists })
     }
 
@@ -61,7 +61,7 @@ impl Predecessors {
     }
 }
 
-/// No block is noted.
+/// No block is recorded.
 fn no_blocks(alloc: Global, blocks: &[Block]) -> Result<Vec<BlockSet>, AllocError>
     ensures { IfOk result (λ lists. lists.items ≡ map (λ _. []) blocks.now) }
 {
@@ -72,27 +72,31 @@ fn no_blocks(alloc: Global, blocks: &[Block]) -> Result<Vec<BlockSet>, AllocErro
     Ok(lists)
 }
 
-fn note_blocks(lists: &mut [BlockSet], function: &Function, count: u32) -> Result<(), AllocError>
+fn record_blocks(lists: &mut [BlockSet], function: &Function, count: u32) -> Result<(), AllocError>
     requires blocks { length function.now.blocks ≡ count }
     requires none { lists.old ≡ map (λ _. []) function.now.blocks }
     ensures { OnOk result (ArePredecessors function.now lists.new) }
 {
     for number in 0..count {
-        note_block(lists, function, BlockId::new(number))?;
+        record_block(lists, function, BlockId::new(number))?;
     }
     Ok(())
 }
 
-fn note_block(lists: &mut [BlockSet], function: &Function, from: BlockId) -> Result<(), AllocError>
+fn record_block(
+    lists: &mut [BlockSet],
+    function: &Function,
+    from: BlockId,
+) -> Result<(), AllocError>
     ensures { OnOk result (Adds lists.old lists.new from (λ to. is_predecessor function.now to from)) }
 {
     match end_of(function, from) {
-        Some(end) => note_end(lists, function, from, end),
+        Some(end) => record_end(lists, function, from, end),
         None => Ok(()),
     }
 }
 
-fn note_end(
+fn record_end(
     lists: &mut [BlockSet],
     function: &Function,
     from: BlockId,
@@ -101,48 +105,48 @@ fn note_end(
     ensures { OnOk result (Adds lists.old lists.new from (λ to. end_leads function.now to end.now)) }
 {
     match end {
-        End::Jump(target) => note(lists, from, target_of(function, *target)),
+        End::Jump(target) => record_one(lists, from, target_of(function, *target)),
         End::Branch { taken, other, .. } => {
-            note(lists, from, target_of(function, *taken))?;
-            note(lists, from, target_of(function, *other))
+            record_one(lists, from, target_of(function, *taken))?;
+            record_one(lists, from, target_of(function, *other))
         }
         End::Switch {
             otherwise,
             cases,
             ..
         } => {
-            note(lists, from, target_of(function, *otherwise))?;
-            note_cases(lists, function, from, cases.as_slice())
+            record_one(lists, from, target_of(function, *otherwise))?;
+            record_cases(lists, function, from, cases.as_slice())
         }
         End::Unreachable | End::ReturnVoid | End::Return(_) => Ok(()),
     }
 }
 
-fn note_cases(
+fn record_cases(
     lists: &mut [BlockSet],
     function: &Function,
     from: BlockId,
     cases: &[Case],
 ) -> Result<(), AllocError>
-    ensures { OnOk result (Adds lists.old lists.new from (λ to. list_any (λ way. is_number to (target_of function.now way.target)) (map (λ case. open_way case.target) cases.now))) }
+    ensures { OnOk result (Adds lists.old lists.new from (λ to. list_any (λ edge. is_number to (target_of function.now edge.target)) (map (λ case. open_edge case.target) cases.now))) }
 {
     for case in cases {
-        note(lists, from, target_of(function, case.target))?;
+        record_one(lists, from, target_of(function, case.target))?;
     }
     Ok(())
 }
 
-/// Notes a block as a predecessor of another, if there is one.
-fn note(lists: &mut [BlockSet], from: BlockId, to: Option<BlockId>) -> Result<(), AllocError>
+/// Records a block as a predecessor of another, if there is one.
+fn record_one(lists: &mut [BlockSet], from: BlockId, to: Option<BlockId>) -> Result<(), AllocError>
     ensures { OnOk result (Adds lists.old lists.new from (λ other. is_number other to)) }
 {
     match to {
-        Some(to) => note_at(lists, from, to),
+        Some(to) => record_at(lists, from, to),
         None => Ok(()),
     }
 }
 
-fn note_at(lists: &mut [BlockSet], from: BlockId, to: BlockId) -> Result<(), AllocError>
+fn record_at(lists: &mut [BlockSet], from: BlockId, to: BlockId) -> Result<(), AllocError>
     ensures { OnOk result (Adds lists.old lists.new from (λ other. is_number other (Some to))) }
 {
     let at = to.number() as usize;

@@ -13,7 +13,7 @@ use Rattle.facts.specs.Facts.{FactSet, known_at, is_of, define, drop_fresh_of}
 use Rattle.barriers.specs.Stores.{may_store_plain}
 use Rattle.block_rules.specs.declared.rule.Rule.{Rule}
 use Rattle.block_rules.specs.declared.rule.Rule.TheVariants.{K1, K2, K3, K4, K7, K10, K12, K19}
-use Rattle.block_rules.specs.declared.standing.Standing.{Standing}
+use Rattle.block_rules.specs.declared.instr_context.InstrContext.{InstrContext}
 use Rattle.block_rules.specs.declared.type_kind.TypeKind.TheVariants.{AnyReference}
 use Rattle.block_rules.specs.Operands.{slot_named, known_of, is_available, is_typed, is_value, is_current, is_null, place_known, is_based, is_no_slot}
 use Rattle.block_rules.specs.Places.{loads_known, stores_known, load_known, is_one_layout}
@@ -71,7 +71,7 @@ is_read p f slots facts returned object place =
     && is_written_as p.of_module returned (object ∷ place ∷ []) GcRead
 
 -- the conditions of a call of gcread with this object and place
-abbrev pub read_conditions : LaidOut → Function → SlotTable → Standing → FactSet → (returned : ℕ) → (object place : Argument) → List (Rule × Bool)
+abbrev pub read_conditions : LaidOut → Function → SlotTable → InstrContext → FactSet → (returned : ℕ) → (object place : Argument) → List (Rule × Bool)
 read_conditions p f slots here facts returned object place =
     (K1, is_available slots facts object.operand && is_available slots facts place.operand)
     ∷ (K2, is_read p f slots facts returned object place)
@@ -79,7 +79,7 @@ read_conditions p f slots here facts returned object place =
     ∷ (K4, is_based facts place.operand (place_known p.of_module facts place.written place.operand))
     ∷ (K7, names_object facts object.operand (place_known p.of_module facts place.written place.operand))
     ∷ (K10, is_no_slot slots object.operand && is_no_slot slots place.operand)
-    ∷ (K12, here.collected)
+    ∷ (K12, here.may_move_references)
     ∷ (K19, casts_operand p.of_module place.operand) ∷ []
 
 -- after gcread: its result is the reference that was read at the place
@@ -107,7 +107,7 @@ is_write p f slots facts returned value object place =
     && is_written_as p.of_module returned (value ∷ object ∷ place ∷ []) GcWrite
 
 -- the conditions of a call of gcwrite with this value, object and place
-abbrev pub write_conditions : LaidOut → Function → SlotTable → Standing → FactSet → (returned : ℕ) → (value object place : Argument) → List (Rule × Bool)
+abbrev pub write_conditions : LaidOut → Function → SlotTable → InstrContext → FactSet → (returned : ℕ) → (value object place : Argument) → List (Rule × Bool)
 write_conditions p f slots here facts returned value object place =
     (K1, is_available slots facts value.operand && is_available slots facts object.operand && is_available slots facts place.operand)
     ∷ (K2, is_write p f slots facts returned value object place)
@@ -119,7 +119,7 @@ write_conditions p f slots here facts returned value object place =
     ∷ (K4, is_based facts place.operand (place_known p.of_module facts place.written place.operand))
     ∷ (K7, names_object facts object.operand (place_known p.of_module facts place.written place.operand))
     ∷ (K10, is_no_slot slots value.operand && is_no_slot slots object.operand && is_no_slot slots place.operand)
-    ∷ (K12, here.collected)
+    ∷ (K12, here.may_move_references)
     ∷ (K19, casts_operand p.of_module place.operand) ∷ []
 
 -- after gcwrite: the class of the value that was written is fresh no more

@@ -18,17 +18,17 @@ use Rattle.block_rules.specs.Places.{define_held}
 use Rattle.block_rules.specs.TypeKinds.{layout_of_kind}
 use Rattle.block_rules.specs.Bounds.{below_next}
 
--- what a number is shown to be below
+-- what a number is known to be below
 abbrev pub below_known : Known → Option ℕ
 below_known (Number bits below) = below
 below_known _ = None
 
--- what a constant is shown to be below
+-- what a constant is known to be below
 abbrev pub constant_below : Option ℕ → Option ℕ
 constant_below None = None
 constant_below (Some n) = below_next n
 
--- what an operand is shown to be below
+-- what an operand is known to be below
 abbrev pub below_of : FactSet → Operand → Option ℕ
 below_of facts (Written c) = constant_below (number_of (Written c))
 below_of facts operand = below_known (known_of facts operand)
@@ -40,11 +40,11 @@ smaller (Some n) None = Some n
 smaller (Some n) (Some m) = if nat_lt m n then Some m else Some n
 
 -- the larger of two bounds, where there are both
-abbrev pub larger : Option ℕ → Option ℕ → Option ℕ
-larger (Some n) (Some m) = if nat_lt n m then Some m else Some n
-larger _ _ = None
+abbrev pub weaker_bound : Option ℕ → Option ℕ → Option ℕ
+weaker_bound (Some n) (Some m) = if nat_lt n m then Some m else Some n
+weaker_bound _ _ = None
 
--- what arithmetic shows its result to be below: `and` is no more than each constant
+-- what the result of arithmetic is known to be below: `and` is no more than each constant
 abbrev pub arithmetic_below : Arithmetic → (first second : Operand) → Option ℕ
 arithmetic_below arithmetic.And first second = smaller (constant_below (number_of first)) (constant_below (number_of second))
 arithmetic_below _ first second = None
@@ -121,5 +121,5 @@ choose_reference v kind chosen other facts =
 
 -- after a choice
 abbrev pub after_select : (v : ℕ) → TypeKind → (chosen other : Operand) → FactSet → FactSet
-after_select v (Bits bits) chosen other facts = define v (Number bits (larger (below_of facts chosen) (below_of facts other))) facts
+after_select v (Bits bits) chosen other facts = define v (Number bits (weaker_bound (below_of facts chosen) (below_of facts other))) facts
 after_select v kind chosen other facts = choose_reference v kind (known_of facts chosen) (known_of facts other) facts

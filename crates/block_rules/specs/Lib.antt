@@ -3,7 +3,7 @@ pub mod RuntimeNames
 pub mod Signature
 pub mod Operands
 pub mod Places
-pub mod Standing
+pub mod InstrContext
 pub mod FirstFailing
 pub mod RuleNames
 pub mod Bounds
@@ -14,6 +14,6 @@ pub mod Elements
 pub mod Barriers
 pub mod Calls
 pub mod Rules
-pub mod Ways
+pub mod Edges
 pub mod Certified
 pub mod Functions

@@ -10,7 +10,7 @@ use Rattle.certs.specs.declared.section.Section.{Section}
 use Rattle.facts.specs.declared.known.Given.{Given}
 use Rattle.facts.specs.declared.known.Given.TheVariants as given
 use Rattle.facts.specs.Facts.{FactSet}
-use Rattle.facts.specs.Lines.{implied, is_below}
+use Rattle.facts.specs.Claims.{implied, is_below}
 use Rattle.block_rules.specs.declared.type_kind.TypeKind.{TypeKind}
 use Rattle.block_rules.specs.declared.type_kind.TypeKind.TheVariants as kind
 use Rattle.block_rules.specs.Operands.{known_of, is_nonnull}
@@ -45,14 +45,14 @@ given_by (kind.Reference layout) = given.Reference layout
 given_by kind.AnyReference = given.AnyReference
 given_by _ = given.Nothing
 
--- ---- what shows it
+-- ---- what implies it
 
 -- the layout that is promised is that of a reference
 abbrev pub is_promised : (promised layout : Option ℕ) → Bool
 is_promised None layout = true
 is_promised (Some promised) layout = one_layout (Some promised) layout
 
--- K14: what is promised of the result is shown of an operand
+-- K14: what is known of an operand implies what is promised of the result
 abbrev pub keeps_promise : FactSet → Option Promise → Operand → Bool
 keeps_promise facts None operand = true
 keeps_promise facts (Some promise) operand =
@@ -60,10 +60,10 @@ keeps_promise facts (Some promise) operand =
     && implied promise.nonnull (is_nonnull facts (known_of facts operand))
     && is_below (below_of facts operand) promise.below
 
--- what is promised of a parameter is shown of its argument
-abbrev pub shows_promise : FactSet → Argument × Option Promise → Bool
-shows_promise facts (argument, promise) = keeps_promise facts promise argument.operand
+-- what is known of an argument implies what is promised of its parameter
+abbrev pub implies_promise : FactSet → Argument × Option Promise → Bool
+implies_promise facts (argument, promise) = keeps_promise facts promise argument.operand
 
--- K13: what is promised of each parameter is shown of its argument
+-- K13: what is known of each argument implies what is promised of its parameter
 abbrev pub show_promises : FactSet → List Argument → List (Option Promise) → Bool
-show_promises facts arguments promises = list_all (shows_promise facts) (zip arguments promises)
+show_promises facts arguments promises = list_all (implies_promise facts) (zip arguments promises)

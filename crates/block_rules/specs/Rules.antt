@@ -29,7 +29,7 @@ use Rattle.certs.specs.declared.section.Section.{Section}
 use Rattle.facts.specs.Facts.{FactSet, end_slot}
 use Rattle.block_rules.specs.declared.rule.Rule.{Rule}
 use Rattle.block_rules.specs.declared.rule.Rule.TheVariants.{K1, K2, K3, K4, K5, K6, K8, K10, K11, K12, K14, K19}
-use Rattle.block_rules.specs.declared.standing.Standing.{Standing}
+use Rattle.block_rules.specs.declared.instr_context.InstrContext.{InstrContext}
 use Rattle.block_rules.specs.FirstFailing.{first_failing}
 use Rattle.block_rules.specs.Operands.{slot_named, known_of, is_available, constant_fits, is_typed, is_value, is_current, place_known, is_based, is_no_slot}
 use Rattle.block_rules.specs.Places.{may_load, may_store, is_one_layout, after_load, after_store}
@@ -95,32 +95,32 @@ is_condition m f slots facts written condition = is_bits 1 (kind_of m written) &
 -- ---- the conditions, in the order of their numbers
 
 -- of an operation on integers
-abbrev pub number_conditions : LaidOut → Function → SlotTable → Standing → FactSet → NumberOp → List (Rule × Bool)
+abbrev pub number_conditions : LaidOut → Function → SlotTable → InstrContext → FactSet → NumberOp → List (Rule × Bool)
 number_conditions p f slots here facts (number.Arithmetic kind written first second) =
     (K1, is_available slots facts first && is_available slots facts second)
     ∷ (K2, is_value p.of_module f slots facts written first && is_value p.of_module f slots facts written second && is_integer (kind_of p.of_module written) && is_no_slot slots first && is_no_slot slots second)
-    ∷ (K12, here.collected) ∷ []
+    ∷ (K12, here.may_move_references) ∷ []
 number_conditions p f slots here facts (number.Resize kind from operand to) =
     (K1, is_available slots facts operand)
     ∷ (K2, is_value p.of_module f slots facts from operand && may_resize kind (kind_of p.of_module from) (kind_of p.of_module to) && is_no_slot slots operand)
-    ∷ (K12, here.collected) ∷ []
+    ∷ (K12, here.may_move_references) ∷ []
 number_conditions p f slots here facts (number.Compare kind written first second) =
     (K1, is_available slots facts first && is_available slots facts second)
     ∷ (K2, is_value p.of_module f slots facts written first && is_value p.of_module f slots facts written second && may_compare kind (kind_of p.of_module written))
     ∷ (K3, is_current facts (known_of facts first) && is_current facts (known_of facts second))
     ∷ (K10, is_no_slot slots first && is_no_slot slots second)
-    ∷ (K12, here.collected) ∷ []
+    ∷ (K12, here.may_move_references) ∷ []
 
 -- of an operation on memory
-abbrev pub memory_conditions : LaidOut → Function → SlotTable → Standing → FactSet → (result : Option ℕ) → MemoryOp → List (Rule × Bool)
+abbrev pub memory_conditions : LaidOut → Function → SlotTable → InstrContext → FactSet → (result : Option ℕ) → MemoryOp → List (Rule × Bool)
 memory_conditions p f slots here facts result (memory.Alloca held) =
-    (K8, may_hold p.of_module slots result held) ∷ (K11, here.in_entry) ∷ (K12, here.collected) ∷ []
+    (K8, may_hold p.of_module slots result held) ∷ (K11, here.in_entry) ∷ (K12, here.may_move_references) ∷ []
 memory_conditions p f slots here facts result (memory.Load loaded place_type place) =
     (K1, is_available slots facts place)
     ∷ (K2, is_typed p.of_module f place_type place && may_load p slots facts loaded place (place_known p.of_module facts place_type place))
     ∷ (K3, is_current facts (place_known p.of_module facts place_type place))
     ∷ (K4, is_based facts place (place_known p.of_module facts place_type place))
-    ∷ (K12, here.collected)
+    ∷ (K12, here.may_move_references)
     ∷ (K19, casts_operand p.of_module place) ∷ []
 memory_conditions p f slots here facts result (memory.Store stored value place_type place) =
     (K1, is_available slots facts value && is_available slots facts place)
@@ -129,11 +129,11 @@ memory_conditions p f slots here facts result (memory.Store stored value place_t
     ∷ (K4, is_based facts place (place_known p.of_module facts place_type place))
     ∷ (K6, needs_no_barrier p.of_module slots facts stored place (place_known p.of_module facts place_type place))
     ∷ (K10, is_no_slot slots value)
-    ∷ (K12, here.collected)
+    ∷ (K12, here.may_move_references)
     ∷ (K19, casts_operand p.of_module place) ∷ []
 
 -- of a getelementptr
-abbrev pub element_conditions : LaidOut → Function → SlotTable → Standing → FactSet → Element → List (Rule × Bool)
+abbrev pub element_conditions : LaidOut → Function → SlotTable → InstrContext → FactSet → Element → List (Rule × Bool)
 element_conditions p f slots here facts x =
     (K1, is_available slots facts x.base && list_all (λ index. is_available slots facts index.operand) x.indices)
     ∷ (
@@ -144,20 +144,20 @@ element_conditions p f slots here facts x =
     ∷ (K3, is_current facts (known_of facts x.base))
     ∷ (K5, may_lead p facts x.source x.indices (known_of facts x.base))
     ∷ (K10, is_no_slot slots x.base)
-    ∷ (K12, here.collected)
+    ∷ (K12, here.may_move_references)
     ∷ (K19, casts_operand p.of_module x.base) ∷ []
 
 -- of a bitcast
-abbrev pub cast_conditions : LaidOut → Function → SlotTable → Standing → FactSet → Cast → List (Rule × Bool)
+abbrev pub cast_conditions : LaidOut → Function → SlotTable → InstrContext → FactSet → Cast → List (Rule × Bool)
 cast_conditions p f slots here facts x =
     (K1, is_available slots facts x.operand)
     ∷ (K2, is_typed p.of_module f x.from x.operand)
     ∷ (K3, is_current facts (known_of facts x.operand))
-    ∷ (K12, here.collected)
+    ∷ (K12, here.may_move_references)
     ∷ (K19, casts_operand p.of_module x.operand && may_cast p slots facts x.from x.to x.operand) ∷ []
 
 -- of a select
-abbrev pub choice_conditions : LaidOut → Function → SlotTable → Standing → FactSet → Choice → List (Rule × Bool)
+abbrev pub choice_conditions : LaidOut → Function → SlotTable → InstrContext → FactSet → Choice → List (Rule × Bool)
 choice_conditions p f slots here facts x =
     (K1, is_available slots facts x.condition && is_available slots facts x.chosen && is_available slots facts x.other)
     ∷ (
@@ -169,10 +169,10 @@ choice_conditions p f slots here facts x =
     )
     ∷ (K3, is_current facts (known_of facts x.chosen) && is_current facts (known_of facts x.other))
     ∷ (K10, is_no_slot slots x.chosen && is_no_slot slots x.other)
-    ∷ (K12, here.collected) ∷ []
+    ∷ (K12, here.may_move_references) ∷ []
 
 -- of what an instruction of a body does
-abbrev pub op_conditions : LaidOut → (certs : List Section) → Function → SlotTable → Standing → FactSet → (result : Option ℕ) → Op → List (Rule × Bool)
+abbrev pub op_conditions : LaidOut → (certs : List Section) → Function → SlotTable → InstrContext → FactSet → (result : Option ℕ) → Op → List (Rule × Bool)
 op_conditions p certs f slots here facts result (op.Number x) = number_conditions p f slots here facts x
 op_conditions p certs f slots here facts result (op.Memory x) = memory_conditions p f slots here facts result x
 op_conditions p certs f slots here facts result (op.Element x) = element_conditions p f slots here facts x
@@ -182,35 +182,35 @@ op_conditions p certs f slots here facts result (op.Call x) =
     call_conditions p certs f slots here facts x.returned x.arguments (callee_of p.of_module x.callee (length x.arguments))
 
 -- of an instruction of a body
-abbrev pub conditions : LaidOut → (certs : List Section) → Function → SlotTable → Standing → FactSet → Instr → List (Rule × Bool)
+abbrev pub conditions : LaidOut → (certs : List Section) → Function → SlotTable → InstrContext → FactSet → Instr → List (Rule × Bool)
 conditions p certs f slots here facts instr = op_conditions p certs f slots here facts instr.result instr.op
 
 -- of a phi; where its entries come from is asked with the blocks
-abbrev pub phi_conditions : Module → Function → SlotTable → Standing → Phi → List (Rule × Bool)
+abbrev pub phi_conditions : Module → Function → SlotTable → InstrContext → Phi → List (Rule × Bool)
 phi_conditions m f slots here phi =
-    (K2, may_choose (kind_of m phi.written) && all_come_in m f slots phi.written phi.incoming) ∷ (K12, here.collected) ∷ []
+    (K2, may_choose (kind_of m phi.written) && all_come_in m f slots phi.written phi.incoming) ∷ (K12, here.may_move_references) ∷ []
 
 -- of the end of a block; what the targets ask for is asked with the blocks
-abbrev pub end_conditions : LaidOut → Function → SlotTable → Standing → FactSet → End → List (Rule × Bool)
+abbrev pub end_conditions : LaidOut → Function → SlotTable → InstrContext → FactSet → End → List (Rule × Bool)
 end_conditions p f slots here facts (end.Jump target) =
-    (K2, names_target f target) ∷ (K12, here.collected) ∷ []
+    (K2, names_target f target) ∷ (K12, here.may_move_references) ∷ []
 end_conditions p f slots here facts (end.Branch condition_type condition taken other) =
     (K1, is_available slots facts condition)
     ∷ (K2, is_condition p.of_module f slots facts condition_type condition && names_target f taken && names_target f other && is_no_slot slots condition)
-    ∷ (K12, here.collected) ∷ []
+    ∷ (K12, here.may_move_references) ∷ []
 end_conditions p f slots here facts (end.Switch written value otherwise cases) =
     (K1, is_available slots facts value)
     ∷ (K2, is_value p.of_module f slots facts written value && is_integer (kind_of p.of_module written) && names_target f otherwise && are_cases p.of_module f written cases && is_no_slot slots value)
-    ∷ (K12, here.collected) ∷ []
-end_conditions p f slots here facts end.Unreachable = (K12, here.collected) ∷ []
+    ∷ (K12, here.may_move_references) ∷ []
+end_conditions p f slots here facts end.Unreachable = (K12, here.may_move_references) ∷ []
 end_conditions p f slots here facts end.ReturnVoid =
-    (K2, is_void (kind_of p.of_module f.returned)) ∷ (K12, here.collected) ∷ []
+    (K2, is_void (kind_of p.of_module f.returned)) ∷ (K12, here.may_move_references) ∷ []
 end_conditions p f slots here facts (end.Return argument) =
     (K1, is_available slots facts argument.operand)
     ∷ (K2, is_value p.of_module f slots facts argument.written argument.operand && (argument.written == f.returned))
     ∷ (K3, is_current facts (known_of facts argument.operand))
     ∷ (K10, is_no_slot slots argument.operand)
-    ∷ (K12, here.collected)
+    ∷ (K12, here.may_move_references)
     ∷ (K14, keeps_promise facts here.promised argument.operand) ∷ []
 
 -- ---- what is known after an instruction

@@ -6,15 +6,15 @@ ghost use Rattle.block_rules.specs.Barriers.{is_own_place, needs_no_barrier, is_
 
 use crate::casts::casts_operand;
 use crate::conditions::first_failing;
+use crate::context::RuleContext;
+use crate::instr_context::InstrContext;
 use crate::operands::{
     is_available, is_based, is_current, is_no_slot, is_null, is_operand_current, is_typed,
     is_value, known_of, place_known, slot_named,
 };
 use crate::places::{is_one_layout, load_known, loads_known, publish, stores_known};
 use crate::rule::Rule;
-use crate::scene::Scene;
 use crate::signature::is_written_as;
-use crate::standing::Standing;
 use crate::type_kind::TypeKind;
 use barriers::may_store_plain;
 use facts::{ClassId, Facts, Known};
@@ -33,16 +33,16 @@ fn is_own_place(facts: &Facts, place: &Known) -> bool
 
 /// Whether what is stored at a place, of which this is known, goes there without a barrier.
 pub fn needs_no_barrier(
-    scene: &Scene,
+    context: &RuleContext,
     facts: &Facts,
     stored: TypeId,
     place: &Operand,
     known: &Known,
 ) -> bool
-    ensures { result ≡ needs_no_barrier scene.now.program.now.of_module scene.now.slots.now facts.now stored place.now known.now }
+    ensures { result ≡ needs_no_barrier context.now.program.now.of_module context.now.slots.now facts.now stored place.now known.now }
 {
-    slot_named(scene.slots, place).is_some()
-        || !TypeKind::of(scene.module(), stored).may_be_reference()
+    slot_named(context.slots, place).is_some()
+        || !TypeKind::of(context.module(), stored).may_be_reference()
         || is_own_place(facts, known)
 }
 
@@ -87,19 +87,25 @@ fn names_object(facts: &Facts, object: &Operand, place: &Known) -> bool
     is_null(object) || is_known_null(&known) || lies_in_object(facts, &known, place)
 }
 
-fn may_read(scene: &Scene, facts: &Facts, place: &Operand, known: &Known) -> bool
-    ensures { result ≡ may_read scene.now.program.now scene.now.slots.now facts.now place.now known.now }
+fn may_read(context: &RuleContext, facts: &Facts, place: &Operand, known: &Known) -> bool
+    ensures { result ≡ may_read context.now.program.now context.now.slots.now facts.now place.now known.now }
 {
-    slot_named(scene.slots, place).is_some()
-        || loads_known(scene.program, facts, TypeKind::AnyReference, known)
+    slot_named(context.slots, place).is_some()
+        || loads_known(context.program, facts, TypeKind::AnyReference, known)
 }
 
-fn may_write(scene: &Scene, facts: &Facts, value: &Operand, place: &Operand, known: &Known) -> bool
-    ensures { result ≡ may_write scene.now.program.now scene.now.slots.now facts.now value.now place.now known.now }
+fn may_write(
+    context: &RuleContext,
+    facts: &Facts,
+    value: &Operand,
+    place: &Operand,
+    known: &Known,
+) -> bool
+    ensures { result ≡ may_write context.now.program.now context.now.slots.now facts.now value.now place.now known.now }
 {
-    slot_named(scene.slots, place).is_some()
+    slot_named(context.slots, place).is_some()
         || stores_known(
-            scene.program,
+            context.program,
             facts,
             TypeKind::AnyReference,
             &known_of(facts, value),
@@ -108,24 +114,24 @@ fn may_write(scene: &Scene, facts: &Facts, value: &Operand, place: &Operand, kno
 }
 
 fn is_read(
-    scene: &Scene,
+    context: &RuleContext,
     facts: &Facts,
     returned: TypeId,
     object: &Argument,
     place: &Argument,
 ) -> bool
-    ensures { result ≡ is_read scene.now.program.now scene.now.function.now scene.now.slots.now facts.now returned object.now place.now }
+    ensures { result ≡ is_read context.now.program.now context.now.function.now context.now.slots.now facts.now returned object.now place.now }
 {
-    is_value(scene, facts, object.written, &object.operand)
-        && is_typed(scene, place.written, &place.operand)
+    is_value(context, facts, object.written, &object.operand)
+        && is_typed(context, place.written, &place.operand)
         && may_read(
-            scene,
+            context,
             facts,
             &place.operand,
-            &place_known(scene, facts, place.written, &place.operand),
+            &place_known(context, facts, place.written, &place.operand),
         )
         && is_written_as(
-            scene.module(),
+            context.module(),
             returned,
             &[*object, *place],
             Runtime::GcRead,
@@ -134,23 +140,23 @@ fn is_read(
 
 /// The rule that a call of gcread with this object and place breaks, if it breaks one.
 pub fn read_refusal(
-    scene: &Scene,
-    here: Standing,
+    context: &RuleContext,
+    here: InstrContext,
     facts: &Facts,
     returned: TypeId,
     object: &Argument,
     place: &Argument,
 ) -> Option<Rule>
-    ensures { result ≡ first_failing (read_conditions scene.now.program.now scene.now.function.now scene.now.slots.now here facts.now returned object.now place.now) }
+    ensures { result ≡ first_failing (read_conditions context.now.program.now context.now.function.now context.now.slots.now here facts.now returned object.now place.now) }
 {
-    let at = place_known(scene, facts, place.written, &place.operand);
+    let at = place_known(context, facts, place.written, &place.operand);
     first_failing(&[
         (
             Rule::K1,
-            is_available(scene.slots, facts, &object.operand)
-                && is_available(scene.slots, facts, &place.operand),
+            is_available(context.slots, facts, &object.operand)
+                && is_available(context.slots, facts, &place.operand),
         ),
-        (Rule::K2, is_read(scene, facts, returned, object, place)),
+        (Rule::K2, is_read(context, facts, returned, object, place)),
         (
             Rule::K3,
             is_operand_current(facts, &object.operand) && is_current(facts, &at),
@@ -159,73 +165,73 @@ pub fn read_refusal(
         (Rule::K7, names_object(facts, &object.operand, &at)),
         (
             Rule::K10,
-            is_no_slot(scene.slots, &object.operand) && is_no_slot(scene.slots, &place.operand),
+            is_no_slot(context.slots, &object.operand) && is_no_slot(context.slots, &place.operand),
         ),
-        (Rule::K12, here.collected),
-        (Rule::K19, casts_operand(scene.module(), &place.operand)),
+        (Rule::K12, here.may_move_references),
+        (Rule::K19, casts_operand(context.module(), &place.operand)),
     ])
 }
 
 /// Goes on to the facts after a call of gcread.
 pub fn after_read_call(
-    scene: &Scene,
+    context: &RuleContext,
     facts: &mut Facts,
     defined: Option<ValueId>,
     arguments: &[Argument],
 ) -> Result<(), AllocError>
-    ensures { OnOk result (facts.new ≡ after_read_call scene.now.program.now defined arguments.now facts.old) }
+    ensures { OnOk result (facts.new ≡ after_read_call context.now.program.now defined arguments.now facts.old) }
 {
     match defined {
-        Some(v) => after_read(scene, facts, v, arguments),
+        Some(v) => after_read(context, facts, v, arguments),
         None => Ok(()),
     }
 }
 
 fn after_read(
-    scene: &Scene,
+    context: &RuleContext,
     facts: &mut Facts,
     v: ValueId,
     arguments: &[Argument],
 ) -> Result<(), AllocError>
-    ensures { OnOk result (facts.new ≡ after_read scene.now.program.now v arguments.now facts.old) }
+    ensures { OnOk result (facts.new ≡ after_read context.now.program.now v arguments.now facts.old) }
 {
     match arguments {
         [_, place] => {
-            let known = place_known(scene, facts, place.written, &place.operand);
-            load_known(scene.program, facts, v, TypeKind::AnyReference, &known)
+            let known = place_known(context, facts, place.written, &place.operand);
+            load_known(context.program, facts, v, TypeKind::AnyReference, &known)
         }
         _ => facts.define(v, Known::Nothing),
     }
 }
 
 fn is_write(
-    scene: &Scene,
+    context: &RuleContext,
     facts: &Facts,
     returned: TypeId,
     value: &Argument,
     object: &Argument,
     place: &Argument,
 ) -> bool
-    ensures { result ≡ is_write scene.now.program.now scene.now.function.now scene.now.slots.now facts.now returned value.now object.now place.now }
+    ensures { result ≡ is_write context.now.program.now context.now.function.now context.now.slots.now facts.now returned value.now object.now place.now }
 {
-    is_value(scene, facts, value.written, &value.operand)
-        && is_value(scene, facts, object.written, &object.operand)
-        && is_typed(scene, place.written, &place.operand)
+    is_value(context, facts, value.written, &value.operand)
+        && is_value(context, facts, object.written, &object.operand)
+        && is_typed(context, place.written, &place.operand)
         && may_write(
-            scene,
+            context,
             facts,
             &value.operand,
             &place.operand,
-            &place_known(scene, facts, place.written, &place.operand),
+            &place_known(context, facts, place.written, &place.operand),
         )
         && is_one_layout(
-            scene,
+            context,
             facts,
             value.written,
-            &place_known(scene, facts, place.written, &place.operand),
+            &place_known(context, facts, place.written, &place.operand),
         )
         && is_written_as(
-            scene.module(),
+            context.module(),
             returned,
             &[*value, *object, *place],
             Runtime::GcWrite,
@@ -234,27 +240,27 @@ fn is_write(
 
 /// The rule that a call of gcwrite with this value, object and place breaks, if it breaks one.
 pub fn write_refusal(
-    scene: &Scene,
-    here: Standing,
+    context: &RuleContext,
+    here: InstrContext,
     facts: &Facts,
     returned: TypeId,
     value: &Argument,
     object: &Argument,
     place: &Argument,
 ) -> Option<Rule>
-    ensures { result ≡ first_failing (write_conditions scene.now.program.now scene.now.function.now scene.now.slots.now here facts.now returned value.now object.now place.now) }
+    ensures { result ≡ first_failing (write_conditions context.now.program.now context.now.function.now context.now.slots.now here facts.now returned value.now object.now place.now) }
 {
-    let at = place_known(scene, facts, place.written, &place.operand);
+    let at = place_known(context, facts, place.written, &place.operand);
     first_failing(&[
         (
             Rule::K1,
-            is_available(scene.slots, facts, &value.operand)
-                && is_available(scene.slots, facts, &object.operand)
-                && is_available(scene.slots, facts, &place.operand),
+            is_available(context.slots, facts, &value.operand)
+                && is_available(context.slots, facts, &object.operand)
+                && is_available(context.slots, facts, &place.operand),
         ),
         (
             Rule::K2,
-            is_write(scene, facts, returned, value, object, place),
+            is_write(context, facts, returned, value, object, place),
         ),
         (
             Rule::K3,
@@ -266,12 +272,12 @@ pub fn write_refusal(
         (Rule::K7, names_object(facts, &object.operand, &at)),
         (
             Rule::K10,
-            is_no_slot(scene.slots, &value.operand)
-                && is_no_slot(scene.slots, &object.operand)
-                && is_no_slot(scene.slots, &place.operand),
+            is_no_slot(context.slots, &value.operand)
+                && is_no_slot(context.slots, &object.operand)
+                && is_no_slot(context.slots, &place.operand),
         ),
-        (Rule::K12, here.collected),
-        (Rule::K19, casts_operand(scene.module(), &place.operand)),
+        (Rule::K12, here.may_move_references),
+        (Rule::K19, casts_operand(context.module(), &place.operand)),
     ])
 }
 

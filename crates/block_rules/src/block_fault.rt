@@ -6,14 +6,14 @@ use ir_ast::{BlockId, FuncId};
 use std::alloc::AllocError;
 use thiserror::Error;
 
-/// What a refusal says besides its rule: of a fact that an edge does not show, the target and the place of its line.
+/// What a refusal says besides its rule: of a claim that an edge does not imply, the target and the claim's place.
 #[derive(Clone, Copy, Debug, PartialEq, Eq)]
 pub struct Detail {
     pub target: BlockId,
-    pub line: usize,
+    pub claim: usize,
 }
 
-/// What an instruction breaks: a rule, and for a fact that an edge does not show where that one is.
+/// What an instruction breaks: a rule, and for a claim that an edge does not imply where that one is.
 #[derive(Clone, Copy)]
 pub struct Breach {
     pub rule: Rule,

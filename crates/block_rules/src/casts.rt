@@ -5,12 +5,12 @@ ghost use Rattle.block_rules.specs.Rules.{cast_conditions};
 ghost use Rattle.block_rules.specs.Casts.{casts_null, casts_constant, casts_slot, casts_words, casts_base, casts_to, casts_global, casts_operand, casts_known, casts_other, may_cast, layout_of_null, cast_number, cast_constant, cast_local, after_cast};
 
 use crate::conditions::first_failing;
+use crate::context::RuleContext;
+use crate::instr_context::InstrContext;
 use crate::numbers::below_next;
 use crate::operands::{is_available, is_operand_current, is_typed, known_of};
 use crate::places::{define_held, layout_of_word, loads_words};
 use crate::rule::Rule;
-use crate::scene::Scene;
-use crate::standing::Standing;
 use crate::type_kind::TypeKind;
 use facts::{Facts, Known};
 use ir_ast::{Cast, Constant, Module, Operand, SymbolId, TypeId, ValueId};
@@ -100,27 +100,39 @@ fn casts_known(program: &Program, facts: &Facts, to: TypeId, known: &Known) -> b
 }
 
 /// Whether a bitcast to another type keeps the layout.
-fn casts_other(scene: &Scene, facts: &Facts, from: TypeId, to: TypeId, operand: &Operand) -> bool
-    ensures { result ≡ casts_other scene.now.program.now scene.now.slots.now facts.now from to operand.now }
+fn casts_other(
+    context: &RuleContext,
+    facts: &Facts,
+    from: TypeId,
+    to: TypeId,
+    operand: &Operand,
+) -> bool
+    ensures { result ≡ casts_other context.now.program.now context.now.slots.now facts.now from to operand.now }
 {
     match operand {
-        Operand::Constant(constant) => casts_constant(scene.module(), from, to, *constant),
-        Operand::Local(v) => match scene.slots.slot_of(*v) {
+        Operand::Constant(constant) => casts_constant(context.module(), from, to, *constant),
+        Operand::Local(v) => match context.slots.slot_of(*v) {
             Some(s) => casts_slot(
-                TypeKind::of_slot(scene.module(), scene.slots, s),
-                TypeKind::of_place(scene.module(), to),
+                TypeKind::of_slot(context.module(), context.slots, s),
+                TypeKind::of_place(context.module(), to),
             ),
-            None => casts_known(scene.program, facts, to, &facts.known(*v)),
+            None => casts_known(context.program, facts, to, &facts.known(*v)),
         },
-        operand => casts_known(scene.program, facts, to, &known_of(facts, operand)),
+        operand => casts_known(context.program, facts, to, &known_of(facts, operand)),
     }
 }
 
 /// Whether a bitcast is allowed.
-pub fn may_cast(scene: &Scene, facts: &Facts, from: TypeId, to: TypeId, operand: &Operand) -> bool
-    ensures { result ≡ may_cast scene.now.program.now scene.now.slots.now facts.now from to operand.now }
+pub fn may_cast(
+    context: &RuleContext,
+    facts: &Facts,
+    from: TypeId,
+    to: TypeId,
+    operand: &Operand,
+) -> bool
+    ensures { result ≡ may_cast context.now.program.now context.now.slots.now facts.now from to operand.now }
 {
-    from == to || casts_other(scene, facts, from, to, operand)
+    from == to || casts_other(context, facts, from, to, operand)
 }
 
 fn layout_of_null(from: TypeKind, to: TypeKind) -> Option<LayoutId>
@@ -208,20 +220,27 @@ fn cast_local(
 
 /// Goes on to the facts after a bitcast.
 pub fn after_cast(
-    scene: &Scene,
+    context: &RuleContext,
     facts: &mut Facts,
     v: ValueId,
     from: TypeId,
     to: TypeId,
     operand: &Operand,
 ) -> Result<(), AllocError>
-    ensures { OnOk result (facts.new ≡ after_cast scene.now.program.now.of_module scene.now.slots.now v from to operand.now facts.old) }
+    ensures { OnOk result (facts.new ≡ after_cast context.now.program.now.of_module context.now.slots.now v from to operand.now facts.old) }
 {
     match operand {
-        Operand::Constant(constant) => cast_constant(scene.module(), facts, v, from, to, *constant),
+        Operand::Constant(constant) => cast_constant(
+            context.module(),
+            facts,
+            v,
+            from,
+            to,
+            *constant,
+        ),
         Operand::Local(u) => {
             let known = facts.known(*u);
-            cast_local(facts, v, *u, &known, scene.slots.slot_of(*u))
+            cast_local(facts, v, *u, &known, context.slots.slot_of(*u))
         }
         operand => {
             let known = known_of(facts, operand);
@@ -231,18 +250,24 @@ pub fn after_cast(
 }
 
 /// The rule that a bitcast breaks, if it breaks one.
-pub fn cast_refusal(scene: &Scene, here: Standing, facts: &Facts, cast: &Cast) -> Option<Rule>
-    ensures { result ≡ first_failing (cast_conditions scene.now.program.now scene.now.function.now scene.now.slots.now here facts.now cast.now) }
+pub fn cast_refusal(
+    context: &RuleContext,
+    here: InstrContext,
+    facts: &Facts,
+    cast: &Cast,
+) -> Option<Rule>
+    ensures { result ≡ first_failing (cast_conditions context.now.program.now context.now.function.now context.now.slots.now here facts.now cast.now) }
 {
     let Cast { from, operand, to } = cast;
     first_failing(&[
-        (Rule::K1, is_available(scene.slots, facts, operand)),
-        (Rule::K2, is_typed(scene, *from, operand)),
+        (Rule::K1, is_available(context.slots, facts, operand)),
+        (Rule::K2, is_typed(context, *from, operand)),
         (Rule::K3, is_operand_current(facts, operand)),
-        (Rule::K12, here.collected),
+        (Rule::K12, here.may_move_references),
         (
             Rule::K19,
-            casts_operand(scene.module(), operand) && may_cast(scene, facts, *from, *to, operand),
+            casts_operand(context.module(), operand)
+                && may_cast(context, facts, *from, *to, operand),
         ),
     ])
 }

@@ -5,11 +5,11 @@ ghost use Rattle.block_rules.specs.Rules.{is_target, names_target, is_case, are_
 
 use crate::choices::is_condition;
 use crate::conditions::first_failing;
+use crate::context::RuleContext;
+use crate::instr_context::InstrContext;
 use crate::operands::{constant_fits, is_available, is_no_slot, is_operand_current, is_value};
 use crate::promises::keeps_promise;
 use crate::rule::Rule;
-use crate::scene::Scene;
-use crate::standing::Standing;
 use crate::type_kind::TypeKind;
 use facts::Facts;
 use ir_ast::{Argument, BlockId, Case, End, Function, TypeId, ValueId};
@@ -31,96 +31,106 @@ fn names_target(function: &Function, label: ValueId) -> bool
     is_target(function, target_of(function, label))
 }
 
-fn is_case(scene: &Scene, written: TypeId, case: Case) -> bool
-    ensures { result ≡ is_case scene.now.program.now.of_module scene.now.function.now written case }
+fn is_case(context: &RuleContext, written: TypeId, case: Case) -> bool
+    ensures { result ≡ is_case context.now.program.now.of_module context.now.function.now written case }
 {
-    constant_fits(case.constant, TypeKind::of(scene.module(), written))
-        && names_target(scene.function, case.target)
+    constant_fits(case.constant, TypeKind::of(context.module(), written))
+        && names_target(context.function, case.target)
 }
 
 /// Whether the cases of a switch are constants of its type and name blocks.
-fn are_cases(scene: &Scene, written: TypeId, cases: &[Case]) -> bool
-    ensures { result ≡ are_cases scene.now.program.now.of_module scene.now.function.now written cases.now }
+fn are_cases(context: &RuleContext, written: TypeId, cases: &[Case]) -> bool
+    ensures { result ≡ are_cases context.now.program.now.of_module context.now.function.now written cases.now }
 {
-    cases.iter().all(|case| is_case(scene, written, *case))
+    cases.iter().all(|case| is_case(context, written, *case))
 }
 
 fn branch_refusal(
-    scene: &Scene,
-    here: Standing,
+    context: &RuleContext,
+    here: InstrContext,
     facts: &Facts,
     condition: &Argument,
     taken: ValueId,
     other: ValueId,
 ) -> Option<Rule>
-    ensures { result ≡ first_failing (end_conditions scene.now.program.now scene.now.function.now scene.now.slots.now here facts.now (End.Branch condition.now.written condition.now.operand taken other)) }
+    ensures { result ≡ first_failing (end_conditions context.now.program.now context.now.function.now context.now.slots.now here facts.now (End.Branch condition.now.written condition.now.operand taken other)) }
 {
     first_failing(&[
         (
             Rule::K1,
-            is_available(scene.slots, facts, &condition.operand),
+            is_available(context.slots, facts, &condition.operand),
         ),
         (
             Rule::K2,
-            is_condition(scene, facts, condition.written, &condition.operand)
-                && names_target(scene.function, taken)
-                && names_target(scene.function, other)
-                && is_no_slot(scene.slots, &condition.operand),
+            is_condition(context, facts, condition.written, &condition.operand)
+                && names_target(context.function, taken)
+                && names_target(context.function, other)
+                && is_no_slot(context.slots, &condition.operand),
         ),
-        (Rule::K12, here.collected),
+        (Rule::K12, here.may_move_references),
     ])
 }
 
 fn switch_refusal(
-    scene: &Scene,
-    here: Standing,
+    context: &RuleContext,
+    here: InstrContext,
     facts: &Facts,
     value: &Argument,
     otherwise: ValueId,
     cases: &[Case],
 ) -> Option<Rule>
-    ensures { result ≡ first_failing (end_conditions scene.now.program.now scene.now.function.now scene.now.slots.now here facts.now (End.Switch value.now.written value.now.operand otherwise cases.now)) }
+    ensures { result ≡ first_failing (end_conditions context.now.program.now context.now.function.now context.now.slots.now here facts.now (End.Switch value.now.written value.now.operand otherwise cases.now)) }
 {
     first_failing(&[
-        (Rule::K1, is_available(scene.slots, facts, &value.operand)),
+        (Rule::K1, is_available(context.slots, facts, &value.operand)),
         (
             Rule::K2,
-            is_value(scene, facts, value.written, &value.operand)
-                && TypeKind::of(scene.module(), value.written).is_integer()
-                && names_target(scene.function, otherwise)
-                && are_cases(scene, value.written, cases)
-                && is_no_slot(scene.slots, &value.operand),
+            is_value(context, facts, value.written, &value.operand)
+                && TypeKind::of(context.module(), value.written).is_integer()
+                && names_target(context.function, otherwise)
+                && are_cases(context, value.written, cases)
+                && is_no_slot(context.slots, &value.operand),
         ),
-        (Rule::K12, here.collected),
+        (Rule::K12, here.may_move_references),
     ])
 }
 
-fn return_refusal(scene: &Scene, here: Standing, facts: &Facts, argument: &Argument) -> Option<Rule>
-    ensures { result ≡ first_failing (end_conditions scene.now.program.now scene.now.function.now scene.now.slots.now here facts.now (End.Return argument.now)) }
+fn return_refusal(
+    context: &RuleContext,
+    here: InstrContext,
+    facts: &Facts,
+    argument: &Argument,
+) -> Option<Rule>
+    ensures { result ≡ first_failing (end_conditions context.now.program.now context.now.function.now context.now.slots.now here facts.now (End.Return argument.now)) }
 {
     let operand = &argument.operand;
     first_failing(&[
-        (Rule::K1, is_available(scene.slots, facts, operand)),
+        (Rule::K1, is_available(context.slots, facts, operand)),
         (
             Rule::K2,
-            is_value(scene, facts, argument.written, operand)
-                && argument.written == scene.function.returned,
+            is_value(context, facts, argument.written, operand)
+                && argument.written == context.function.returned,
         ),
         (Rule::K3, is_operand_current(facts, operand)),
-        (Rule::K10, is_no_slot(scene.slots, operand)),
-        (Rule::K12, here.collected),
+        (Rule::K10, is_no_slot(context.slots, operand)),
+        (Rule::K12, here.may_move_references),
         (Rule::K14, keeps_promise(facts, here.promised, operand)),
     ])
 }
 
 /// The rule that the end of a block breaks, if it breaks one; what its targets ask for is checked elsewhere.
-pub fn end_refusal(scene: &Scene, here: Standing, facts: &Facts, end: &End) -> Option<Rule>
-    ensures { result ≡ first_failing (end_conditions scene.now.program.now scene.now.function.now scene.now.slots.now here facts.now end.now) }
+pub fn end_refusal(
+    context: &RuleContext,
+    here: InstrContext,
+    facts: &Facts,
+    end: &End,
+) -> Option<Rule>
+    ensures { result ≡ first_failing (end_conditions context.now.program.now context.now.function.now context.now.slots.now here facts.now end.now) }
 {
     match end {
         End::Jump(target) => first_failing(&[
-            (Rule::K2, names_target(scene.function, *target)),
-            (Rule::K12, here.collected),
+            (Rule::K2, names_target(context.function, *target)),
+            (Rule::K12, here.may_move_references),
         ]),
         End::Branch {
             condition_type,
@@ -132,7 +142,7 @@ pub fn end_refusal(scene: &Scene, here: Standing, facts: &Facts, end: &End) -> O
                 written: *condition_type,
                 operand: *condition,
             };
-            branch_refusal(scene, here, facts, &condition, *taken, *other)
+            branch_refusal(context, here, facts, &condition, *taken, *other)
         }
         End::Switch {
             written,
@@ -144,16 +154,16 @@ pub fn end_refusal(scene: &Scene, here: Standing, facts: &Facts, end: &End) -> O
                 written: *written,
                 operand: *value,
             };
-            switch_refusal(scene, here, facts, &value, *otherwise, cases.as_slice())
+            switch_refusal(context, here, facts, &value, *otherwise, cases.as_slice())
         }
-        End::Unreachable => first_failing(&[(Rule::K12, here.collected)]),
+        End::Unreachable => first_failing(&[(Rule::K12, here.may_move_references)]),
         End::ReturnVoid => first_failing(&[
             (
                 Rule::K2,
-                TypeKind::of(scene.module(), scene.function.returned).is_void(),
+                TypeKind::of(context.module(), context.function.returned).is_void(),
             ),
-            (Rule::K12, here.collected),
+            (Rule::K12, here.may_move_references),
         ]),
-        End::Return(argument) => return_refusal(scene, here, facts, argument),
+        End::Return(argument) => return_refusal(context, here, facts, argument),
     }
 }

@@ -1,50 +1,50 @@
 ghost use Rattle.std.specs.Prelude.{◌≡◌, true, length};
 ghost use Rattle.std.specs.List.{take_while};
-ghost use Rattle.block_rules.specs.Standing.{is_parameter, is_given, is_gcroot, is_memory_of_head, is_of_head, is_head_instruction, head_of};
+ghost use Rattle.block_rules.specs.InstrContext.{is_parameter, is_given, is_gcroot, is_memory_of_head, is_of_head, is_head_instruction, head_of};
 
+use crate::context::RuleContext;
 use crate::operands::slot_named;
-use crate::scene::Scene;
 use ir_ast::{Function, Instr, MemoryOp, Op, Operand, Phi, Runtime, ValueId};
 use types::runtime_called;
 
 /// How many instructions the head of a block with these phis and this body has.
-pub fn head_of(scene: &Scene, phis: &[Phi], body: &[Instr]) -> usize
-    ensures { result ≡ head_of scene.now.program.now.of_module scene.now.function.now scene.now.slots.now phis.now body.now }
+pub fn head_of(context: &RuleContext, phis: &[Phi], body: &[Instr]) -> usize
+    ensures { result ≡ head_of context.now.program.now.of_module context.now.function.now context.now.slots.now phis.now body.now }
 {
     match phis {
-        [] => front_of_head(scene, body),
+        [] => front_of_head(context, body),
         [_, ..] => 0,
     }
 }
 
 /// How many instructions at the front of a body may be of the head.
-fn front_of_head(scene: &Scene, body: &[Instr]) -> usize
-    ensures { result ≡ length (take_while (is_head_instruction scene.now.program.now.of_module scene.now.function.now scene.now.slots.now) body.now) }
+fn front_of_head(context: &RuleContext, body: &[Instr]) -> usize
+    ensures { result ≡ length (take_while (is_head_instruction context.now.program.now.of_module context.now.function.now context.now.slots.now) body.now) }
 {
     body.iter()
-        .take_while(|instr| is_of_head(scene, &instr.op))
+        .take_while(|instr| is_of_head(context, &instr.op))
         .count()
 }
 
-fn is_memory_of_head(scene: &Scene, op: &MemoryOp) -> bool
-    ensures { result ≡ is_memory_of_head scene.now.function.now scene.now.slots.now op.now }
+fn is_memory_of_head(context: &RuleContext, op: &MemoryOp) -> bool
+    ensures { result ≡ is_memory_of_head context.now.function.now context.now.slots.now op.now }
 {
     match op {
         MemoryOp::Alloca(_) => true,
         MemoryOp::Load { .. } => false,
         MemoryOp::Store { value, place, .. } => {
-            is_given(scene.function, value) && slot_named(scene.slots, place).is_some()
+            is_given(context.function, value) && slot_named(context.slots, place).is_some()
         }
     }
 }
 
-fn is_of_head(scene: &Scene, op: &Op) -> bool
-    ensures { result ≡ is_of_head scene.now.program.now.of_module scene.now.function.now scene.now.slots.now op.now }
+fn is_of_head(context: &RuleContext, op: &Op) -> bool
+    ensures { result ≡ is_of_head context.now.program.now.of_module context.now.function.now context.now.slots.now op.now }
 {
     match op {
-        Op::Memory(op) => is_memory_of_head(scene, op),
-        Op::Cast(cast) => slot_named(scene.slots, &cast.operand).is_some(),
-        Op::Call(call) => is_gcroot(runtime_called(scene.module(), call.callee)),
+        Op::Memory(op) => is_memory_of_head(context, op),
+        Op::Cast(cast) => slot_named(context.slots, &cast.operand).is_some(),
+        Op::Call(call) => is_gcroot(runtime_called(context.module(), call.callee)),
         _ => false,
     }
 }

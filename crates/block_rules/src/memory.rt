@@ -7,14 +7,14 @@ ghost use Rattle.block_rules.specs.Rules.{names_root, gives_root, may_hold, memo
 use crate::barrier::needs_no_barrier;
 use crate::casts::casts_operand;
 use crate::conditions::first_failing;
+use crate::context::RuleContext;
+use crate::instr_context::InstrContext;
 use crate::operands::{
     is_available, is_based, is_current, is_no_slot, is_operand_current, is_typed, is_value,
     known_of, place_known, slot_named,
 };
 use crate::places::{after_load, after_store, is_one_layout, may_load, may_store};
 use crate::rule::Rule;
-use crate::scene::Scene;
-use crate::standing::Standing;
 use crate::type_kind::TypeKind;
 use facts::Facts;
 use ir_ast::{MemoryOp, Operand, TypeId, ValueId};
@@ -40,128 +40,131 @@ fn gives_root(slots: &Slots, defined: Option<ValueId>) -> bool
 }
 
 /// Whether an alloca of this type is allowed.
-fn may_hold(scene: &Scene, defined: Option<ValueId>, held: TypeId) -> bool
-    ensures { result ≡ may_hold scene.now.program.now.of_module scene.now.slots.now defined held }
+fn may_hold(context: &RuleContext, defined: Option<ValueId>, held: TypeId) -> bool
+    ensures { result ≡ may_hold context.now.program.now.of_module context.now.slots.now defined held }
 {
-    TypeKind::of(scene.module(), held).is_integer() || gives_root(scene.slots, defined)
+    TypeKind::of(context.module(), held).is_integer() || gives_root(context.slots, defined)
 }
 
 fn alloca_refusal(
-    scene: &Scene,
-    here: Standing,
+    context: &RuleContext,
+    here: InstrContext,
     defined: Option<ValueId>,
     held: TypeId,
 ) -> Option<Rule>
-    ensures { (facts : FactSet) → result ≡ first_failing (memory_conditions scene.now.program.now scene.now.function.now scene.now.slots.now here facts defined (MemoryOp.Alloca held)) }
+    ensures { (facts : FactSet) → result ≡ first_failing (memory_conditions context.now.program.now context.now.function.now context.now.slots.now here facts defined (MemoryOp.Alloca held)) }
 {
     first_failing(&[
-        (Rule::K8, may_hold(scene, defined, held)),
+        (Rule::K8, may_hold(context, defined, held)),
         (Rule::K11, here.in_entry),
-        (Rule::K12, here.collected),
+        (Rule::K12, here.may_move_references),
     ])
 }
 
 fn load_refusal(
-    scene: &Scene,
-    here: Standing,
+    context: &RuleContext,
+    here: InstrContext,
     facts: &Facts,
     loaded: TypeId,
     place_type: TypeId,
     place: &Operand,
 ) -> Option<Rule>
-    ensures { result ≡ first_failing (memory_conditions scene.now.program.now scene.now.function.now scene.now.slots.now here facts.now None (MemoryOp.Load loaded place_type place.now)) }
+    ensures { result ≡ first_failing (memory_conditions context.now.program.now context.now.function.now context.now.slots.now here facts.now None (MemoryOp.Load loaded place_type place.now)) }
 {
-    let at = place_known(scene, facts, place_type, place);
+    let at = place_known(context, facts, place_type, place);
     first_failing(&[
-        (Rule::K1, is_available(scene.slots, facts, place)),
+        (Rule::K1, is_available(context.slots, facts, place)),
         (
             Rule::K2,
-            is_typed(scene, place_type, place) && may_load(scene, facts, loaded, place, &at),
+            is_typed(context, place_type, place) && may_load(context, facts, loaded, place, &at),
         ),
         (Rule::K3, is_current(facts, &at)),
         (Rule::K4, is_based(facts, place, &at)),
-        (Rule::K12, here.collected),
-        (Rule::K19, casts_operand(scene.module(), place)),
+        (Rule::K12, here.may_move_references),
+        (Rule::K19, casts_operand(context.module(), place)),
     ])
 }
 
 fn store_refusal(
-    scene: &Scene,
-    here: Standing,
+    context: &RuleContext,
+    here: InstrContext,
     facts: &Facts,
     stored: TypeId,
     value: &Operand,
     place_type: TypeId,
     place: &Operand,
 ) -> Option<Rule>
-    ensures { result ≡ first_failing (memory_conditions scene.now.program.now scene.now.function.now scene.now.slots.now here facts.now None (MemoryOp.Store stored value.now place_type place.now)) }
+    ensures { result ≡ first_failing (memory_conditions context.now.program.now context.now.function.now context.now.slots.now here facts.now None (MemoryOp.Store stored value.now place_type place.now)) }
 {
     let known = known_of(facts, value);
-    let at = place_known(scene, facts, place_type, place);
+    let at = place_known(context, facts, place_type, place);
     first_failing(&[
         (
             Rule::K1,
-            is_available(scene.slots, facts, value) && is_available(scene.slots, facts, place),
+            is_available(context.slots, facts, value) && is_available(context.slots, facts, place),
         ),
         (
             Rule::K2,
-            is_value(scene, facts, stored, value)
-                && is_typed(scene, place_type, place)
-                && may_store(scene, facts, stored, &known, place, &at)
-                && is_one_layout(scene, facts, stored, &at),
+            is_value(context, facts, stored, value)
+                && is_typed(context, place_type, place)
+                && may_store(context, facts, stored, &known, place, &at)
+                && is_one_layout(context, facts, stored, &at),
         ),
         (
             Rule::K3,
             is_operand_current(facts, value) && is_current(facts, &at),
         ),
         (Rule::K4, is_based(facts, place, &at)),
-        (Rule::K6, needs_no_barrier(scene, facts, stored, place, &at)),
-        (Rule::K10, is_no_slot(scene.slots, value)),
-        (Rule::K12, here.collected),
-        (Rule::K19, casts_operand(scene.module(), place)),
+        (
+            Rule::K6,
+            needs_no_barrier(context, facts, stored, place, &at),
+        ),
+        (Rule::K10, is_no_slot(context.slots, value)),
+        (Rule::K12, here.may_move_references),
+        (Rule::K19, casts_operand(context.module(), place)),
     ])
 }
 
 /// The rule that an operation on memory breaks, if it breaks one.
 pub fn memory_refusal(
-    scene: &Scene,
-    here: Standing,
+    context: &RuleContext,
+    here: InstrContext,
     facts: &Facts,
     defined: Option<ValueId>,
     op: &MemoryOp,
 ) -> Option<Rule>
-    ensures { result ≡ first_failing (memory_conditions scene.now.program.now scene.now.function.now scene.now.slots.now here facts.now defined op.now) }
+    ensures { result ≡ first_failing (memory_conditions context.now.program.now context.now.function.now context.now.slots.now here facts.now defined op.now) }
 {
     match op {
-        MemoryOp::Alloca(held) => alloca_refusal(scene, here, defined, *held),
+        MemoryOp::Alloca(held) => alloca_refusal(context, here, defined, *held),
         MemoryOp::Load {
             loaded,
             place_type,
             place,
-        } => load_refusal(scene, here, facts, *loaded, *place_type, place),
+        } => load_refusal(context, here, facts, *loaded, *place_type, place),
         MemoryOp::Store {
             stored,
             value,
             place_type,
             place,
-        } => store_refusal(scene, here, facts, *stored, value, *place_type, place),
+        } => store_refusal(context, here, facts, *stored, value, *place_type, place),
     }
 }
 
 /// Goes on to what is known after an operation on memory, by the name that it defines, if it does.
 pub fn after_memory(
-    scene: &Scene,
+    context: &RuleContext,
     facts: &mut Facts,
     defined: Option<ValueId>,
     op: &MemoryOp,
 ) -> Result<(), AllocError>
-    ensures { OnOk result (facts.new ≡ after_memory scene.now.program.now scene.now.slots.now defined op.now facts.old) }
+    ensures { OnOk result (facts.new ≡ after_memory context.now.program.now context.now.slots.now defined op.now facts.old) }
 {
     match (op, defined) {
         (MemoryOp::Store { value, place, .. }, _) => {
-            after_store(facts, value, slot_named(scene.slots, place))
+            after_store(facts, value, slot_named(context.slots, place))
         }
-        (MemoryOp::Alloca(_), Some(v)) => match scene.slots.slot_of(v) {
+        (MemoryOp::Alloca(_), Some(v)) => match context.slots.slot_of(v) {
             Some(s) => facts.end_slot(s),
             None => Ok(()),
         },
@@ -172,7 +175,7 @@ pub fn after_memory(
                 place,
             },
             Some(v),
-        ) => after_load(scene, facts, v, *loaded, *place_type, place),
+        ) => after_load(context, facts, v, *loaded, *place_type, place),
         (_, None) => Ok(()),
     }
 }

@@ -1,17 +1,17 @@
 ghost use Rattle.std.specs.Prelude.{◌≡◌, OnOk};
 ghost use Rattle.block_rules.specs.Bounds.{below_next};
 ghost use Rattle.block_rules.specs.FirstFailing.{first_failing};
-ghost use Rattle.block_rules.specs.Integers.{below_known, constant_below, below_of, smaller, larger, arithmetic_below, define_number, changes_width, may_resize, resized_below, is_equality, may_compare, after_compare};
+ghost use Rattle.block_rules.specs.Integers.{below_known, constant_below, below_of, smaller, weaker_bound, arithmetic_below, define_number, changes_width, may_resize, resized_below, is_equality, may_compare, after_compare};
 ghost use Rattle.block_rules.specs.Rules.{number_conditions, after_number};
 ghost use Rattle.ir_ast.specs.declared.numbers.Arithmetic.{Arithmetic};
 
 use crate::conditions::first_failing;
+use crate::context::RuleContext;
+use crate::instr_context::InstrContext;
 use crate::operands::{
     is_available, is_no_slot, is_operand_current, is_value, known_of, number_of,
 };
 use crate::rule::Rule;
-use crate::scene::Scene;
-use crate::standing::Standing;
 use crate::type_kind::TypeKind;
 use facts::{Facts, Known, Test};
 use ir_ast::{Arithmetic, Comparison, NumberOp, Operand, Resize, TypeId, ValueId};
@@ -28,7 +28,7 @@ pub fn below_next(number: u64) -> Option<u64>
     }
 }
 
-/// What a number is shown to be below.
+/// What a number is known to be below.
 pub fn below_known(known: &Known) -> Option<u64>
     ensures { result ≡ below_known known.now }
 {
@@ -47,7 +47,7 @@ fn constant_below(number: Option<u64>) -> Option<u64>
     }
 }
 
-/// What an operand is shown to be below.
+/// What an operand is known to be below.
 pub fn below_of(facts: &Facts, operand: &Operand) -> Option<u64>
     ensures { result ≡ below_of facts.now operand.now }
 {
@@ -67,8 +67,8 @@ fn smaller(one: Option<u64>, other: Option<u64>) -> Option<u64>
     }
 }
 
-pub fn larger(one: Option<u64>, other: Option<u64>) -> Option<u64>
-    ensures { result ≡ larger one other }
+pub fn weaker_bound(one: Option<u64>, other: Option<u64>) -> Option<u64>
+    ensures { result ≡ weaker_bound one other }
 {
     match (one, other) {
         (Some(n), Some(m)) if n < m => Some(m),
@@ -77,7 +77,7 @@ pub fn larger(one: Option<u64>, other: Option<u64>) -> Option<u64>
     }
 }
 
-/// What arithmetic shows its result to be below.
+/// What the result of arithmetic is known to be below.
 pub fn arithmetic_below(kind: Arithmetic, first: &Operand, second: &Operand) -> Option<u64>
     ensures { result ≡ arithmetic_below kind first.now second.now }
 {
@@ -127,7 +127,7 @@ pub fn may_resize(kind: Resize, from: TypeKind, to: TypeKind) -> bool
     }
 }
 
-/// What a number of another width is shown to be below.
+/// What a number of another width is known to be below.
 pub fn resized_below(kind: Resize, below: Option<u64>) -> Option<u64>
     ensures { result ≡ resized_below kind below }
 {
@@ -205,80 +205,80 @@ fn compare_value(
 }
 
 fn arithmetic_refusal(
-    scene: &Scene,
-    here: Standing,
+    context: &RuleContext,
+    here: InstrContext,
     facts: &Facts,
     written: TypeId,
     first: &Operand,
     second: &Operand,
 ) -> Option<Rule>
-    ensures { (kind : Arithmetic) → result ≡ first_failing (number_conditions scene.now.program.now scene.now.function.now scene.now.slots.now here facts.now (NumberOp.Arithmetic kind written first.now second.now)) }
+    ensures { (kind : Arithmetic) → result ≡ first_failing (number_conditions context.now.program.now context.now.function.now context.now.slots.now here facts.now (NumberOp.Arithmetic kind written first.now second.now)) }
 {
     first_failing(&[
         (
             Rule::K1,
-            is_available(scene.slots, facts, first) && is_available(scene.slots, facts, second),
+            is_available(context.slots, facts, first) && is_available(context.slots, facts, second),
         ),
         (
             Rule::K2,
-            is_value(scene, facts, written, first)
-                && is_value(scene, facts, written, second)
-                && TypeKind::of(scene.module(), written).is_integer()
-                && is_no_slot(scene.slots, first)
-                && is_no_slot(scene.slots, second),
+            is_value(context, facts, written, first)
+                && is_value(context, facts, written, second)
+                && TypeKind::of(context.module(), written).is_integer()
+                && is_no_slot(context.slots, first)
+                && is_no_slot(context.slots, second),
         ),
-        (Rule::K12, here.collected),
+        (Rule::K12, here.may_move_references),
     ])
 }
 
 fn resize_refusal(
-    scene: &Scene,
-    here: Standing,
+    context: &RuleContext,
+    here: InstrContext,
     facts: &Facts,
     kind: Resize,
     from: TypeId,
     operand: &Operand,
     to: TypeId,
 ) -> Option<Rule>
-    ensures { result ≡ first_failing (number_conditions scene.now.program.now scene.now.function.now scene.now.slots.now here facts.now (NumberOp.Resize kind from operand.now to)) }
+    ensures { result ≡ first_failing (number_conditions context.now.program.now context.now.function.now context.now.slots.now here facts.now (NumberOp.Resize kind from operand.now to)) }
 {
     first_failing(&[
-        (Rule::K1, is_available(scene.slots, facts, operand)),
+        (Rule::K1, is_available(context.slots, facts, operand)),
         (
             Rule::K2,
-            is_value(scene, facts, from, operand)
+            is_value(context, facts, from, operand)
                 && may_resize(
                     kind,
-                    TypeKind::of(scene.module(), from),
-                    TypeKind::of(scene.module(), to),
+                    TypeKind::of(context.module(), from),
+                    TypeKind::of(context.module(), to),
                 )
-                && is_no_slot(scene.slots, operand),
+                && is_no_slot(context.slots, operand),
         ),
-        (Rule::K12, here.collected),
+        (Rule::K12, here.may_move_references),
     ])
 }
 
 fn compare_refusal(
-    scene: &Scene,
-    here: Standing,
+    context: &RuleContext,
+    here: InstrContext,
     facts: &Facts,
     kind: Comparison,
     written: TypeId,
     first: &Operand,
     second: &Operand,
 ) -> Option<Rule>
-    ensures { result ≡ first_failing (number_conditions scene.now.program.now scene.now.function.now scene.now.slots.now here facts.now (NumberOp.Compare kind written first.now second.now)) }
+    ensures { result ≡ first_failing (number_conditions context.now.program.now context.now.function.now context.now.slots.now here facts.now (NumberOp.Compare kind written first.now second.now)) }
 {
     first_failing(&[
         (
             Rule::K1,
-            is_available(scene.slots, facts, first) && is_available(scene.slots, facts, second),
+            is_available(context.slots, facts, first) && is_available(context.slots, facts, second),
         ),
         (
             Rule::K2,
-            is_value(scene, facts, written, first)
-                && is_value(scene, facts, written, second)
-                && may_compare(kind, TypeKind::of(scene.module(), written)),
+            is_value(context, facts, written, first)
+                && is_value(context, facts, written, second)
+                && may_compare(kind, TypeKind::of(context.module(), written)),
         ),
         (
             Rule::K3,
@@ -286,15 +286,20 @@ fn compare_refusal(
         ),
         (
             Rule::K10,
-            is_no_slot(scene.slots, first) && is_no_slot(scene.slots, second),
+            is_no_slot(context.slots, first) && is_no_slot(context.slots, second),
         ),
-        (Rule::K12, here.collected),
+        (Rule::K12, here.may_move_references),
     ])
 }
 
 /// The rule that an operation on integers breaks, if it breaks one.
-pub fn number_refusal(scene: &Scene, here: Standing, facts: &Facts, op: &NumberOp) -> Option<Rule>
-    ensures { result ≡ first_failing (number_conditions scene.now.program.now scene.now.function.now scene.now.slots.now here facts.now op.now) }
+pub fn number_refusal(
+    context: &RuleContext,
+    here: InstrContext,
+    facts: &Facts,
+    op: &NumberOp,
+) -> Option<Rule>
+    ensures { result ≡ first_failing (number_conditions context.now.program.now context.now.function.now context.now.slots.now here facts.now op.now) }
 {
     match op {
         NumberOp::Arithmetic {
@@ -302,30 +307,30 @@ pub fn number_refusal(scene: &Scene, here: Standing, facts: &Facts, op: &NumberO
             first,
             second,
             ..
-        } => arithmetic_refusal(scene, here, facts, *written, first, second),
+        } => arithmetic_refusal(context, here, facts, *written, first, second),
         NumberOp::Resize {
             kind,
             from,
             operand,
             to,
-        } => resize_refusal(scene, here, facts, *kind, *from, operand, *to),
+        } => resize_refusal(context, here, facts, *kind, *from, operand, *to),
         NumberOp::Compare {
             kind,
             written,
             first,
             second,
-        } => compare_refusal(scene, here, facts, *kind, *written, first, second),
+        } => compare_refusal(context, here, facts, *kind, *written, first, second),
     }
 }
 
 /// Goes on to what is known after an operation on integers that defines this name.
 pub fn after_number(
-    scene: &Scene,
+    context: &RuleContext,
     facts: &mut Facts,
     v: ValueId,
     op: &NumberOp,
 ) -> Result<(), AllocError>
-    ensures { OnOk result (facts.new ≡ after_number scene.now.program.now.of_module v op.now facts.old) }
+    ensures { OnOk result (facts.new ≡ after_number context.now.program.now.of_module v op.now facts.old) }
 {
     match op {
         NumberOp::Arithmetic {
@@ -335,7 +340,7 @@ pub fn after_number(
             second,
         } => {
             let below = arithmetic_below(*kind, first, second);
-            define_number(facts, v, TypeKind::of(scene.module(), *written), below)
+            define_number(facts, v, TypeKind::of(context.module(), *written), below)
         }
         NumberOp::Resize {
             kind,
@@ -344,7 +349,7 @@ pub fn after_number(
             ..
         } => {
             let below = resized_below(*kind, below_of(facts, operand));
-            define_number(facts, v, TypeKind::of(scene.module(), *to), below)
+            define_number(facts, v, TypeKind::of(context.module(), *to), below)
         }
         NumberOp::Compare {
             kind,

@@ -4,8 +4,8 @@ ghost use Rattle.facts.specs.Facts.{drop_fresh_of};
 ghost use Rattle.block_rules.specs.Operands.{known_of};
 ghost use Rattle.block_rules.specs.Places.{loads_slot, moves_kind, moves, holds_wanted, layout_of_word, cell_words, each_word, first_layout, one_reference, wanted_by_load, loads_words, loads_base, loads_word, loads_known, may_load, wanted_by_store, is_one_layout, wanted_by_value, fits_words, stores_base, fits_word, stores_word, stores_known, stores_slot, may_store, define_held, load_kind, load_words, load_base, load_word, load_known, load_place, after_load, after_store};
 
+use crate::context::RuleContext;
 use crate::operands::{is_null_constant, known_fits, known_of, place_known, slot_named};
-use crate::scene::Scene;
 use crate::type_kind::TypeKind;
 use crate::wanted_word::WantedWord;
 use facts::{Class, Facts, Known};
@@ -160,26 +160,26 @@ pub fn loads_known(program: &Program, facts: &Facts, kind: TypeKind, place: &Kno
 
 /// Whether a load of this type may be from a place, of which this is known.
 pub fn may_load(
-    scene: &Scene,
+    context: &RuleContext,
     facts: &Facts,
     loaded: TypeId,
     place: &Operand,
     known: &Known,
 ) -> bool
-    ensures { result ≡ may_load scene.now.program.now scene.now.slots.now facts.now loaded place.now known.now }
+    ensures { result ≡ may_load context.now.program.now context.now.slots.now facts.now loaded place.now known.now }
 {
     match place {
         Operand::Constant(constant) => is_null_constant(*constant),
-        Operand::Local(v) => match scene.slots.slot_of(*v) {
-            Some(s) => loads_slot(scene.module(), loaded, scene.slots.held_type(s)),
+        Operand::Local(v) => match context.slots.slot_of(*v) {
+            Some(s) => loads_slot(context.module(), loaded, context.slots.held_type(s)),
             None => {
-                let kind = TypeKind::of(scene.module(), loaded);
-                loads_known(scene.program, facts, kind, known)
+                let kind = TypeKind::of(context.module(), loaded);
+                loads_known(context.program, facts, kind, known)
             }
         },
         _ => {
-            let kind = TypeKind::of(scene.module(), loaded);
-            loads_known(scene.program, facts, kind, known)
+            let kind = TypeKind::of(context.module(), loaded);
+            loads_known(context.program, facts, kind, known)
         }
     }
 }
@@ -196,14 +196,14 @@ fn wanted_by_store(kind: TypeKind) -> WantedWord
 }
 
 /// Whether a store by `ptr` finds references of one layout, as a load does.
-pub fn is_one_layout(scene: &Scene, facts: &Facts, stored: TypeId, place: &Known) -> bool
-    ensures { result ≡ is_one_layout scene.now.program.now facts.now stored place.now }
+pub fn is_one_layout(context: &RuleContext, facts: &Facts, stored: TypeId, place: &Known) -> bool
+    ensures { result ≡ is_one_layout context.now.program.now facts.now stored place.now }
 {
-    if !is_opaque(scene.module(), stored) {
+    if !is_opaque(context.module(), stored) {
         return true;
     }
-    let kind = TypeKind::of(scene.module(), stored);
-    loads_known(scene.program, facts, kind, place)
+    let kind = TypeKind::of(context.module(), stored);
+    loads_known(context.program, facts, kind, place)
 }
 
 fn wanted_by_value(value: &Known) -> Option<WantedWord>
@@ -288,42 +288,42 @@ pub fn stores_known(
     }
 }
 
-fn stores_slot(scene: &Scene, stored: TypeId, value: &Known, s: SlotId) -> bool
-    ensures { result ≡ stores_slot scene.now.program.now.of_module scene.now.slots.now stored value.now s }
+fn stores_slot(context: &RuleContext, stored: TypeId, value: &Known, s: SlotId) -> bool
+    ensures { result ≡ stores_slot context.now.program.now.of_module context.now.slots.now stored value.now s }
 {
     moves(
-        scene.module(),
+        context.module(),
         stored,
-        scene.slots.held_type(s),
-        TypeKind::of_slot(scene.module(), scene.slots, s),
-    ) && known_fits(TypeKind::of_slot(scene.module(), scene.slots, s), value)
+        context.slots.held_type(s),
+        TypeKind::of_slot(context.module(), context.slots, s),
+    ) && known_fits(TypeKind::of_slot(context.module(), context.slots, s), value)
 }
 
 /// Whether a value may be stored at a place, of which this is known.
 pub fn may_store(
-    scene: &Scene,
+    context: &RuleContext,
     facts: &Facts,
     stored: TypeId,
     value: &Known,
     place: &Operand,
     known: &Known,
 ) -> bool
-    ensures { result ≡ may_store scene.now.program.now scene.now.slots.now facts.now stored value.now place.now known.now }
+    ensures { result ≡ may_store context.now.program.now context.now.slots.now facts.now stored value.now place.now known.now }
 {
     match place {
         Operand::Constant(constant) => {
-            is_null_constant(*constant) && TypeKind::of(scene.module(), stored).is_word()
+            is_null_constant(*constant) && TypeKind::of(context.module(), stored).is_word()
         }
-        Operand::Local(v) => match scene.slots.slot_of(*v) {
-            Some(s) => stores_slot(scene, stored, value, s),
+        Operand::Local(v) => match context.slots.slot_of(*v) {
+            Some(s) => stores_slot(context, stored, value, s),
             None => {
-                let kind = TypeKind::of(scene.module(), stored);
-                stores_known(scene.program, facts, kind, value, known)
+                let kind = TypeKind::of(context.module(), stored);
+                stores_known(context.program, facts, kind, value, known)
             }
         },
         _ => {
-            let kind = TypeKind::of(scene.module(), stored);
-            stores_known(scene.program, facts, kind, value, known)
+            let kind = TypeKind::of(context.module(), stored);
+            stores_known(context.program, facts, kind, value, known)
         }
     }
 }
@@ -436,24 +436,24 @@ pub fn load_known(
 
 /// Goes on to the facts after a load.
 pub fn after_load(
-    scene: &Scene,
+    context: &RuleContext,
     facts: &mut Facts,
     v: ValueId,
     loaded: TypeId,
     place_type: TypeId,
     place: &Operand,
 ) -> Result<(), AllocError>
-    ensures { OnOk result (facts.new ≡ after_load scene.now.program.now scene.now.slots.now v loaded place_type place.now facts.old) }
+    ensures { OnOk result (facts.new ≡ after_load context.now.program.now context.now.slots.now v loaded place_type place.now facts.old) }
 {
-    match slot_named(scene.slots, place) {
+    match slot_named(context.slots, place) {
         Some(s) => {
-            let kind = TypeKind::of_slot(scene.module(), scene.slots, s);
+            let kind = TypeKind::of_slot(context.module(), context.slots, s);
             load_kind(facts, v, s, kind)
         }
         None => {
-            let kind = TypeKind::of(scene.module(), loaded);
-            let known = place_known(scene, facts, place_type, place);
-            load_known(scene.program, facts, v, kind, &known)
+            let kind = TypeKind::of(context.module(), loaded);
+            let known = place_known(context, facts, place_type, place);
+            load_known(context.program, facts, v, kind, &known)
         }
     }
 }

@@ -1,8 +1,8 @@
 ghost use Rattle.std.specs.Prelude.{◌≡◌};
 ghost use Rattle.std.specs.List.{list_all, zip};
 ghost use Rattle.std.specs.Option.{option_copied};
-ghost use Rattle.facts.specs.Lines.{implied, is_below};
-ghost use Rattle.block_rules.specs.Promises.{promises_in, promised_in, own_mark, callee_mark, given_by, is_promised, keeps_promise, shows_promise, show_promises};
+ghost use Rattle.facts.specs.Claims.{implied, is_below};
+ghost use Rattle.block_rules.specs.Promises.{promises_in, promised_in, own_mark, callee_mark, given_by, is_promised, keeps_promise, implies_promise, show_promises};
 
 use crate::choices::{known_layout, one_layout};
 use crate::numbers::below_of;
@@ -90,7 +90,7 @@ fn is_promised(promised: Option<LayoutId>, layout: Option<LayoutId>) -> bool
     }
 }
 
-/// Whether what is promised of the result is shown of an operand.
+/// Whether what is known of an operand implies what is promised of the result.
 pub fn keeps_promise(facts: &Facts, promise: Option<Promise>, operand: &Operand) -> bool
     ensures { result ≡ keeps_promise facts.now promise operand.now }
 {
@@ -107,7 +107,7 @@ pub fn keeps_promise(facts: &Facts, promise: Option<Promise>, operand: &Operand)
     }
 }
 
-/// Whether what is promised of each parameter is shown of its argument.
+/// Whether what is known of each argument implies what is promised of its parameter.
 pub fn show_promises(facts: &Facts, arguments: &[Argument], promises: &[Option<Promise>]) -> bool
     ensures { result ≡ show_promises facts.now arguments.now promises.now }
 {

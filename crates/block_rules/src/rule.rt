@@ -14,7 +14,7 @@ pub enum Rule {
     K3,
     /// The base of a place may be null.
     K4,
-    /// A word outside the layout, or an index that is not shown to be below.
+    /// A word outside the layout, or an index that is not known to be small enough.
     K5,
     /// A reference is stored without a barrier in a cell that is not fresh.
     K6,
@@ -30,11 +30,11 @@ pub enum Rule {
     K11,
     /// References in a function without a shadow stack.
     K12,
-    /// A fact of an argument is not shown.
+    /// What is promised of a parameter is not implied by its argument.
     K13,
-    /// A fact of the result is not shown.
+    /// What is promised of the result is not implied.
     K14,
-    /// A fact of the target is not shown on an edge.
+    /// A claim of the target is not implied on an edge.
     K15,
     /// A phi's entry is missing, or is for a block that is no predecessor, or two for one block differ.
     K16,

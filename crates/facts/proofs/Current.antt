@@ -26,13 +26,13 @@ abbrev the_class : Bool → Bool → Class
 the_class nonnull fresh = record { nonnull = nonnull; fresh = fresh }
 
 module _ (u : ℕ) (aside : Bool) (own : Class) where
-  noted : (classes : List Class) (known : Known) → class_at classes u ≡ own → is_settled_as u aside own known ≡ true → known_nonnull classes known ≡ aside
-  noted classes (Cell c layout stale) e h = let parts = settled_parts (c == u) stale own.fresh own.nonnull aside h in ap (λ x. (class_at classes x).nonnull) (test_true c u parts.0) ∙ ap (λ (class : Class). class.nonnull) e ∙ sym parts.3
-  noted classes Nothing e h = sym (not_true aside h)
-  noted classes (Number bits below) e h = sym (not_true aside h)
-  noted classes Null e h = sym (not_true aside h)
-  noted classes (Address base words) e h = sym (not_true aside h)
-  noted classes (GlobalAddress g) e h = sym (not_true aside h)
+  recorded : (classes : List Class) (known : Known) → class_at classes u ≡ own → is_settled_as u aside own known ≡ true → known_nonnull classes known ≡ aside
+  recorded classes (Cell c layout stale) e h = let parts = settled_parts (c == u) stale own.fresh own.nonnull aside h in ap (λ x. (class_at classes x).nonnull) (test_true c u parts.0) ∙ ap (λ (class : Class). class.nonnull) e ∙ sym parts.3
+  recorded classes Nothing e h = sym (not_true aside h)
+  recorded classes (Number bits below) e h = sym (not_true aside h)
+  recorded classes Null e h = sym (not_true aside h)
+  recorded classes (Address base words) e h = sym (not_true aside h)
+  recorded classes (GlobalAddress g) e h = sym (not_true aside h)
 
   stale_known : (known : Known) → is_settled_as u aside own known ≡ true → stale_of (u, known) ≡ known
   stale_known (Cell c layout stale) h = let parts = settled_parts (c == u) stale own.fresh own.nonnull aside h in ap (λ x. Cell x layout true) (sym (test_true c u parts.0)) ∙ ap (λ b. Cell c layout b) (sym parts.1)
@@ -51,17 +51,17 @@ module _ (u : ℕ) (aside : Bool) (own : Class) where
   own_settled (GlobalAddress g) h = refl
 
 keep_settled : (classes : List Class) (u : ℕ) (row : Row) → class_at classes u ≡ row.class → is_settled u row ≡ true → keep_row classes u row ≡ row
-keep_settled classes u row e h = ap (λ (b : Bool). record row { aside = b }) (noted u row.aside row.class classes row.known e h)
+keep_settled classes u row e h = ap (λ (b : Bool). record row { aside = b }) (recorded u row.aside row.class classes row.known e h)
 
 settle_settled : (u : ℕ) (row : Row) → is_settled u row ≡ true → settle_row u row ≡ row
 settle_settled u row h = ap (λ (k : Known). record row { known = k; class = settled_class row.aside row.class row.known }) (stale_known u row.aside row.class row.known h) ∙ ap (λ (c : Class). record row { class = c }) (own_settled u row.aside row.class row.known h)
 
-as_noted : (b : Bool) → (if b then b else not b) ≡ true
-as_noted true = refl
-as_noted false = refl
+as_recorded : (b : Bool) → (if b then b else not b) ≡ true
+as_recorded true = refl
+as_recorded false = refl
 
 settled_as : (classes : List Class) (u : ℕ) (own : Class) (known : Known) → is_settled_as u (known_nonnull classes known) (settled_class (known_nonnull classes known) own known) (stale_of (u, known)) ≡ true
-settled_as classes u own (Cell c layout stale) = let b = (class_at classes c).nonnull in ap (λ same. same && true && not false && (if b then b else not b)) (test_same u) ∙ as_noted b
+settled_as classes u own (Cell c layout stale) = let b = (class_at classes c).nonnull in ap (λ same. same && true && not false && (if b then b else not b)) (test_same u) ∙ as_recorded b
 settled_as classes u own Nothing = refl
 settled_as classes u own (Number bits below) = refl
 settled_as classes u own Null = refl

@@ -90,9 +90,9 @@ module _ (v : ℕ) (rows : List Row) where
     defined_current current only = defined_unless is_settled (λ u. refl) (off_settled v) current only
 
     pub defined_non_owners : (class_owners : List Owners) (non_owners : List ℕ) → ListsNonOwners non_owners class_owners rows → IsIn v non_owners ⊎ (owns_class (length rows) class_owners v row ≡ true) → ListsNonOwners non_owners class_owners after
-    defined_non_owners class_owners non_owners only noted = put_non_owners v row offs class_owners non_owners
+    defined_non_owners class_owners non_owners only recorded = put_non_owners v row offs class_owners non_owners
         (as_many class_owners non_owners rows offs off_each.0 (unless_after (changed (Off v)) (λ w. refl) rows offs off_each (owns_class (length rows) class_owners) non_owners (off_owns (length rows) class_owners v) only))
-        (subst (λ n. IsIn v non_owners ⊎ (owns_class n class_owners v row ≡ true)) (sym off_each.0) noted)
+        (subst (λ n. IsIn v non_owners ⊎ (owns_class n class_owners v row ≡ true)) (sym off_each.0) recorded)
 
     pub defined_users : (uses : List Use) → OnlyUsers uses rows → row.used ≡ (row_at rows v).used → ((w : ℕ) → names w row ≡ true → w < length rows → IsUser uses rows v w) → OnlyUsers uses after
     defined_users uses only same says = users_set uses offs v row (off_users uses only) (same ∙ sym (ap (λ (r : Row). r.used) (at_off v)))

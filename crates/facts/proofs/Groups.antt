@@ -6,7 +6,7 @@ use Rattle.lemmas.specs.Numbers.{test_true, test_false, test_no, test_same, some
 use Rattle.std.proofs.lemmas.Bool.{cases_eq}
 use Rattle.lemmas.specs.Lists.{in_first, last_in, IsIn}
 use Rattle.facts.specs.declared.ties.Group.{Group}
-use Rattle.facts.specs.Lines.{moved}
+use Rattle.facts.specs.Claims.{moved}
 use Rattle.facts.specs.Ties.{no_group, class_in, class_of_place, in_group, is_place, AreListed, AreClasses, AreTied}
 
 -- ---- one number becomes another

@@ -14,7 +14,7 @@ use Rattle.facts.specs.declared.known.SlotFact.{SlotFact}
 use Rattle.facts.specs.declared.uses.Use.{Use}
 use Rattle.facts.specs.Chains.{listed}
 use Rattle.facts.specs.Facts.{open_slot, slot_at, holds_class, holds, let_go, end_hold}
-use Rattle.facts.specs.SlotRows.{OnlyHolding, OnlyKeepers, AreNoted, with_holding, let_go_last, each_let_go, let_go_others}
+use Rattle.facts.specs.SlotRows.{OnlyHolding, OnlyKeepers, AreRecorded, with_holding, let_go_last, each_let_go, let_go_others}
 use Rattle.facts.specs.Uses.{use_at, users_of, chain}
 use Rattle.facts.proofs.SlotLists.{as_before, let_go_listed, open_at}
 use Rattle.facts.proofs.Users.{chain_none}
@@ -35,12 +35,12 @@ more_keepers keepers next slots kept only s c h = kept c s (only s c h)
 
 -- a slot is written, which is listed for what it holds
 pub set_keepers : (keepers : Chains) (s : ℕ) (slot : SlotFact) (slots : List SlotFact) → ((c : ℕ) → holds c slot ≡ true → IsIn s (listed keepers c)) → OnlyKeepers keepers slots → OnlyKeepers keepers (slice_set slots s slot)
-set_keepers keepers s slot slots noted only u c h = elim (cases_eq s u) [
+set_keepers keepers s slot slots recorded only u c h = elim (cases_eq s u) [
   | inl same ↦ subst (λ x. IsIn x (listed keepers c)) same (here (cases_lt s (length slots)) (subst (λ x. holds c (slot_at (slice_set slots s slot) x) ≡ true) (sym same) h))
   | inr ne ↦ only u c (sym (ap (holds c) (as_before s slot slots u ne)) ∙ h)
 ] where
   here : (s < length slots) ⊎ (length slots ≤ s) → holds c (slot_at (slice_set slots s slot) s) ≡ true → IsIn s (listed keepers c)
-  here (inl lt) e = noted c (sym (ap (holds c) (get_or-set_same slots s slot open_slot lt)) ∙ e)
+  here (inl lt) e = recorded c (sym (ap (holds c) (get_or-set_same slots s slot open_slot lt)) ∙ e)
   here (inr past) e = let none = ap (holds c) (get_or_past (slice_set slots s slot) s open_slot (rw length-set past)) in absurd cc
 
 -- a slot holds no other class than before
@@ -99,9 +99,9 @@ AreKeepers rest holding keepers slots = (s c : ℕ) → holds c (slot_at slots s
 
 pub keepers_more : (holding : List ℕ) (i : ℕ) → i < length holding → (keepers next : Chains) (slots : List SlotFact) → ((c s : ℕ) → IsIn s (listed keepers c) → IsIn s (listed next c)) → ((c : ℕ) → holds c (slot_at slots (get_or holding i 0)) ≡ true → IsIn (get_or holding i 0) (listed next c))
     → AreKeepers (drop i holding) holding keepers slots → AreKeepers (drop (i + 1) holding) holding next slots
-keepers_more holding i lt keepers next slots kept noted was s c h one = subst (λ n. IsIn s (drop n holding) ⊎ IsIn s (listed next c)) (sym (add-one i)) (elim (was s c h one) [
+keepers_more holding i lt keepers next slots kept recorded was s c h one = subst (λ n. IsIn s (drop n holding) ⊎ IsIn s (listed next c)) (sym (add-one i)) (elim (was s c h one) [
   | inl left ↦ elim (subst (IsIn s) (drop-cons holding i 0 lt) left) [
-    | inl same ↦ inr (subst (λ x. IsIn x (listed next c)) (sym same) (noted c (subst (λ x. holds c (slot_at slots x) ≡ true) same h)))
+    | inl same ↦ inr (subst (λ x. IsIn x (listed next c)) (sym same) (recorded c (subst (λ x. holds c (slot_at slots x) ≡ true) same h)))
     | inr more ↦ inl more
   ]
   | inr there ↦ inr (kept c s there)
@@ -130,7 +130,7 @@ pub unkept : (keepers : Chains) (slots : List SlotFact) → OnlyKeepers keepers 
 unkept keepers slots only c None e h = none_holds keepers slots only c (unlisted keepers c (sym e))
 unkept keepers slots only c (Some link) e h = absurd cc
 
--- ---- a slot that is noted
+-- ---- a slot that is recorded
 
 pub more_holding : (s : ℕ) (holds : Option ℕ) (holding : List ℕ) (slots : List SlotFact) → OnlyHolding holding slots → OnlyHolding (with_holding s holds holding) slots
 more_holding s holds holding slots only u = elim (only u) [ inl one ↦ inl (pick holds one) | inr e ↦ inr e ] where
@@ -139,5 +139,5 @@ more_holding s holds holding slots only u = elim (only u) [ inl one ↦ inl (pic
   pick (Some c) one = in_first u holding (s ∷ []) one
 
 -- and then written
-pub noted_written : (filled holding : List ℕ) (keepers : Chains) (from slots last : List SlotFact) (s : ℕ) (slot : SlotFact) → from ≡ slots → last ≡ slice_set slots s slot → AreNoted filled holding keepers (slice_set from s slot) → AreNoted filled holding keepers last
-noted_written filled holding keepers from slots last s slot e is noted = subst (AreNoted filled holding keepers) (ap (λ (l : List SlotFact). slice_set l s slot) e ∙ sym is) noted
+pub recorded_written : (filled holding : List ℕ) (keepers : Chains) (from slots last : List SlotFact) (s : ℕ) (slot : SlotFact) → from ≡ slots → last ≡ slice_set slots s slot → AreRecorded filled holding keepers (slice_set from s slot) → AreRecorded filled holding keepers last
+recorded_written filled holding keepers from slots last s slot e is recorded = subst (AreRecorded filled holding keepers) (ap (λ (l : List SlotFact). slice_set l s slot) e ∙ sym is) recorded

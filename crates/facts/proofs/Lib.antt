@@ -13,7 +13,7 @@ mod Forgets
 mod Classes
 mod Stale
 mod Unfresh
-mod Shows
+mod Implies
 mod Slots
 mod SlotLists
 mod Keepers

@@ -59,10 +59,10 @@ module _ (p : ℕ → Row → Bool) (of_blank : (v : ℕ) → p v blank ≡ true
 
   -- a row that is listed, or of which it holds
   pub put_unless : IsIn v listed ⊎ (p v row ≡ true) → Unless p listed after
-  put_unless noted u = pick (cases_eq v u) where
+  put_unless recorded u = pick (cases_eq v u) where
     pick : (v ≡ u) ⊎ (v ≡ u → ⊥) → IsIn u listed ⊎ (p u (row_at after u) ≡ true)
     pick (inr ne) = as_before u ne
-    pick (inl same) = elim noted [ inl one ↦ inl (subst (λ x. IsIn x listed) same one) | inr e ↦ inr (subst (λ x. p x (row_at after x) ≡ true) same (holds_now e)) ]
+    pick (inl same) = elim recorded [ inl one ↦ inl (subst (λ x. IsIn x listed) same one) | inr e ↦ inr (subst (λ x. p x (row_at after x) ≡ true) same (holds_now e)) ]
 
   pub change_unless : (p v (row_at rows v) ≡ true → p v row ≡ true) → Unless p listed after
   change_unless keeps u = pick (cases_eq v u) where

@@ -17,7 +17,7 @@ use Rattle.facts.specs.declared.row.Row.{Row}
 use Rattle.facts.specs.declared.sweeps.Change.{Change}
 use Rattle.facts.specs.declared.sweeps.Change.TheVariants.{Off, Settle}
 use Rattle.facts.specs.Facts.{is_of, is_on, off_base, off_test}
-use Rattle.facts.specs.Lines.{covers_value}
+use Rattle.facts.specs.Claims.{covers_value}
 use Rattle.facts.specs.Sheets.{blank, row_at, known_of, class_of, OnlyMarked, EachRow, off_row, keep_row, settle_row, changed, row_is_of, covers_row}
 use Rattle.facts.proofs.OwnersOf.{OnlyMembers}
 use Rattle.facts.proofs.Sets.{found, or_true}
@@ -79,7 +79,7 @@ changed_blank Settle u = refl
 pub each_then : (one other : ℕ → Row → Row) (before between after : List Row) → EachRow one before between → EachRow other between after → EachRow (λ v row. other v (one v row)) before after
 each_then one other before between after h i = (i.0 ∙ h.0, λ v lt. i.1 v (rw h.0 lt) ∙ ap (other v) (h.1 v lt))
 
--- one class more is noted, and the classes are as they were
+-- one class more is recorded, and the classes are as they were
 pub keep_more : (added : List Class) (first rows : List Row) (marked : List ℕ) (i : ℕ) → i < length marked
     → each_listed blank (keep_row (map class_of first ++ added)) marked first ≡ each_listed blank (keep_row (map class_of first ++ added)) (drop i marked) rows → map class_of rows ≡ map class_of first → (next : List Row)
     → next ≡ slice_set rows (get_or marked i 0) (keep_row (map class_of rows ++ added) (get_or marked i 0) (row_at rows (get_or marked i 0)))

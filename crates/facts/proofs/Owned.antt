@@ -7,12 +7,12 @@ use Rattle.std.proofs.lemmas.Bool.{cases_eq}
 use Rattle.shadow_stack.specs.Slots.{SlotTable, slot_of}
 use Rattle.certs.specs.declared.section.Fact.{Fact}
 use Rattle.certs.specs.declared.section.Fact.TheVariants as fact
-use Rattle.certs.specs.declared.section.Line.{Line}
-use Rattle.certs.specs.declared.section.Line.TheVariants as line
+use Rattle.certs.specs.declared.section.Claim.{Claim}
+use Rattle.certs.specs.declared.section.Claim.TheVariants as claim
 use Rattle.facts.specs.declared.known.Known.{Known}
 use Rattle.facts.specs.declared.known.Known.TheVariants.{Nothing, Number, Cell, Address, GlobalAddress}
 use Rattle.facts.specs.Facts.{FactSet, known_at}
-use Rattle.facts.specs.Lines.{list_value, list_slot, list_line, list_lines, is_stale}
+use Rattle.facts.specs.Claims.{list_value, list_slot, list_claim, list_claims, is_stale}
 use Rattle.facts.specs.Ties.{is_own, AreOwn}
 
 -- ---- what is listed
@@ -48,11 +48,11 @@ own_slot : (slot : Option ℕ) (nonnull : Bool) (f : FactSet) → AreOwn f.value
 own_slot None nonnull f own = own
 own_slot (Some s) nonnull f own = own
 
-own_line : (slots : SlotTable) (line : Line) (f : FactSet) → AreOwn f.values → AreOwn (list_line slots line f).values
-own_line slots (line.Value v fact) f own = own_listed v fact f own
-own_line slots (line.Slot slot nonnull holds) f own = own_slot (slot_of slots slot) nonnull f own
+own_claim : (slots : SlotTable) (claim : Claim) (f : FactSet) → AreOwn f.values → AreOwn (list_claim slots claim f).values
+own_claim slots (claim.Value v fact) f own = own_listed v fact f own
+own_claim slots (claim.Slot slot nonnull holds) f own = own_slot (slot_of slots slot) nonnull f own
 
 -- each reference that is listed is of the class that its value has for itself
-pub own_lines : (slots : SlotTable) (lines : List Line) (f : FactSet) → AreOwn f.values → AreOwn (list_lines slots lines f).values
-own_lines slots [] f own = own
-own_lines slots (line ∷ lines) f own = own_lines slots lines (list_line slots line f) (own_line slots line f own)
+pub own_claims : (slots : SlotTable) (claims : List Claim) (f : FactSet) → AreOwn f.values → AreOwn (list_claims slots claims f).values
+own_claims slots [] f own = own
+own_claims slots (claim ∷ claims) f own = own_claims slots claims (list_claim slots claim f) (own_claim slots claim f own)

@@ -29,7 +29,7 @@ non_owners_of us non_owners ws class_owners next rows e f g only = subst (λ l. 
 
 module _ (v : ℕ) (row : Row) (rows : List Row) (class_owners : List Owners) (non_owners : List ℕ) (only : ListsNonOwners non_owners class_owners rows) where
   pub put_non_owners : IsIn v non_owners ⊎ (owns_class (length rows) class_owners v row ≡ true) → ListsNonOwners non_owners class_owners (slice_set rows v row)
-  put_non_owners noted = as_many class_owners non_owners rows (slice_set rows v row) (length-set rows v row) (put_unless (owns_class (length rows) class_owners) (λ u. refl) v row non_owners rows only noted)
+  put_non_owners recorded = as_many class_owners non_owners rows (slice_set rows v row) (length-set rows v row) (put_unless (owns_class (length rows) class_owners) (λ u. refl) v row non_owners rows only recorded)
 
   -- whose value is known to be what it was, or of which nothing is known
   pub change_non_owners : (row.known ≡ (row_at rows v).known) ⊎ (row.known ≡ Nothing) → ListsNonOwners non_owners class_owners (slice_set rows v row)
@@ -135,7 +135,7 @@ owners_more count class_owners owners u (GlobalAddress g) h = refl
 pub own_non_owners : (owners : Owners) (non_owners : List ℕ) (class_owners : List Owners) (rows : List Row) → ListsNonOwners non_owners class_owners rows → ListsNonOwners non_owners (class_owners ++ owners ∷ []) rows
 own_non_owners owners non_owners class_owners rows only u = elim (only u) [ inl one ↦ inl one | inr e ↦ inr (owners_more (length rows) class_owners owners u (row_at rows u).known e) ]
 
--- a row is listed once it is noted
+-- a row is listed once it is recorded
 pub more_non_owners : (at : ℕ) (non_owners : List ℕ) (class_owners : List Owners) (rows : List Row) → ListsNonOwners non_owners class_owners rows → ListsNonOwners (non_owners ++ at ∷ []) class_owners rows
 more_non_owners at non_owners class_owners rows only u = elim (only u) [ inl one ↦ inl (in_first u non_owners (at ∷ []) one) | inr e ↦ inr e ]
 
@@ -147,8 +147,8 @@ was_non_owner at non_owners class_owners rows only e = elim (only at) [ inl one 
 pub kept_non_owners : (seen rows : List Row) → seen ≡ rows → (non_owners more : List ℕ) (class_owners next : List Owners) → (ListsNonOwners non_owners class_owners seen → ListsNonOwners more next seen) → ListsNonOwners non_owners class_owners rows → ListsNonOwners more next rows
 kept_non_owners seen rows e non_owners more class_owners next keeps only = subst (ListsNonOwners more next) e (keeps (subst (ListsNonOwners non_owners class_owners) (sym e) only))
 
-pub noted_non_owners : (seen rows : List Row) → seen ≡ rows → (at : ℕ) (row : Row) (non_owners more : List ℕ) (class_owners next : List Owners) → (ListsNonOwners non_owners class_owners seen → IsIn at more ⊎ (owns_class (length seen) next at row ≡ true)) → ListsNonOwners non_owners class_owners rows → IsIn at more ⊎ (owns_class (length rows) next at row ≡ true)
-noted_non_owners seen rows e at row non_owners more class_owners next notes only = subst (λ (l : List Row). IsIn at more ⊎ (owns_class (length l) next at row ≡ true)) e (notes (subst (ListsNonOwners non_owners class_owners) (sym e) only))
+pub recorded_non_owners : (seen rows : List Row) → seen ≡ rows → (at : ℕ) (row : Row) (non_owners more : List ℕ) (class_owners next : List Owners) → (ListsNonOwners non_owners class_owners seen → IsIn at more ⊎ (owns_class (length seen) next at row ≡ true)) → ListsNonOwners non_owners class_owners rows → IsIn at more ⊎ (owns_class (length rows) next at row ≡ true)
+recorded_non_owners seen rows e at row non_owners more class_owners next notes only = subst (λ (l : List Row). IsIn at more ⊎ (owns_class (length l) next at row ≡ true)) e (notes (subst (ListsNonOwners non_owners class_owners) (sym e) only))
 
 -- ---- which rows may be of a class
 

@@ -10,7 +10,7 @@ use Rattle.facts.specs.declared.known.Known.{Known}
 use Rattle.facts.specs.declared.known.Known.TheVariants.{Nothing, Number, Cell, Null, Address, GlobalAddress}
 use Rattle.facts.specs.declared.ties.Ties.{Ties}
 use Rattle.facts.specs.Facts.{FactSet, known_at, class_at, set_class}
-use Rattle.facts.specs.Lines.{moved, move, join}
+use Rattle.facts.specs.Claims.{moved, move, join}
 use Rattle.facts.specs.Ties.{is_own, AreOwn, class_in, class_of_place, group_of, class_now, known_now, facts_now, settle_value, in_group, AreTies}
 use Rattle.facts.proofs.Groups.{merged_class}
 

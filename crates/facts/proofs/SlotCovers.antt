@@ -13,7 +13,7 @@ use Rattle.facts.specs.declared.known.SlotFact.{SlotFact}
 use Rattle.facts.specs.declared.uses.Use.{Use}
 use Rattle.facts.specs.Chains.{listed}
 use Rattle.facts.specs.Facts.{open_slot, slot_at, holds_class, holds}
-use Rattle.facts.specs.Lines.{covers_slot}
+use Rattle.facts.specs.Claims.{covers_slot}
 use Rattle.facts.specs.SlotRows.{OnlyKeepers, covers_at}
 use Rattle.facts.specs.Uses.{use_at, users_of, chain}
 use Rattle.facts.proofs.Sets.{or_true}

@@ -86,8 +86,8 @@ module _ (u v : ℕ) (uses : List Use) (rows : List Row) where
         subst (λ (r : Row). IsIn a (chain (length (use_more u v rows uses)) (use_more u v rows uses) r.used)) (sym is) (newest uses found a (inr before))
     pick (inr ne) = subst (λ (r : Row). IsIn a (chain (length (use_more u v rows uses)) (use_more u v rows uses) r.used)) (sym (get_or-set_other rows v w row blank (λ x. ne (sym x)))) (user_kept uses found (row_at rows w).used a was)
 
-  pub use_noted : v < length (use_row v uses rows) → IsUser (use_more u v rows uses) (use_row v uses rows) u v
-  use_noted lt = subst (λ (r : Row). IsIn u (chain (length (use_more u v rows uses)) (use_more u v rows uses) r.used)) (sym (get_or-set_same rows v row blank (rw (← length-set rows v row) lt))) (newest uses found u (inl refl))
+  pub use_recorded : v < length (use_row v uses rows) → IsUser (use_more u v rows uses) (use_row v uses rows) u v
+  use_recorded lt = subst (λ (r : Row). IsIn u (chain (length (use_more u v rows uses)) (use_more u v rows uses) r.used)) (sym (get_or-set_same rows v row blank (rw (← length-set rows v row) lt))) (newest uses found u (inl refl))
 
   -- a value that is used says nothing more
   pub use_same : SayTheSame rows (use_row v uses rows)
@@ -95,7 +95,7 @@ module _ (u v : ℕ) (uses : List Use) (rows : List Row) where
 
 -- ---- rows that change
 
--- a row that is written names only what it is noted for, and is used as it was
+-- a row that is written names only what it is recorded for, and is used as it was
 pub users_set : (uses : List Use) (rows : List Row) (v : ℕ) (row : Row) → OnlyUsers uses rows → row.used ≡ (row_at rows v).used → ((w : ℕ) → names w row ≡ true → w < length rows → IsUser uses rows v w) → OnlyUsers uses (slice_set rows v row)
 users_set uses rows v row only same says u w e lt = subst (λ (used : Option ℕ). IsIn u (chain (length uses) uses used)) (sym (set_part (λ r. r.used) rows v w row blank same)) (pick (cases_eq v u)) where
   long : w < length rows
@@ -113,15 +113,15 @@ users_set uses rows v row only same says u w e lt = subst (λ (used : Option ℕ
 
 module _ (uses : List Use) (rows : List Row) (v : ℕ) (only : OnlyUsers uses rows) where
   pub known_users : (known : Known) → ((w : ℕ) → is_on w known ≡ true → w < length rows → IsUser uses rows v w) → OnlyUsers uses (slice_set rows v (record (row_at rows v) { known = known }))
-  known_users known noted = users_set uses rows v (record (row_at rows v) { known = known }) only refl (λ w e lt. elim (or_parts (is_on w known) (tests w (row_at rows v).test) e) [
-    | inl on ↦ noted w on lt
+  known_users known recorded = users_set uses rows v (record (row_at rows v) { known = known }) only refl (λ w e lt. elim (or_parts (is_on w known) (tests w (row_at rows v).test) e) [
+    | inl on ↦ recorded w on lt
     | inr tested ↦ only v w (or_second (is_on w (row_at rows v).known) (tests w (row_at rows v).test) tested) lt
   ])
 
   pub test_users : (test : Option Test) → ((w : ℕ) → tests w test ≡ true → w < length rows → IsUser uses rows v w) → OnlyUsers uses (slice_set rows v (record (row_at rows v) { test = test }))
-  test_users test noted = users_set uses rows v (record (row_at rows v) { test = test }) only refl (λ w e lt. elim (or_parts (is_on w (row_at rows v).known) (tests w test) e) [
+  test_users test recorded = users_set uses rows v (record (row_at rows v) { test = test }) only refl (λ w e lt. elim (or_parts (is_on w (row_at rows v).known) (tests w test) e) [
     | inl on ↦ only v w (or_first (is_on w (row_at rows v).known) (tests w (row_at rows v).test) on) lt
-    | inr tested ↦ noted w tested lt
+    | inr tested ↦ recorded w tested lt
   ])
 
   pub class_users : (class : Class) → OnlyUsers uses (slice_set rows v (record (row_at rows v) { class = class }))

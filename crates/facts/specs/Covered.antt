@@ -4,12 +4,12 @@ use Rattle.certs.specs.declared.section.Age.{Age}
 use Rattle.certs.specs.declared.section.Age.TheVariants as age
 use Rattle.certs.specs.declared.section.Fact.{Fact}
 use Rattle.certs.specs.declared.section.Fact.TheVariants as fact
-use Rattle.certs.specs.declared.section.Line.{Line}
-use Rattle.certs.specs.declared.section.Line.TheVariants as line
+use Rattle.certs.specs.declared.section.Claim.{Claim}
+use Rattle.certs.specs.declared.section.Claim.TheVariants as claim
 use Rattle.facts.specs.declared.known.Known.{Known}
 use Rattle.facts.specs.declared.known.Known.TheVariants.{Cell}
 use Rattle.facts.specs.Facts.{FactSet, known_at, class_at}
-use Rattle.facts.specs.Lines.{is_fresh, covers}
+use Rattle.facts.specs.Claims.{is_fresh, covers}
 
 -- this class here, and that of a reference at the target
 abbrev pub with_class : (here : ℕ) → (there : Known) → Option (ℕ × ℕ)
@@ -26,9 +26,9 @@ abbrev pub classes_of : FactSet → (there : FactSet) → (v : ℕ) → Fact →
 classes_of here there v (fact.Reference layout nonnull old same) = if is_fresh old then both_classes (known_at here.values v) (known_at there.values v) else None
 classes_of here there v _ = None
 
--- the classes of a value that a line lists as fresh
-abbrev pub classes_listed : FactSet → (there : FactSet) → Line → Option (ℕ × ℕ)
-classes_listed here there (line.Value v fact) = classes_of here there v fact
+-- the classes of a value that a claim lists as fresh
+abbrev pub classes_listed : FactSet → (there : FactSet) → Claim → Option (ℕ × ℕ)
+classes_listed here there (claim.Value v fact) = classes_of here there v fact
 classes_listed here there _ = None
 
 -- not fresh
@@ -41,16 +41,16 @@ abbrev pub unfresh_fact : Fact → Fact
 unfresh_fact (fact.Reference layout nonnull old same) = fact.Reference layout nonnull (unfresh_age old) same
 unfresh_fact f = f
 
--- the line, which does not list its value as fresh
-abbrev pub unfresh : Line → Line
-unfresh (line.Value v fact) = line.Value v (unfresh_fact fact)
+-- the claim, which does not list its value as fresh
+abbrev pub unfresh : Claim → Claim
+unfresh (claim.Value v fact) = claim.Value v (unfresh_fact fact)
 unfresh l = l
 
--- a class is noted with this one of the target
-abbrev pub IsNoted : (noted : ℕ → Option ℕ) → Option (ℕ × ℕ) → Type 0
-IsNoted noted None = ⊥
-IsNoted noted (Some (c, d)) = noted c ≡ Some d
+-- a class is recorded with this one of the target
+abbrev pub IsRecorded : (recorded : ℕ → Option ℕ) → Option (ℕ × ℕ) → Type 0
+IsRecorded recorded None = ⊥
+IsRecorded recorded (Some (c, d)) = recorded c ≡ Some d
 
--- each class that is noted is fresh, and all that is of it is listed there as of the class that is noted for it
-abbrev pub AreCovered : FactSet → (there : FactSet) → (noted : ℕ → Option ℕ) → Type 0
-AreCovered here there noted = (c d : ℕ) → noted c ≡ Some d → ((class_at here.classes c).fresh && covers here there c d) ≡ true
+-- each class that is recorded is fresh, and all that is of it is listed there as of the class that is recorded for it
+abbrev pub AreCovered : FactSet → (there : FactSet) → (recorded : ℕ → Option ℕ) → Type 0
+AreCovered here there recorded = (c d : ℕ) → recorded c ≡ Some d → ((class_at here.classes c).fresh && covers here there c d) ≡ true

@@ -197,7 +197,7 @@ learn_constant_test v (constant.Number n) kind taken f = learn_number_test v n k
 learn_constant_test v constant.Null kind taken f = learn_null_test v kind taken f
 learn_constant_test v (constant.Truth b) kind taken f = f
 
--- what the edge shows where this comparison decides it
+-- what the edge implies where this comparison decides it
 abbrev pub learn_test : Option Test → (taken : Bool) → FactSet → FactSet
 learn_test None taken f = f
 learn_test (Some test) taken f = learn_constant_test test.tested test.constant test.kind taken f

@@ -1,8 +1,7 @@
 pub mod Facts
 pub mod Stale
 pub mod Contents
-pub mod Parts
-pub mod Lines
+pub mod Claims
 pub mod Ties
 pub mod EachListed
 pub mod Sheets
@@ -15,5 +14,5 @@ pub mod Uses
 pub mod Chains
 pub mod Statements
 pub mod Covered
-pub mod Shown
+pub mod Implied
 pub mod TakenBack

@@ -10,7 +10,7 @@ use Rattle.facts.specs.declared.sweeps.Change.{Change}
 use Rattle.facts.specs.declared.sweeps.Change.TheVariants.{Off, Settle}
 use Rattle.facts.specs.Facts.{lost_class, class_at, is_of, is_on, off_base, off_test, stale_of}
 use Rattle.facts.specs.EachListed.{OnlyListed}
-use Rattle.facts.specs.Lines.{covers_value}
+use Rattle.facts.specs.Claims.{covers_value}
 
 -- ---- rows
 
@@ -59,7 +59,7 @@ is_blank row = is_nothing row.known && is_no_test row.test && not row.class.nonn
 abbrev pub OnlyMarked : (marked : List ℕ) → List Row → Type 0
 OnlyMarked marked rows = OnlyListed blank marked rows
 
--- a safepoint leaves a row whose value is known to be this as it is: a reference is stale and of the class that the value has for itself, and whether that is null is noted
+-- a safepoint leaves a row whose value is known to be this as it is: a reference is stale and of the class that the value has for itself, and whether that is null is recorded
 abbrev pub is_settled_as : (u : ℕ) → (aside : Bool) → (own : Class) → Known → Bool
 is_settled_as u aside own (Cell c layout stale) = (c == u) && stale && not own.fresh && (if own.nonnull then aside else not aside)
 is_settled_as u aside own _ = not aside
@@ -99,11 +99,11 @@ abbrev pub known_nonnull : List Class → Known → Bool
 known_nonnull classes (Cell c layout stale) = (class_at classes c).nonnull
 known_nonnull classes _ = false
 
--- whether the class of a value is not null is noted
+-- whether the class of a value is not null is recorded
 abbrev pub keep_row : List Class → ℕ → Row → Row
 keep_row classes u row = record row { aside = known_nonnull classes row.known }
 
--- the class that a value has for itself, once the value is stale: it is as null as was noted
+-- the class that a value has for itself, once the value is stale: it is as null as was recorded
 abbrev pub settled_class : (aside : Bool) → Class → Known → Class
 settled_class aside own (Cell c layout stale) = record { nonnull = aside; fresh = false }
 settled_class aside own _ = own

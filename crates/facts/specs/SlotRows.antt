@@ -6,7 +6,7 @@ use Rattle.facts.specs.declared.known.SlotFact.{SlotFact}
 use Rattle.facts.specs.Chains.{listed}
 use Rattle.facts.specs.EachListed.{OnlyListed, each_listed}
 use Rattle.facts.specs.Facts.{open_slot, slot_at, holds, let_go}
-use Rattle.facts.specs.Lines.{covers_slot}
+use Rattle.facts.specs.Claims.{covers_slot}
 
 -- a slot holds no class
 abbrev pub is_free : (holds : Option ℕ) → Bool
@@ -29,9 +29,9 @@ OnlyHolding holding slots = (s : ℕ) → IsIn s holding ⊎ ((slot_at slots s).
 abbrev pub OnlyKeepers : (keepers : Chains) → List SlotFact → Type 0
 OnlyKeepers keepers slots = (s c : ℕ) → holds c (slot_at slots s) ≡ true → IsIn s (listed keepers c)
 
--- the slots that are not open, those that hold a class, and those that hold each class are noted
-abbrev pub AreNoted : (filled holding : List ℕ) → (keepers : Chains) → List SlotFact → Type 0
-AreNoted filled holding keepers slots = OnlyFilled filled slots × OnlyHolding holding slots × OnlyKeepers keepers slots
+-- the slots that are not open, those that hold a class, and those that hold each class are recorded
+abbrev pub AreRecorded : (filled holding : List ℕ) → (keepers : Chains) → List SlotFact → Type 0
+AreRecorded filled holding keepers slots = OnlyFilled filled slots × OnlyHolding holding slots × OnlyKeepers keepers slots
 
 -- each number below `count` that is listed is among the names
 abbrev pub NamesAll : (count : ℕ) → (listed names : List ℕ) → Type 0

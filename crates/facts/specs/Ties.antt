@@ -9,7 +9,7 @@ use Rattle.facts.specs.declared.ties.Group.{Group}
 use Rattle.facts.specs.declared.ties.Ties.{Ties}
 use Rattle.facts.specs.Chains.{listed}
 use Rattle.facts.specs.Facts.{FactSet, known_at, set_known}
-use Rattle.facts.specs.Lines.{moved}
+use Rattle.facts.specs.Claims.{moved}
 
 -- ---- references that are listed
 

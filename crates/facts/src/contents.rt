@@ -1,11 +1,10 @@
 //! The rows of which facts are made.
-ghost use Rattle.std.specs.Prelude.{◌≡◌, true, false, List, length, IfOk, OnOk, OnErr};
+ghost use Rattle.std.specs.Prelude.{◌≡◌, ◌==◌, ◌&&◌, true, false, List, length, IfOk, OnOk, OnErr};
 ghost use Rattle.facts.specs.declared.known.Class.{Class};
 ghost use Rattle.facts.specs.declared.known.Known.{Known};
 ghost use Rattle.facts.specs.declared.known.Known.TheVariants.{Cell};
 ghost use Rattle.facts.specs.Facts.{known_at, slot_at, nothing_known, values_without, forget, define, define_test, add_class, set_known, set_class, set_slot, end_slot, load_slot, make_stale, slots_of_class, slots_without, held_nonnull};
 ghost use Rattle.facts.specs.Contents.{set_of};
-ghost use Rattle.facts.specs.Parts.{AreAsMany};
 ghost use Rattle.facts.specs.SlotRows.{let_go_last};
 ghost use Rattle.facts.specs.TakenBack.{EndsAlone};
 
@@ -47,6 +46,13 @@ impl Contents {
         let values = Values::new(alloc, values)?;
         let slots = SlotRows::new(alloc, slots)?;
         Ok(Contents { values, slots })
+    }
+
+    /// Whether there are rows for this number of values and slots.
+    pub fn has(&self, values: usize, slots: usize) -> bool
+        ensures { result ≡ ((length self.now.values.values == values) && (length self.now.slots == slots)) }
+    {
+        self.values.count() == values && self.slots.len() == slots
     }
 
     /// What is known of a slot.
@@ -242,7 +248,6 @@ impl Contents {
     pub fn set_known(&mut self, v: ValueId, known: Known) -> Result<(), AllocError>
         ensures ok { OnOk result (set_of self.new ≡ set_known v known (set_of self.old)) }
         ensures err { OnErr result (set_of self.new ≡ set_of self.old) }
-        ensures size { AreAsMany (set_of self.old) (set_of self.new) }
     {
         self.values.set_known(v, known)
     }
@@ -251,7 +256,6 @@ impl Contents {
     pub fn set_class(&mut self, c: ClassId, class: Class) -> Result<(), AllocError>
         ensures ok { OnOk result (set_of self.new ≡ set_class c class (set_of self.old)) }
         ensures err { OnErr result (set_of self.new ≡ set_of self.old) }
-        ensures size { AreAsMany (set_of self.old) (set_of self.new) }
     {
         self.values.set_class(c, class)
     }
@@ -260,7 +264,6 @@ impl Contents {
     pub fn set_slot(&mut self, s: SlotId, slot: SlotFact) -> Result<(), AllocError>
         ensures ok { OnOk result (set_of self.new ≡ set_slot s slot (set_of self.old)) }
         ensures err { OnErr result (set_of self.new ≡ set_of self.old) }
-        ensures size { AreAsMany (set_of self.old) (set_of self.new) }
     {
         self.slots.set(s, slot)
     }

@@ -1,125 +1,130 @@
-//! The first line of a target that is not shown. Whether all that is of a class is listed is looked at once for each class.
+//! The first claim of a target that is not implied. Whether all that is of a class is listed is looked at once for each class.
 ghost use Rattle.std.specs.Prelude.{◌≡◌, ◌&&◌, true, position, not, nat_eq, Some};
 ghost use Rattle.indexmap.specs.IndexMap.{get};
 ghost use Rattle.shadow_stack.specs.Slots.{SlotTable};
-ghost use Rattle.facts.specs.Covered.{with_class, both_classes, classes_of, classes_listed, unfresh_age, unfresh_fact, unfresh, IsNoted, AreCovered};
-ghost use Rattle.facts.specs.Lines.{shows_line};
+ghost use Rattle.facts.specs.Covered.{with_class, both_classes, classes_of, classes_listed, unfresh_age, unfresh_fact, unfresh, IsRecorded, AreCovered};
+ghost use Rattle.facts.specs.Claims.{implies_claim};
 
+use crate::claims::is_fresh;
 use crate::class_id::ClassId;
 use crate::facts::Facts;
 use crate::known::Known;
-use crate::lines::is_fresh;
-use certs::{Age, Fact, Line};
+use certs::{Age, Claim, Fact};
 use indexmap::IndexMap;
 use ir_ast::ValueId;
 use shadow_stack::Slots;
 use std::alloc::Global;
 
 impl Facts {
-    /// The first line of a target that is not shown; `there` is what the target begins with.
-    pub fn first_unshown(
+    /// The first claim of a target that is not implied; `there` is what the target begins with.
+    pub fn first_unmet(
         &self,
         alloc: Global,
         table: &Slots,
         there: &Facts,
-        lines: &[Line],
+        claims: &[Claim],
     ) -> Option<usize>
-        ensures { result ≡ position (λ line. not (shows_line table.now self.now there.now line)) lines.now }
+        ensures { result ≡ position (λ claim. not (implies_claim table.now self.now there.now claim)) claims.now }
     {
-        let mut noted = IndexMap::new(alloc);
-        self.note_lines(there, lines, &mut noted);
-        self.first_unshown_by(table, there, &noted, lines)
+        let mut recorded = IndexMap::new(alloc);
+        self.record_claims(there, claims, &mut recorded);
+        self.first_unmet_by(table, there, &recorded, claims)
     }
 
-    /// Notes the classes that lines list as fresh, up to the first that may not be.
-    fn note_lines(&self, there: &Facts, lines: &[Line], noted: &mut IndexMap<usize, usize>)
-        requires { AreCovered self.now there.now (get nat_eq noted.old) }
-        ensures { AreCovered self.now there.now (get nat_eq noted.new) }
+    /// Records the classes that claims list as fresh, up to the first that may not be.
+    fn record_claims(&self, there: &Facts, claims: &[Claim], recorded: &mut IndexMap<usize, usize>)
+        requires { AreCovered self.now there.now (get nat_eq recorded.old) }
+        ensures { AreCovered self.now there.now (get nat_eq recorded.new) }
     {
-        for line in lines {
-            if !self.note_line(there, line, noted) {
+        for claim in claims {
+            if !self.record_claim(there, claim, recorded) {
                 return;
             }
         }
     }
 
-    /// Notes the class that a line lists as fresh, if it may be. Returns whether it is noted, or there is none.
-    #[tactic(auto, using(crate::proofs::Unfresh::noted_more))]
-    fn note_line(&self, there: &Facts, line: &Line, noted: &mut IndexMap<usize, usize>) -> bool
-        requires { AreCovered self.now there.now (get nat_eq noted.old) }
-        ensures { AreCovered self.now there.now (get nat_eq noted.new) }
+    /// Records the class that a claim lists as fresh, if it may be. Returns whether it is recorded, or there is none.
+    #[tactic(auto, using(crate::proofs::Unfresh::recorded_more))]
+    fn record_claim(
+        &self,
+        there: &Facts,
+        claim: &Claim,
+        recorded: &mut IndexMap<usize, usize>,
+    ) -> bool
+        requires { AreCovered self.now there.now (get nat_eq recorded.old) }
+        ensures { AreCovered self.now there.now (get nat_eq recorded.new) }
     {
-        match self.classes_listed(there, line) {
+        match self.classes_listed(there, claim) {
             Some((here, listed)) => {
-                is_noted(noted, here, listed)
+                is_recorded(recorded, here, listed)
                     || (self.class(here).fresh
                         && self.covers(there, here, listed)
-                        && noted.insert(here.number(), listed.number()).is_ok())
+                        && recorded.insert(here.number(), listed.number()).is_ok())
             }
             None => true,
         }
     }
 
-    /// The first line that is not shown; these classes are noted.
-    fn first_unshown_by(
+    /// The first claim that is not implied; these classes are recorded.
+    fn first_unmet_by(
         &self,
         table: &Slots,
         there: &Facts,
-        noted: &IndexMap<usize, usize>,
-        lines: &[Line],
+        recorded: &IndexMap<usize, usize>,
+        claims: &[Claim],
     ) -> Option<usize>
-        requires { AreCovered self.now there.now (get nat_eq noted.now) }
-        ensures { result ≡ position (λ line. not (shows_line table.now self.now there.now line)) lines.now }
+        requires { AreCovered self.now there.now (get nat_eq recorded.now) }
+        ensures { result ≡ position (λ claim. not (implies_claim table.now self.now there.now claim)) claims.now }
     {
-        lines
+        claims
             .iter()
-            .position(|line| !self.implies_by(table, there, noted, line))
+            .position(|claim| !self.implies_by(table, there, recorded, claim))
     }
 
-    /// Whether a line is shown; these classes are noted.
+    /// Whether a claim is implied; these classes are recorded.
     fn implies_by(
         &self,
         table: &Slots,
         there: &Facts,
-        noted: &IndexMap<usize, usize>,
-        line: &Line,
+        recorded: &IndexMap<usize, usize>,
+        claim: &Claim,
     ) -> bool
-        requires { AreCovered self.now there.now (get nat_eq noted.now) }
-        ensures { result ≡ shows_line table.now self.now there.now line.now }
+        requires { AreCovered self.now there.now (get nat_eq recorded.now) }
+        ensures { result ≡ implies_claim table.now self.now there.now claim.now }
     {
-        let asked = self.asked(there, noted, line);
+        let asked = self.asked(there, recorded, claim);
         self.implies(table, there, asked)
     }
 
-    /// A line that is shown exactly where this one is; these classes are noted, and it does not ask of them again.
-    #[tactic(auto, using(crate::proofs::Unfresh::unfresh_shown))]
-    fn asked(&self, there: &Facts, noted: &IndexMap<usize, usize>, line: &Line) -> Line
-        requires { AreCovered self.now there.now (get nat_eq noted.now) }
-        ensures { (table : SlotTable) → shows_line table self.now there.now result ≡ shows_line table self.now there.now line.now }
+    /// A claim that is implied exactly where this one is; these classes are recorded, and it does not ask of them again.
+    #[tactic(auto, using(crate::proofs::Unfresh::unfresh_implied))]
+    fn asked(&self, there: &Facts, recorded: &IndexMap<usize, usize>, claim: &Claim) -> Claim
+        requires { AreCovered self.now there.now (get nat_eq recorded.now) }
+        ensures { (table : SlotTable) → implies_claim table self.now there.now result ≡ implies_claim table self.now there.now claim.now }
     {
-        if self.is_covered(there, noted, line) {
-            unfresh(line)
+        if self.is_covered(there, recorded, claim) {
+            unfresh(claim)
         } else {
-            *line
+            *claim
         }
     }
 
-    /// Whether the classes of a value that a line lists as fresh are noted.
-    fn is_covered(&self, there: &Facts, noted: &IndexMap<usize, usize>, line: &Line) -> bool
-        ensures { result ≡ true → IsNoted (get nat_eq noted.now) (classes_listed self.now there.now line.now) }
+    /// Whether the classes of a value that a claim lists as fresh are recorded.
+    fn is_covered(&self, there: &Facts, recorded: &IndexMap<usize, usize>, claim: &Claim) -> bool
+        ensures { result ≡ true → IsRecorded (get nat_eq recorded.now) (classes_listed self.now there.now claim.now) }
     {
-        match self.classes_listed(there, line) {
-            Some((here, listed)) => is_noted(noted, here, listed),
+        match self.classes_listed(there, claim) {
+            Some((here, listed)) => is_recorded(recorded, here, listed),
             None => false,
         }
     }
 
-    /// The classes of a value that a line lists as fresh, here and at the target.
-    fn classes_listed(&self, there: &Facts, line: &Line) -> Option<(ClassId, ClassId)>
-        ensures { result ≡ classes_listed self.now there.now line.now }
+    /// The classes of a value that a claim lists as fresh, here and at the target.
+    fn classes_listed(&self, there: &Facts, claim: &Claim) -> Option<(ClassId, ClassId)>
+        ensures { result ≡ classes_listed self.now there.now claim.now }
     {
-        match line {
-            Line::Value { value, fact } => self.classes_of(there, *value, *fact),
+        match claim {
+            Claim::Value { value, fact } => self.classes_of(there, *value, *fact),
             _ => None,
         }
     }
@@ -158,23 +163,23 @@ fn with_class(here: ClassId, there: Known) -> Option<(ClassId, ClassId)>
     }
 }
 
-/// Whether a class is noted with this one of the target.
-fn is_noted(noted: &IndexMap<usize, usize>, here: ClassId, listed: ClassId) -> bool
-    ensures { result ≡ true → get nat_eq noted.now here ≡ Some listed }
+/// Whether a class is recorded with this one of the target.
+fn is_recorded(recorded: &IndexMap<usize, usize>, here: ClassId, listed: ClassId) -> bool
+    ensures { result ≡ true → get nat_eq recorded.now here ≡ Some listed }
 {
-    noted.get(&here.number()).copied() == Some(listed.number())
+    recorded.get(&here.number()).copied() == Some(listed.number())
 }
 
-/// The line, which does not list its value as fresh.
-fn unfresh(line: &Line) -> Line
-    ensures { result ≡ unfresh line.now }
+/// The claim, which does not list its value as fresh.
+fn unfresh(claim: &Claim) -> Claim
+    ensures { result ≡ unfresh claim.now }
 {
-    match line {
-        Line::Value { value, fact } => Line::Value {
+    match claim {
+        Claim::Value { value, fact } => Claim::Value {
             value: *value,
             fact: unfresh_fact(*fact),
         },
-        _ => *line,
+        _ => *claim,
     }
 }
 

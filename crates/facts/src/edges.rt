@@ -2,7 +2,6 @@
 ghost use Rattle.std.specs.Prelude.{◌≡◌, true, IfOk, OnOk, OnErr};
 ghost use Rattle.facts.specs.Facts.{FactSet, below_both, known_below, learn_below, learn_known_nonnull, learn_up_to, learn_null_test, learn_number_test, learn_constant_test, learn_test, drop_fresh_of, drop_fresh_all, enter_phi, enter_phis, after_phis};
 ghost use Rattle.facts.specs.Contents.{set_of};
-ghost use Rattle.facts.specs.Parts.{AreFirst, IsFirstPart};
 ghost use Rattle.facts.specs.TakenBack.{DifferBy};
 
 use crate::contents::Contents;
@@ -12,7 +11,7 @@ use ir_ast::{Comparison, Constant, ValueId};
 use std::alloc::AllocError;
 
 impl Facts {
-    /// What the edge shows where this comparison decides it: `taken` where it is true.
+    /// What the edge implies where this comparison decides it: `taken` where it is true.
     pub fn learn(&mut self, test: Option<Test>, taken: bool) -> Result<(), AllocError>
         ensures ok { OnOk result (self.new ≡ learn_test test taken self.old) }
         ensures err { OnErr result (self.new ≡ self.old) }
@@ -20,64 +19,6 @@ impl Facts {
         match test {
             Some(test) => { self.learn_constant_test(test.tested, test.constant, test.kind, taken) }
             None => Ok(()),
-        }
-    }
-
-    /// The phis of a block, each with what is known of its entry, where the block is entered.
-    pub fn after_phis(&mut self, entries: &[Entry]) -> Result<(), AllocError>
-        ensures ok { OnOk result (self.new ≡ after_phis entries.now self.old) }
-        ensures err { OnErr result (IsFirstPart entries.now self.old self.new) }
-    {
-        self.try_phis(entries)?;
-        Ok(())
-    }
-
-    /// The same as `after_phis`. If this is true, `take_back` takes back what the phis changed.
-    pub fn try_phis(&mut self, entries: &[Entry]) -> Result<bool, AllocError>
-        ensures ok { OnOk result (self.new ≡ after_phis entries.now self.old) }
-        ensures err { OnErr result (IsFirstPart entries.now self.old self.new) }
-        ensures back { IfOk result (λ back. back ≡ true → DifferBy entries.now self.old self.new) }
-    {
-        self.drop_fresh_all(entries)?;
-        self.enter_phis(entries)
-    }
-
-    fn enter_phis(&mut self, entries: &[Entry]) -> Result<bool, AllocError>
-        ensures ok { OnOk result (self.new ≡ enter_phis entries.now self.old) }
-        ensures err { OnErr result (AreFirst entries.now self.old self.new) }
-        ensures back { IfOk result (λ back. back ≡ true → (before : FactSet) → DifferBy entries.now before self.old → DifferBy entries.now before self.new) }
-    {
-        let mut back = true;
-        for entry in entries {
-            back = back && self.ends_alone(entry.phi);
-            self.enter_phi(entry.phi, entry.known)?;
-        }
-        Ok(back)
-    }
-
-    fn enter_phi(&mut self, v: ValueId, known: Known) -> Result<(), AllocError>
-        ensures ok { OnOk result (self.new ≡ enter_phi v known self.old) }
-        ensures err { OnErr result (self.new ≡ self.old) }
-    {
-        match known {
-            Known::Cell {
-                class,
-                layout,
-                stale,
-            } => {
-                let nonnull = self.class(class).nonnull;
-                self.define_copy(
-                    v,
-                    layout,
-                    stale,
-                    Class {
-                        nonnull,
-                        fresh: false,
-                    },
-                )
-            }
-            Known::Number { .. } | Known::Null => self.define(v, known),
-            _ => self.define(v, Known::Nothing),
         }
     }
 
@@ -169,8 +110,55 @@ impl Facts {
 }
 
 impl Contents {
+    /// The phis of a block, each with what is known of its entry, where the block is entered. If this is true, `take_back` takes
+    /// back what they changed.
+    pub fn enter(&mut self, entries: &[Entry]) -> Result<bool, AllocError>
+        ensures ok { OnOk result (set_of self.new ≡ after_phis entries.now (set_of self.old)) }
+        ensures back { IfOk result (λ back. back ≡ true → DifferBy entries.now (set_of self.old) (set_of self.new)) }
+    {
+        self.drop_fresh_all(entries);
+        self.enter_phis(entries)
+    }
+
+    fn enter_phis(&mut self, entries: &[Entry]) -> Result<bool, AllocError>
+        ensures ok { OnOk result (set_of self.new ≡ enter_phis entries.now (set_of self.old)) }
+        ensures back { IfOk result (λ back. back ≡ true → (before : FactSet) → DifferBy entries.now before (set_of self.old) → DifferBy entries.now before (set_of self.new)) }
+    {
+        let mut back = true;
+        for entry in entries {
+            back = back && self.ends_alone(entry.phi);
+            self.enter_phi(entry.phi, entry.known)?;
+        }
+        Ok(back)
+    }
+
+    fn enter_phi(&mut self, v: ValueId, known: Known) -> Result<(), AllocError>
+        ensures { OnOk result (set_of self.new ≡ enter_phi v known (set_of self.old)) }
+    {
+        match known {
+            Known::Cell {
+                class,
+                layout,
+                stale,
+            } => {
+                let nonnull = self.values.class(class).nonnull;
+                self.define_new(
+                    v,
+                    layout,
+                    stale,
+                    Class {
+                        nonnull,
+                        fresh: false,
+                    },
+                )
+            }
+            Known::Number { .. } | Known::Null => self.define(v, known),
+            _ => self.define(v, Known::Nothing),
+        }
+    }
+
     /// The classes of all that comes in are fresh no more.
-    pub fn drop_fresh_all(&mut self, entries: &[Entry])
+    fn drop_fresh_all(&mut self, entries: &[Entry])
         ensures { set_of self.new ≡ drop_fresh_all entries.now (set_of self.old) }
     {
         for entry in entries {

@@ -1,21 +1,22 @@
 ghost use Rattle.std.specs.Prelude.{◌≡◌, true, ◌==◌, ◌&&◌, length, IfOk, OnOk, OnErr};
-ghost use Rattle.facts.specs.declared.known.Known.TheVariants.{Cell};
-ghost use Rattle.facts.specs.Facts.{FactSet, AreFacts, known_at, slot_at, class_at, test_at, nothing_known, forget, define, define_new, define_test, set_known, add_class, set_class, drop_fresh, drop_fresh_of, drop_fresh_all, learn_nonnull, set_slot, clear_slot, end_slot, root_slot, hold, store_slot, load_slot, make_stale, slot_nonnull};
-ghost use Rattle.facts.specs.Lines.{covers, facts_of_lines};
-ghost use Rattle.facts.specs.Parts.{IsSameOrCleared};
-ghost use Rattle.facts.specs.TakenBack.{DifferBy, EndsAlone};
+ghost use Rattle.facts.specs.Facts.{FactSet, AreFacts, known_at, slot_at, class_at, test_at, nothing_known, forget, define, define_new, define_test, set_known, set_class, drop_fresh, drop_fresh_of, learn_nonnull, after_phis, set_slot, clear_slot, end_slot, root_slot, hold, store_slot, load_slot, make_stale, slot_nonnull};
+ghost use Rattle.facts.specs.Claims.{covers, facts_of_claims};
+ghost use Rattle.facts.specs.Contents.{HasRows, set_of};
+ghost use Rattle.facts.specs.TakenBack.{DifferBy};
 
 use crate::class_id::ClassId;
 use crate::contents::Contents;
 use crate::kept::KeptFacts;
 use crate::known::{Class, Entry, Known, SlotFact, Test};
 use crate::rows;
-use certs::Line;
+use crate::spare_rows::SpareRows;
+use certs::Claim;
 use ir_ast::ValueId;
 use pools::LayoutId;
 use shadow_stack::{SlotId, Slots};
 use std::alloc::{AllocError, Global};
 use std::marker::Model;
+use std::mem;
 use std::rc::Rc;
 
 /// What is known at a place of a function. A value names its class, and what is known of a class is kept there once.
@@ -103,37 +104,73 @@ impl Facts {
         Ok(())
     }
 
-    /// What a block with these lines begins with, in a function of this number of values and with these slots, in place of
-    /// what is known. Without memory that stays, or nothing is known.
+    /// What a block with these claims begins with, in a function of this number of values and with these slots, in place of
+    /// what is known.
     pub fn begin(
         &mut self,
         alloc: Global,
+        spare: &mut SpareRows,
         values: usize,
         table: &Slots,
-        lines: &[Line],
+        claims: &[Claim],
     ) -> Result<(), AllocError>
-        ensures ok { OnOk result (self.new ≡ facts_of_lines table.now values (length table.now.held) lines.now) }
-        ensures err { OnErr result (IsSameOrCleared self.old self.new) }
+        ensures ok { OnOk result (self.new ≡ facts_of_claims table.now values (length table.now.held) claims.now) }
+        ensures err { OnErr result (self.new ≡ self.old) }
     {
-        let slots = table.count();
-        if self.has(values, slots) {
-            Rc::make_mut(&mut self.contents)?.begin(alloc, table, lines)
-        } else {
-            let mut fresh = Contents::new(alloc, values, slots)?;
-            fresh.begin(alloc, table, lines)?;
-            self.contents = Rc::new(alloc, fresh)?;
-            Ok(())
-        }
+        let mut rows = spare.take(alloc, values, table.count())?;
+        begin_in(alloc, &mut rows, table, claims)?;
+        self.put(rows, spare);
+        Ok(())
     }
 
-    /// What was known before these phis took what came in, if they changed no more than this can take back. Without memory it
-    /// stays, or nothing is known.
+    /// The phis of a block, each with what is known of its entry, where the block is entered.
+    pub fn after_phis(
+        &mut self,
+        alloc: Global,
+        spare: &mut SpareRows,
+        entries: &[Entry],
+    ) -> Result<(), AllocError>
+        ensures ok { OnOk result (self.new ≡ after_phis entries.now self.old) }
+        ensures err { OnErr result (self.new ≡ self.old) }
+    {
+        if entries.is_empty() {
+            return Ok(());
+        }
+        let values = self.contents.values.count();
+        let slots = self.contents.slots.len();
+        let mut rows = spare.take(alloc, values, slots)?;
+        enter_in(alloc, &mut rows, &self.contents, entries)?;
+        self.put(rows, spare);
+        Ok(())
+    }
+
+    /// The same, where other facts have what is known here. If this is true, `take_back` takes back what the phis changed.
+    pub fn try_phis(&mut self, entries: &[Entry], before: &Facts) -> Result<bool, AllocError>
+        requires { self.old ≡ before.now }
+        ensures ok { OnOk result (self.new ≡ after_phis entries.now self.old) }
+        ensures err { OnErr result (self.new ≡ self.old) }
+        ensures back { IfOk result (λ back. back ≡ true → DifferBy entries.now self.old self.new) }
+    {
+        let kept = before.contents.clone()?;
+        let result = enter(&mut self.contents, entries);
+        if result.is_err() {
+            self.contents = kept;
+        }
+        result
+    }
+
+    /// What was known before these phis took what came in, if they changed no more than this can take back: other facts have it.
+    /// Where there is no memory to write it, their rows are shared.
     pub fn take_back(&mut self, entries: &[Entry], before: &Facts) -> Result<(), AllocError>
         requires { DifferBy entries.now before.now self.old }
         ensures ok { OnOk result (self.new ≡ before.now) }
-        ensures err { OnErr result (IsSameOrCleared self.old self.new) }
+        ensures err { OnErr result (self.new ≡ self.old) }
     {
-        Rc::make_mut(&mut self.contents)?.take_back(entries, &before.contents)
+        let kept = before.contents.clone()?;
+        if take_back(&mut self.contents, entries, &before.contents).is_err() {
+            self.contents = kept;
+        }
+        Ok(())
     }
 
     /// What is known elsewhere, in place of what is known here.
@@ -181,7 +218,14 @@ impl Facts {
     fn has(&self, values: usize, slots: usize) -> bool
         ensures { result ≡ ((length self.now.values == values) && (length self.now.slots == slots)) }
     {
-        self.contents.values.count() == values && self.contents.slots.len() == slots
+        self.contents.has(values, slots)
+    }
+
+    /// What is known is this from now on. The rows that there were are to spare.
+    fn put(&mut self, contents: Rc<Contents>, spare: &mut SpareRows)
+        ensures { self.new ≡ set_of contents.value }
+    {
+        spare.keep(mem::replace(&mut self.contents, contents));
     }
 
     /// Each statement that names a value ends.
@@ -309,15 +353,6 @@ impl Facts {
         Rc::make_mut(&mut self.contents)?.set_known(v, known)
     }
 
-    /// The classes of all that comes in are fresh no more.
-    pub(crate) fn drop_fresh_all(&mut self, entries: &[Entry]) -> Result<(), AllocError>
-        ensures ok { OnOk result (self.new ≡ drop_fresh_all entries.now self.old) }
-        ensures err { OnErr result (self.new ≡ self.old) }
-    {
-        Rc::make_mut(&mut self.contents)?.drop_fresh_all(entries);
-        Ok(())
-    }
-
     /// A class is not null where this holds.
     pub(crate) fn learn_nonnull(&mut self, c: ClassId, nonnull: bool) -> Result<(), AllocError>
         ensures ok { OnOk result (self.new ≡ learn_nonnull c nonnull self.old) }
@@ -335,20 +370,6 @@ impl Facts {
     {
         Rc::make_mut(&mut self.contents)?.values.drop_fresh(c);
         Ok(())
-    }
-
-    /// A value takes a new class, of which this is known, and may be stale.
-    pub(crate) fn define_copy(
-        &mut self,
-        v: ValueId,
-        layout: LayoutId,
-        stale: bool,
-        class: Class,
-    ) -> Result<(), AllocError>
-        ensures ok { OnOk result (self.new ≡ define v (Cell (length self.old.classes) layout stale) (add_class class self.old)) }
-        ensures err { OnErr result (self.new ≡ self.old) }
-    {
-        Rc::make_mut(&mut self.contents)?.define_new(v, layout, stale, class)
     }
 
     pub(crate) fn set_class(&mut self, c: ClassId, class: Class) -> Result<(), AllocError>
@@ -388,13 +409,6 @@ impl Facts {
         rows::slot_nonnull(&self.contents.values, slot)
     }
 
-    /// Whether it is seen that the end of what is known of a value ends nothing else.
-    pub(crate) fn ends_alone(&self, v: ValueId) -> bool
-        ensures { result ≡ true → EndsAlone v self.now }
-    {
-        self.contents.ends_alone(v)
-    }
-
     /// Whether all that is of a class here is listed there as of another.
     pub(crate) fn covers(&self, there: &Facts, c: ClassId, d: ClassId) -> bool
         ensures { result ≡ covers self.now there.now c d }
@@ -402,4 +416,50 @@ impl Facts {
         let (here, there) = (&self.contents, &there.contents);
         here.values.covers(&there.values, c, d) && here.slots.covers(&there.slots, c, d)
     }
+}
+
+/// What a block with these claims begins with, in these rows.
+fn begin_in(
+    alloc: Global,
+    rows: &mut Rc<Contents>,
+    table: &Slots,
+    claims: &[Claim],
+) -> Result<(), AllocError>
+    ensures { OnOk result (set_of rows.new.value ≡ facts_of_claims table.now (length rows.old.value.values.values) (length rows.old.value.slots) claims.now) }
+{
+    Rc::make_mut(rows)?.begin(alloc, table, claims)
+}
+
+/// What is known after these phis where this was known before, in rows for as many values and slots.
+fn enter_in(
+    alloc: Global,
+    rows: &mut Rc<Contents>,
+    before: &Contents,
+    entries: &[Entry],
+) -> Result<(), AllocError>
+    requires { HasRows (length before.now.values.values) (length before.now.slots) rows.old.value }
+    ensures { OnOk result (set_of rows.new.value ≡ after_phis entries.now (set_of before.now)) }
+{
+    let written = Rc::make_mut(rows)?;
+    written.copy(alloc, before)?;
+    written.enter(entries)?;
+    Ok(())
+}
+
+fn enter(contents: &mut Rc<Contents>, entries: &[Entry]) -> Result<bool, AllocError>
+    ensures ok { OnOk result (set_of contents.new.value ≡ after_phis entries.now (set_of contents.old.value)) }
+    ensures back { IfOk result (λ back. back ≡ true → DifferBy entries.now (set_of contents.old.value) (set_of contents.new.value)) }
+{
+    Rc::make_mut(contents)?.enter(entries)
+}
+
+fn take_back(
+    contents: &mut Rc<Contents>,
+    entries: &[Entry],
+    before: &Contents,
+) -> Result<(), AllocError>
+    requires { DifferBy entries.now (set_of before.now) (set_of contents.old.value) }
+    ensures { OnOk result (set_of contents.new.value ≡ set_of before.now) }
+{
+    Rc::make_mut(contents)?.take_back(entries, before)
 }

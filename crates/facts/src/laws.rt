@@ -1,5 +1,5 @@
 //! What the changes of facts are as changes of a set of statements.
-ghost use Rattle.facts.specs.Shown.{ShowsWhatIsSaid};
+ghost use Rattle.facts.specs.Implied.{ImpliesWhatIsSaid};
 ghost use Rattle.facts.specs.Statements.{ForgetEndsNames, PublishEndsFresh, LearnAddsNonnull, SafepointEndsCurrent};
 
 /// A definition ends exactly the statements that name its value.
@@ -24,7 +24,7 @@ pub fn safepoint_law()
     ensures { SafepointEndsCurrent }
 {}
 
-/// Exactly the lines are shown of which all is said.
+/// Exactly the claims are implied of which all is said.
 pub fn show_law()
-    ensures { ShowsWhatIsSaid }
+    ensures { ImpliesWhatIsSaid }
 {}

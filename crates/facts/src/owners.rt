@@ -104,7 +104,7 @@ fn is_new_non_owner(
 }
 
 /// A row that is now of a class which its value does not own is listed, unless it was.
-pub fn note_non_owner(
+pub fn record_non_owner(
     non_owners: &mut Vec<usize>,
     class_owners: &mut Vec<Owners>,
     rows: &[Row],
@@ -114,7 +114,7 @@ pub fn note_non_owner(
 ) -> Result<(), AllocError>
     requires { before.now ≡ row_at rows.now at }
     ensures kept { ListsNonOwners non_owners.old.items class_owners.old.items rows.now → ListsNonOwners non_owners.new.items class_owners.new.items rows.now }
-    ensures noted { OnOk result (ListsNonOwners non_owners.old.items class_owners.old.items rows.now → IsIn at non_owners.new.items ⊎ (owns_class (length rows.now) class_owners.new.items at after.now ≡ true)) }
+    ensures recorded { OnOk result (ListsNonOwners non_owners.old.items class_owners.old.items rows.now → IsIn at non_owners.new.items ⊎ (owns_class (length rows.now) class_owners.new.items at after.now ≡ true)) }
 {
     add_owner_of(class_owners, rows, at, &after.known);
     if is_new_non_owner(rows.len(), class_owners, at, before, after) {

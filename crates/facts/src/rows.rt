@@ -2,7 +2,7 @@
 ghost use Rattle.std.specs.Prelude.{◌≡◌, replicate, IfOk};
 ghost use Rattle.facts.specs.Facts.{open_slot, class_at, is_of, let_go, is_on, off_base, off_test, slot_nonnull, held_nonnull, stale_of, end_hold, holds_class};
 ghost use Rattle.facts.specs.SlotRows.{let_go_slot};
-ghost use Rattle.facts.specs.Lines.{covers_value};
+ghost use Rattle.facts.specs.Claims.{covers_value};
 
 use crate::class_id::ClassId;
 use crate::known::{Class, Known, SlotFact, Test};

@@ -1,7 +1,7 @@
 ghost use Rattle.std.specs.Prelude.{◌≡◌, ◌⊎◌, true, ◌<◌, ◌++◌, map, length, replicate, slice_set, IfOk, OnOk, OnErr};
 ghost use Rattle.std.specs.List.{list_any, list_all, zip};
 ghost use Rattle.facts.specs.Facts.{is_of, class_at};
-ghost use Rattle.facts.specs.Lines.{covers_value};
+ghost use Rattle.facts.specs.Claims.{covers_value};
 ghost use Rattle.facts.specs.declared.known.Known.TheVariants.{Nothing};
 ghost use Rattle.facts.specs.declared.sweeps.Change.TheVariants.{Off};
 ghost use Rattle.facts.specs.Sheets.{row_at, blank, EachRow, changed, off_row, known_of, class_of, stale_row, is_settled};
@@ -111,8 +111,8 @@ impl Sheet {
         if at < self.rows.len() {
             let before = sweeps::row_at(&self.rows, at);
             sweeps::mark(&mut self.marked, at, &before)?;
-            sweeps::note(&mut self.current, at, &before, &row)?;
-            owners::note_non_owner(
+            sweeps::record_one(&mut self.current, at, &before, &row)?;
+            owners::record_non_owner(
                 &mut self.non_owners,
                 &mut self.class_owners,
                 &self.rows,
@@ -221,8 +221,8 @@ impl Sheet {
         let at = v.number() as usize;
         let before = sweeps::row_at(&self.rows, at);
         sweeps::mark(&mut self.marked, at, &before)?;
-        sweeps::note(&mut self.current, at, &before, &row)?;
-        owners::note_non_owner(
+        sweeps::record_one(&mut self.current, at, &before, &row)?;
+        owners::record_non_owner(
             &mut self.non_owners,
             &mut self.class_owners,
             &self.rows,

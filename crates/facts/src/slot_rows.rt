@@ -3,7 +3,7 @@ ghost use Rattle.std.specs.Prelude.{◌≡◌, false, map, length, replicate, sl
 ghost use Rattle.std.specs.List.{list_any, list_all, enumerate_from};
 ghost use Rattle.facts.specs.Facts.{open_slot, slot_at, holds, let_go, end_hold};
 ghost use Rattle.facts.specs.Contents.{new_of};
-ghost use Rattle.facts.specs.Lines.{covers_slot};
+ghost use Rattle.facts.specs.Claims.{covers_slot};
 ghost use Rattle.facts.specs.SlotRows.{OnlyFilled, OnlyHolding, OnlyKeepers, empty_slot, let_go_last, let_go_others};
 
 use crate::chains::Chains;
@@ -32,13 +32,13 @@ pub(crate) struct SlotRows {
 impl Model for SlotRows {
     ghost use Rattle.std.specs.Prelude.{List};
     ghost use Rattle.facts.specs.declared.known.SlotFact.{SlotFact};
-    ghost use Rattle.facts.specs.SlotRows.{AreNoted};
+    ghost use Rattle.facts.specs.SlotRows.{AreRecorded};
 
     ghost Value = { List SlotFact };
 
     ghost view = { λ rows. rows.slots.items };
 
-    ghost invariant = { λ rows. AreNoted rows.filled.items rows.holding.items rows.keepers rows.slots.items };
+    ghost invariant = { λ rows. AreRecorded rows.filled.items rows.holding.items rows.keepers rows.slots.items };
 }
 
 impl Clone for SlotRows {
@@ -92,7 +92,7 @@ impl SlotRows {
         ensures err { OnErr result (self.new ≡ self.old) }
     {
         let at = s.number();
-        slot_sweeps::note(
+        slot_sweeps::record_one(
             &mut self.filled,
             &mut self.holding,
             &mut self.keepers,
@@ -232,7 +232,7 @@ impl SlotRows {
             holds: Some(values.next_class()),
             ..before
         };
-        slot_sweeps::note(
+        slot_sweeps::record_one(
             &mut self.filled,
             &mut self.holding,
             &mut self.keepers,

@@ -5,7 +5,7 @@ ghost use Rattle.lemmas.specs.Lists.{IsIn};
 ghost use Rattle.facts.specs.EachListed.{each_listed, copied};
 ghost use Rattle.facts.specs.Chains.{listed};
 ghost use Rattle.facts.specs.Facts.{open_slot, slot_at, holds, let_go, end_hold};
-ghost use Rattle.facts.specs.SlotRows.{is_open, with_filled, with_holding, each_let_go, covers_at, NamesAll, OnlyHolding, OnlyKeepers, AreNoted};
+ghost use Rattle.facts.specs.SlotRows.{is_open, with_filled, with_holding, each_let_go, covers_at, NamesAll, OnlyHolding, OnlyKeepers, AreRecorded};
 
 use crate::chains::Chains;
 use crate::class_id::ClassId;
@@ -32,8 +32,8 @@ fn is_open(slot: &SlotFact) -> bool
     !slot.rooted && !slot.nonnull && slot.holds.is_none()
 }
 
-/// A slot is noted as filled, unless it was, where this was known of it.
-fn note_filled(filled: &mut Vec<usize>, at: usize, before: &SlotFact) -> Result<(), AllocError>
+/// A slot is recorded as filled, unless it was, where this was known of it.
+fn record_filled(filled: &mut Vec<usize>, at: usize, before: &SlotFact) -> Result<(), AllocError>
     ensures ok { OnOk result (filled.new.items ≡ with_filled at before.now filled.old.items) }
     ensures err { OnErr result (filled.new.items ≡ filled.old.items) }
 {
@@ -43,8 +43,8 @@ fn note_filled(filled: &mut Vec<usize>, at: usize, before: &SlotFact) -> Result<
     Ok(())
 }
 
-/// A slot of which this is known from now on is noted, if it holds a class.
-fn note_holding(holding: &mut Vec<usize>, at: usize, after: &SlotFact) -> Result<(), AllocError>
+/// A slot of which this is known from now on is recorded, if it holds a class.
+fn record_holding(holding: &mut Vec<usize>, at: usize, after: &SlotFact) -> Result<(), AllocError>
     ensures ok { OnOk result (holding.new.items ≡ with_holding at after.now.holds holding.old.items) }
     ensures err { OnErr result (holding.new.items ≡ holding.old.items) }
 {
@@ -55,9 +55,9 @@ fn note_holding(holding: &mut Vec<usize>, at: usize, after: &SlotFact) -> Result
 }
 
 /// A slot of which this is known from now on is a keeper of the class that it holds.
-fn note_keeper(keepers: &mut Chains, at: usize, after: &SlotFact) -> Result<(), AllocError>
+fn record_keeper(keepers: &mut Chains, at: usize, after: &SlotFact) -> Result<(), AllocError>
     ensures kept { (c s : ℕ) → IsIn s (listed keepers.old c) → IsIn s (listed keepers.new c) }
-    ensures noted { OnOk result ((c : ℕ) → holds c after.now ≡ true → IsIn at (listed keepers.new c)) }
+    ensures recorded { OnOk result ((c : ℕ) → holds c after.now ≡ true → IsIn at (listed keepers.new c)) }
 {
     match after.holds {
         Some(c) => keepers.add(c.number(), at),
@@ -65,8 +65,8 @@ fn note_keeper(keepers: &mut Chains, at: usize, after: &SlotFact) -> Result<(), 
     }
 }
 
-/// A slot of which this is known from now on is noted.
-pub fn note(
+/// A slot of which this is known from now on is recorded.
+pub fn record_one(
     filled: &mut Vec<usize>,
     holding: &mut Vec<usize>,
     keepers: &mut Chains,
@@ -74,13 +74,13 @@ pub fn note(
     at: usize,
     after: &SlotFact,
 ) -> Result<(), AllocError>
-    ensures kept { AreNoted filled.old.items holding.old.items keepers.old slots.now → AreNoted filled.new.items holding.new.items keepers.new slots.now }
-    ensures noted { OnOk result (AreNoted filled.old.items holding.old.items keepers.old slots.now → AreNoted filled.new.items holding.new.items keepers.new (slice_set slots.now at after.now)) }
+    ensures kept { AreRecorded filled.old.items holding.old.items keepers.old slots.now → AreRecorded filled.new.items holding.new.items keepers.new slots.now }
+    ensures recorded { OnOk result (AreRecorded filled.old.items holding.old.items keepers.old slots.now → AreRecorded filled.new.items holding.new.items keepers.new (slice_set slots.now at after.now)) }
 {
     let before = slot_at(slots, at);
-    note_filled(filled, at, &before)?;
-    note_holding(holding, at, after)?;
-    note_keeper(keepers, at, after)
+    record_filled(filled, at, &before)?;
+    record_holding(holding, at, after)?;
+    record_keeper(keepers, at, after)
 }
 
 /// The keepers of each class, where these slots may hold one.
@@ -94,7 +94,7 @@ pub fn keepers_of(
     let mut keepers = Chains::new(alloc);
     for s in holding {
         let slot = slot_at(slots, *s);
-        note_keeper(&mut keepers, *s, &slot)?;
+        record_keeper(&mut keepers, *s, &slot)?;
     }
     Ok(keepers)
 }

@@ -59,8 +59,8 @@ pub fn mark(marked: &mut Vec<usize>, at: usize, before: &Row) -> Result<(), Allo
     Ok(())
 }
 
-/// A row that a safepoint changes is noted as current, unless it was.
-pub fn note(
+/// A row that a safepoint changes is recorded as current, unless it was.
+pub fn record_one(
     current: &mut Vec<usize>,
     at: usize,
     before: &Row,
@@ -197,7 +197,7 @@ pub fn class_of(rows: &[Row], added: &[Class], c: ClassId) -> Class
     }
 }
 
-/// Each value's class is noted: whether it is not null.
+/// Each value's class is recorded: whether it is not null.
 pub fn keep_rows(rows: &mut Vec<Row>, marked: &[usize], added: &[Class])
     ensures { rows.new.items ≡ each_listed blank (keep_row (map class_of rows.old.items ++ added.now)) marked.now rows.old.items }
 {

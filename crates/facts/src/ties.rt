@@ -2,7 +2,7 @@
 ghost use Rattle.std.specs.Prelude.{◌≡◌, ◌⊎◌, ◌<◌, ◌==◌, ℕ, if◌then◌else◌, None, Some, nat_eq, length, IfOk, OnOk};
 ghost use Rattle.indexmap.specs.IndexMap.{get};
 ghost use Rattle.facts.specs.Chains.{listed};
-ghost use Rattle.facts.specs.Lines.{moved};
+ghost use Rattle.facts.specs.Claims.{moved};
 ghost use Rattle.facts.specs.Ties.{AreTies, AreListed, group_of, class_now, known_now, in_group, is_place, group_at, class_in};
 
 use crate::chains::Chains;

@@ -4,7 +4,7 @@ ghost use Rattle.facts.specs.declared.known.Class.{Class};
 ghost use Rattle.facts.specs.declared.known.Known.TheVariants.{Nothing, Number, Cell};
 ghost use Rattle.facts.specs.declared.uses.Use.{Use};
 ghost use Rattle.facts.specs.Facts.{known_at, class_at, test_at, is_of, is_on, values_without, tests_without, stale_of, stale_class};
-ghost use Rattle.facts.specs.Lines.{covers_value};
+ghost use Rattle.facts.specs.Claims.{covers_value};
 ghost use Rattle.facts.specs.Sheets.{row_at, tests};
 ghost use Rattle.facts.specs.Uses.{IsUser, OnlyUsers, SayTheSame, SameUses};
 ghost use Rattle.facts.specs.Values.{facts_of_rows, no_values, defined, learned, is_reference, learned_row};
@@ -373,7 +373,7 @@ fn define_row(
     test: Option<Test>,
 ) -> Result<(), AllocError>
     requires only { OnlyUsers uses.now sheet.old }
-    requires noted { (w : ℕ) → (is_on w known || tests w test) ≡ true → w < length sheet.old → IsUser uses.now sheet.old v w }
+    requires recorded { (w : ℕ) → (is_on w known || tests w test) ≡ true → w < length sheet.old → IsUser uses.now sheet.old v w }
     ensures ok { OnOk result ((added : List Class) → facts_of_rows sheet.new added ≡ defined v known test (facts_of_rows sheet.old added)) }
     ensures err { OnErr result (sheet.new ≡ sheet.old) }
     ensures users { OnlyUsers uses.now sheet.new }
@@ -459,7 +459,7 @@ fn use_base(
     ensures long { length sheet.new ≡ length sheet.old }
     ensures same { SayTheSame sheet.old sheet.new }
     ensures users { OnlyUsers uses.old.items sheet.old → OnlyUsers uses.new.items sheet.new }
-    ensures noted { OnOk result ((w : ℕ) → is_on w known.now ≡ true → w < length sheet.new → IsUser uses.new.items sheet.new user w) }
+    ensures recorded { OnOk result ((w : ℕ) → is_on w known.now ≡ true → w < length sheet.new → IsUser uses.new.items sheet.new user w) }
 {
     match known {
         Known::Address { base, .. } => use_value(sheet, uses, user, *base),
@@ -477,7 +477,7 @@ fn use_tested(
     ensures long { length sheet.new ≡ length sheet.old }
     ensures same { SayTheSame sheet.old sheet.new }
     ensures users { OnlyUsers uses.old.items sheet.old → OnlyUsers uses.new.items sheet.new }
-    ensures noted { OnOk result ((w : ℕ) → tests w test.now ≡ true → w < length sheet.new → IsUser uses.new.items sheet.new user w) }
+    ensures recorded { OnOk result ((w : ℕ) → tests w test.now ≡ true → w < length sheet.new → IsUser uses.new.items sheet.new user w) }
 {
     match test {
         Some(test) => use_value(sheet, uses, user, test.tested),
@@ -494,7 +494,7 @@ fn use_value(
     ensures long { length sheet.new ≡ length sheet.old }
     ensures same { SayTheSame sheet.old sheet.new }
     ensures users { OnlyUsers uses.old.items sheet.old → OnlyUsers uses.new.items sheet.new }
-    ensures noted { OnOk result (v < length sheet.new → IsUser uses.new.items sheet.new user v) }
+    ensures recorded { OnOk result (v < length sheet.new → IsUser uses.new.items sheet.new user v) }
 {
     let at = v.number() as usize;
     let row = sheet.row(at);

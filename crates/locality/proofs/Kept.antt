@@ -6,18 +6,18 @@ use Rattle.ir_ast.specs.declared.function.Function.{Function}
 use Rattle.certs.specs.declared.section.Section.{Section}
 use Rattle.layout.specs.Layouts.{LaidOut}
 use Rattle.block_rules.specs.declared.block_fault.Breach.{Breach}
-use Rattle.block_rules.specs.Ways.{Scene, given_at}
-use Rattle.block_rules.specs.Certified.{scene_of, IsCertified, BreaksAt, IsCertifiedIn, BreaksIn, BlockCertified}
+use Rattle.block_rules.specs.Edges.{RuleContext, entry_facts_at}
+use Rattle.block_rules.specs.Certified.{context_of, IsCertified, BreaksAt, IsCertifiedIn, BreaksIn, BlockCertified}
 use Rattle.block_rules.specs.Functions.{blocks_in}
-use Rattle.locality.specs.Local.{laid_with, scene_with, CallsSame, SameScope}
+use Rattle.locality.specs.Local.{laid_with, context_with, CallsSame, SameScope}
 use Rattle.locality.specs.Laws.{StayCertified, StayRefused, StayGiven}
 use Rattle.locality.proofs.Slots.{slots_of_same}
 use Rattle.locality.proofs.Scenes.{block_stays, breach_stays}
-use Rattle.locality.proofs.Ways.{given_at_same}
+use Rattle.locality.proofs.Edges.{entry_facts_at_same}
 
 module _ (p : LaidOut) (certs : List Section) (fs : List Function) (others : List Section) where
-  scene_same : (f : Function) (section : Option Section) → scene_with (scene_of p certs f section) fs others ≡ scene_of (laid_with p fs) others f section
-  scene_same f section = sym (λ along. record { program = laid_with p fs; certs = others; function = f; slots = slots_of_same p.of_module fs along f; section = section })
+  context_same : (f : Function) (section : Option Section) → context_with (context_of p certs f section) fs others ≡ context_of (laid_with p fs) others f section
+  context_same f section = sym (λ along. record { program = laid_with p fs; certs = others; function = f; slots = slots_of_same p.of_module fs along f; section = section })
 
   -- what each function calls looks the same, if there is a function
   abbrev CalledSame : Option Function → Type 0
@@ -26,12 +26,12 @@ module _ (p : LaidOut) (certs : List Section) (fs : List Function) (others : Lis
   certified_in : (section : Option Section) (x : Option Function) (block : ℕ) → CalledSame x → IsCertifiedIn p certs section x block → IsCertifiedIn (laid_with p fs) others section x block
   certified_in section None block calls h = absurd h
   certified_in section (Some f) block calls h =
-      subst (λ (s : Scene). IsCertified s block) (scene_same f section) (block_stays (scene_of p certs f section) fs others block (calls f refl block) h)
+      subst (λ (s : RuleContext). IsCertified s block) (context_same f section) (block_stays (context_of p certs f section) fs others block (calls f refl block) h)
 
   breaks_in : (section : Option Section) (x : Option Function) (block place : ℕ) (broken : Breach) → CalledSame x → BreaksIn p certs section x block place broken → BreaksIn (laid_with p fs) others section x block place broken
   breaks_in section None block place broken calls h = absurd h
   breaks_in section (Some f) block place broken calls h =
-      subst (λ (s : Scene). BreaksAt s block place broken) (scene_same f section) (breach_stays (scene_of p certs f section) fs others block place broken (calls f refl block) h)
+      subst (λ (s : RuleContext). BreaksAt s block place broken) (context_same f section) (breach_stays (context_of p certs f section) fs others block place broken (calls f refl block) h)
 
   module _ (func : ℕ) (scope : SameScope p certs fs others func) where
     -- what holds of this function and its certificate holds of those that stand there now
@@ -69,5 +69,5 @@ refused p certs fs others func refusal scope h = record {
 
 pub given : StayGiven
 given p certs fs others f section block =
-    let s : Scene = scene_of p certs f section in
-    ap (λ (x : Scene). given_at x block) (sym (scene_same p certs fs others f section)) ∙ (λ along. given_at_same s fs others along block)
+    let s : RuleContext = context_of p certs f section in
+    ap (λ (x : RuleContext). entry_facts_at x block) (sym (context_same p certs fs others f section)) ∙ (λ along. entry_facts_at_same s fs others along block)

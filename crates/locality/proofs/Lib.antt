@@ -1,5 +1,6 @@
 pub mod Types
 pub mod Slots
+pub mod Fits
 pub mod Offsets
 pub mod Operands
 pub mod Signature
@@ -8,8 +9,8 @@ pub mod Casts
 pub mod Elements
 pub mod Calls
 pub mod Rules
-pub mod Standing
-pub mod Ways
+pub mod InstrContext
+pub mod Edges
 pub mod Seen
 pub mod Scenes
 pub mod Kept

@@ -150,7 +150,7 @@ read_conditions_same p fs = λ along f slots here facts returned object place. (
     ∷ (K4, is_based facts place.operand (place_known p.of_module facts place.written place.operand))
     ∷ (K7, names_object facts object.operand (place_known p.of_module facts place.written place.operand))
     ∷ (K10, is_no_slot slots object.operand && is_no_slot slots place.operand)
-    ∷ (K12, here.collected)
+    ∷ (K12, here.may_move_references)
     ∷ (K19, casts_operand_same p.of_module fs along place.operand) ∷ []
 
 after_read_by : (p : LaidOut) (fs : List Function) (v : ℕ) (arguments : List Argument) (facts : FactSet) → after_read (laid_with p fs) v arguments facts ≡ after_read p v arguments facts
@@ -186,5 +186,5 @@ write_conditions_same p fs = λ along f slots here facts returned value object p
     ∷ (K4, is_based facts place.operand (place_known p.of_module facts place.written place.operand))
     ∷ (K7, names_object facts object.operand (place_known p.of_module facts place.written place.operand))
     ∷ (K10, is_no_slot slots value.operand && is_no_slot slots object.operand && is_no_slot slots place.operand)
-    ∷ (K12, here.collected)
+    ∷ (K12, here.may_move_references)
     ∷ (K19, casts_operand_same p.of_module fs along place.operand) ∷ []

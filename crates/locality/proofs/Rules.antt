@@ -9,7 +9,7 @@ use Rattle.block_rules.specs.Promises.{keeps_promise}
 use Rattle.block_rules.specs.Rules.{after_memory, after_named, after_number, all_come_in, are_cases, cast_conditions, choice_conditions, element_conditions, end_conditions, gives_root, is_case, is_condition, may_come_in, may_hold, memory_conditions, names_target, number_conditions, phi_conditions}
 use Rattle.block_rules.specs.TypeKinds.{is_bits, is_integer, is_pointer, is_void}
 use Rattle.block_rules.specs.declared.rule.Rule.TheVariants.{K1, K10, K11, K12, K14, K19, K2, K3, K4, K5, K6, K8}
-use Rattle.block_rules.specs.declared.standing.Standing.{Standing}
+use Rattle.block_rules.specs.declared.instr_context.InstrContext.{InstrContext}
 use Rattle.facts.specs.Facts.{FactSet}
 use Rattle.ir_ast.specs.declared.ends.End.{End}
 use Rattle.ir_ast.specs.declared.function.Function.{Function}
@@ -54,29 +54,29 @@ are_cases_same m fs = λ along f written cases. list_all (is_case_same m fs alon
 pub is_condition_same : (m : Module) (fs : List Function) → is_condition (with_functions m fs) ≡ is_condition m
 is_condition_same m fs = λ along f slots facts written condition. is_bits 1 (kind_of_same m fs along written) && is_value_same m fs along f slots facts written condition
 
-number_conditions_by : (p : LaidOut) (fs : List Function) (f : Function) (slots : SlotTable) (here : Standing) (facts : FactSet) (x : NumberOp) → number_conditions (laid_with p fs) f slots here facts x ≡ number_conditions p f slots here facts x
+number_conditions_by : (p : LaidOut) (fs : List Function) (f : Function) (slots : SlotTable) (here : InstrContext) (facts : FactSet) (x : NumberOp) → number_conditions (laid_with p fs) f slots here facts x ≡ number_conditions p f slots here facts x
 number_conditions_by p fs f slots here facts (number.Arithmetic kind written first second) = λ along. (K1, is_available slots facts first && is_available slots facts second)
     ∷ (K2, is_value_same p.of_module fs along f slots facts written first && is_value_same p.of_module fs along f slots facts written second && is_integer (kind_of_same p.of_module fs along written) && is_no_slot slots first && is_no_slot slots second)
-    ∷ (K12, here.collected) ∷ []
+    ∷ (K12, here.may_move_references) ∷ []
 number_conditions_by p fs f slots here facts (number.Resize kind from operand to) = λ along. (K1, is_available slots facts operand)
     ∷ (K2, is_value_same p.of_module fs along f slots facts from operand && may_resize kind (kind_of_same p.of_module fs along from) (kind_of_same p.of_module fs along to) && is_no_slot slots operand)
-    ∷ (K12, here.collected) ∷ []
+    ∷ (K12, here.may_move_references) ∷ []
 number_conditions_by p fs f slots here facts (number.Compare kind written first second) = λ along. (K1, is_available slots facts first && is_available slots facts second)
     ∷ (K2, is_value_same p.of_module fs along f slots facts written first && is_value_same p.of_module fs along f slots facts written second && may_compare kind (kind_of_same p.of_module fs along written))
     ∷ (K3, is_current facts (known_of facts first) && is_current facts (known_of facts second))
     ∷ (K10, is_no_slot slots first && is_no_slot slots second)
-    ∷ (K12, here.collected) ∷ []
+    ∷ (K12, here.may_move_references) ∷ []
 
 pub number_conditions_same : (p : LaidOut) (fs : List Function) → number_conditions (laid_with p fs) ≡ number_conditions p
 number_conditions_same p fs = λ along f slots here facts x. number_conditions_by p fs f slots here facts x along
 
-memory_conditions_by : (p : LaidOut) (fs : List Function) (f : Function) (slots : SlotTable) (here : Standing) (facts : FactSet) (result : Option ℕ) (x : MemoryOp) → memory_conditions (laid_with p fs) f slots here facts result x ≡ memory_conditions p f slots here facts result x
-memory_conditions_by p fs f slots here facts result (memory.Alloca held) = λ along. (K8, may_hold_same p.of_module fs along slots result held) ∷ (K11, here.in_entry) ∷ (K12, here.collected) ∷ []
+memory_conditions_by : (p : LaidOut) (fs : List Function) (f : Function) (slots : SlotTable) (here : InstrContext) (facts : FactSet) (result : Option ℕ) (x : MemoryOp) → memory_conditions (laid_with p fs) f slots here facts result x ≡ memory_conditions p f slots here facts result x
+memory_conditions_by p fs f slots here facts result (memory.Alloca held) = λ along. (K8, may_hold_same p.of_module fs along slots result held) ∷ (K11, here.in_entry) ∷ (K12, here.may_move_references) ∷ []
 memory_conditions_by p fs f slots here facts result (memory.Load loaded place_type place) = λ along. (K1, is_available slots facts place)
     ∷ (K2, is_typed_same p.of_module fs along f place_type place && may_load_same p fs along slots facts loaded place (place_known p.of_module facts place_type place))
     ∷ (K3, is_current facts (place_known p.of_module facts place_type place))
     ∷ (K4, is_based facts place (place_known p.of_module facts place_type place))
-    ∷ (K12, here.collected)
+    ∷ (K12, here.may_move_references)
     ∷ (K19, casts_operand_same p.of_module fs along place) ∷ []
 memory_conditions_by p fs f slots here facts result (memory.Store stored value place_type place) = λ along. (K1, is_available slots facts value && is_available slots facts place)
     ∷ (K2, is_value_same p.of_module fs along f slots facts stored value && is_typed_same p.of_module fs along f place_type place && may_store_same p fs along slots facts stored (known_of facts value) place (place_known p.of_module facts place_type place) && is_one_layout_same p fs along facts stored (place_known p.of_module facts place_type place))
@@ -84,7 +84,7 @@ memory_conditions_by p fs f slots here facts result (memory.Store stored value p
     ∷ (K4, is_based facts place (place_known p.of_module facts place_type place))
     ∷ (K6, needs_no_barrier_same p.of_module fs along slots facts stored place (place_known p.of_module facts place_type place))
     ∷ (K10, is_no_slot slots value)
-    ∷ (K12, here.collected)
+    ∷ (K12, here.may_move_references)
     ∷ (K19, casts_operand_same p.of_module fs along place) ∷ []
 
 pub memory_conditions_same : (p : LaidOut) (fs : List Function) → memory_conditions (laid_with p fs) ≡ memory_conditions p
@@ -100,14 +100,14 @@ element_conditions_same p fs = λ along f slots here facts x. (K1, is_available 
     ∷ (K3, is_current facts (known_of facts x.base))
     ∷ (K5, may_lead_same p fs along facts x.source x.indices (known_of facts x.base))
     ∷ (K10, is_no_slot slots x.base)
-    ∷ (K12, here.collected)
+    ∷ (K12, here.may_move_references)
     ∷ (K19, casts_operand_same p.of_module fs along x.base) ∷ []
 
 pub cast_conditions_same : (p : LaidOut) (fs : List Function) → cast_conditions (laid_with p fs) ≡ cast_conditions p
 cast_conditions_same p fs = λ along f slots here facts x. (K1, is_available slots facts x.operand)
     ∷ (K2, is_typed_same p.of_module fs along f x.from x.operand)
     ∷ (K3, is_current facts (known_of facts x.operand))
-    ∷ (K12, here.collected)
+    ∷ (K12, here.may_move_references)
     ∷ (K19, casts_operand_same p.of_module fs along x.operand && may_cast_same p fs along slots facts x.from x.to x.operand) ∷ []
 
 pub choice_conditions_same : (p : LaidOut) (fs : List Function) → choice_conditions (laid_with p fs) ≡ choice_conditions p
@@ -121,26 +121,26 @@ choice_conditions_same p fs = λ along f slots here facts x. (K1, is_available s
     )
     ∷ (K3, is_current facts (known_of facts x.chosen) && is_current facts (known_of facts x.other))
     ∷ (K10, is_no_slot slots x.chosen && is_no_slot slots x.other)
-    ∷ (K12, here.collected) ∷ []
+    ∷ (K12, here.may_move_references) ∷ []
 
 pub phi_conditions_same : (m : Module) (fs : List Function) → phi_conditions (with_functions m fs) ≡ phi_conditions m
-phi_conditions_same m fs = λ along f slots here phi. (K2, may_choose (kind_of_same m fs along phi.written) && all_come_in_same m fs along f slots phi.written phi.incoming) ∷ (K12, here.collected) ∷ []
+phi_conditions_same m fs = λ along f slots here phi. (K2, may_choose (kind_of_same m fs along phi.written) && all_come_in_same m fs along f slots phi.written phi.incoming) ∷ (K12, here.may_move_references) ∷ []
 
-end_conditions_by : (p : LaidOut) (fs : List Function) (f : Function) (slots : SlotTable) (here : Standing) (facts : FactSet) (x : End) → end_conditions (laid_with p fs) f slots here facts x ≡ end_conditions p f slots here facts x
+end_conditions_by : (p : LaidOut) (fs : List Function) (f : Function) (slots : SlotTable) (here : InstrContext) (facts : FactSet) (x : End) → end_conditions (laid_with p fs) f slots here facts x ≡ end_conditions p f slots here facts x
 end_conditions_by p fs f slots here facts (end.Jump target) = refl
 end_conditions_by p fs f slots here facts (end.Branch condition_type condition taken other) = λ along. (K1, is_available slots facts condition)
     ∷ (K2, is_condition_same p.of_module fs along f slots facts condition_type condition && names_target f taken && names_target f other && is_no_slot slots condition)
-    ∷ (K12, here.collected) ∷ []
+    ∷ (K12, here.may_move_references) ∷ []
 end_conditions_by p fs f slots here facts (end.Switch written value otherwise cases) = λ along. (K1, is_available slots facts value)
     ∷ (K2, is_value_same p.of_module fs along f slots facts written value && is_integer (kind_of_same p.of_module fs along written) && names_target f otherwise && are_cases_same p.of_module fs along f written cases && is_no_slot slots value)
-    ∷ (K12, here.collected) ∷ []
+    ∷ (K12, here.may_move_references) ∷ []
 end_conditions_by p fs f slots here facts end.Unreachable = refl
-end_conditions_by p fs f slots here facts end.ReturnVoid = λ along. (K2, is_void (kind_of_same p.of_module fs along f.returned)) ∷ (K12, here.collected) ∷ []
+end_conditions_by p fs f slots here facts end.ReturnVoid = λ along. (K2, is_void (kind_of_same p.of_module fs along f.returned)) ∷ (K12, here.may_move_references) ∷ []
 end_conditions_by p fs f slots here facts (end.Return argument) = λ along. (K1, is_available slots facts argument.operand)
     ∷ (K2, is_value_same p.of_module fs along f slots facts argument.written argument.operand && (argument.written == f.returned))
     ∷ (K3, is_current facts (known_of facts argument.operand))
     ∷ (K10, is_no_slot slots argument.operand)
-    ∷ (K12, here.collected)
+    ∷ (K12, here.may_move_references)
     ∷ (K14, keeps_promise facts here.promised argument.operand) ∷ []
 
 pub end_conditions_same : (p : LaidOut) (fs : List Function) → end_conditions (laid_with p fs) ≡ end_conditions p

@@ -1,4 +1,4 @@
--- The rules ask the same of a function, and show the same of it, among other functions and certificates.
+-- The rules ask the same of a function, and imply the same of it, among other functions and certificates.
 use Rattle.std.specs.Prelude.{◌≡◌, ℕ, zero, suc, ◌+◌, List, [], ◌∷◌, ◌++◌, length, take, slice_get, Option, Some, None, refl}
 use Rattle.std.specs.List.{AllByRecursion}
 use Rattle.std.proofs.Common.{ap, sym, subst, ◌∙◌}
@@ -14,19 +14,19 @@ use Rattle.shadow_stack.specs.Slots.{SlotTable}
 use Rattle.facts.specs.Facts.{FactSet}
 use Rattle.block_rules.specs.declared.block_fault.Breach.{Breach}
 use Rattle.block_rules.specs.declared.rule.Rule.TheVariants.{K16}
-use Rattle.block_rules.specs.declared.standing.Standing.{Standing}
+use Rattle.block_rules.specs.declared.instr_context.InstrContext.{InstrContext}
 use Rattle.block_rules.specs.FirstFailing.{first_failing}
-use Rattle.block_rules.specs.Standing.{phis_of, body_of, end_of}
+use Rattle.block_rules.specs.InstrContext.{phis_of, body_of, end_of}
 use Rattle.block_rules.specs.Promises.{promised_in, own_mark}
 use Rattle.block_rules.specs.Rules.{op_conditions, after_op}
 use Rattle.block_rules.specs.Signature.{callable_sort}
 use Rattle.block_rules.specs.Calls.{call_conditions, after_call}
-use Rattle.block_rules.specs.Ways.{Scene, ways, are_entries, given_at}
+use Rattle.block_rules.specs.Edges.{RuleContext, edges, are_entries, entry_facts_at}
 use Rattle.block_rules.specs.Certified.{stands, breach_by, breach_of, phi_breach, breach, end_breach, PhisPass, Passes, Follows, EndPasses, phi_count, end_place, IsCertified, BreaksAt, AtPhi, InBody, AtEnd}
-use Rattle.locality.specs.Local.{laid_with, scene_with, called_by, IfThere, LooksSame}
+use Rattle.locality.specs.Local.{laid_with, context_with, called_by, IfThere, LooksSame}
 use Rattle.locality.proofs.Rules.{number_conditions_same, memory_conditions_same, element_conditions_same, cast_conditions_same, choice_conditions_same, phi_conditions_same, end_conditions_same, after_memory_same, after_named_same}
-use Rattle.locality.proofs.Standing.{standing_same}
-use Rattle.locality.proofs.Ways.{given_at_same, unshown_on_same}
+use Rattle.locality.proofs.InstrContext.{instr_context_same}
+use Rattle.locality.proofs.Edges.{entry_facts_at_same, unmet_on_same}
 use Rattle.locality.proofs.Seen.{callee_same, callee_looks_same, call_same, after_call_same}
 
 -- ---- instructions
@@ -35,7 +35,7 @@ module _ (p : LaidOut) (certs : List Section) (fs : List Function) (others : Lis
   abbrev Same : ℕ → Type 0
   Same = LooksSame p certs fs others
 
-  op_conditions_same : (f : Function) (slots : SlotTable) (here : Standing) (facts : FactSet) (result : Option ℕ) (x : Op) → IfThere Same (called_by p.of_module x)
+  op_conditions_same : (f : Function) (slots : SlotTable) (here : InstrContext) (facts : FactSet) (result : Option ℕ) (x : Op) → IfThere Same (called_by p.of_module x)
       → op_conditions (laid_with p fs) others f slots here facts result x ≡ op_conditions p certs f slots here facts result x
   op_conditions_same f slots here facts result (op.Number x) h = λ along. number_conditions_same p fs along f slots here facts x
   op_conditions_same f slots here facts result (op.Memory x) h = λ along. memory_conditions_same p fs along f slots here facts result x
@@ -59,24 +59,24 @@ module _ (p : LaidOut) (certs : List Section) (fs : List Function) (others : Lis
   after_op_same slots None _ facts h = refl
   after_op_same slots (Some v) x facts h = λ along. after_named_same p fs along slots v x facts
 
--- ---- a scene
+-- ---- a context
 
-module _ (s : Scene) (fs : List Function) (others : List Section) where
-  abbrev other : Scene
-  other = scene_with s fs others
+module _ (s : RuleContext) (fs : List Function) (others : List Section) where
+  abbrev other : RuleContext
+  other = context_with s fs others
 
   -- the functions that an instruction calls look the same
   abbrev Fine : Instr → Type 0
   Fine instr = IfThere (LooksSame s.program s.certs fs others) (called_by s.program.of_module instr.op)
 
   stands_same : (block place : ℕ) → stands other block place ≡ stands s block place
-  stands_same block place = λ along. standing_same s.program.of_module fs along s.function s.slots (promised_in s.section) (own_mark s.section) block place
+  stands_same block place = λ along. instr_context_same s.program.of_module fs along s.function s.slots (promised_in s.section) (own_mark s.section) block place
 
   phi_breach_same : (block place : ℕ) (phi : Phi) → phi_breach other block (stands other block place) phi ≡ phi_breach s block (stands s block place) phi
   phi_breach_same block place phi = λ along.
       breach_by (first_failing (phi_conditions_same s.program.of_module fs along s.function s.slots (stands_same block place along) phi ++ (K16, are_entries s.function block phi.incoming) ∷ []))
 
-  breach_same : (here : Standing) (facts : FactSet) (instr : Instr) → Fine instr → breach other here facts instr ≡ breach s here facts instr
+  breach_same : (here : InstrContext) (facts : FactSet) (instr : Instr) → Fine instr → breach other here facts instr ≡ breach s here facts instr
   breach_same here facts instr fine = ap (λ listed. breach_by (first_failing listed)) (op_conditions_same s.program s.certs fs others s.function s.slots here facts instr.result instr.op fine)
 
   body_breach_same : (block place : ℕ) (facts : FactSet) (instr : Instr) → Fine instr → breach other (stands other block place) facts instr ≡ breach s (stands s block place) facts instr
@@ -84,7 +84,7 @@ module _ (s : Scene) (fs : List Function) (others : List Section) where
 
   end_breach_same : (block place : ℕ) (facts : FactSet) (x : End) → end_breach other block (stands other block place) facts x ≡ end_breach s block (stands s block place) facts x
   end_breach_same block place facts x = λ along.
-      breach_of (first_failing (end_conditions_same s.program fs along s.function s.slots (stands_same block place along) facts x)) (unshown_on_same s fs others along block facts (ways x))
+      breach_of (first_failing (end_conditions_same s.program fs along s.function s.slots (stands_same block place along) facts x)) (unmet_on_same s fs others along block facts (edges x))
 
   -- ---- what passes
 
@@ -116,10 +116,10 @@ module _ (s : Scene) (fs : List Function) (others : List Section) where
   all_pass block h = phis_pass block 0 (phis_of s.function block) h
 
   -- the same instructions lead from the same facts to the same facts
-  lead : (block : ℕ) (instrs : List Instr) (last : FactSet) → AllByRecursion Fine instrs → Follows s block (phi_count s block) (given_at s block) instrs last → Follows other block (phi_count s block) (given_at other block) instrs last
+  lead : (block : ℕ) (instrs : List Instr) (last : FactSet) → AllByRecursion Fine instrs → Follows s block (phi_count s block) (entry_facts_at s block) instrs last → Follows other block (phi_count s block) (entry_facts_at other block) instrs last
   lead block instrs last fine h =
-      let given : given_at other block ≡ given_at s block = λ along. given_at_same s fs others along block in
-      subst (λ (facts : FactSet). Follows other block (phi_count s block) facts instrs last) (sym given) (follow block (phi_count s block) (given_at s block) instrs last fine h)
+      let given : entry_facts_at other block ≡ entry_facts_at s block = λ along. entry_facts_at_same s fs others along block in
+      subst (λ (facts : FactSet). Follows other block (phi_count s block) facts instrs last) (sym given) (follow block (phi_count s block) (entry_facts_at s block) instrs last fine h)
 
   pub block_stays : (block : ℕ) → AllFine block → IsCertified s block → IsCertified other block
   block_stays block fine h = record {

@@ -14,14 +14,14 @@ use Rattle.certs.specs.declared.section.Section.{Section}
 pub use Rattle.layout.specs.Functions.{with_functions, laid_with}
 use Rattle.layout.specs.Layouts.{LaidOut}
 use Rattle.block_rules.specs.Promises.{promises_in, promised_in, callee_mark}
-use Rattle.block_rules.specs.Standing.{body_of}
-use Rattle.block_rules.specs.Ways.{Scene}
+use Rattle.block_rules.specs.InstrContext.{body_of}
+use Rattle.block_rules.specs.Edges.{RuleContext}
 
 -- ---- other functions
 
 -- the same function, with the same certificate, among other functions and other certificates
-abbrev pub scene_with : Scene → List Function → (others : List Section) → Scene
-scene_with s fs others = record s { program = laid_with s.program fs; certs = others }
+abbrev pub context_with : RuleContext → List Function → (others : List Section) → RuleContext
+context_with s fs others = record s { program = laid_with s.program fs; certs = others }
 
 -- ---- what a caller sees of a function
 

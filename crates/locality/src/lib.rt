@@ -1,7 +1,7 @@
 //! What is asked of one function depends on its own text, on its certificate, and on what it sees of the functions that it calls.
 #![tactic(auto)]
 
-ghost use Rattle.locality.specs.Laws.{StayCertified, StayRefused, StayGiven};
+ghost use Rattle.locality.specs.Laws.{FitAlone, RootsFitAlone, StayCertified, StayRefused, StayGiven};
 
 /// Among other functions and other certificates the answer to a function stays what it is, where its own text and certificate
 /// are the same, and the functions that it calls look the same to it. The module's tables and layouts have to be the same.
@@ -10,4 +10,10 @@ pub fn locality_law()
     ensures certified { StayCertified }
     ensures refused { StayRefused }
     ensures given { StayGiven }
+{}
+
+/// Among other functions the same certificates and the same shapes fit a function, where the module's tables are the same.
+pub fn fit_law()
+    ensures sections { FitAlone }
+    ensures roots { RootsFitAlone }
 {}

@@ -20,7 +20,7 @@ use Rattle.shadow_stack.specs.Slots.{SlotTable}
 use Rattle.certs.specs.declared.section.Section.{Section}
 use Rattle.facts.specs.Facts.{FactSet}
 use Rattle.block_rules.specs.declared.signature.RuntimeType.TheVariants as types
-use Rattle.block_rules.specs.declared.standing.Standing.{Standing}
+use Rattle.block_rules.specs.declared.instr_context.InstrContext.{InstrContext}
 use Rattle.block_rules.specs.declared.type_kind.TypeKind.{TypeKind}
 use Rattle.block_rules.specs.declared.type_kind.TypeKind.TheVariants.{NoValue, Bits, Reference, AnyReference, Address as AddressKind, Other}
 use Rattle.block_rules.specs.Barriers.{may_read, may_write, read_conditions, write_conditions, after_read_call, after_write}
@@ -85,7 +85,7 @@ access_place p f table facts written x k1 k2 k3 k4 k10 k19 type =
     let k = and_parts (not (o.is_null x)) (o.base_nonnull facts (o.place_known p.of_module facts written x)) k4 in
     record { there = k1; typed = k2; current = k3; based = k.1; casts = k19; varies = no_constant p.of_module f written x k2 type k.0; no_slot = none_of (o.slot_named table x) k10 }
 
-module _ (heap : Setup) (p : LaidOut) (certs : List Section) (reaches : Bool) (f : Function) (table : SlotTable) (guarded : Guarded) (log : Log) (guards : (cell : ℕ) → guarded cell → IsFresh log cell) (fits : IsHeapFor heap p) (here : Standing) (cells : Cells) (facts : FactSet) (frame : Frame)
+module _ (heap : Setup) (p : LaidOut) (certs : List Section) (reaches : Bool) (f : Function) (table : SlotTable) (guarded : Guarded) (log : Log) (guards : (cell : ℕ) → guarded cell → IsFresh log cell) (fits : IsHeapFor heap p) (here : InstrContext) (cells : Cells) (facts : FactSet) (frame : Frame)
     (h : Holds heap p table guarded log cells facts frame.registers frame.slots) (members : HaveMembers facts) (result : Option ℕ) (returned : ℕ) (defined : Option Function) (d : Declare) where
   -- what a call asks for
   abbrev asked : List Argument → Runtime → Action

@@ -15,7 +15,7 @@ use Rattle.certs.specs.declared.section.Section.{Section}
 use Rattle.facts.specs.Facts.{FactSet}
 use Rattle.block_rules.specs.declared.callee.Callee.{Callee}
 use Rattle.block_rules.specs.declared.callee.Callee.TheVariants.{OfRuntime, OfModule, NoFunction}
-use Rattle.block_rules.specs.declared.standing.Standing.{Standing}
+use Rattle.block_rules.specs.declared.instr_context.InstrContext.{InstrContext}
 use Rattle.block_rules.specs.Calls.{call_conditions, refused_conditions, after_call}
 use Rattle.block_rules.specs.FirstFailing.{first_failing}
 use Rattle.block_rules.specs.Signature.{callee_of}
@@ -33,7 +33,7 @@ use Rattle.soundness.proofs.StepCalls.{alloc_goes, root_goes, safepoint_goes}
 use Rattle.soundness.proofs.RulesHold.{rules_hold}
 use Rattle.block_rules.specs.declared.rule.Rule.TheVariants.{K18}
 
-module _ (heap : Setup) (p : LaidOut) (certs : List Section) (reaches : Bool) (f : Function) (table : SlotTable) (guarded : Guarded) (log : Log) (guards : (cell : ℕ) → guarded cell → IsFresh log cell) (fits : IsHeapFor heap p) (here : Standing) (marked : is_may here.mark ≡ true → reaches ≡ true) (cells : Cells) (facts : FactSet)
+module _ (heap : Setup) (p : LaidOut) (certs : List Section) (reaches : Bool) (f : Function) (table : SlotTable) (guarded : Guarded) (log : Log) (guards : (cell : ℕ) → guarded cell → IsFresh log cell) (fits : IsHeapFor heap p) (here : InstrContext) (marked : is_may here.mark ≡ true → reaches ≡ true) (cells : Cells) (facts : FactSet)
     (frame : Frame) (h : Holds heap p table guarded log cells facts frame.registers frame.slots) (members : HaveMembers facts) (result : Option ℕ) (returned : ℕ) where
   -- what a call asks for, by its declaration
   abbrev asked : List Argument → (callee : ℕ) → Option Declare → Option Runtime → Action

@@ -24,7 +24,7 @@ use Rattle.facts.specs.declared.known.Known.TheVariants.{Nothing, Number, Cell, 
 use Rattle.facts.specs.Facts.{FactSet, known_at, class_at, off_base, values_without, forget, define}
 use Rattle.block_rules.specs.declared.type_kind.TypeKind.{TypeKind}
 use Rattle.block_rules.specs.declared.type_kind.TypeKind.TheVariants.{NoValue, Bits, Reference, AnyReference, Address as AddressKind, Other}
-use Rattle.block_rules.specs.declared.standing.Standing.{Standing}
+use Rattle.block_rules.specs.declared.instr_context.InstrContext.{InstrContext}
 use Rattle.block_rules.specs.FirstFailing.{first_failing}
 use Rattle.block_rules.specs.declared.rule.Rule.TheVariants.{K1, K2, K19}
 use Rattle.block_rules.specs.Casts as c
@@ -235,7 +235,7 @@ module _ (heap : Setup) (p : LaidOut) (certs : List Section) (reaches : Bool) (f
   -- ---- by the conditions
 
   -- a bitcast whose conditions hold goes: of a constant, of a slot, or of a value
-  cast_by : (fits : IsHeapFor heap p) (here : Standing) (result : Option ℕ) (from : ℕ) (x : Operand) (to : ℕ) → first_failing (cast_conditions p f table here facts (bitcast from x to)) ≡ None
+  cast_by : (fits : IsHeapFor heap p) (here : InstrContext) (result : Option ℕ) (from : ℕ) (x : Operand) (to : ℕ) → first_failing (cast_conditions p f table here facts (bitcast from x to)) ≡ None
       → OpGoes heap p certs reaches f table guarded log facts frame result (op.Cast (bitcast from x to))
   cast_by fits here result from x to e =
       let all = rules_hold (cast_conditions p f table here facts (bitcast from x to)) e in
@@ -256,5 +256,5 @@ module _ (heap : Setup) (p : LaidOut) (certs : List Section) (reaches : Bool) (f
             global_goes fits from to result (operand.CastGlobal own symbol other) symbol (λ name. after_op p certs table name (op.Cast (bitcast from (operand.CastGlobal own symbol other) to)) facts) refl (λ v. refl)
             (typed_so p f table from (operand.CastGlobal own symbol other) k2 casts refl) (operand_means heap p certs reaches f table guarded log fits cells facts frame h from (operand.CastGlobal own symbol other) k2) k19
 
-  pub cast_goes : (fits : IsHeapFor heap p) (here : Standing) (result : Option ℕ) (x : Cast) → first_failing (cast_conditions p f table here facts x) ≡ None → OpGoes heap p certs reaches f table guarded log facts frame result (op.Cast x)
+  pub cast_goes : (fits : IsHeapFor heap p) (here : InstrContext) (result : Option ℕ) (x : Cast) → first_failing (cast_conditions p f table here facts x) ≡ None → OpGoes heap p certs reaches f table guarded log facts frame result (op.Cast x)
   cast_goes fits here result x e = cast_by fits here result x.from x.operand x.to e

@@ -10,7 +10,7 @@ use Rattle.safepoints.specs.Marks.{is_may}
 use Rattle.shadow_stack.specs.Slots.{SlotTable, slots_of}
 use Rattle.certs.specs.declared.section.Section.{Section}
 use Rattle.facts.specs.Facts.{FactSet}
-use Rattle.block_rules.specs.declared.standing.Standing.{Standing}
+use Rattle.block_rules.specs.declared.instr_context.InstrContext.{InstrContext}
 use Rattle.block_rules.specs.FirstFailing.{first_failing}
 use Rattle.block_rules.specs.Rules.{op_conditions}
 use Rattle.machine.specs.declared.frame.Frame.{Frame}
@@ -26,7 +26,7 @@ use Rattle.soundness.proofs.Elements.{element_goes}
 use Rattle.soundness.proofs.Memory.{memory_goes}
 use Rattle.soundness.proofs.Numbers.{number_goes}
 
-module _ (heap : Setup) (p : LaidOut) (certs : List Section) (reaches : Bool) (f : Function) (table : SlotTable) (guarded : Guarded) (log : Log) (guards : (cell : ℕ) → guarded cell → IsFresh log cell) (fits : IsHeapFor heap p) (here : Standing) (marked : is_may here.mark ≡ true → reaches ≡ true) (cells : Cells) (facts : FactSet) (frame : Frame)
+module _ (heap : Setup) (p : LaidOut) (certs : List Section) (reaches : Bool) (f : Function) (table : SlotTable) (guarded : Guarded) (log : Log) (guards : (cell : ℕ) → guarded cell → IsFresh log cell) (fits : IsHeapFor heap p) (here : InstrContext) (marked : is_may here.mark ≡ true → reaches ≡ true) (cells : Cells) (facts : FactSet) (frame : Frame)
     (h : Holds heap p table guarded log cells facts frame.registers frame.slots) (members : HaveMembers facts) where
   -- by what an instruction does
   pub op_goes : (result : Option ℕ) (x : Op) → mc.function_called p.of_module x ≡ None → first_failing (op_conditions p certs f table here facts result x) ≡ None → OpGoes heap p certs reaches f table guarded log facts frame result x

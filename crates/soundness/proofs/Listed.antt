@@ -1,4 +1,4 @@
--- What the lines of a block give holds where each of them is shown.
+-- What the claims of a block give holds where each of them is implied.
 use Rattle.std.proofs.Common.{◌≡◌, ◌≢◌, ℕ, ◌+◌, ◌<◌, ◌≤◌, List, [], ◌∷◌, length, map, refl, sym, ap, ◌∙◌, subst, arith, true, false, Bool, Option, Some, None, slice_set, inl, inr}
 use Rattle.std.proofs.lemmas.List.{length-map, length-set, length-replicate}
 use Rattle.std.proofs.lemmas.List.FromFn.{length-enumerate_from, get_or-enumerate_from}
@@ -15,14 +15,14 @@ use Rattle.shadow_stack.specs.Slots.{SlotTable, slot_of}
 use Rattle.certs.specs.declared.section.Age.{Age}
 use Rattle.certs.specs.declared.section.Fact.{Fact}
 use Rattle.certs.specs.declared.section.Fact.TheVariants as fact
-use Rattle.certs.specs.declared.section.Line.{Line}
-use Rattle.certs.specs.declared.section.Line.TheVariants as line
+use Rattle.certs.specs.declared.section.Claim.{Claim}
+use Rattle.certs.specs.declared.section.Claim.TheVariants as claim
 use Rattle.facts.specs.declared.known.Class.{Class}
 use Rattle.facts.specs.declared.known.Known.{Known}
 use Rattle.facts.specs.declared.known.Known.TheVariants.{Nothing, Number, Cell, Null, Address, GlobalAddress}
 use Rattle.facts.specs.declared.known.SlotFact.{SlotFact}
 use Rattle.facts.specs.Facts.{FactSet, known_at, slot_at, class_at, test_at, open_slot, lost_class, nothing_known, is_of, holds_class, held_nonnull, slot_nonnull, set_known, set_class}
-use Rattle.facts.specs.Lines.{is_stale, is_fresh, list_value, list_slot, list_lines, moved, move, join, join_values, tie_value, tie_fact, tie_lines, hold_known, hold_value, hold_lines, facts_of_lines, implied, is_below, covers_value, covers_slot, covers, covers_known, is_fresh_in, is_same, is_alone, shows_reference, shows_number, shows_address, shows_global, shows_fact, holds_known, holds_value, shows_slot, shows_line}
+use Rattle.facts.specs.Claims.{is_stale, is_fresh, list_value, list_slot, list_claims, moved, move, join, join_values, tie_value, tie_fact, tie_claims, hold_known, hold_value, hold_claims, facts_of_claims, implied, is_below, covers_value, covers_slot, covers, covers_known, is_fresh_in, is_same, is_alone, implies_reference, implies_number, implies_address, implies_global, implies_fact, holds_known, holds_value, implies_slot, implies_claim}
 use Rattle.machine.specs.declared.value.Value.{Value}
 use Rattle.machine.specs.declared.value.Value.TheVariants as value
 use Rattle.machine.specs.Kinds.{register_at}
@@ -31,11 +31,11 @@ use Rattle.machine.specs.Log.{Log}
 use Rattle.soundness.specs.Meaning.{Cells, Guarded, IsReferenceTo, IsOwn, IsNullOrFresh, AreApart, IsBelow, IsInteger, IsAddressOf, IsGlobal, Means, ClassMeans, WasTested, SlotMeans, Holds}
 use Rattle.soundness.proofs.Lists.{at_set, by_equal, at_other, at_same, replicated, all_zip, as_implied, not_both, within_list, each_below}
 
--- a smaller bound shows a larger one
-pub below_shown : (n : ℕ) (known asked : Option ℕ) → is_below known asked ≡ true → IsBelow n known → IsBelow n asked
-below_shown n known None e h = tt
-below_shown n None (Some m) e h = absurd cc
-below_shown n (Some k) (Some m) e h = let le : k ≤ m = grind (arith, e) in omega (arith, le, h)
+-- a smaller bound implies a larger one
+pub below_implied : (n : ℕ) (known asked : Option ℕ) → is_below known asked ≡ true → IsBelow n known → IsBelow n asked
+below_implied n known None e h = tt
+below_implied n None (Some m) e h = absurd cc
+below_implied n (Some k) (Some m) e h = let le : k ≤ m = grind (arith, e) in omega (arith, le, h)
 
 -- nothing refers to the cell of null
 apart_null : (a : Value) → AreApart a value.Null
@@ -168,35 +168,35 @@ module _ (heap : Setup) (p : LaidOut) (table : SlotTable) (guarded : Guarded) (l
   cell_own : (f : FactSet) (v layout : ℕ) (stale : Bool) → OwnClasses f → OwnClasses (set_known v (Cell v layout stale) f)
   cell_own f v layout stale own j c l s = at_set (λ x. x ≡ Cell c l s → c ≡ j) f.values v j (Cell v layout stale) Nothing (λ e lt w. let q : v ≡ c = cc in sym q ∙ e) (λ ne. own j c l s) (λ w. absurd cc)
 
-  -- ---- what a shown line lists
+  -- ---- what an implied claim lists
 
-  number_shown : (v bits : ℕ) (below : Option ℕ) (k : Known) → shows_number bits below k ≡ true → Means heap p guarded log cells (length here.classes) registers k (names v) → IsInteger bits below (names v)
-  number_shown v bits below (Number n known) e m =
+  number_implied : (v bits : ℕ) (below : Option ℕ) (k : Known) → implies_number bits below k ≡ true → Means heap p guarded log cells (length here.classes) registers k (names v) → IsInteger bits below (names v)
+  number_implied v bits below (Number n known) e m =
       let b = and_parts (n == bits) (is_below known below) e in
       let i = subst (λ x. IsInteger x known (names v)) (test_true n bits b.0) m in
-      record { number = i.number; is = i.is; fits = i.fits; under = below_shown i.number known below b.1 i.under }
-  number_shown v bits below Nothing e m = absurd cc
-  number_shown v bits below (Cell c l s) e m = absurd cc
-  number_shown v bits below Null e m = absurd cc
-  number_shown v bits below (Address x w) e m = absurd cc
-  number_shown v bits below (GlobalAddress g) e m = absurd cc
+      record { number = i.number; is = i.is; fits = i.fits; under = below_implied i.number known below b.1 i.under }
+  number_implied v bits below Nothing e m = absurd cc
+  number_implied v bits below (Cell c l s) e m = absurd cc
+  number_implied v bits below Null e m = absurd cc
+  number_implied v bits below (Address x w) e m = absurd cc
+  number_implied v bits below (GlobalAddress g) e m = absurd cc
 
-  number_plain : (bits : ℕ) (below : Option ℕ) (k : Known) (c l : ℕ) (s : Bool) → shows_number bits below k ≡ true → k ≡ Cell c l s → ⊥
-  number_plain bits below k c l s e z = let t = subst (λ x. shows_number bits below x ≡ true) z e in absurd cc
+  number_plain : (bits : ℕ) (below : Option ℕ) (k : Known) (c l : ℕ) (s : Bool) → implies_number bits below k ≡ true → k ≡ Cell c l s → ⊥
+  number_plain bits below k c l s e z = let t = subst (λ x. implies_number bits below x ≡ true) z e in absurd cc
 
-  address_plain : (base : ℕ) (words : List Bool) (k : Known) (c l : ℕ) (s : Bool) → shows_address base words k ≡ true → k ≡ Cell c l s → ⊥
-  address_plain base words k c l s e z = let t = subst (λ x. shows_address base words x ≡ true) z e in absurd cc
+  address_plain : (base : ℕ) (words : List Bool) (k : Known) (c l : ℕ) (s : Bool) → implies_address base words k ≡ true → k ≡ Cell c l s → ⊥
+  address_plain base words k c l s e z = let t = subst (λ x. implies_address base words x ≡ true) z e in absurd cc
 
-  global_plain : (symbol : ℕ) (k : Known) (c l : ℕ) (s : Bool) → shows_global symbol k ≡ true → k ≡ Cell c l s → ⊥
-  global_plain symbol k c l s e z = let t = subst (λ x. shows_global symbol x ≡ true) z e in absurd cc
+  global_plain : (symbol : ℕ) (k : Known) (c l : ℕ) (s : Bool) → implies_global symbol k ≡ true → k ≡ Cell c l s → ⊥
+  global_plain symbol k c l s e z = let t = subst (λ x. implies_global symbol x ≡ true) z e in absurd cc
 
-  global_shown : (v symbol : ℕ) (k : Known) → shows_global symbol k ≡ true → Means heap p guarded log cells (length here.classes) registers k (names v) → IsGlobal p.of_module symbol (names v)
-  global_shown v symbol (GlobalAddress known) e m = subst (λ x. IsGlobal p.of_module x (names v)) (test_true known symbol e) m
-  global_shown v symbol Nothing e m = absurd cc
-  global_shown v symbol (Number n b) e m = absurd cc
-  global_shown v symbol (Cell c l s) e m = absurd cc
-  global_shown v symbol Null e m = absurd cc
-  global_shown v symbol (Address x w) e m = absurd cc
+  global_implied : (v symbol : ℕ) (k : Known) → implies_global symbol k ≡ true → Means heap p guarded log cells (length here.classes) registers k (names v) → IsGlobal p.of_module symbol (names v)
+  global_implied v symbol (GlobalAddress known) e m = subst (λ x. IsGlobal p.of_module x (names v)) (test_true known symbol e) m
+  global_implied v symbol Nothing e m = absurd cc
+  global_implied v symbol (Number n b) e m = absurd cc
+  global_implied v symbol (Cell c l s) e m = absurd cc
+  global_implied v symbol Null e m = absurd cc
+  global_implied v symbol (Address x w) e m = absurd cc
 
   -- a word of a part of a set is one of the set
   word_more : (set other : List Bool) (w : ℕ) → w < 64 → has_all set other ≡ true → has_word other w ≡ true → has_word set w ≡ true
@@ -215,18 +215,18 @@ module _ (heap : Setup) (p : LaidOut) (table : SlotTable) (guarded : Guarded) (l
   address_grows set other (value.Cell l at) v e a = (a.0, a.1, word_more set other a.0 a.3 e a.2, a.3, a.4)
   address_grows set other (value.Address at) v e a = a
 
-  address_shown : (v base : ℕ) (words : List Bool) (k : Known) → shows_address base words k ≡ true → Means heap p guarded log cells (length here.classes) registers k (names v) → IsAddressOf p words (names base) (names v)
-  address_shown v base words (Address x known) e m =
+  address_implied : (v base : ℕ) (words : List Bool) (k : Known) → implies_address base words k ≡ true → Means heap p guarded log cells (length here.classes) registers k (names v) → IsAddressOf p words (names base) (names v)
+  address_implied v base words (Address x known) e m =
       let b = and_parts (x == base) (has_all words known.members) e in
       subst (λ z. IsAddressOf p words (names z) (names v)) (test_true x base b.0) (address_grows words known.members (names x) (names v) b.1 m)
-  address_shown v base words Nothing e m = absurd cc
-  address_shown v base words (Number n b) e m = absurd cc
-  address_shown v base words (Cell c l s) e m = absurd cc
-  address_shown v base words Null e m = absurd cc
-  address_shown v base words (GlobalAddress g) e m = absurd cc
+  address_implied v base words Nothing e m = absurd cc
+  address_implied v base words (Number n b) e m = absurd cc
+  address_implied v base words (Cell c l s) e m = absurd cc
+  address_implied v base words Null e m = absurd cc
+  address_implied v base words (GlobalAddress g) e m = absurd cc
 
-  -- what a shown line of a reference says
-  record ShownCell (v layout : ℕ) (nonnull : Bool) (a : Age) (same : Option ℕ) : Type 0 where
+  -- what an implied claim of a reference says
+  record ImpliedCell (v layout : ℕ) (nonnull : Bool) (a : Age) (same : Option ℕ) : Type 0 where
     refers : IsReferenceTo heap layout (names v)
     own : is_stale a ≡ false → IsOwn log guarded (names v)
     backed : (known_at here.values v ≡ Null) ⊎ CellHere v (is_stale a)
@@ -246,8 +246,8 @@ module _ (heap : Setup) (p : LaidOut) (table : SlotTable) (guarded : Guarded) (l
   same_class q w (Address x z) is e = absurd cc
   same_class q w (GlobalAddress g) is e = absurd cc
 
-  cell_shown : (v layout : ℕ) (nonnull : Bool) (a : Age) (same : Option ℕ) (k : Known) → known_at here.values v ≡ k → shows_reference here there v layout nonnull a same k ≡ true → ShownCell v layout nonnull a same
-  cell_shown v layout nonnull a same (Cell c known stale) is e =
+  cell_implied : (v layout : ℕ) (nonnull : Bool) (a : Age) (same : Option ℕ) (k : Known) → known_at here.values v ≡ k → implies_reference here there v layout nonnull a same k ≡ true → ImpliedCell v layout nonnull a same
+  cell_implied v layout nonnull a same (Cell c known stale) is e =
       let m = subst (λ k. Means heap p guarded log cells (length here.classes) registers k (names v)) is (h.values v) in
       let b4 = and_parts (known == layout && implied nonnull (class_at here.classes c).nonnull && implied (not (is_stale a)) (not stale) && implied (is_fresh a) (is_fresh_in here there c v)) (is_same here.values c same) e in
       let b3 = and_parts (known == layout && implied nonnull (class_at here.classes c).nonnull && implied (not (is_stale a)) (not stale)) (implied (is_fresh a) (is_fresh_in here there c v)) b4.0 in
@@ -268,7 +268,7 @@ module _ (heap : Setup) (p : LaidOut) (table : SlotTable) (guarded : Guarded) (l
         sames : names v ≡ cells c → (same : Option ℕ) → is_same here.values c same ≡ true → (w : ℕ) → same ≡ Some w → names v ≡ names w
         sames mine None e w z = absurd cc
         sames mine (Some x) e w z = let q : x ≡ w = cc in mine ∙ sym (same_class c x (known_at here.values x) refl e) ∙ ap names q
-  cell_shown v layout nonnull a same Null is e =
+  cell_implied v layout nonnull a same Null is e =
       let m = subst (λ k. Means heap p guarded log cells (length here.classes) registers k (names v)) is (h.values v) in
       let b2 = and_parts (not nonnull && not (is_fresh a)) (is_alone v same) e in
       let b1 = and_parts (not nonnull) (not (is_fresh a)) b2.0 in
@@ -280,29 +280,29 @@ module _ (heap : Setup) (p : LaidOut) (table : SlotTable) (guarded : Guarded) (l
         fresh = λ z. absurd (not_both (is_fresh a) z (not_true (is_fresh a) b1.1));
         sames = λ w z. ap names (alone_itself v same w b2.1 z);
       }
-  cell_shown v layout nonnull a same Nothing is e = absurd cc
-  cell_shown v layout nonnull a same (Number n b) is e = absurd cc
-  cell_shown v layout nonnull a same (Address x z) is e = absurd cc
-  cell_shown v layout nonnull a same (GlobalAddress g) is e = absurd cc
+  cell_implied v layout nonnull a same Nothing is e = absurd cc
+  cell_implied v layout nonnull a same (Number n b) is e = absurd cc
+  cell_implied v layout nonnull a same (Address x z) is e = absurd cc
+  cell_implied v layout nonnull a same (GlobalAddress g) is e = absurd cc
 
-  -- ---- a line is listed
+  -- ---- a claim is listed
 
-  value_listed : (f : FactSet) (v : ℕ) (of : Fact) → shows_fact here there v of ≡ true → Given f → OwnClasses f → Given (list_value v of f) × OwnClasses (list_value v of f)
+  value_listed : (f : FactSet) (v : ℕ) (of : Fact) → implies_fact here there v of ≡ true → Given f → OwnClasses f → Given (list_value v of f) × OwnClasses (list_value v of f)
   value_listed f v (fact.Number bits below) e g own = (
-    plain_listed f v (Number bits below) g (number_shown v bits below (known_at here.values v) e (h.values v)) (λ c l s. number_plain bits below (known_at here.values v) c l s e) (λ c l s z. absurd cc),
+    plain_listed f v (Number bits below) g (number_implied v bits below (known_at here.values v) e (h.values v)) (λ c l s. number_plain bits below (known_at here.values v) c l s e) (λ c l s z. absurd cc),
     plain_own f v (Number bits below) own (λ c l s z. absurd cc),
   )
   value_listed f v (fact.Reference layout nonnull a same) e g own =
-      let s = cell_shown v layout nonnull a same (known_at here.values v) refl e in (
+      let s = cell_implied v layout nonnull a same (known_at here.values v) refl e in (
         cell_listed f v layout (is_stale a) nonnull (is_fresh a) g own (λ lt. record { is = refl; within = lt; refers = s.refers; own = s.own; backed = s.backed }) s.class s.fresh,
         cell_own f v layout (is_stale a) own,
       )
   value_listed f v (fact.Address base words) e g own = (
-    plain_listed f v (Address base words) g (address_shown v base words.members (known_at here.values v) e (h.values v)) (λ c l s. address_plain base words.members (known_at here.values v) c l s e) (λ c l s z. absurd cc),
+    plain_listed f v (Address base words) g (address_implied v base words.members (known_at here.values v) e (h.values v)) (λ c l s. address_plain base words.members (known_at here.values v) c l s e) (λ c l s z. absurd cc),
     plain_own f v (Address base words) own (λ c l s z. absurd cc),
   )
   value_listed f v (fact.GlobalAddress x) e g own = (
-    plain_listed f v (GlobalAddress x) g (global_shown v x (known_at here.values v) e (h.values v)) (λ c l s. global_plain x (known_at here.values v) c l s e) (λ c l s z. absurd cc),
+    plain_listed f v (GlobalAddress x) g (global_implied v x (known_at here.values v) e (h.values v)) (λ c l s. global_plain x (known_at here.values v) c l s e) (λ c l s z. absurd cc),
     plain_own f v (GlobalAddress x) own (λ c l s z. absurd cc),
   )
 
@@ -317,7 +317,7 @@ module _ (heap : Setup) (p : LaidOut) (table : SlotTable) (guarded : Guarded) (l
     pick (inl z) = m.nonnull z
     pick (inr z) = by slot.holds refl z
 
-  slot_listed : (f : FactSet) (slot : Option ℕ) (nonnull : Bool) (holds : Option ℕ) → shows_slot here slot nonnull holds ≡ true → Given f → OwnClasses f → Given (list_slot slot nonnull f) × OwnClasses (list_slot slot nonnull f)
+  slot_listed : (f : FactSet) (slot : Option ℕ) (nonnull : Bool) (holds : Option ℕ) → implies_slot here slot nonnull holds ≡ true → Given f → OwnClasses f → Given (list_slot slot nonnull f) × OwnClasses (list_slot slot nonnull f)
   slot_listed f None nonnull holds e g own = (g, own)
   slot_listed f (Some s) nonnull holds e g own =
       let b = and_parts (implied nonnull (slot_nonnull here.classes (slot_at here.slots s))) (holds_value here.values (slot_at here.slots s).holds holds) e in (
@@ -339,17 +339,17 @@ module _ (heap : Setup) (p : LaidOut) (table : SlotTable) (guarded : Guarded) (l
         same : {c : ℕ} → Origin f c → Origin (list_slot (Some s) nonnull f) c
         same o = record { of = o.of; layout = o.layout; stale = o.stale; is = o.is; fresh = o.fresh }
 
-  -- each line is shown
-  abbrev pub AllShown : List Line → Type 0
-  AllShown [] = Unit {0}
-  AllShown (l ∷ lines) = (shows_line table here there l ≡ true) × AllShown lines
+  -- each claim is implied
+  abbrev pub AllImplied : List Claim → Type 0
+  AllImplied [] = Unit {0}
+  AllImplied (l ∷ claims) = (implies_claim table here there l ≡ true) × AllImplied claims
 
-  all_listed : (lines : List Line) (f : FactSet) → AllShown lines → Given f → OwnClasses f → Given (list_lines table lines f) × OwnClasses (list_lines table lines f)
-  all_listed [] f shown g own = (g, own)
-  all_listed (line.Value v of ∷ lines) f shown g own =
-      let n = value_listed f v of shown.0 g own in all_listed lines (list_value v of f) shown.1 n.0 n.1
-  all_listed (line.Slot slot nonnull holds ∷ lines) f shown g own =
-      let n = slot_listed f (slot_of table slot) nonnull holds shown.0 g own in all_listed lines (list_slot (slot_of table slot) nonnull f) shown.1 n.0 n.1
+  all_listed : (claims : List Claim) (f : FactSet) → AllImplied claims → Given f → OwnClasses f → Given (list_claims table claims f) × OwnClasses (list_claims table claims f)
+  all_listed [] f implied g own = (g, own)
+  all_listed (claim.Value v of ∷ claims) f implied g own =
+      let n = value_listed f v of implied.0 g own in all_listed claims (list_value v of f) implied.1 n.0 n.1
+  all_listed (claim.Slot slot nonnull holds ∷ claims) f implied g own =
+      let n = slot_listed f (slot_of table slot) nonnull holds implied.0 g own in all_listed claims (list_slot (slot_of table slot) nonnull f) implied.1 n.0 n.1
 
   nothing_given : Given (nothing_known (length registers) (length slots))
   nothing_given = record {
@@ -494,16 +494,16 @@ module _ (heap : Setup) (p : LaidOut) (table : SlotTable) (guarded : Guarded) (l
   tie_given v None f equals g = g
   tie_given v (Some w) f equals g = join_given v w (known_at f.values v) (known_at f.values w) f refl refl (equals w refl) g
 
-  fact_tied : (v : ℕ) (of : Fact) (f : FactSet) → shows_fact here there v of ≡ true → Given f → Given (tie_fact v of f)
+  fact_tied : (v : ℕ) (of : Fact) (f : FactSet) → implies_fact here there v of ≡ true → Given f → Given (tie_fact v of f)
   fact_tied v (fact.Number bits below) f e g = g
-  fact_tied v (fact.Reference layout nonnull a same) f e g = tie_given v same f (cell_shown v layout nonnull a same (known_at here.values v) refl e).sames g
+  fact_tied v (fact.Reference layout nonnull a same) f e g = tie_given v same f (cell_implied v layout nonnull a same (known_at here.values v) refl e).sames g
   fact_tied v (fact.Address base words) f e g = g
   fact_tied v (fact.GlobalAddress x) f e g = g
 
-  all_tied : (lines : List Line) (f : FactSet) → AllShown lines → Given f → Given (tie_lines lines f)
-  all_tied [] f shown g = g
-  all_tied (line.Value v of ∷ lines) f shown g = all_tied lines (tie_fact v of f) shown.1 (fact_tied v of f shown.0 g)
-  all_tied (line.Slot slot nonnull holds ∷ lines) f shown g = all_tied lines f shown.1 g
+  all_tied : (claims : List Claim) (f : FactSet) → AllImplied claims → Given f → Given (tie_claims claims f)
+  all_tied [] f implied g = g
+  all_tied (claim.Value v of ∷ claims) f implied g = all_tied claims (tie_fact v of f) implied.1 (fact_tied v of f implied.0 g)
+  all_tied (claim.Slot slot nonnull holds ∷ claims) f implied g = all_tied claims f implied.1 g
 
   -- ---- slots hold
 
@@ -546,25 +546,25 @@ module _ (heap : Setup) (p : LaidOut) (table : SlotTable) (guarded : Guarded) (l
   holds_same s x holds (Address y w) iss is e = absurd cc
   holds_same s x holds (GlobalAddress y) iss is e = absurd cc
 
-  value_held : (slot holds : Option ℕ) (nonnull : Bool) (f : FactSet) → shows_slot here slot nonnull holds ≡ true → Given f → Given (hold_value slot holds f)
+  value_held : (slot holds : Option ℕ) (nonnull : Bool) (f : FactSet) → implies_slot here slot nonnull holds ≡ true → Given f → Given (hold_value slot holds f)
   value_held (Some s) (Some x) nonnull f e g =
       let b = and_parts (implied nonnull (slot_nonnull here.classes (slot_at here.slots s))) (holds_value here.values (slot_at here.slots s).holds (Some x)) e in
       slot_held s x (known_at f.values x) f refl (holds_same s x (slot_at here.slots s).holds (known_at here.values x) refl refl b.1) g
   value_held (Some s) None nonnull f e g = g
   value_held None holds nonnull f e g = g
 
-  all_held : (lines : List Line) (f : FactSet) → AllShown lines → Given f → Given (hold_lines table lines f)
-  all_held [] f shown g = g
-  all_held (line.Value v of ∷ lines) f shown g = all_held lines f shown.1 g
-  all_held (line.Slot slot nonnull holds ∷ lines) f shown g = all_held lines (hold_value (slot_of table slot) holds f) shown.1 (value_held (slot_of table slot) holds nonnull f shown.0 g)
+  all_held : (claims : List Claim) (f : FactSet) → AllImplied claims → Given f → Given (hold_claims table claims f)
+  all_held [] f implied g = g
+  all_held (claim.Value v of ∷ claims) f implied g = all_held claims f implied.1 g
+  all_held (claim.Slot slot nonnull holds ∷ claims) f implied g = all_held claims (hold_value (slot_of table slot) holds f) implied.1 (value_held (slot_of table slot) holds nonnull f implied.0 g)
 
   -- ---- after the edge
 
-  module _ (lines : List Line) (is : there ≡ facts_of_lines table (length registers) (length slots) lines) (shown : AllShown lines) where
+  module _ (claims : List Claim) (is : there ≡ facts_of_claims table (length registers) (length slots) claims) (implied : AllImplied claims) where
     given : Given there
     given =
-        let l = all_listed lines (nothing_known (length registers) (length slots)) shown nothing_given nothing_own in
-        subst Given (sym is) (all_held lines _ shown (all_tied lines _ shown l.0))
+        let l = all_listed claims (nothing_known (length registers) (length slots)) implied nothing_given nothing_own in
+        subst Given (sym is) (all_held claims _ implied (all_tied claims _ implied l.0))
 
     meant : (v : ℕ) (k : Known) → Lists v k → Means heap p guarded log names (length there.classes) registers k (names v)
     meant v Nothing l = tt
@@ -630,9 +630,9 @@ module _ (heap : Setup) (p : LaidOut) (table : SlotTable) (guarded : Guarded) (l
               let at = subst (λ (n : ℕ). covers_slot q.class c there.slots (n, slot_at here.slots s) ≡ true) is numbered in
               absurd (not_both (holds_class c (slot_at there.slots s).holds) (as_implied (holds_class q.class (slot_at here.slots s).holds) _ at e) out)
 
-    -- what is shown on an edge holds after it
-    pub shown_holds : Holds heap p table guarded log names there registers slots
-    shown_holds = record {
+    -- what is implied on an edge holds after it
+    pub implied_holds : Holds heap p table guarded log names there registers slots
+    implied_holds = record {
       registers_size = sym given.values_size;
       tests_size = sym (ap length given.tests_are ∙ length-replicate (length registers) None);
       slots_size = sym given.slots_size;

@@ -15,7 +15,7 @@ use Rattle.types.specs.ValueTypes.{has_type}
 use Rattle.shadow_stack.specs.Slots.{SlotTable, slot_of}
 use Rattle.certs.specs.declared.section.Section.{Section}
 use Rattle.facts.specs.Facts.{FactSet, known_at}
-use Rattle.block_rules.specs.declared.standing.Standing.{Standing}
+use Rattle.block_rules.specs.declared.instr_context.InstrContext.{InstrContext}
 use Rattle.block_rules.specs.Operands as o
 use Rattle.block_rules.specs.Places as q
 use Rattle.block_rules.specs.FirstFailing.{first_failing}
@@ -36,7 +36,7 @@ use Rattle.soundness.proofs.WordReads.{load_goes}
 use Rattle.soundness.proofs.WordStores.{IsStored, store_goes}
 use Rattle.soundness.proofs.Members.{forget_members, stored_members, alloca_members, load_place_members}
 
-module _ (heap : Setup) (p : LaidOut) (certs : List Section) (reaches : Bool) (f : Function) (table : SlotTable) (guarded : Guarded) (log : Log) (guards : (cell : ℕ) → guarded cell → IsFresh log cell) (fits : IsHeapFor heap p) (here : Standing) (cells : Cells) (facts : FactSet) (frame : Frame)
+module _ (heap : Setup) (p : LaidOut) (certs : List Section) (reaches : Bool) (f : Function) (table : SlotTable) (guarded : Guarded) (log : Log) (guards : (cell : ℕ) → guarded cell → IsFresh log cell) (fits : IsHeapFor heap p) (here : InstrContext) (cells : Cells) (facts : FactSet) (frame : Frame)
     (h : Holds heap p table guarded log cells facts frame.registers frame.slots) (members : HaveMembers facts) where
   -- a load: from a slot, or from an operand that is a place
   load_by : (result : Option ℕ) (loaded place_type : ℕ) (place : Operand) → first_failing (memory_conditions p f table here facts result (memory.Load loaded place_type place)) ≡ None

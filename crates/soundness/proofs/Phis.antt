@@ -14,7 +14,7 @@ use Rattle.types.specs.ValueTypes.{is_value_of, target_of}
 use Rattle.shadow_stack.specs.Slots.{SlotTable, slot_of, is_opaque_address}
 use Rattle.block_rules.specs.declared.rule.Rule.{Rule}
 use Rattle.block_rules.specs.declared.rule.Rule.TheVariants.{K2, K16}
-use Rattle.block_rules.specs.declared.standing.Standing.{Standing}
+use Rattle.block_rules.specs.declared.instr_context.InstrContext.{InstrContext}
 use Rattle.block_rules.specs.declared.type_kind.TypeKind.{TypeKind}
 use Rattle.block_rules.specs.declared.type_kind.TypeKind.TheVariants.{NoValue, Bits, Reference, AnyReference, Address, Other}
 use Rattle.block_rules.specs.FirstFailing.{first_failing}
@@ -22,7 +22,7 @@ use Rattle.block_rules.specs.TypeKinds.{kind_of, is_integer, may_be_reference}
 use Rattle.block_rules.specs.Integers.{may_choose}
 use Rattle.block_rules.specs.Rules.{phi_conditions, is_entry, may_come_in, all_come_in}
 use Rattle.block_rules.specs.Certified.{PhisPass, stands}
-use Rattle.block_rules.specs.Ways.{Scene, are_entries}
+use Rattle.block_rules.specs.Edges.{RuleContext, are_entries}
 use Rattle.machine.specs.Jumps as j
 use Rattle.machine.specs.Kinds as k
 use Rattle.soundness.proofs.KindLemmas.{constant_passes, integer_same, refers_same}
@@ -73,14 +73,14 @@ module _ (m : Module) (f : Function) (table : SlotTable) where
       (subst (λ x. (is_integer (kind_of m written) || x) ≡ true) (refers_same m written) (scalar_kind (kind_of m written) e))
 
   -- a phi that the rules allow may take its entry
-  pub phi_fits_so : (from : ℕ) (here : Standing) (phi : Phi) → first_failing (phi_conditions m f table here phi) ≡ None → j.phi_fits m f table from phi ≡ true
+  pub phi_fits_so : (from : ℕ) (here : InstrContext) (phi : Phi) → first_failing (phi_conditions m f table here phi) ≡ None → j.phi_fits m f table from phi ≡ true
   phi_fits_so from here phi e =
       let all = rules_hold (phi_conditions m f table here phi) e in
       let b = and_parts (may_choose (kind_of m phi.written)) (all_come_in m f table phi.written phi.incoming) (all K2) in
       rw (scalar_written phi.written b.0, entry_typed phi.written from phi.incoming b.1) refl
 
 -- the phis of a block that obey the rules may take their entries from a block
-pub phis_fit_so : (s : Scene) (block place from : ℕ) (phis : List Phi) → PhisPass s block place phis → j.phis_fit s.program.of_module s.function s.slots from phis ≡ true
+pub phis_fit_so : (s : RuleContext) (block place from : ℕ) (phis : List Phi) → PhisPass s block place phis → j.phis_fit s.program.of_module s.function s.slots from phis ≡ true
 phis_fit_so s block place from [] pass = refl
 phis_fit_so s block place from (phi ∷ phis) pass =
     let conditions = phi_conditions s.program.of_module s.function s.slots (stands s block place) phi in

@@ -20,12 +20,12 @@ use Rattle.types.specs.RuntimeCall.{runtime_called}
 use Rattle.shadow_stack.specs.Slots.{SlotTable, held_type, is_among, is_reference_held, operand_slot}
 use Rattle.certs.specs.declared.section.Section.{Section}
 use Rattle.facts.specs.Facts.{FactSet}
-use Rattle.block_rules.specs.declared.standing.Standing.{Standing}
+use Rattle.block_rules.specs.declared.instr_context.InstrContext.{InstrContext}
 use Rattle.block_rules.specs.FirstFailing.{first_failing}
-use Rattle.block_rules.specs.Standing.{block_phis, block_body, block_end}
+use Rattle.block_rules.specs.InstrContext.{block_phis, block_body, block_end}
 use Rattle.block_rules.specs.Rules.{op_conditions, conditions, may_hold}
 use Rattle.block_rules.specs.Certified.{Follows, stands}
-use Rattle.block_rules.specs.Ways.{Scene}
+use Rattle.block_rules.specs.Edges.{RuleContext}
 use Rattle.machine.specs.declared.answer.Answer.{Answer}
 use Rattle.machine.specs.declared.frame.Frame.{Frame}
 use Rattle.machine.specs.declared.value.Value.{Value}
@@ -72,12 +72,12 @@ same_end (Some block) = refl
 -- ---- the allocas of a certified function
 
 module _ (p : LaidOut) (certs : List Section) (f : Function) (table : SlotTable) where
-  alloca_allowed : (here : Standing) (facts : FactSet) (result : Option ℕ) (x : Op) → first_failing (op_conditions p certs f table here facts result x) ≡ None → AllocaIs (λ w held. may_hold p.of_module table (Some w) held ≡ true) result x
+  alloca_allowed : (here : InstrContext) (facts : FactSet) (result : Option ℕ) (x : Op) → first_failing (op_conditions p certs f table here facts result x) ≡ None → AllocaIs (λ w held. may_hold p.of_module table (Some w) held ≡ true) result x
   alloca_allowed here facts result (op.Memory (memory.Alloca held)) e = λ w is. subst (λ name. may_hold p.of_module table name held ≡ true) is (rules_hold (op_conditions p certs f table here facts result (op.Memory (memory.Alloca held))) e K8)
   alloca_allowed here facts result _ e = tt
 
 -- each alloca of instructions that obey the rules is allowed
-pub follows_named : (s : Scene) (block place : ℕ) (facts : FactSet) (instrs : List Instr) (last : FactSet) → Follows s block place facts instrs last → AllNamed (λ w held. may_hold s.program.of_module s.slots (Some w) held ≡ true) instrs
+pub follows_named : (s : RuleContext) (block place : ℕ) (facts : FactSet) (instrs : List Instr) (last : FactSet) → Follows s block place facts instrs last → AllNamed (λ w held. may_hold s.program.of_module s.slots (Some w) held ≡ true) instrs
 follows_named s block place facts [] last follows = tt
 follows_named s block place facts (instr ∷ instrs) last follows = (
   alloca_allowed s.program s.certs s.function s.slots (stands s block place) facts instr.result instr.op (unbroken (first_failing (conditions s.program s.certs s.function s.slots (stands s block place) facts instr)) follows.1.keeps),

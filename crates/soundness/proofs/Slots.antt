@@ -17,7 +17,7 @@ use Rattle.shadow_stack.specs.declared.draft.Draft.{Draft}
 use Rattle.shadow_stack.specs.declared.draft.Origin.{Origin}
 use Rattle.shadow_stack.specs.declared.draft.Origin.TheVariants.{Nowhere, Slot, Address, Same}
 use Rattle.shadow_stack.specs.Hops.{hops_slot}
-use Rattle.shadow_stack.specs.Slots.{SlotTable, slots_of, slot_of, held_type, is_among, is_reference_held, origin_of, origin_at, hops, slot_at, put, noted_op, noted, noted_blocks, draft_of}
+use Rattle.shadow_stack.specs.Slots.{SlotTable, slots_of, slot_of, held_type, is_among, is_reference_held, origin_of, origin_at, hops, slot_at, put, recorded_op, recorded, recorded_blocks, draft_of}
 use Rattle.block_rules.specs.Rules.{may_hold, names_root}
 use Rattle.block_rules.specs.TypeKinds.{kind_of, is_integer}
 use Rattle.machine.specs.declared.value.Value.{Value}
@@ -68,7 +68,7 @@ module _ (P : (name held : ℕ) → Type 0) where
   abbrev Comes : Draft → Type 0
   Comes draft = (w s : ℕ) → origin_at draft.origins w ≡ Slot s → (held : ℕ) × (slice_get draft.held s ≡ Some held) × P w held
 
-  comes_alloca : (result : Option ℕ) (held : ℕ) (draft : Draft) → AllocaIs P result (op.Memory (memory.Alloca held)) → Comes draft → Comes (noted_op result (op.Memory (memory.Alloca held)) draft)
+  comes_alloca : (result : Option ℕ) (held : ℕ) (draft : Draft) → AllocaIs P result (op.Memory (memory.Alloca held)) → Comes draft → Comes (recorded_op result (op.Memory (memory.Alloca held)) draft)
   comes_alloca None held draft is comes = λ w s e. let c = comes w s e in (c.0, still_there draft.held held s c.0 c.1, c.2)
   comes_alloca (Some v) held draft is comes = λ w s. at_set (λ o. o ≡ Slot s → (t : ℕ) × (slice_get (draft.held ++ held ∷ []) s ≡ Some t) × P w t) draft.origins v w (Slot (length draft.held)) Nowhere
       (λ same lt e. let n : length draft.held ≡ s = cc in (held, subst (λ i. slice_get (draft.held ++ held ∷ []) i ≡ Some held) n (last_there draft.held held), is w (ap Some same)))
@@ -80,19 +80,19 @@ module _ (P : (name held : ℕ) → Type 0) where
   comes_other (Some v) origin draft other comes = λ w s. at_set (λ o. o ≡ Slot s → (t : ℕ) × (slice_get draft.held s ≡ Some t) × P w t) draft.origins v w origin Nowhere
       (λ same lt e. absurd (other s e)) (λ ne e. comes w s e) (λ e. absurd cc)
 
-  comes_op : (result : Option ℕ) (x : Op) (draft : Draft) → AllocaIs P result x → Comes draft → Comes (noted_op result x draft)
+  comes_op : (result : Option ℕ) (x : Op) (draft : Draft) → AllocaIs P result x → Comes draft → Comes (recorded_op result x draft)
   comes_op result (op.Memory (memory.Alloca held)) draft is comes = comes_alloca result held draft is comes
   comes_op result (op.Element x) draft is comes = comes_other result Address draft (λ s e. absurd cc) comes
   comes_op result (op.Cast x) draft is comes = comes_other result (origin_of x.operand) draft (no_new x.operand) comes
   comes_op result _ draft is comes = comes
 
-  comes_all : (instrs : List Instr) (draft : Draft) → AllNamed P instrs → Comes draft → Comes (noted instrs draft)
+  comes_all : (instrs : List Instr) (draft : Draft) → AllNamed P instrs → Comes draft → Comes (recorded instrs draft)
   comes_all [] draft all comes = comes
-  comes_all (instr ∷ instrs) draft all comes = comes_all instrs (noted_op instr.result instr.op draft) all.1 (comes_op instr.result instr.op draft all.0 comes)
+  comes_all (instr ∷ instrs) draft all comes = comes_all instrs (recorded_op instr.result instr.op draft) all.1 (comes_op instr.result instr.op draft all.0 comes)
 
-  comes_blocks : (blocks : List Block) (draft : Draft) → BlocksNamed P blocks → Comes draft → Comes (noted_blocks blocks draft)
+  comes_blocks : (blocks : List Block) (draft : Draft) → BlocksNamed P blocks → Comes draft → Comes (recorded_blocks blocks draft)
   comes_blocks [] draft all comes = comes
-  comes_blocks (block ∷ blocks) draft all comes = comes_blocks blocks (noted block.body draft) all.1 (comes_all block.body draft all.0 comes)
+  comes_blocks (block ∷ blocks) draft all comes = comes_blocks blocks (recorded block.body draft) all.1 (comes_all block.body draft all.0 comes)
 
   comes_of : (f : Function) → BlocksNamed P f.blocks → Comes (draft_of f)
   comes_of f all = comes_blocks f.blocks _ all (λ w s e. absurd (let z : Nowhere ≡ Slot s = sym (replicated (length f.locals) w Nowhere) ∙ e in cc))

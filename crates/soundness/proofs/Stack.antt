@@ -11,10 +11,10 @@ use Rattle.certs.specs.declared.section.Section.{Section}
 use Rattle.facts.specs.Facts.{FactSet, known_at, class_at}
 use Rattle.facts.specs.declared.known.Known.TheVariants.{Cell}
 use Rattle.safepoints.specs.Marks.{is_may}
-use Rattle.block_rules.specs.Standing.{body_of, end_of}
+use Rattle.block_rules.specs.InstrContext.{body_of, end_of}
 use Rattle.block_rules.specs.Promises.{promised_in, own_mark}
 use Rattle.block_rules.specs.Calls.{receive_result}
-use Rattle.block_rules.specs.Certified.{Follows, EndPasses, phi_count, end_place, scene_of}
+use Rattle.block_rules.specs.Certified.{Follows, EndPasses, phi_count, end_place, context_of}
 use Rattle.machine.specs.declared.action.Action.{Action}
 use Rattle.machine.specs.declared.action.Action.TheVariants.{Local, Read, StorePlain, Write, Alloc, Safepoint, End, Wrong}
 use Rattle.machine.specs.declared.answer.Answer.{Answer}
@@ -64,8 +64,8 @@ pub record IsAt (heap : Setup) (program : LaidOut) (certs : List Section) (guard
   pub members : HaveMembers w.facts
   pub rooted : AreRooted program.of_module (slots_of program.of_module f) frame.slots
   pub last : FactSet
-  pub rest : Follows (scene_of program certs f (slice_get certs frame.function)) frame.block (phi_count (scene_of program certs f (slice_get certs frame.function)) frame.block + frame.place) next (drop frame.place (body_of f frame.block)) last
-  pub ends : EndPasses (scene_of program certs f (slice_get certs frame.function)) frame.block (end_place (scene_of program certs f (slice_get certs frame.function)) frame.block) last (end_of f frame.block)
+  pub rest : Follows (context_of program certs f (slice_get certs frame.function)) frame.block (phi_count (context_of program certs f (slice_get certs frame.function)) frame.block + frame.place) next (drop frame.place (body_of f frame.block)) last
+  pub ends : EndPasses (context_of program certs f (slice_get certs frame.function)) frame.block (end_place (context_of program certs f (slice_get certs frame.function)) frame.block) last (end_of f frame.block)
 
 -- a function is marked as one that may reach a safepoint
 abbrev pub Reaches : List Section → (function : ℕ) → Type 0
@@ -74,7 +74,7 @@ Reaches certs function = is_may (own_mark (slice_get certs function)) ≡ true
 -- a frame under a call of a function with this number, whose result goes into a name of it
 pub record Suspended (heap : Setup) (program : LaidOut) (certs : List Section) (guarded : Guarded) (log : Log) (into : Option ℕ) (number : ℕ) (called : Function) (frame : Frame) (w : Saved) : Type 0 where
   pub function : Function
-  pub standing : IsAt heap program certs guarded log frame function w (receive_result program.of_module into called.returned (promised_in (slice_get certs number)) w.facts)
+  pub instr_context : IsAt heap program certs guarded log frame function w (receive_result program.of_module into called.returned (promised_in (slice_get certs number)) w.facts)
   pub marks : Reaches certs number → Reaches certs frame.function
   pub still : Reaches certs number → IsStill w.cells w.facts
   pub named : (c cell : ℕ) → (class_at w.facts.classes c).fresh ≡ true → RefersToCell (w.cells c) cell → FreshIn w cell
@@ -92,7 +92,7 @@ pub record Live (heap : Setup) (program : LaidOut) (certs : List Section) (frame
   pub function : Function
   pub saves : List Saved
   pub now : Saved
-  pub standing : IsAt heap program certs (GuardedBy saves) log frame function now now.facts
+  pub instr_context : IsAt heap program certs (GuardedBy saves) log frame function now now.facts
   pub under : Below heap program certs log frame.into frame.function function below saves
   pub guards : (cell : ℕ) → GuardedBy saves cell → IsFresh log cell
 
@@ -165,9 +165,9 @@ module _ (heap : Setup) (program : LaidOut) (certs : List Section) where
   below_keeps log later into number called (frame ∷ below) (w ∷ saves) spared b =
       let s = b.0 in
       let next = receive_result program.of_module into called.returned (promised_in (slice_get certs number)) w.facts in
-      let kept = classes_log_keeps heap program (slots_of program.of_module s.function) (GuardedBy saves) log w.cells w.facts frame.registers frame.slots s.standing.holds later spared.held
+      let kept = classes_log_keeps heap program (slots_of program.of_module s.function) (GuardedBy saves) log w.cells w.facts frame.registers frame.slots s.instr_context.holds later spared.held
       (λ c fresh. fresh_spared (GuardedBy (w ∷ saves)) log later spared (w.cells c) (λ cell refers. inl (s.named c cell fresh refers))) in (
-        record { function = s.function; standing = with_holds (GuardedBy saves) log later frame s.function w next s.standing kept; marks = s.marks; still = s.still; named = s.named },
+        record { function = s.function; instr_context = with_holds (GuardedBy saves) log later frame s.function w next s.instr_context kept; marks = s.marks; still = s.still; named = s.named },
         below_keeps log later frame.into frame.function s.function below saves (record { held = spared.held; fresh = λ cell g. spared.fresh cell (inr g) }) b.1,
       )
 
@@ -188,14 +188,14 @@ module _ (heap : Setup) (program : LaidOut) (certs : List Section) where
       let own = frame_roots program.of_module frame (slice_get program.of_module.functions frame.function) in
       let stays : (t : ℕ) → is_reference_held program.of_module (held_type table t) ≡ true → IsOwn log (GuardedBy saves) (slot_value frame.slots t) → IsOwn later (GuardedBy saves) (slot_value frame.slots t) =
       λ t reference. root_own log later (GuardedBy saves) (roots_of program.of_module below ++ own) (slot_value frame.slots t) held
-      (elim (has_roots program.of_module table frame.slots s.standing.rooted t reference) [
+      (elim (has_roots program.of_module table frame.slots s.instr_context.rooted t reference) [
         | inl null ↦ inl null
-        | inr c ↦ inr (Contains-append_right (roots_of program.of_module below) own (slot_value frame.slots t) (roots_there frame s.function (slot_value frame.slots t) s.standing.there c))
+        | inr c ↦ inr (Contains-append_right (roots_of program.of_module below) own (slot_value frame.slots t) (roots_there frame s.function (slot_value frame.slots t) s.instr_context.there c))
       ]) in
-      let kept = still_keeps heap program table (GuardedBy saves) log w.cells w.facts frame.registers frame.slots s.standing.holds later (s.still reaches) stays in (
+      let kept = still_keeps heap program table (GuardedBy saves) log w.cells w.facts frame.registers frame.slots s.instr_context.holds later (s.still reaches) stays in (
         record {
           function = s.function;
-          standing = with_holds (GuardedBy saves) log later frame s.function w (receive_result program.of_module into called.returned (promised_in (slice_get certs number)) w.facts) s.standing kept;
+          instr_context = with_holds (GuardedBy saves) log later frame s.function w (receive_result program.of_module into called.returned (promised_in (slice_get certs number)) w.facts) s.instr_context kept;
           marks = s.marks;
           still = s.still;
           named = s.named;
@@ -224,7 +224,7 @@ module _ (heap : Setup) (program : LaidOut) (certs : List Section) where
   below_rooted log into number called (frame ∷ below) (w ∷ saves) b root c =
       elim (Contains-append_cases (roots_of program.of_module below) (frame_roots program.of_module frame (slice_get program.of_module.functions frame.function)) root c) [
         | inl x ↦ below_rooted log frame.into frame.function b.0.function below saves b.1 root x
-        | inr x ↦ frame_rooted (GuardedBy saves) log frame b.0.function w (receive_result program.of_module into called.returned (promised_in (slice_get certs number)) w.facts) b.0.standing root x
+        | inr x ↦ frame_rooted (GuardedBy saves) log frame b.0.function w (receive_result program.of_module into called.returned (promised_in (slice_get certs number)) w.facts) b.0.instr_context root x
       ]
 
   -- and so are those of all frames
@@ -232,7 +232,7 @@ module _ (heap : Setup) (program : LaidOut) (certs : List Section) where
   all_rooted frame below log x root c =
       elim (Contains-append_cases (roots_of program.of_module below) (frame_roots program.of_module frame (slice_get program.of_module.functions frame.function)) root c) [
         | inl y ↦ below_rooted log frame.into frame.function x.function below x.saves x.under root y
-        | inr y ↦ frame_rooted (GuardedBy x.saves) log frame x.function x.now x.now.facts x.standing root y
+        | inr y ↦ frame_rooted (GuardedBy x.saves) log frame x.function x.now x.now.facts x.instr_context root y
       ]
 
   -- ---- a step that touches no frame below
@@ -243,7 +243,7 @@ module _ (heap : Setup) (program : LaidOut) (certs : List Section) where
     function = x.function;
     saves = x.saves;
     now = x.now;
-    standing = stands_on (GuardedBy x.saves) log later frame x.function x.now x.now.facts grows x.standing;
+    instr_context = stands_on (GuardedBy x.saves) log later frame x.function x.now x.now.facts grows x.instr_context;
     under = below_keeps log later frame.into frame.function x.function below x.saves (record { held = grows.held; fresh = λ cell g. grows.fresh cell }) x.under;
     guards = λ cell g. grows.fresh cell (x.guards cell g);
   }

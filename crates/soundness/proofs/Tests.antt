@@ -1,4 +1,4 @@
--- What an edge shows by the comparison that decides it.
+-- What an edge implies by the comparison that decides it.
 use Rattle.std.proofs.Common.{◌≡◌, ◌≢◌, ℕ, zero, suc, ◌<◌, ◌≤◌, List, [], ◌∷◌, length, get_or, refl, sym, ap, ◌∙◌, subst, arith, true, false, Bool, Option, Some, None, slice_set}
 use Rattle.std.specs.Prelude.{◌==◌, not, if◌then◌else◌, nat_lt, nat_le}
 use Rattle.lemmas.specs.Numbers.{test_true, lt_true, lt_false}

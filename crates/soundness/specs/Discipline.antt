@@ -6,7 +6,7 @@ use Rattle.layout.specs.Globals.{IsHeapFor}
 use Rattle.layout.specs.Layouts.{LaidOut}
 use Rattle.certs.specs.declared.section.Promise.{Promise}
 use Rattle.certs.specs.declared.section.Section.{Section}
-use Rattle.facts.specs.Lines.{promised_below}
+use Rattle.facts.specs.Claims.{promised_below}
 use Rattle.block_rules.specs.Promises.{promises_in}
 use Rattle.block_rules.specs.Certified.{BlockCertified}
 use Rattle.machine.specs.declared.answer.Answer.{Answer}

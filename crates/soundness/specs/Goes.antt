@@ -12,7 +12,7 @@ use Rattle.certs.specs.declared.section.Section.{Section}
 use Rattle.facts.specs.declared.known.Known.{Known}
 use Rattle.facts.specs.declared.known.Known.TheVariants.{Cell}
 use Rattle.facts.specs.Facts.{FactSet, AreFacts, known_at, slot_at, class_at}
-use Rattle.block_rules.specs.declared.standing.Standing.{Standing}
+use Rattle.block_rules.specs.declared.instr_context.InstrContext.{InstrContext}
 use Rattle.safepoints.specs.Marks.{is_may}
 use Rattle.block_rules.specs.FirstFailing.{first_failing}
 use Rattle.block_rules.specs.Rules.{conditions, after}
@@ -65,7 +65,7 @@ HaveMembers facts = ((s c : ℕ) → (slot_at facts.slots s).holds ≡ Some c �
 -- the step of each instruction that the rules allow, and that calls no defined function, is such a step
 abbrev pub InstructionsGo : Guarded → Type 0
 InstructionsGo guarded =
-    (heap : Setup) (p : LaidOut) (certs : List Section) (f : Function) (log : Log) (cells : Cells) (facts : FactSet) (frame : Frame) (here : Standing) (instr : Instr) → ((cell : ℕ) → guarded cell → IsFresh log cell) → IsHeapFor heap p → length frame.registers ≡ length f.locals
+    (heap : Setup) (p : LaidOut) (certs : List Section) (f : Function) (log : Log) (cells : Cells) (facts : FactSet) (frame : Frame) (here : InstrContext) (instr : Instr) → ((cell : ℕ) → guarded cell → IsFresh log cell) → IsHeapFor heap p → length frame.registers ≡ length f.locals
     → Holds heap p (slots_of p.of_module f) guarded log cells facts frame.registers frame.slots → HaveMembers facts → first_failing (conditions p certs f (slots_of p.of_module f) here facts instr) ≡ None → function_called p.of_module instr.op ≡ None
     → Goes heap p (slots_of p.of_module f) frame.slots (is_may here.mark) guarded log (after p certs (slots_of p.of_module f) facts instr) (op_action p f (slots_of p.of_module f) frame.registers instr.op) (λ given. after_op p f (slots_of p.of_module f) instr.result instr.op given frame)
 

@@ -16,7 +16,7 @@ answers_of-requires-clause-within c =
     (c.as_slice-funcs.ensures ∙ c.in_ok-touched.ensures ∙ ap (λ (m : Module). touched m c.args.replaced c.args.callers) c.module.ensures.of_module) c.requires.within
 
 pub answers_of-requires-clause-kept : goal.answers_of-requires-clause-kept
-answers_of-requires-clause-kept c = c.find_all_rows.ensures.1
+answers_of-requires-clause-kept c = c.find_all_rows.ensures.rows.1
 
 pub put_answers-requires-clause-within : goal.put_answers-requires-clause-within
 put_answers-requires-clause-within c =

@@ -1,5 +1,5 @@
 use Rattle.block_check.specs.Exact.{certified_only, refused_only}
-use Rattle.block_check.proofs.GivenLists.{nothing_there}
+use Rattle.block_check.proofs.EntryFactsLists.{nothing_there}
 use Rattle.block_check.proofs.check.check_block.Goals as goal
 
 pub answer_block-requires-clause-rows : goal.answer_block-requires-clause-rows

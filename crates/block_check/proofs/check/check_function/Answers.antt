@@ -1,6 +1,6 @@
 use Rattle.block_rules.specs.Functions.{blocks_in}
 use Rattle.block_check.specs.Exact.{function_certified_only, function_refused_only}
-use Rattle.block_check.proofs.GivenLists.{nothing_there}
+use Rattle.block_check.proofs.EntryFactsLists.{nothing_there}
 use Rattle.block_check.proofs.check.check_function.Goals as goal
 
 pub answer_function-requires-clause-rows : goal.answer_function-requires-clause-rows

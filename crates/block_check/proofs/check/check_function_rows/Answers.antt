@@ -2,14 +2,14 @@ use Rattle.std.proofs.Common.{List, subst, sym}
 use Rattle.facts.specs.Facts.{FactSet}
 use Rattle.block_rules.specs.Functions.{blocks_in}
 use Rattle.block_check.specs.Exact.{function_certified_only, function_refused_only}
-use Rattle.block_check.specs.Rows.{AreGivenOf}
-use Rattle.block_check.proofs.GivenLists.{given_of_rows}
+use Rattle.block_check.specs.Rows.{AreEntryFactsOf}
+use Rattle.block_check.proofs.EntryFactsLists.{entry_facts_of_rows}
 use Rattle.block_check.proofs.check.check_function_rows.Goals as goal
 
 pub answer_function-requires-clause-rows : goal.answer_function-requires-clause-rows
 answer_function-requires-clause-rows c =
-    let given : AreGivenOf c.args.program.now c.args.certs.now.sections c.args.func c.args.rows.now = given_of_rows c.args.program.now c.args.certs.now.sections c.args.func c.args.rows.now c.requires.rows in
-    subst (λ (l : List FactSet). AreGivenOf c.args.program.now c.args.certs.now.sections c.args.func l) (sym c.blocks-2.ensures) given
+    let entry_facts : AreEntryFactsOf c.args.program.now c.args.certs.now.sections c.args.func c.args.rows.now = entry_facts_of_rows c.args.program.now c.args.certs.now.sections c.args.func c.args.rows.now c.requires.rows in
+    subst (λ (l : List FactSet). AreEntryFactsOf c.args.program.now c.args.certs.now.sections c.args.func l) (sym c.blocks-2.ensures) entry_facts
 
 pub returns-clause-certified : goal.returns-clause-certified
 returns-clause-certified c = function_certified_only c.args.program.now c.args.certs.now.sections c.args.func (blocks_in c.args.program.now c.args.func) c.answer_function.result c.answer_function.ensures

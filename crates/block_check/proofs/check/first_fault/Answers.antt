@@ -5,8 +5,8 @@ use Rattle.block_check.proofs.check.first_fault.Goals as goal
 
 pub loop-number-preserved : goal.loop-number-preserved
 loop-number-preserved c =
-    let program = c.args.subject.now.scene.program.now in
-    let certs = c.args.subject.now.scene.certs.now.sections in
-    let func = c.args.subject.now.func in
+    let program = c.args.under_check.now.context.program.now in
+    let certs = c.args.under_check.now.context.certs.now.sections in
+    let func = c.args.under_check.now.func in
     let last = subst (λ block. BlockCertified program certs func block) c.new.ensures c.in_default.ensures in
     one_more program certs func c.loop-number.number c.loop-number.invariant last

@@ -11,5 +11,5 @@ loop-block-preserved c =
     let operands = c.in_ok-operands.operands in
     let all = c.as_slice-block-items.ensures in
     let is = c.block-item.is ∙ ap (λ blocks. get_or blocks i block) all in
-    let noted = subst (λ phis. AreOperands f phis operands) c.as_slice.ensures c.in_ok-operands.ensures in
-    tables_more f f.blocks i block c.loop-block.tables.items c.push.new.self.items operands (omega (arith, ap length all)) is c.loop-block.invariant noted c.in_ok-push.ensures.items
+    let recorded = subst (λ phis. AreOperands f phis operands) c.as_slice.ensures c.in_ok-operands.ensures in
+    tables_more f f.blocks i block c.loop-block.tables.items c.push.new.self.items operands (omega (arith, ap length all)) is c.loop-block.invariant recorded c.in_ok-push.ensures.items

@@ -5,6 +5,6 @@ use Rattle.block_rules.proofs.memory.memory_refusal.Goals as goal
 
 pub returns-in-Alloca : goal.returns-in-Alloca
 returns-in-Alloca c =
-    let scene = c.args.scene.now in
+    let context = c.args.context.now in
     c.alloca_refusal.ensures c.args.facts.now
-    ∙ ap (λ op. first_failing (memory_conditions scene.program.now scene.function.now scene.slots.now c.args.here c.args.facts.now c.args.defined op)) (sym c.in-Alloca.is)
+    ∙ ap (λ op. first_failing (memory_conditions context.program.now context.function.now context.slots.now c.args.here c.args.facts.now c.args.defined op)) (sym c.in-Alloca.is)

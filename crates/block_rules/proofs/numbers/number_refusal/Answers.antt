@@ -5,6 +5,6 @@ use Rattle.block_rules.proofs.numbers.number_refusal.Goals as goal
 
 pub returns-in-Arithmetic : goal.returns-in-Arithmetic
 returns-in-Arithmetic c =
-    let scene = c.args.scene.now in
+    let context = c.args.context.now in
     c.arithmetic_refusal.ensures c.in-Arithmetic.kind
-    ∙ ap (λ op. first_failing (number_conditions scene.program.now scene.function.now scene.slots.now c.args.here c.args.facts.now op)) (sym c.in-Arithmetic.is)
+    ∙ ap (λ op. first_failing (number_conditions context.program.now context.function.now context.slots.now c.args.here c.args.facts.now op)) (sym c.in-Arithmetic.is)

@@ -6,7 +6,7 @@ use Rattle.facts.proofs.slot_sweeps.keepers_of.Goals as goal
 
 pub loop-s-preserved : goal.loop-s-preserved
 loop-s-preserved c =
-    keepers_more c.args.holding.now c.loop-s.s-index c.loop-s-test.true c.loop-s.keepers c.note_keeper.new.keepers c.args.slots.now c.note_keeper.ensures.kept (λ q h. c.in_ok-note_keeper.ensures.noted q (ap (holds q) c.slot_at-slot.ensures ∙ h)) c.loop-s.invariant
+    keepers_more c.args.holding.now c.loop-s.s-index c.loop-s-test.true c.loop-s.keepers c.record_keeper.new.keepers c.args.slots.now c.record_keeper.ensures.kept (λ q h. c.in_ok-record_keeper.ensures.recorded q (ap (holds q) c.slot_at-slot.ensures ∙ h)) c.loop-s.invariant
 
 pub returns : goal.returns
 returns c = λ only. all_keepers c.args.holding.now c.loop-s.keepers c.args.slots.now

@@ -29,5 +29,5 @@ returns-clause-ok c = on_ok_weaker c.define.result (λ e added. ap (λ (l : List
 
 pub returns-clause-users : goal.returns-clause-users
 returns-clause-users c = by_result c.define.result c.define.ensures.ok c.define.ensures.err
-    (λ e. subst (OnlyUsers c.args.uses.now) (sym (written c e)) (defined_users c.args.v (rows c) (row c) c.args.uses.now c.requires.only refl c.requires.noted))
+    (λ e. subst (OnlyUsers c.args.uses.now) (sym (written c e)) (defined_users c.args.v (rows c) (row c) c.args.uses.now c.requires.only refl c.requires.recorded))
     (λ e. subst (OnlyUsers c.args.uses.now) (sym e) c.requires.only)

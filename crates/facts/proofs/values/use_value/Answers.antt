@@ -5,7 +5,7 @@ use Rattle.facts.specs.declared.uses.Use.{Use}
 use Rattle.facts.specs.Sheets.{row_at}
 use Rattle.facts.specs.Values.{facts_of_rows}
 use Rattle.facts.specs.Uses.{IsUser, OnlyUsers, use_more, use_row}
-use Rattle.facts.proofs.Users.{users_kept, use_users, use_noted, use_same}
+use Rattle.facts.proofs.Users.{users_kept, use_users, use_recorded, use_same}
 use Rattle.facts.proofs.values.use_value.Goals as goal
 use Rattle.facts.proofs.values.use_value.Goals.{In_ok-set}
 
@@ -55,5 +55,5 @@ returns-clause-same c = λ added. ap (λ (l : List Row). facts_of_rows l added) 
 pub returns-clause-users : goal.returns-clause-users
 returns-clause-users c = λ only. subst (λ (l : List Row). OnlyUsers c.push.new.self.items l) (sym (written (goal.at.returns-clause-users c).In_ok-set)) (subst (λ (us : List Use). OnlyUsers us (use_row c.args.v (uses (goal.at.returns-clause-users c).In_ok-set) (rows (goal.at.returns-clause-users c).In_ok-set))) (sym (pushed (goal.at.returns-clause-users c).In_ok-set)) (use_users c.args.user c.args.v (uses (goal.at.returns-clause-users c).In_ok-set) (rows (goal.at.returns-clause-users c).In_ok-set) only))
 
-pub returns-clause-noted : goal.returns-clause-noted
-returns-clause-noted c = λ lt. subst (λ (l : List Row). IsUser c.push.new.self.items l c.args.user c.args.v) (sym (written (goal.at.returns-clause-noted c).In_ok-set)) (subst (λ (us : List Use). IsUser us (use_row c.args.v (uses (goal.at.returns-clause-noted c).In_ok-set) (rows (goal.at.returns-clause-noted c).In_ok-set)) c.args.user c.args.v) (sym (pushed (goal.at.returns-clause-noted c).In_ok-set)) (use_noted c.args.user c.args.v (uses (goal.at.returns-clause-noted c).In_ok-set) (rows (goal.at.returns-clause-noted c).In_ok-set) (subst (λ (l : List Row). c.args.v < length l) (written (goal.at.returns-clause-noted c).In_ok-set) lt)))
+pub returns-clause-recorded : goal.returns-clause-recorded
+returns-clause-recorded c = λ lt. subst (λ (l : List Row). IsUser c.push.new.self.items l c.args.user c.args.v) (sym (written (goal.at.returns-clause-recorded c).In_ok-set)) (subst (λ (us : List Use). IsUser us (use_row c.args.v (uses (goal.at.returns-clause-recorded c).In_ok-set) (rows (goal.at.returns-clause-recorded c).In_ok-set)) c.args.user c.args.v) (sym (pushed (goal.at.returns-clause-recorded c).In_ok-set)) (use_recorded c.args.user c.args.v (uses (goal.at.returns-clause-recorded c).In_ok-set) (rows (goal.at.returns-clause-recorded c).In_ok-set) (subst (λ (l : List Row). c.args.v < length l) (written (goal.at.returns-clause-recorded c).In_ok-set) lt)))

@@ -1,12 +1,12 @@
 use Rattle.std.proofs.Common.{◌≡◌, Some, None, arith}
 use Rattle.block_rules.specs.Certified.{stands, phi_breach}
-use Rattle.block_check.specs.Subject.{seen}
+use Rattle.block_check.specs.FunctionUnderCheck.{seen}
 use Rattle.block_check.specs.Follows.{phi_here, breaks_at_phi}
 use Rattle.block_check.proofs.block_walk.BlockWalk.among_phis.Goals as goal
 
 pub loop-place-preserved : goal.loop-place-preserved
 loop-place-preserved c =
-    let s = seen c.args.self.now.subject.now in
+    let s = seen c.args.self.now.under_check.now in
     let b = c.args.self.now.block in
     let i = c.loop-place.place in
     let phi = c.index-phis-place.result in
@@ -15,7 +15,7 @@ loop-place-preserved c =
 
 pub returns-in-Some : goal.returns-in-Some
 returns-in-Some c =
-    let s = seen c.args.self.now.subject.now in
+    let s = seen c.args.self.now.under_check.now in
     let b = c.args.self.now.block in
     let i = c.loop-place.place in
     let phi = c.index-phis-place.result in

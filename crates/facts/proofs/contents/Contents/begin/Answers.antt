@@ -4,5 +4,5 @@ use Rattle.facts.specs.Ties.{AreOwn}
 use Rattle.facts.proofs.Owned.{own_nothing}
 use Rattle.facts.proofs.contents.Contents.begin.Goals as goal
 
-pub add_lines-result-requires : goal.add_lines-result-requires
-add_lines-result-requires c = subst (λ (f : FactSet). AreOwn f.values) (sym c.clear.ensures) (own_nothing (length c.args.self.now.values.values))
+pub add_claims-requires : goal.add_claims-requires
+add_claims-requires c = subst (λ (f : FactSet). AreOwn f.values) (sym c.clear.ensures) (own_nothing (length c.args.self.now.values.values))

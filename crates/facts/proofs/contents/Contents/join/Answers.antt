@@ -5,7 +5,7 @@ use Rattle.facts.specs.declared.known.Class.{Class}
 use Rattle.facts.specs.declared.ties.Ties.{Ties}
 use Rattle.facts.specs.Contents.{set_of}
 use Rattle.facts.specs.Facts.{FactSet, class_at, set_class}
-use Rattle.facts.specs.Lines.{moved}
+use Rattle.facts.specs.Claims.{moved}
 use Rattle.facts.specs.Ties.{class_now}
 use Rattle.facts.proofs.Settled.{joined_facts}
 use Rattle.facts.proofs.contents.Contents.join.Goals as goal

@@ -4,7 +4,7 @@ use Rattle.std.specs.List.{list_all, zip}
 use Rattle.facts.specs.declared.owners.Owners.{Owners}
 use Rattle.facts.specs.declared.row.Row.{Row}
 use Rattle.facts.specs.Owners.{owners_of, members}
-use Rattle.facts.specs.Lines.{covers_value}
+use Rattle.facts.specs.Claims.{covers_value}
 use Rattle.facts.specs.Sheets.{known_of}
 use Rattle.facts.proofs.OwnersOf.{only_members, same_owners}
 use Rattle.facts.proofs.Marked.{covers_here, covers_there, same_question}

@@ -2,7 +2,7 @@ use Rattle.std.proofs.Common.{◌∙◌, ap, List}
 use Rattle.std.specs.List.{list_all, enumerate_from}
 use Rattle.facts.specs.declared.known.SlotFact.{SlotFact}
 use Rattle.facts.specs.Chains.{listed}
-use Rattle.facts.specs.Lines.{covers_slot}
+use Rattle.facts.specs.Claims.{covers_slot}
 use Rattle.facts.specs.SlotRows.{covers_at}
 use Rattle.facts.proofs.SlotCovers.{keepers_cover}
 use Rattle.facts.proofs.slot_rows.SlotRows.covers.Goals as goal

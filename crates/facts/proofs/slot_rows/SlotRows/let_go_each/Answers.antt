@@ -1,7 +1,7 @@
 use Rattle.std.proofs.Common.{◌≡◌, ◌∙◌, ap, sym, subst, map, List}
 use Rattle.facts.specs.declared.known.SlotFact.{SlotFact}
 use Rattle.facts.specs.Facts.{let_go}
-use Rattle.facts.specs.SlotRows.{AreNoted}
+use Rattle.facts.specs.SlotRows.{AreRecorded}
 use Rattle.facts.proofs.Keepers.{keepers_let_go, let_go_keepers}
 use Rattle.facts.proofs.SlotLists.{let_go_filled, let_go_holding}
 use Rattle.facts.proofs.slot_rows.SlotRows.let_go_each.Goals as goal
@@ -14,7 +14,7 @@ module _ (c : goal.After-let_go_each) where
   is = c.let_go_each.ensures ∙ keepers_let_go c.args.c c.args.nonnull c.self.inside.keepers before c.self.invariant.2
 
 pub invariant_of-self : goal.invariant_of-self
-invariant_of-self c = subst (AreNoted c.self.inside.filled.items c.self.inside.holding.items c.self.inside.keepers) (sym (is c)) (
+invariant_of-self c = subst (AreRecorded c.self.inside.filled.items c.self.inside.holding.items c.self.inside.keepers) (sym (is c)) (
   let_go_filled c.args.c c.args.nonnull c.self.inside.filled.items (before c) c.self.invariant.0,
   let_go_holding c.args.c c.args.nonnull c.self.inside.holding.items (before c) c.self.invariant.1,
   let_go_keepers c.args.c c.args.nonnull c.self.inside.keepers (before c) c.self.invariant.2,

@@ -1,7 +1,7 @@
 use Rattle.std.proofs.Common.{◌≡◌, ◌∙◌, ap, sym, subst, List, ℕ, slice_set}
 use Rattle.facts.specs.declared.known.SlotFact.{SlotFact}
 use Rattle.facts.specs.Facts.{slot_at}
-use Rattle.facts.specs.SlotRows.{AreNoted, let_go_others}
+use Rattle.facts.specs.SlotRows.{AreRecorded, let_go_others}
 use Rattle.facts.proofs.Keepers.{last_let_go, others_keepers}
 use Rattle.facts.proofs.SlotLists.{others_filled, others_holding}
 use Rattle.facts.proofs.slot_rows.SlotRows.let_go_others.Goals as goal
@@ -16,7 +16,7 @@ module _ (c : goal.After-write) where
       ∙ ap (λ (slots : List SlotFact). slice_set slots c.args.s (slot_at before c.args.s)) (c.let_go_last.ensures ∙ last_let_go c.self.inside.keepers before c.self.invariant.2 c.args.last.now c.args.nonnull)
 
 pub invariant_of-self : goal.invariant_of-self
-invariant_of-self c = subst (AreNoted c.self.inside.filled.items c.self.inside.holding.items c.self.inside.keepers) (sym (is c)) (
+invariant_of-self c = subst (AreRecorded c.self.inside.filled.items c.self.inside.holding.items c.self.inside.keepers) (sym (is c)) (
   others_filled c.args.s c.args.last.now c.args.nonnull (before c) c.self.inside.filled.items c.self.invariant.0,
   others_holding c.args.s c.args.last.now c.args.nonnull (before c) c.self.inside.holding.items c.self.invariant.1,
   others_keepers c.self.inside.keepers (before c) c.self.invariant.2 c.args.s c.args.last.now c.args.nonnull,

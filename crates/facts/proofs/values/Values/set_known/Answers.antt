@@ -32,11 +32,11 @@ module _ (c : goal.In_ok-set) where
   written = c.in_ok-set.ensures.ok ∙ ap (λ (row : Row). slice_set between c.number-at.result (record row { known = c.args.known })) c.row-row.ensures
       ∙ ap (λ (at : ℕ). slice_set between at (record (row_at between at) { known = c.args.known })) c.number-at.ensures
 
-  noted : (w : ℕ) → is_on w c.args.known ≡ true → w < length between → IsUser uses between c.args.v w
-  noted w e lt = subst (λ (user : ℕ). IsUser uses between user w) c.number-at.ensures (c.in_ok-use_base.ensures.noted w e lt)
+  recorded : (w : ℕ) → is_on w c.args.known ≡ true → w < length between → IsUser uses between c.args.v w
+  recorded w e lt = subst (λ (user : ℕ). IsUser uses between user w) c.number-at.ensures (c.in_ok-use_base.ensures.recorded w e lt)
 
 pub invariant_of-self-2 : goal.invariant_of-self-2
-invariant_of-self-2 c = subst (λ (rows : List Row). OnlyUsers (uses c) rows) (sym (written c)) (known_users (uses c) (between c) c.args.v (c.use_base.ensures.users c.self.invariant) c.args.known (noted c))
+invariant_of-self-2 c = subst (λ (rows : List Row). OnlyUsers (uses c) rows) (sym (written c)) (known_users (uses c) (between c) c.args.v (c.use_base.ensures.users c.self.invariant) c.args.known (recorded c))
 
 pub returns-clause-ok : goal.returns-clause-ok
 returns-clause-ok c = ap (λ (rows : List Row). facts_of_rows rows c.self.inside.added.items) (written c) ∙ known_row_facts (between c) c.self.inside.added.items c.args.v c.args.known

@@ -1,8 +1,0 @@
-use Rattle.std.proofs.Common.{◌≡◌, drop}
-use Rattle.facts.specs.Lines.{receive_all}
-use Rattle.block_rules.specs.Ways.{parameters_given}
-use Rattle.block_check.proofs.given.receive_parameters.Given as goal
-
-abbrev pub invariant-loop-parameter : goal.invariant-loop-parameter
-invariant-loop-parameter l =
-    receive_all (parameters_given l.module l.fn.parameters l.fn.promises) l.initial.facts ≡ receive_all (parameters_given l.module (drop l.parameter-index l.parameters) l.rest) l.facts

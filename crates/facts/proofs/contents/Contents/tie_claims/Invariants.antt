@@ -1,0 +1,12 @@
+use Rattle.std.proofs.Common.{◌≡◌, drop}
+use Rattle.facts.specs.Contents.{set_of}
+use Rattle.facts.specs.Claims.{tie_claims}
+use Rattle.facts.specs.Ties.{AreTies, facts_now}
+use Rattle.facts.proofs.contents.Contents.tie_claims.Given as goal
+
+abbrev pub invariant-loop-claim : goal.invariant-loop-claim
+invariant-loop-claim l = record {
+  tied : tie_claims l.fn.claims (set_of l.initial.self) ≡ tie_claims (drop l.claim-index l.fn.claims) (facts_now l.ties (set_of l.self));
+  ties : AreTies l.ties;
+  values : l.self.values.values ≡ l.initial.self.values.values;
+}
