@@ -48,7 +48,7 @@ impl<'a> Heap<'a> {
                 return cell;
             }
         }
-        me.is_of_run();
+        me.is_of_run_law();
         0
     }
 

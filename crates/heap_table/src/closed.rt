@@ -9,7 +9,7 @@ use crate::heap::Heap;
 use crate::mutator::Mutator;
 use crate::sweeper::Sweeper;
 use colours::Place;
-use heap_words::{ClosedWords, Token};
+use heap_words::{ActorToken, ClosedWords};
 use std::marker::Model;
 
 /// The words of a heap that nobody shares any more.
@@ -83,7 +83,7 @@ impl<'a> Closed<'a> {
 }
 
 impl Mutator {
-    fn into_token(self) -> Token
+    fn into_token(self) -> ActorToken
         ensures { result ≡ record { table = self.table; setup = self.setup; share = OfThread self.thread self.log } }
     {
         let Mutator {
@@ -97,7 +97,7 @@ impl Mutator {
 }
 
 impl<'a> Sweeper<'a> {
-    fn into_token(self) -> Token
+    fn into_token(self) -> ActorToken
         ensures { result ≡ record { table = self.entry.table; setup = self.entry.setup; share = OfCollector self.entry.log } }
     {
         let Sweeper {

@@ -38,7 +38,7 @@ impl<'a> Heap<'a> {
     ghost use Rattle.heap_table.specs.Holders.{IsOf, IsNow, IsOfRun};
 
     /// A heap has few cells.
-    pub fn few_cells(&self)
+    pub fn few_cells_law(&self)
         ensures { cells self.now.setup ≤ 2 ^ 20 }
     {
         let _pools = self.pools;
@@ -88,7 +88,7 @@ impl<'a> Heap<'a> {
         requires { (found ≡ 0) ⊎ (found < cells self.now.setup) }
         ensures { result ≡ found }
     {
-        self.few_cells();
+        self.few_cells_law();
         found as u32
     }
 }

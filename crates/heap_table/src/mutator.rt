@@ -3,7 +3,7 @@ ghost use Rattle.colours.specs.Colours.{done};
 ghost use Rattle.colours.specs.Mutator.{stage_of};
 ghost use Rattle.heap_table.specs.Holders.{IsOfRun};
 
-use heap_words::Token;
+use heap_words::ActorToken;
 use items::Items;
 use pools::LayoutId;
 use std::marker::Model;
@@ -11,7 +11,7 @@ use std::marker::Model;
 /// A thread's token. Contracts see its log: the steps that the thread has made, which are its share of the heap's run.
 #[derive(Drop)]
 pub struct Mutator {
-    pub(crate) token: Token,
+    pub(crate) token: ActorToken,
     pub(crate) thread: usize,
     /// The stage that the thread stored last.
     pub(crate) stage: u64,
@@ -33,7 +33,7 @@ impl Model for Mutator {
 
 impl Mutator {
     /// The log is the thread's share of a run of the heap, and each result in it is a possible one. This is so of every token.
-    pub fn is_of_run(&self)
+    pub fn is_of_run_law(&self)
         ensures { IsOfRun self.now }
     {
         let _thread = self.thread;

@@ -8,7 +8,7 @@ use crate::heap::Heap;
 use crate::mutator::Mutator;
 use crate::sweeper::Sweeper;
 use heap_rule::Plan;
-use heap_words::{SharedWords, Token};
+use heap_words::{ActorToken, SharedWords};
 use items::Items;
 use std::alloc::{AllocError, Global};
 use trace_sweep::Collector;
@@ -47,7 +47,7 @@ impl<'a> Heap<'a> {
 }
 
 /// The token of a thread that has made no step.
-fn of_token(token: Token, thread: usize, hints: Items<u32>) -> Mutator
+fn of_token(token: ActorToken, thread: usize, hints: Items<u32>) -> Mutator
     requires setup { IsSetup token.setup }
     requires share { token.share ≡ OfThread thread [] }
     requires number { thread < token.setup.threads }

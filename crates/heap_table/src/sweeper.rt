@@ -7,14 +7,14 @@ ghost use Rattle.heap_rule.specs.Rule.{Happens};
 
 use crate::heap::Heap;
 use colours::Turn;
-use heap_words::Token;
+use heap_words::ActorToken;
 use std::marker::{Brand, Model};
 use trace_sweep::Collector;
 
 /// The collector's token. Contracts see its log: the steps that the collector has made, which are its share of the heap's run.
 #[derive(Drop)]
 pub struct Sweeper<'a> {
-    pub(crate) token: Token,
+    pub(crate) token: ActorToken,
     pub(crate) collector: Collector<'a>,
 }
 

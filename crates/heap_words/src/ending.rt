@@ -1,7 +1,7 @@
 ghost use Rattle.std.specs.Prelude.{◌≡◌, [], ◌∷◌};
 
 use crate::closed_words::ClosedWords;
-use crate::token::Token;
+use crate::token::ActorToken;
 use crate::words::SharedWords;
 use atomic_table::Seat;
 use heap_rule::{Gathers, Knowledge};
@@ -30,11 +30,11 @@ impl<'a> SharedWords<'a> {
     ghost use Rattle.heap_words.specs.Tokens.{IsOf};
 
     /// Ends the sharing of the words, with the first token that comes back.
-    pub fn end(self, first: Token) -> ReturningWords<'a>
+    pub fn end(self, first: ActorToken) -> ReturningWords<'a>
         requires { IsOf self first }
         ensures { result ≡ record { setup = self.entry.setup; table = self.entry.table; shares = first.share ∷ [] } }
     {
-        let Token { seat } = first;
+        let ActorToken { seat } = first;
         ReturningWords { words: self, seat }
     }
 }
@@ -43,11 +43,11 @@ impl<'a> ReturningWords<'a> {
     ghost use Rattle.heap_words.specs.Endings.{IsBackAt, Ends};
 
     /// One token more comes back.
-    pub fn take_back(&mut self, token: Token)
+    pub fn take_back(&mut self, token: ActorToken)
         requires { IsBackAt self.old token }
         ensures { self.new ≡ record { setup = self.old.setup; table = self.old.table; shares = token.share ∷ self.old.shares } }
     {
-        let Token { seat } = token;
+        let ActorToken { seat } = token;
         let words = &self.words;
         words
             .table

@@ -9,5 +9,5 @@ mod words;
 
 pub use closed_words::ClosedWords;
 pub use ending::ReturningWords;
-pub use token::Token;
+pub use token::ActorToken;
 pub use words::SharedWords;

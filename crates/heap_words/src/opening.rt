@@ -6,7 +6,7 @@ ghost use Rattle.heap_rule.specs.Rule.{size, dealing};
 ghost use Rattle.heap_words.specs.Places.{AreStarts};
 ghost use Rattle.heap_words.specs.Opening.{opening_word, stage_at_start};
 
-use crate::token::Token;
+use crate::token::ActorToken;
 use crate::words::SharedWords;
 use atomic_table::{Seat, Table};
 use colours::DONE;
@@ -20,7 +20,7 @@ impl<'a> SharedWords<'a> {
     pub fn new(
         alloc: Global,
         plan: Plan<'a>,
-    ) -> Result<(SharedWords<'a>, Vec<Token>, Token), AllocError>
+    ) -> Result<(SharedWords<'a>, Vec<ActorToken>, ActorToken), AllocError>
         requires setup { IsSetup plan }
         requires threads { plan.threads < 2 ^ 32 }
         requires globals { length plan.globals < 2 ^ 32 }
@@ -38,7 +38,7 @@ impl<'a> SharedWords<'a> {
             let token = words.deal(&mut seat, thread);
             tokens.push(token)?;
         }
-        let collector = Token { seat };
+        let collector = ActorToken { seat };
         Ok((words, tokens, collector))
     }
 
@@ -65,14 +65,14 @@ impl<'a> SharedWords<'a> {
     }
 
     /// The next thread's token.
-    fn deal(&self, seat: &mut Seat<(), Knowledge>, thread: usize) -> Token
+    fn deal(&self, seat: &mut Seat<(), Knowledge>, thread: usize) -> ActorToken
         requires seat { (seat.old.table_id ≡ self.now.table) × (seat.old.me ≡ (dealing self.now.setup thread, [])) }
         requires thread { thread < self.now.setup.threads }
         ensures seat { (seat.new.table_id ≡ seat.old.table_id) × (seat.new.me ≡ (dealing self.now.setup (thread + 1), [])) }
         ensures token { IsFresh self.now thread result }
     {
         let seat = self.table.shared.split_seat::<Deals>(seat);
-        Token { seat }
+        ActorToken { seat }
     }
 }
 

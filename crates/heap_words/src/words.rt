@@ -5,7 +5,7 @@ ghost use Rattle.heap_rule.specs.View.{grown};
 ghost use Rattle.heap_rule.specs.Rule.{HasPlace, index, size, MayStep, Happens};
 ghost use Rattle.heap_words.specs.Places.{AreStarts};
 
-use crate::token::Token;
+use crate::token::ActorToken;
 use atomic_table::Table;
 use colours::{Ask, Place};
 use heap_rule::{Knowledge, Logs, OneRun, Plan, Told};
@@ -39,7 +39,7 @@ impl<'a> SharedWords<'a> {
     /// Makes one operation on one word, as a step of the token's actor. Returns what the word held before; of a store, what was
     /// stored. The caller picks the step, and `about` is what that pick may speak of.
     #[inline(always)]
-    pub fn perform<J: Told, X: Copy>(&self, token: &mut Token, ask: Ask, about: X) -> u64
+    pub fn perform<J: Told, X: Copy>(&self, token: &mut ActorToken, ask: Ask, about: X) -> u64
         requires token { IsOf self.now token.old }
         requires place { HasPlace self.now.setup (place_of ask) }
         requires may { MayStep self.now.setup token.old.share J.event ask }
@@ -58,7 +58,7 @@ impl<'a> SharedWords<'a> {
     }
 
     #[inline(always)]
-    fn load<J: Told>(&self, token: &mut Token, place: Place) -> u64
+    fn load<J: Told>(&self, token: &mut ActorToken, place: Place) -> u64
         requires token { IsOf self.now token.old }
         requires place { HasPlace self.now.setup place }
         requires may { MayStep self.now.setup token.old.share J.event (Load place) }
@@ -70,7 +70,7 @@ impl<'a> SharedWords<'a> {
     }
 
     #[inline(always)]
-    fn store<J: Told>(&self, token: &mut Token, place: Place, value: u64) -> u64
+    fn store<J: Told>(&self, token: &mut ActorToken, place: Place, value: u64) -> u64
         requires token { IsOf self.now token.old }
         requires place { HasPlace self.now.setup place }
         requires may { MayStep self.now.setup token.old.share J.event (Store place value) }
@@ -85,7 +85,7 @@ impl<'a> SharedWords<'a> {
     }
 
     #[inline(always)]
-    fn fetch_max<J: Told>(&self, token: &mut Token, place: Place, value: u64) -> u64
+    fn fetch_max<J: Told>(&self, token: &mut ActorToken, place: Place, value: u64) -> u64
         requires token { IsOf self.now token.old }
         requires place { HasPlace self.now.setup place }
         requires may { MayStep self.now.setup token.old.share J.event (FetchMax place value) }
@@ -99,7 +99,13 @@ impl<'a> SharedWords<'a> {
     }
 
     #[inline(always)]
-    fn compare_exchange<J: Told>(&self, token: &mut Token, place: Place, old: u64, new: u64) -> u64
+    fn compare_exchange<J: Told>(
+        &self,
+        token: &mut ActorToken,
+        place: Place,
+        old: u64,
+        new: u64,
+    ) -> u64
         requires token { IsOf self.now token.old }
         requires place { HasPlace self.now.setup place }
         requires may { MayStep self.now.setup token.old.share J.event (CompareExchange place old new) }

@@ -42,7 +42,7 @@ use Rattle.machine.specs.declared.action.Action.TheVariants.{Local, Read, Write,
 use Rattle.machine.specs.Kinds.{is_integer, is_integer_of, is_void, is_byte_pointer, is_place_of_bytes, leads_to, may_refer, may_lead, refers_to, may_cast_word, bits_at, is_set, is_reference, fits_layout_of, are_of_one_layout, number_in, value_of, is_typed, is_usable, is_usable_number, is_local_of, slot_at_place, address_at_place}
 use Rattle.machine.specs.Integers.{may_resize, is_equality}
 use Rattle.machine.specs.Elements.{element_offset, element_place, globals_cell, global_kind, is_read_as, takes_value}
-use Rattle.machine.specs.Jumps.{phis_of, phis_fit, switch_way, cases_fit}
+use Rattle.machine.specs.Jumps.{phis_of, phis_fit, switch_edge, cases_fit}
 
 -- where a condition fails, an instruction has no meaning
 abbrev pub only_if : Bool → Action → Action
@@ -330,32 +330,32 @@ enter_action m f slots from None = End
 enter_action m f slots from (Some block) = only_if (phis_fit m f slots from (phis_of (slice_get f.blocks block))) Local
 
 -- the label to which a br with a condition goes on
-abbrev pub branch_way : (condition : Value) → (taken other : ℕ) → ℕ
-branch_way condition taken other = if number_in condition == 0 then other else taken
+abbrev pub branch_edge : (condition : Value) → (taken other : ℕ) → ℕ
+branch_edge condition taken other = if number_in condition == 0 then other else taken
 
 -- the label to which a block goes on, if it ends with a br or a switch
-abbrev pub way_of : Module → List Value → AnEnd → Option ℕ
-way_of m registers (end.Jump label) = Some label
-way_of m registers (end.Branch condition_type condition taken other) = Some (branch_way (value_of m registers condition_type condition) taken other)
-way_of m registers (end.Switch written v otherwise cases) = Some (switch_way m written (number_in (value_of m registers written v)) otherwise cases)
-way_of m registers _ = None
+abbrev pub edge_of : Module → List Value → AnEnd → Option ℕ
+edge_of m registers (end.Jump label) = Some label
+edge_of m registers (end.Branch condition_type condition taken other) = Some (branch_edge (value_of m registers condition_type condition) taken other)
+edge_of m registers (end.Switch written v otherwise cases) = Some (switch_edge m written (number_in (value_of m registers written v)) otherwise cases)
+edge_of m registers _ = None
 
 -- the block to which that leads
-abbrev pub target_at : Function → (way : Option ℕ) → Option ℕ
+abbrev pub target_at : Function → (edge : Option ℕ) → Option ℕ
 target_at f None = None
 target_at f (Some label) = target_of f label
 
 -- what a br or a switch asks for
-abbrev pub way_action : Module → Function → SlotTable → (from : ℕ) → List Value → AnEnd → Action
-way_action m f slots from registers x = enter_action m f slots from (target_at f (way_of m registers x))
+abbrev pub edge_action : Module → Function → SlotTable → (from : ℕ) → List Value → AnEnd → Action
+edge_action m f slots from registers x = enter_action m f slots from (target_at f (edge_of m registers x))
 
 -- what the end of the block with this number asks for
 abbrev pub end_action : Module → Function → SlotTable → (from : ℕ) → List Value → AnEnd → Action
-end_action m f slots from registers (end.Jump label) = way_action m f slots from registers (end.Jump label)
+end_action m f slots from registers (end.Jump label) = edge_action m f slots from registers (end.Jump label)
 end_action m f slots from registers (end.Branch condition_type condition taken other) =
-    if is_condition m f slots registers condition_type condition then way_action m f slots from registers (end.Branch condition_type condition taken other) else Wrong
+    if is_condition m f slots registers condition_type condition then edge_action m f slots from registers (end.Branch condition_type condition taken other) else Wrong
 end_action m f slots from registers (end.Switch written v otherwise cases) =
-    if is_usable_number m f slots registers written v && cases_fit m written cases then way_action m f slots from registers (end.Switch written v otherwise cases) else Wrong
+    if is_usable_number m f slots registers written v && cases_fit m written cases then edge_action m f slots from registers (end.Switch written v otherwise cases) else Wrong
 end_action m f slots from registers end.Unreachable = End
 end_action m f slots from registers end.ReturnVoid = only_if (is_void (slice_get m.types f.returned)) End
 end_action m f slots from registers (end.Return argument) =

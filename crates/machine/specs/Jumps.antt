@@ -67,10 +67,10 @@ put_each (phi ∷ phis) (v ∷ values) registers = put_each phis values (slice_s
 put_each phis values registers = registers
 
 -- the label to which a switch goes on at this number: the first case that is it
-abbrev pub switch_way : Module → (written n otherwise : ℕ) → List Case → ℕ
-switch_way m written n otherwise [] = otherwise
-switch_way m written n otherwise (case ∷ cases) =
-    if number_in (constant_value m written case.constant) == n then case.target else switch_way m written n otherwise cases
+abbrev pub switch_edge : Module → (written n otherwise : ℕ) → List Case → ℕ
+switch_edge m written n otherwise [] = otherwise
+switch_edge m written n otherwise (case ∷ cases) =
+    if number_in (constant_value m written case.constant) == n then case.target else switch_edge m written n otherwise cases
 
 -- each case of a switch is of its type
 abbrev pub cases_fit : Module → (written : ℕ) → List Case → Bool

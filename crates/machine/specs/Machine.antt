@@ -38,7 +38,7 @@ use Rattle.machine.specs.Kinds.{is_integer, bits_at, number_in, value_of, slot_a
 use Rattle.machine.specs.Integers.{computed, resized, compares, compares_equal, truth}
 use Rattle.machine.specs.Elements.{element_offset, element_place, address_of, global_kind, read_value}
 use Rattle.machine.specs.Jumps.{put_register, phis_of, put_phis}
-use Rattle.machine.specs.Asks.{layout_named, number_called, op_action, end_action, way_of, target_at}
+use Rattle.machine.specs.Asks.{layout_named, number_called, op_action, end_action, edge_of, target_at}
 
 -- the frames of a thread, the running one first; a thread without a frame has ended
 pub record State : Type 0 where
@@ -299,7 +299,7 @@ abbrev pub after_end : LaidOut → Function → Frame → (below : List Frame) �
 after_end p f frame below end.Unreachable = []
 after_end p f frame below end.ReturnVoid = frames_returned frame.into (result_of p.of_module frame.registers end.ReturnVoid) below
 after_end p f frame below (end.Return argument) = frames_returned frame.into (result_of p.of_module frame.registers (end.Return argument)) below
-after_end p f frame below x = enter_block p.of_module f (target_at f (way_of p.of_module frame.registers x)) frame ∷ below
+after_end p f frame below x = enter_block p.of_module f (target_at f (edge_of p.of_module frame.registers x)) frame ∷ below
 
 -- and where there is no block
 abbrev pub after_last : LaidOut → Function → Frame → (below : List Frame) → Option AnEnd → List Frame

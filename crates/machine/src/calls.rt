@@ -8,7 +8,7 @@ ghost use Rattle.machine.specs.Machine.{alloc_value, layout_of_call, root_of_cal
 
 use crate::action::{Action, only_if};
 use crate::answer::Answer;
-use crate::frame_scene::FrameScene;
+use crate::frame_context::FrameContext;
 use crate::kinds::{is_byte_pointer, is_integer_of, is_place_of_bytes, is_void};
 use crate::memory::{barrier_action, read_action};
 use crate::operands::{address_at_place, is_usable, operand_value, slot_at_place, value_of};
@@ -87,68 +87,70 @@ fn declare_of(of_module: &Module, callee: SymbolId) -> Option<&Declare>
     }
 }
 
-fn is_root_place(scene: &FrameScene<'_>, slot: Option<SlotId>) -> bool
-    ensures { result ≡ is_root_place scene.now.slots.now slot }
+fn is_root_place(context: &FrameContext<'_>, slot: Option<SlotId>) -> bool
+    ensures { result ≡ is_root_place context.now.slots.now slot }
 {
     match slot {
-        Some(slot) => scene.slots.layout(slot).is_some(),
+        Some(slot) => context.slots.layout(slot).is_some(),
         None => false,
     }
 }
 
-fn gcroot_action(scene: &FrameScene<'_>, returned: TypeId, arguments: &[Argument]) -> Action
-    ensures { result ≡ gcroot_action scene.now.program.now.of_module scene.now.function.now scene.now.slots.now scene.now.registers.now returned arguments.now }
+fn gcroot_action(context: &FrameContext<'_>, returned: TypeId, arguments: &[Argument]) -> Action
+    ensures { result ≡ gcroot_action context.now.program.now.of_module context.now.function.now context.now.slots.now context.now.registers.now returned arguments.now }
 {
     match arguments {
         [place, metadata] => only_if(
             are_gcroot_types(
-                scene.of_module(),
+                context.of_module(),
                 returned,
                 &[place.written, metadata.written],
-            ) && (is_root_place(scene, slot_at_place(scene, place.written, &place.operand))
-                && is_usable(scene, metadata.written, &metadata.operand)),
+            ) && (is_root_place(
+                context,
+                slot_at_place(context, place.written, &place.operand),
+            ) && is_usable(context, metadata.written, &metadata.operand)),
             Action::Local,
         ),
         _ => Action::Wrong,
     }
 }
 
-fn gcread_action(scene: &FrameScene<'_>, returned: TypeId, arguments: &[Argument]) -> Action
-    ensures { result ≡ gcread_action scene.now.program.now scene.now.function.now scene.now.slots.now scene.now.registers.now returned arguments.now }
+fn gcread_action(context: &FrameContext<'_>, returned: TypeId, arguments: &[Argument]) -> Action
+    ensures { result ≡ gcread_action context.now.program.now context.now.function.now context.now.slots.now context.now.registers.now returned arguments.now }
 {
     match arguments {
         [object, place] => only_if(
             are_gcread_types(
-                scene.of_module(),
+                context.of_module(),
                 returned,
                 &[object.written, place.written],
-            ) && is_usable(scene, object.written, &object.operand),
+            ) && is_usable(context, object.written, &object.operand),
             read_action(
-                scene.program,
+                context.program,
                 returned,
-                address_at_place(scene, place.written, &place.operand),
+                address_at_place(context, place.written, &place.operand),
             ),
         ),
         _ => Action::Wrong,
     }
 }
 
-fn gcwrite_action(scene: &FrameScene<'_>, returned: TypeId, arguments: &[Argument]) -> Action
-    ensures { result ≡ gcwrite_action scene.now.program.now scene.now.function.now scene.now.slots.now scene.now.registers.now returned arguments.now }
+fn gcwrite_action(context: &FrameContext<'_>, returned: TypeId, arguments: &[Argument]) -> Action
+    ensures { result ≡ gcwrite_action context.now.program.now context.now.function.now context.now.slots.now context.now.registers.now returned arguments.now }
 {
     match arguments {
         [value, object, place] => only_if(
             are_gcwrite_types(
-                scene.of_module(),
+                context.of_module(),
                 returned,
                 &[value.written, object.written, place.written],
-            ) && (is_usable(scene, value.written, &value.operand)
-                && is_usable(scene, object.written, &object.operand)),
+            ) && (is_usable(context, value.written, &value.operand)
+                && is_usable(context, object.written, &object.operand)),
             barrier_action(
-                scene.program,
+                context.program,
                 value.written,
-                value_of(scene, value.written, &value.operand),
-                address_at_place(scene, place.written, &place.operand),
+                value_of(context, value.written, &value.operand),
+                address_at_place(context, place.written, &place.operand),
             ),
         ),
         _ => Action::Wrong,
@@ -265,15 +267,19 @@ fn function_named(of_module: &Module, callee: SymbolId) -> Option<&Function>
 
 /// Whether there is one argument for each parameter, of its type and usable.
 #[tactic(auto, using(crate::proofs::AsksArguments::other_count))]
-fn arguments_pass(scene: &FrameScene<'_>, parameters: &[Parameter], arguments: &[Argument]) -> bool
-    ensures { result ≡ arguments_pass scene.now.program.now.of_module scene.now.function.now scene.now.slots.now scene.now.registers.now parameters.now arguments.now }
+fn arguments_pass(
+    context: &FrameContext<'_>,
+    parameters: &[Parameter],
+    arguments: &[Argument],
+) -> bool
+    ensures { result ≡ arguments_pass context.now.program.now.of_module context.now.function.now context.now.slots.now context.now.registers.now parameters.now arguments.now }
 {
     if parameters.len() != arguments.len() {
         return false;
     }
     for (parameter, argument) in parameters.iter().zip(arguments.iter()) {
         if argument.written != parameter.written
-            || !is_usable(scene, argument.written, &argument.operand)
+            || !is_usable(context, argument.written, &argument.operand)
         {
             return false;
         }
@@ -282,17 +288,17 @@ fn arguments_pass(scene: &FrameScene<'_>, parameters: &[Parameter], arguments: &
 }
 
 fn defined_action(
-    scene: &FrameScene<'_>,
+    context: &FrameContext<'_>,
     returned: TypeId,
     arguments: &[Argument],
     callee: Option<&Function>,
 ) -> Action
-    ensures { result ≡ defined_action scene.now.program.now.of_module scene.now.function.now scene.now.slots.now scene.now.registers.now returned arguments.now (option_copied callee.entry) }
+    ensures { result ≡ defined_action context.now.program.now.of_module context.now.function.now context.now.slots.now context.now.registers.now returned arguments.now (option_copied callee.entry) }
 {
     match callee {
         Some(callee) => only_if(
             returned == callee.returned
-                && arguments_pass(scene, callee.parameters.as_slice(), arguments),
+                && arguments_pass(context, callee.parameters.as_slice(), arguments),
             Action::Local,
         ),
         None => Action::Wrong,
@@ -300,8 +306,8 @@ fn defined_action(
 }
 
 /// What a call asks for; no callee is known but the runtime's, declared and called with its types, and defined functions.
-pub fn call_action(scene: &FrameScene<'_>, call: &Call) -> Action
-    ensures { result ≡ action_of_call scene.now.program.now scene.now.function.now scene.now.slots.now scene.now.registers.now call.now }
+pub fn call_action(context: &FrameContext<'_>, call: &Call) -> Action
+    ensures { result ≡ action_of_call context.now.program.now context.now.function.now context.now.slots.now context.now.registers.now call.now }
 {
     let Call {
         returned,
@@ -309,7 +315,7 @@ pub fn call_action(scene: &FrameScene<'_>, call: &Call) -> Action
         arguments,
     } = call;
     let (returned, callee, arguments) = (*returned, *callee, arguments.as_slice());
-    let of_module = scene.of_module();
+    let of_module = context.of_module();
     let declare = declare_of(of_module, callee);
     match runtime_called(of_module, callee) {
         Some(Runtime::Alloc) => only_if(
@@ -318,7 +324,7 @@ pub fn call_action(scene: &FrameScene<'_>, call: &Call) -> Action
         ),
         Some(Runtime::GcRoot) => only_if(
             declares(of_module, Runtime::GcRoot, declare),
-            gcroot_action(scene, returned, arguments),
+            gcroot_action(context, returned, arguments),
         ),
         Some(Runtime::Safepoint) => only_if(
             declares(of_module, Runtime::Safepoint, declare),
@@ -326,14 +332,14 @@ pub fn call_action(scene: &FrameScene<'_>, call: &Call) -> Action
         ),
         Some(Runtime::GcRead) => only_if(
             declares(of_module, Runtime::GcRead, declare),
-            gcread_action(scene, returned, arguments),
+            gcread_action(context, returned, arguments),
         ),
         Some(Runtime::GcWrite) => only_if(
             declares(of_module, Runtime::GcWrite, declare),
-            gcwrite_action(scene, returned, arguments),
+            gcwrite_action(context, returned, arguments),
         ),
         None => defined_action(
-            scene,
+            context,
             returned,
             arguments,
             function_named(of_module, callee),
@@ -373,21 +379,21 @@ pub fn layout_of_call(of_module: &Module, arguments: &[Argument]) -> Option<Layo
 }
 
 /// The slot that a call of gcroot names.
-pub fn root_of_call(scene: &FrameScene<'_>, arguments: &[Argument]) -> Option<SlotId>
-    ensures { result ≡ root_of_call scene.now.program.now.of_module scene.now.function.now scene.now.slots.now arguments.now }
+pub fn root_of_call(context: &FrameContext<'_>, arguments: &[Argument]) -> Option<SlotId>
+    ensures { result ≡ root_of_call context.now.program.now.of_module context.now.function.now context.now.slots.now arguments.now }
 {
     match arguments {
-        [argument, ..] => slot_at_place(scene, argument.written, &argument.operand),
+        [argument, ..] => slot_at_place(context, argument.written, &argument.operand),
         [] => None,
     }
 }
 
 /// The address that a call of gcread names.
-pub fn place_of_call(scene: &FrameScene<'_>, arguments: &[Argument]) -> Option<Pointee>
-    ensures { result ≡ place_of_call scene.now.program.now.of_module scene.now.function.now scene.now.slots.now scene.now.registers.now arguments.now }
+pub fn place_of_call(context: &FrameContext<'_>, arguments: &[Argument]) -> Option<Pointee>
+    ensures { result ≡ place_of_call context.now.program.now.of_module context.now.function.now context.now.slots.now context.now.registers.now arguments.now }
 {
     match arguments {
-        [_, place, ..] => address_at_place(scene, place.written, &place.operand),
+        [_, place, ..] => address_at_place(context, place.written, &place.operand),
         _ => None,
     }
 }

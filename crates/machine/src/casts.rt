@@ -7,7 +7,7 @@ ghost use Rattle.machine.specs.Asks.{may_cast_place, may_cast_value, may_cast, i
 
 use crate::action::{Action, only_if};
 use crate::elements::{global_kind, kind_of_word};
-use crate::frame_scene::FrameScene;
+use crate::frame_context::FrameContext;
 use crate::kinds::{is_set, may_cast_word, may_lead, may_refer, refers_to};
 use crate::operands::{is_local_of, is_typed, operand_slot, value_of};
 use crate::value::{Pointee, Value};
@@ -72,19 +72,24 @@ fn may_cast_slot(of_module: &Module, layout: Option<LayoutId>, from: TypeId, to:
 }
 
 /// What a bitcast asks for.
-pub fn cast_action(scene: &FrameScene<'_>, cast: &Cast) -> Action
-    ensures { result ≡ cast_action scene.now.program.now scene.now.function.now scene.now.slots.now scene.now.registers.now cast.now }
+pub fn cast_action(context: &FrameContext<'_>, cast: &Cast) -> Action
+    ensures { result ≡ cast_action context.now.program.now context.now.function.now context.now.slots.now context.now.registers.now cast.now }
 {
     let Cast { from, operand, to } = *cast;
-    match operand_slot(scene.slots, &operand) {
+    match operand_slot(context.slots, &operand) {
         Some(slot) => only_if(
-            is_local_of(scene, from, &operand)
-                && may_cast_slot(scene.of_module(), scene.slots.layout(slot), from, to),
+            is_local_of(context, from, &operand)
+                && may_cast_slot(context.of_module(), context.slots.layout(slot), from, to),
             Action::Local,
         ),
         None => only_if(
-            is_typed(scene, from, &operand)
-                && may_cast(scene.program, from, to, &value_of(scene, from, &operand)),
+            is_typed(context, from, &operand)
+                && may_cast(
+                    context.program,
+                    from,
+                    to,
+                    &value_of(context, from, &operand),
+                ),
             Action::Local,
         ),
     }

@@ -8,7 +8,7 @@ use crate::answer::Answer;
 use crate::calls::{alloc_value, layout_of_call, place_of_call, root_of_call};
 use crate::choices::choice_value;
 use crate::elements::element_address;
-use crate::frame_scene::FrameScene;
+use crate::frame_context::FrameContext;
 use crate::jumps::{phi_value, phis_of};
 use crate::kinds::is_integer;
 use crate::memory::{loaded_from, read_at};
@@ -37,18 +37,18 @@ pub struct Frame {
 
 impl Frame {
     /// What an instruction of the frame looks at.
-    pub fn scene<'a>(
+    pub fn context<'a>(
         &'a self,
         program: &'a Program,
         function: &'a Function,
         slots: &'a Slots,
-    ) -> FrameScene<'a>
+    ) -> FrameContext<'a>
         ensures program { result.program.now ≡ program.now }
         ensures function { result.function.now ≡ function.now }
         ensures slots { result.slots.now ≡ slots.now }
         ensures registers { result.registers.now ≡ self.now.registers }
     {
-        FrameScene {
+        FrameContext {
             program,
             function,
             slots,
@@ -70,17 +70,17 @@ impl Frame {
     {
         match op {
             Op::Number(op) => {
-                let value = number_value(&self.scene(program, function, slots), op);
+                let value = number_value(&self.context(program, function, slots), op);
                 self.set_register(name, value);
             }
             Op::Memory(op) => self.after_memory(program, function, slots, name, op, answer),
             Op::Element(element) => {
-                let value = element_address(&self.scene(program, function, slots), element);
+                let value = element_address(&self.context(program, function, slots), element);
                 self.set_register(name, value);
             }
             Op::Cast(cast) => self.after_cast(program, function, slots, name, cast),
             Op::Choice(choice) => {
-                let value = choice_value(&self.scene(program, function, slots), choice);
+                let value = choice_value(&self.context(program, function, slots), choice);
                 self.set_register(name, value);
             }
             Op::Call(call) => self.after_call(program, function, slots, name, call, answer),
@@ -98,7 +98,7 @@ impl Frame {
         ensures { self.new ≡ after_cast program.now slots.now name cast.now self.old }
     {
         let value = value_of(
-            &self.scene(program, function, slots),
+            &self.context(program, function, slots),
             cast.from,
             &cast.operand,
         );
@@ -118,7 +118,7 @@ impl Frame {
     )
         ensures { self.new ≡ after_memory program.now function.now slots.now name op.now answer self.old }
     {
-        let scene = self.scene(program, function, slots);
+        let context = self.context(program, function, slots);
         match op {
             MemoryOp::Alloca(_) => {}
             MemoryOp::Load {
@@ -126,8 +126,8 @@ impl Frame {
                 place,
                 ..
             } => {
-                let slot = slot_at_place(&scene, *place_type, place);
-                let address = address_at_place(&scene, *place_type, place);
+                let slot = slot_at_place(&context, *place_type, place);
+                let address = address_at_place(&context, *place_type, place);
                 let value = loaded_from(program, self.slots.as_slice(), slot, address, answer);
                 self.set_register(name, value);
             }
@@ -137,8 +137,8 @@ impl Frame {
                 place_type,
                 place,
             } => {
-                let slot = slot_at_place(&scene, *place_type, place);
-                let value = value_of(&scene, *stored, value);
+                let slot = slot_at_place(&context, *place_type, place);
+                let value = value_of(&context, *stored, value);
                 self.set_slot(slot, value);
             }
         }
@@ -155,7 +155,7 @@ impl Frame {
     )
         ensures { self.new ≡ after_call program.now function.now slots.now name call.now.arguments (runtime_called program.now.of_module call.now.callee) answer self.old }
     {
-        let scene = self.scene(program, function, slots);
+        let context = self.context(program, function, slots);
         let arguments = call.arguments.as_slice();
         match runtime_called(program.module(), call.callee) {
             Some(Runtime::Alloc) => {
@@ -163,11 +163,11 @@ impl Frame {
                 self.set_register(name, alloc_value(layout, answer));
             }
             Some(Runtime::GcRoot) => {
-                let slot = root_of_call(&scene, arguments);
+                let slot = root_of_call(&context, arguments);
                 self.set_slot(slot, Value::Null);
             }
             Some(Runtime::GcRead) => {
-                let place = place_of_call(&scene, arguments);
+                let place = place_of_call(&context, arguments);
                 self.set_register(name, read_at(program, place, answer));
             }
             _ => {}

@@ -1,14 +1,14 @@
 //! The frames of a thread: how calls and returns change them.
 ghost use Rattle.std.specs.Prelude.{◌≡◌, ◌+◌, ◌<◌, ◌^◌, ◌∷◌, ◌++◌, [], List, Option, Some, not, is_ok, if◌then◌else◌, reverse, slice_get, IfOk, OnErr};
 ghost use Rattle.shadow_stack.specs.Slots.{SlotTable, slots_of};
-ghost use Rattle.machine.specs.Asks.{way_of, target_at};
+ghost use Rattle.machine.specs.Asks.{edge_of, target_at};
 ghost use Rattle.machine.specs.Machine.{above_callers, with_room, function_called, has_room, values_of, after_op, after_instr, after_end, enter_block, go_on, frames_called, frames_unless, frames_returned};
 ghost use Rattle.machine.specs.Entered.{WasEntered, WereEntered};
 
 use crate::action::Action;
 use crate::answer::Answer;
 use crate::calls::{number_called, values_of};
-use crate::ends::{result_of, target_of_way};
+use crate::ends::{result_of, target_of_edge};
 use crate::entered::Entered;
 use crate::entry::entry_frame;
 use crate::frame::Frame;
@@ -134,10 +134,10 @@ fn follow(entered: &mut Entered<'_>, running: &mut Frame, function: &Function, e
     requires entered { WasEntered entered.old.tables running.old.function }
     requires function { slice_get entered.old.program.of_module.functions running.old.function ≡ Some function.now }
     ensures known { entered.new ≡ entered.old }
-    ensures running { let m = entered.old.program.of_module in running.new ≡ enter_block m function.now (target_at function.now (way_of m running.old.registers end.now)) running.old }
+    ensures running { let m = entered.old.program.of_module in running.new ≡ enter_block m function.now (target_at function.now (edge_of m running.old.registers end.now)) running.old }
 {
-    let target = target_of_way(
-        &running.scene(entered.program(), function, entered.slots(running.function)),
+    let target = target_of_edge(
+        &running.context(entered.program(), function, entered.slots(running.function)),
         end,
     );
     if let Some(block) = target {

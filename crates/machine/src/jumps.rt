@@ -1,8 +1,8 @@
 //! Edges from block to block, and the values that phis take on them.
 ghost use Rattle.std.specs.Prelude.{◌≡◌, slice_get};
-ghost use Rattle.machine.specs.Jumps.{is_block, phis_of, entry_for, entry_fits, phi_fits, phis_fit, entry_value, phi_value, switch_way, cases_fit};
+ghost use Rattle.machine.specs.Jumps.{is_block, phis_of, entry_for, entry_fits, phi_fits, phis_fit, entry_value, phi_value, switch_edge, cases_fit};
 
-use crate::frame_scene::FrameScene;
+use crate::frame_context::FrameContext;
 use crate::kinds::{is_scalar, number_in};
 use crate::operands::{constant_fits, constant_value, is_no_global, is_typed, operand_value};
 use crate::value::Value;
@@ -40,37 +40,37 @@ fn entry_for(function: &Function, from: usize, incoming: &[Incoming]) -> Option<
     None
 }
 
-fn entry_fits(scene: &FrameScene<'_>, written: TypeId, entry: Option<Operand>) -> bool
-    ensures { result ≡ entry_fits scene.now.program.now.of_module scene.now.function.now scene.now.slots.now written entry }
+fn entry_fits(context: &FrameContext<'_>, written: TypeId, entry: Option<Operand>) -> bool
+    ensures { result ≡ entry_fits context.now.program.now.of_module context.now.function.now context.now.slots.now written entry }
 {
     match entry {
         Some(operand) => {
             is_no_global(&operand)
-                && is_typed(scene, written, &operand)
-                && !scene
+                && is_typed(context, written, &operand)
+                && !context
                     .slots
-                    .is_opaque_address(scene.of_module(), written, operand)
+                    .is_opaque_address(context.of_module(), written, operand)
         }
         None => true,
     }
 }
 
-fn phi_fits(scene: &FrameScene<'_>, from: usize, phi: &Phi) -> bool
-    ensures { result ≡ phi_fits scene.now.program.now.of_module scene.now.function.now scene.now.slots.now from phi.now }
+fn phi_fits(context: &FrameContext<'_>, from: usize, phi: &Phi) -> bool
+    ensures { result ≡ phi_fits context.now.program.now.of_module context.now.function.now context.now.slots.now from phi.now }
 {
-    is_scalar(scene.of_module(), phi.written)
+    is_scalar(context.of_module(), phi.written)
         && entry_fits(
-            scene,
+            context,
             phi.written,
-            entry_for(scene.function, from, phi.incoming.as_slice()),
+            entry_for(context.function, from, phi.incoming.as_slice()),
         )
 }
 
 /// Whether each of these phis may take its entry for this block.
-pub fn phis_fit(scene: &FrameScene<'_>, from: usize, phis: &[Phi]) -> bool
-    ensures { result ≡ phis_fit scene.now.program.now.of_module scene.now.function.now scene.now.slots.now from phis.now }
+pub fn phis_fit(context: &FrameContext<'_>, from: usize, phis: &[Phi]) -> bool
+    ensures { result ≡ phis_fit context.now.program.now.of_module context.now.function.now context.now.slots.now from phis.now }
 {
-    phis.iter().all(|phi| phi_fits(scene, from, phi))
+    phis.iter().all(|phi| phi_fits(context, from, phi))
 }
 
 fn entry_value(
@@ -106,14 +106,14 @@ pub fn phi_value(
 }
 
 /// The label to which a switch goes on at this number.
-pub fn switch_way(
+pub fn switch_edge(
     of_module: &Module,
     written: TypeId,
     number: u64,
     otherwise: ValueId,
     cases: &[Case],
 ) -> ValueId
-    ensures { result ≡ switch_way of_module.now written number otherwise cases.now }
+    ensures { result ≡ switch_edge of_module.now written number otherwise cases.now }
 {
     for case in cases {
         if number_in(&constant_value(of_module, written, case.constant)) == number {

@@ -10,7 +10,7 @@ use crate::answer::Answer;
 use crate::elements::{
     global_kind, globals_cell, is_read_as, kind_of_word, read_value, takes_value,
 };
-use crate::frame_scene::FrameScene;
+use crate::frame_context::FrameContext;
 use crate::kinds::{fits_layout_of, is_byte_pointer};
 use crate::operands::{address_at_place, is_usable, slot_at_place, value_of};
 use crate::value::{Pointee, Value};
@@ -87,22 +87,22 @@ pub fn read_action(program: &Program, loaded: TypeId, address: Option<Pointee>) 
 
 /// What a load asks for: nothing of a slot, the word of an address.
 fn load_action(
-    scene: &FrameScene<'_>,
+    context: &FrameContext<'_>,
     loaded: TypeId,
     place_type: TypeId,
     place: &Operand,
 ) -> Action
-    ensures { let m = scene.now.program.now.of_module in let f = scene.now.function.now in let slots = scene.now.slots.now in result ≡ load_action scene.now.program.now slots loaded (slot_at_place m f slots place_type place.now) (address_at_place m f slots scene.now.registers.now place_type place.now) }
+    ensures { let m = context.now.program.now.of_module in let f = context.now.function.now in let slots = context.now.slots.now in result ≡ load_action context.now.program.now slots loaded (slot_at_place m f slots place_type place.now) (address_at_place m f slots context.now.registers.now place_type place.now) }
 {
-    match slot_at_place(scene, place_type, place) {
+    match slot_at_place(context, place_type, place) {
         Some(slot) => only_if(
-            is_loaded_as(scene.of_module(), scene.slots.held_type(slot), loaded),
+            is_loaded_as(context.of_module(), context.slots.held_type(slot), loaded),
             Action::Local,
         ),
         None => read_action(
-            scene.program,
+            context.program,
             loaded,
-            address_at_place(scene, place_type, place),
+            address_at_place(context, place_type, place),
         ),
     }
 }
@@ -183,23 +183,23 @@ pub fn barrier_action(
 
 /// What a store asks for: nothing of a slot, a plain store of the word of an address.
 fn store_action(
-    scene: &FrameScene<'_>,
+    context: &FrameContext<'_>,
     stored: TypeId,
     operand: &Operand,
     place_type: TypeId,
     place: &Operand,
 ) -> Action
-    ensures { let m = scene.now.program.now.of_module in let f = scene.now.function.now in let slots = scene.now.slots.now in let registers = scene.now.registers.now in result ≡ store_action scene.now.program.now slots stored (is_usable m f slots registers stored operand.now) (value_of m registers stored operand.now) (slot_at_place m f slots place_type place.now) (address_at_place m f slots registers place_type place.now) }
+    ensures { let m = context.now.program.now.of_module in let f = context.now.function.now in let slots = context.now.slots.now in let registers = context.now.registers.now in result ≡ store_action context.now.program.now slots stored (is_usable m f slots registers stored operand.now) (value_of m registers stored operand.now) (slot_at_place m f slots place_type place.now) (address_at_place m f slots registers place_type place.now) }
 {
-    let value = value_of(scene, stored, operand);
-    let usable = is_usable(scene, stored, operand);
-    match slot_at_place(scene, place_type, place) {
+    let value = value_of(context, stored, operand);
+    let usable = is_usable(context, stored, operand);
+    match slot_at_place(context, place_type, place) {
         Some(slot) => {
-            let layout = scene.slots.layout(slot);
-            let held = scene.slots.held_type(slot);
+            let layout = context.slots.layout(slot);
+            let held = context.slots.held_type(slot);
             only_if(
                 usable
-                    && (is_held_as(scene.of_module(), layout, held, stored)
+                    && (is_held_as(context.of_module(), layout, held, stored)
                         && fits_layout_of(layout, &value)),
                 Action::Local,
             )
@@ -207,10 +207,10 @@ fn store_action(
         None => {
             if usable {
                 plain_action(
-                    scene.program,
+                    context.program,
                     stored,
                     value,
-                    address_at_place(scene, place_type, place),
+                    address_at_place(context, place_type, place),
                 )
             } else {
                 Action::Wrong
@@ -220,8 +220,8 @@ fn store_action(
 }
 
 /// What an operation on memory asks for.
-pub fn memory_action(scene: &FrameScene<'_>, op: &MemoryOp) -> Action
-    ensures { result ≡ memory_action scene.now.program.now scene.now.function.now scene.now.slots.now scene.now.registers.now op.now }
+pub fn memory_action(context: &FrameContext<'_>, op: &MemoryOp) -> Action
+    ensures { result ≡ memory_action context.now.program.now context.now.function.now context.now.slots.now context.now.registers.now op.now }
 {
     match op {
         MemoryOp::Alloca(_) => Action::Local,
@@ -229,13 +229,13 @@ pub fn memory_action(scene: &FrameScene<'_>, op: &MemoryOp) -> Action
             loaded,
             place_type,
             place,
-        } => load_action(scene, *loaded, *place_type, place),
+        } => load_action(context, *loaded, *place_type, place),
         MemoryOp::Store {
             stored,
             value,
             place_type,
             place,
-        } => store_action(scene, *stored, value, *place_type, place),
+        } => store_action(context, *stored, value, *place_type, place),
     }
 }
 

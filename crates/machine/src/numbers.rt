@@ -7,7 +7,7 @@ ghost use Rattle.machine.specs.Machine.{are_equal, compared, number_value};
 ghost use Rattle.machine.specs.declared.value.Value.TheVariants as value;
 
 use crate::action::{Action, only_if};
-use crate::frame_scene::FrameScene;
+use crate::frame_context::FrameContext;
 use crate::integers::{
     compares, compares_equal, computed, is_equality, may_resize, resized, truth,
 };
@@ -17,35 +17,35 @@ use crate::value::Value;
 use ir_ast::{Arithmetic, Comparison, NumberOp, Operand, Resize, TypeId};
 
 fn may_compare(
-    scene: &FrameScene<'_>,
+    context: &FrameContext<'_>,
     kind: Comparison,
     written: TypeId,
     first: &Operand,
     second: &Operand,
 ) -> bool
-    ensures { result ≡ may_compare scene.now.program.now.of_module scene.now.function.now scene.now.slots.now scene.now.registers.now kind written first.now second.now }
+    ensures { result ≡ may_compare context.now.program.now.of_module context.now.function.now context.now.slots.now context.now.registers.now kind written first.now second.now }
 {
-    are_numbers(scene, written, first, second)
-        || (is_equality(kind) && are_references(scene, written, first, second))
+    are_numbers(context, written, first, second)
+        || (is_equality(kind) && are_references(context, written, first, second))
 }
 
 fn may_resize_to(
-    scene: &FrameScene<'_>,
+    context: &FrameContext<'_>,
     kind: Resize,
     from: TypeId,
     operand: &Operand,
     to: TypeId,
 ) -> bool
-    ensures { let m = scene.now.program.now.of_module in result ≡ is_usable_number m scene.now.function.now scene.now.slots.now scene.now.registers.now from operand.now && (is_integer (slice_get m.types to) && may_resize kind (bits_at m from) (bits_at m to)) }
+    ensures { let m = context.now.program.now.of_module in result ≡ is_usable_number m context.now.function.now context.now.slots.now context.now.registers.now from operand.now && (is_integer (slice_get m.types to) && may_resize kind (bits_at m from) (bits_at m to)) }
 {
-    let of_module = scene.of_module();
-    is_usable_number(scene, from, operand)
+    let of_module = context.of_module();
+    is_usable_number(context, from, operand)
         && (is_integer(of_module, to)
             && may_resize(kind, bits_at(of_module, from), bits_at(of_module, to)))
 }
 
-fn gives_number(scene: &FrameScene<'_>, op: &NumberOp) -> bool
-    ensures { result ≡ gives_number scene.now.program.now.of_module scene.now.function.now scene.now.slots.now scene.now.registers.now op.now }
+fn gives_number(context: &FrameContext<'_>, op: &NumberOp) -> bool
+    ensures { result ≡ gives_number context.now.program.now.of_module context.now.function.now context.now.slots.now context.now.registers.now op.now }
 {
     match op {
         NumberOp::Arithmetic {
@@ -53,62 +53,62 @@ fn gives_number(scene: &FrameScene<'_>, op: &NumberOp) -> bool
             first,
             second,
             ..
-        } => are_numbers(scene, *written, first, second),
+        } => are_numbers(context, *written, first, second),
         NumberOp::Resize {
             kind,
             from,
             operand,
             to,
-        } => may_resize_to(scene, *kind, *from, operand, *to),
+        } => may_resize_to(context, *kind, *from, operand, *to),
         NumberOp::Compare {
             kind,
             written,
             first,
             second,
-        } => may_compare(scene, *kind, *written, first, second),
+        } => may_compare(context, *kind, *written, first, second),
     }
 }
 
 /// What an operation on integers asks for.
-pub fn number_action(scene: &FrameScene<'_>, op: &NumberOp) -> Action
-    ensures { result ≡ number_action scene.now.program.now.of_module scene.now.function.now scene.now.slots.now scene.now.registers.now op.now }
+pub fn number_action(context: &FrameContext<'_>, op: &NumberOp) -> Action
+    ensures { result ≡ number_action context.now.program.now.of_module context.now.function.now context.now.slots.now context.now.registers.now op.now }
 {
-    only_if(gives_number(scene, op), Action::Local)
+    only_if(gives_number(context, op), Action::Local)
 }
 
 /// What an integer instruction of two operands gives.
 fn arithmetic_value(
-    scene: &FrameScene<'_>,
+    context: &FrameContext<'_>,
     kind: Arithmetic,
     written: TypeId,
     first: &Operand,
     second: &Operand,
 ) -> Value
-    ensures { let m = scene.now.program.now.of_module in result ≡ value.Number (computed kind (bits_at m written) (number_in (value_of m scene.now.registers.now written first.now)) (number_in (value_of m scene.now.registers.now written second.now))) }
+    ensures { let m = context.now.program.now.of_module in result ≡ value.Number (computed kind (bits_at m written) (number_in (value_of m context.now.registers.now written first.now)) (number_in (value_of m context.now.registers.now written second.now))) }
 {
     Value::Number(computed(
         kind,
-        bits_at(scene.of_module(), written),
-        number_in(&value_of(scene, written, first)),
-        number_in(&value_of(scene, written, second)),
+        bits_at(context.of_module(), written),
+        number_in(&value_of(context, written, first)),
+        number_in(&value_of(context, written, second)),
     ))
 }
 
 /// What a change of an integer's width gives.
 fn resized_value(
-    scene: &FrameScene<'_>,
+    context: &FrameContext<'_>,
     kind: Resize,
     from: TypeId,
     operand: &Operand,
     to: TypeId,
 ) -> Value
-    ensures { let m = scene.now.program.now.of_module in result ≡ value.Number (resized kind (bits_at m from) (bits_at m to) (number_in (value_of m scene.now.registers.now from operand.now))) }
+    ensures { let m = context.now.program.now.of_module in result ≡ value.Number (resized kind (bits_at m from) (bits_at m to) (number_in (value_of m context.now.registers.now from operand.now))) }
 {
     Value::Number(resized(
         kind,
-        bits_at(scene.of_module(), from),
-        bits_at(scene.of_module(), to),
-        number_in(&value_of(scene, from, operand)),
+        bits_at(context.of_module(), from),
+        bits_at(context.of_module(), to),
+        number_in(&value_of(context, from, operand)),
     ))
 }
 
@@ -135,8 +135,8 @@ fn compared(kind: Comparison, bits: u32, first: Value, second: Value) -> Value
 }
 
 /// What an operation on integers gives.
-pub fn number_value(scene: &FrameScene<'_>, op: &NumberOp) -> Value
-    ensures { result ≡ number_value scene.now.program.now.of_module scene.now.registers.now op.now }
+pub fn number_value(context: &FrameContext<'_>, op: &NumberOp) -> Value
+    ensures { result ≡ number_value context.now.program.now.of_module context.now.registers.now op.now }
 {
     match op {
         NumberOp::Arithmetic {
@@ -144,13 +144,13 @@ pub fn number_value(scene: &FrameScene<'_>, op: &NumberOp) -> Value
             written,
             first,
             second,
-        } => arithmetic_value(scene, *kind, *written, first, second),
+        } => arithmetic_value(context, *kind, *written, first, second),
         NumberOp::Resize {
             kind,
             from,
             operand,
             to,
-        } => resized_value(scene, *kind, *from, operand, *to),
+        } => resized_value(context, *kind, *from, operand, *to),
         NumberOp::Compare {
             kind,
             written,
@@ -158,9 +158,9 @@ pub fn number_value(scene: &FrameScene<'_>, op: &NumberOp) -> Value
             second,
         } => compared(
             *kind,
-            bits_at(scene.of_module(), *written),
-            value_of(scene, *written, first),
-            value_of(scene, *written, second),
+            bits_at(context.of_module(), *written),
+            value_of(context, *written, first),
+            value_of(context, *written, second),
         ),
     }
 }

@@ -131,18 +131,18 @@ impl<'a> Thread<'a> {
         }
         let number = self.running.function;
         let function = self.entered.function(number);
-        let scene = self.running.scene(
+        let context = self.running.context(
             self.entered.program(),
             function,
             self.entered.slots(number),
         );
         let below = self.below.len();
         if let Some(instr) = instr_at(function, self.running.block, self.running.place) {
-            let called = function_called(scene.of_module(), &instr.op);
-            return with_room(called, below, op_action(&scene, &instr.op));
+            let called = function_called(context.of_module(), &instr.op);
+            return with_room(called, below, op_action(&context, &instr.op));
         }
         match end_at(function, self.running.block) {
-            Some(end) => above_callers(end, below, end_action(&scene, self.running.block, end)),
+            Some(end) => above_callers(end, below, end_action(&context, self.running.block, end)),
             None => Action::End,
         }
     }

@@ -8,11 +8,11 @@ use Rattle.colours.specs.Steps.{Claim}
 use Rattle.moves.specs.Moving.{IsNextTry, TriesNext, tried_in, phase_left}
 use Rattle.moves.specs.Stands.{cells_by, cells_to_try, tried_of, phase_at}
 use Rattle.moves.specs.Nexts.{tried_of-length}
-use Rattle.runs.specs.Machine.{Reference, Alloc}
+use Rattle.runs.specs.Machine.{WordValue, Alloc}
 use Rattle.moves.specs.declared.call.Call.{Call}
 use Rattle.moves.specs.declared.call.Call.TheVariants as call
-use Rattle.moves.specs.declared.stand.Stance.{Stance}
-use Rattle.moves.specs.declared.stand.Stance.TheVariants as stance
+use Rattle.moves.specs.declared.thread_state.CallPhase.{CallPhase}
+use Rattle.moves.specs.declared.thread_state.CallPhase.TheVariants as call_phase
 use Rattle.moves.specs.Calls.{action_of}
 use Rattle.std.proofs.lemmas.Option.{unwrap_or-slice_get}
 
@@ -40,21 +40,21 @@ loses-next s layout cells tried cell h =
     ∙ rw (← h.is_next, ← h.of_layout.2, tried_of-length cells tried) refl
 
 -- a lost try is one more than those of the call so far
-one-more : (s : Setup) (stage : ℕ) (cells : List ℕ) (roots : List Reference) (at : Stance) (cell : ℕ) → after_loss s (tried_of cells (tried_in at)) cell ≡ phase_after s stage (phase_at cells roots at) (Claim cell false)
-one-more s stage cells roots (stance.Trying tried) cell = refl
-one-more s stage cells roots stance.Ready cell = refl
-one-more s stage cells roots (stance.MarkingOld c w o) cell = refl
-one-more s stage cells roots (stance.MarkingNew c w o) cell = refl
-one-more s stage cells roots (stance.Writing c w o n) cell = refl
-one-more s stage cells roots (stance.Answering p m) cell = refl
-one-more s stage cells roots stance.Ended cell = refl
-one-more s stage cells roots stance.Absent cell = refl
-one-more s stage cells roots (stance.Arriving p) cell = refl
-one-more s stage cells roots stance.Entering cell = refl
-one-more s stage cells roots stance.Leaving cell = refl
+one-more : (s : Setup) (stage : ℕ) (cells : List ℕ) (roots : List WordValue) (at : CallPhase) (cell : ℕ) → after_loss s (tried_of cells (tried_in at)) cell ≡ phase_after s stage (phase_at cells roots at) (Claim cell false)
+one-more s stage cells roots (call_phase.Trying tried) cell = refl
+one-more s stage cells roots call_phase.Ready cell = refl
+one-more s stage cells roots (call_phase.MarkingOld c w o) cell = refl
+one-more s stage cells roots (call_phase.MarkingNew c w o) cell = refl
+one-more s stage cells roots (call_phase.Writing c w o n) cell = refl
+one-more s stage cells roots (call_phase.Answering p m) cell = refl
+one-more s stage cells roots call_phase.Ended cell = refl
+one-more s stage cells roots call_phase.Absent cell = refl
+one-more s stage cells roots (call_phase.Arriving p) cell = refl
+one-more s stage cells roots call_phase.Entering cell = refl
+one-more s stage cells roots call_phase.Leaving cell = refl
 
 -- after a loss
-pub after-loss : (s : Setup) (pools : List ℕ) (c : Call) (hints : List ℕ) (roots : List Reference) (stage : ℕ) (at : Stance) (tried cell : ℕ) → s.pools ≡ pools → tried ≡ suc (tried_in at) → TriesNext s hints c at cell
+pub after-loss : (s : Setup) (pools : List ℕ) (c : Call) (hints : List ℕ) (roots : List WordValue) (stage : ℕ) (at : CallPhase) (tried cell : ℕ) → s.pools ≡ pools → tried ≡ suc (tried_in at) → TriesNext s hints c at cell
     → phase_left pools (action_of c) (cells_to_try s hints (action_of c)) tried ≡ phase_after s stage (phase_at (cells_to_try s hints (action_of c)) roots at) (Claim cell false)
 after-loss s pools (call.Alloc layout) hints roots stage at tried cell e is h =
     rw (← e, is) (loses-next s layout (cells_by s hints layout) (tried_in at) cell h ∙ one-more s stage (cells_by s hints layout) roots at cell)
@@ -67,18 +67,18 @@ after-loss s pools call.End hints roots stage at tried cell e is h = absurd h
 after-loss s pools call.Wrong hints roots stage at tried cell e is h = absurd h
 
 -- a thread that is not trying has tried no cell
-pub none-tried : (at : Stance) → ((tried : ℕ) → at ≡ stance.Trying tried → ⊥) → tried_in at ≡ 0
-none-tried (stance.Trying tried) not = absurd (not tried refl)
-none-tried stance.Ready not = refl
-none-tried (stance.MarkingOld c w o) not = refl
-none-tried (stance.MarkingNew c w o) not = refl
-none-tried (stance.Writing c w o n) not = refl
-none-tried (stance.Answering p m) not = refl
-none-tried stance.Ended not = refl
-none-tried stance.Absent not = refl
-none-tried (stance.Arriving p) not = refl
-none-tried stance.Entering not = refl
-none-tried stance.Leaving not = refl
+pub none-tried : (at : CallPhase) → ((tried : ℕ) → at ≡ call_phase.Trying tried → ⊥) → tried_in at ≡ 0
+none-tried (call_phase.Trying tried) not = absurd (not tried refl)
+none-tried call_phase.Ready not = refl
+none-tried (call_phase.MarkingOld c w o) not = refl
+none-tried (call_phase.MarkingNew c w o) not = refl
+none-tried (call_phase.Writing c w o n) not = refl
+none-tried (call_phase.Answering p m) not = refl
+none-tried call_phase.Ended not = refl
+none-tried call_phase.Absent not = refl
+none-tried (call_phase.Arriving p) not = refl
+none-tried call_phase.Entering not = refl
+none-tried call_phase.Leaving not = refl
 
 -- no cell is left
 pub none-left : (pools : List ℕ) (layout : ℕ) (cells : List ℕ) (tried count : ℕ) → count ≡ unwrap_or (slice_get pools layout) 0 → count ≤ tried → order.Ready ≡ phase_left pools (Alloc layout) cells tried

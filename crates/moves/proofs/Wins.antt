@@ -1,16 +1,16 @@
 -- Which cells a thread may win.
 use Rattle.std.proofs.Common.{ℕ, true, false, List}
 use Rattle.pools.specs.Heap.{Setup}
-use Rattle.runs.specs.Machine.{Reference}
+use Rattle.runs.specs.Machine.{WordValue}
 use Rattle.moves.specs.declared.call.Call.{Call}
 use Rattle.moves.specs.declared.call.Call.TheVariants as call
 use Rattle.moves.specs.declared.moves.Move.{Move}
 use Rattle.moves.specs.declared.moves.Move.TheVariants as made
-use Rattle.moves.specs.declared.stand.Stance.{Stance}
+use Rattle.moves.specs.declared.thread_state.CallPhase.{CallPhase}
 use Rattle.moves.specs.Moving.{MayMake, WinsOfLayout}
 
 -- a move that may be made wins no cell of another layout
-pub wins-of-layout : (s : Setup) (hints : List ℕ) (roots : List Reference) (c : Call) (at : Stance) (move : Move) → MayMake s hints roots c at move → WinsOfLayout s move c
+pub wins-of-layout : (s : Setup) (hints : List ℕ) (roots : List WordValue) (c : Call) (at : CallPhase) (move : Move) → MayMake s hints roots c at move → WinsOfLayout s move c
 wins-of-layout s hints roots (call.Alloc layout) at (made.Claims r true) may = may.of_layout.2
 wins-of-layout s hints roots call.Local at (made.Claims r true) may = absurd may
 wins-of-layout s hints roots (call.Read base word) at (made.Claims r true) may = absurd may

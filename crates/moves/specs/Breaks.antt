@@ -3,7 +3,7 @@ use Rattle.std.proofs.Common.{◌≡◌, ◌<◌, inl, inr, ℕ, Option, Some, N
 use Rattle.pools.specs.Heap.{Setup}
 use Rattle.colours.specs.declared.place.Place.TheVariants.{Colour}
 use Rattle.colours.specs.Colours.{done}
-use Rattle.runs.specs.Machine.{Reference, Machine}
+use Rattle.runs.specs.Machine.{WordValue, Machine}
 use Rattle.runs.specs.Moves as moves
 use Rattle.runs.specs.ModuleRuns.{Happening, OfThread}
 use Rattle.runs.specs.Broken as broken
@@ -18,20 +18,20 @@ use Rattle.moves.specs.Causes.{IsTouch, Breaks, IsStepCause}
 use Rattle.moves.specs.Shared.{AreAfter}
 
 -- a move by which a reference is used
-by_touch : (s : Setup) (m : Machine) (starts : ℕ → m.State) (run : List Happening) (t : ℕ) (move : moves.Move) (used : Reference) (shared : Shared) (cause : Option Cause)
+by_touch : (s : Setup) (m : Machine) (starts : ℕ → m.State) (run : List Happening) (t : ℕ) (move : moves.Move) (used : WordValue) (shared : Shared) (cause : Option Cause)
     → used_by move ≡ Some used → ¬ WentWrong (OfThread t move ∷ run) → AreAfter s run shared → IsTouch shared used cause → IsStepCause s m starts (OfThread t move ∷ run) cause
 by_touch s m starts run t move used shared cause e right b touch = go cause touch
   where
-    out : (P : List Happening → Reference → Type 0) → Touched P (OfThread t move ∷ run) → P run used
-    out P x = subst (λ (o : Option Reference). MatchOption o ⊥ (P run)) e x
+    out : (P : List Happening → WordValue → Type 0) → Touched P (OfThread t move ∷ run) → P run used
+    out P x = subst (λ (o : Option WordValue). MatchOption o ⊥ (P run)) e x
 
-    into : (P : List Happening → Reference → Type 0) → P run used → Touched P (OfThread t move ∷ run)
-    into P x = subst (λ (o : Option Reference). MatchOption o ⊥ (P run)) (sym e) x
+    into : (P : List Happening → WordValue → Type 0) → P run used → Touched P (OfThread t move ∷ run)
+    into P x = subst (λ (o : Option WordValue). MatchOption o ⊥ (P run)) (sym e) x
 
-    IsBlueCell : ℕ → List Happening → Reference → Type 0
+    IsBlueCell : ℕ → List Happening → WordValue → Type 0
     IsBlueCell cell before r = (r.cell ≡ cell) × IsBlue s before r
 
-    IsRebornCell : ℕ → List Happening → Reference → Type 0
+    IsRebornCell : ℕ → List Happening → WordValue → Type 0
     IsRebornCell cell before r = (r.cell ≡ cell) × IsReborn s before r
 
     none : IsTouch shared used None → ¬ TouchedGone s (OfThread t move ∷ run)
@@ -80,7 +80,7 @@ by_touch s m starts run t move used shared cause e right b touch = go cause touc
 -- a move that uses none, and is not wrong
 by_none : (s : Setup) (m : Machine) (starts : ℕ → m.State) (run : List Happening) (t : ℕ) (move : moves.Move)
     → used_by move ≡ None → ¬ WentWrong (OfThread t move ∷ run) → IsStepCause s m starts (OfThread t move ∷ run) None
-by_none s m starts run t move e right = (right, λ x. subst (λ (o : Option Reference). MatchOption o ⊥ (IsGone s run)) e x)
+by_none s m starts run t move e right = (right, λ x. subst (λ (o : Option WordValue). MatchOption o ⊥ (IsGone s run)) e x)
 
 -- none goes before a thread that goes wrong
 none_first : (c : broken.Cause) → GoesBefore c broken.Wrong → ⊥
@@ -88,7 +88,7 @@ none_first c (inl lt) = omega (arith, lt)
 none_first c (inr lt) = let less = lt.1 in omega (arith, less)
 
 -- each move
-pub first_cause : (s : Setup) (m : Machine) (starts : ℕ → m.State) (run : List Happening) (t : ℕ) (roots : List Reference) (shared : Shared) (move : Move) (cause : Option Cause)
+pub first_cause : (s : Setup) (m : Machine) (starts : ℕ → m.State) (run : List Happening) (t : ℕ) (roots : List WordValue) (shared : Shared) (move : Move) (cause : Option Cause)
     → AreAfter s run shared → Breaks shared move cause → IsStepCause s m starts (OfThread t (move_in roots move) ∷ run) cause
 first_cause s m starts run t roots shared made.GoesWrong cause b x =
     subst (λ (c : Option Cause). IsStepCause s m starts (OfThread t moves.GoesWrong ∷ run) c) (sym x) (record { shows = tt; first = λ c before shown. none_first c before })

@@ -2,7 +2,7 @@
 use Rattle.std.specs.Prelude.{Option, Some, None, List, []}
 use Rattle.colours.specs.Colours.{done}
 use Rattle.runs.specs.Machine as machine
-use Rattle.runs.specs.Machine.{Reference}
+use Rattle.runs.specs.Machine.{WordValue}
 use Rattle.runs.specs.Moves as moves
 use Rattle.runs.specs.Moves.{cells_of}
 use Rattle.moves.specs.declared.call.Call.{Call}
@@ -30,7 +30,7 @@ answer_in (Got r) = machine.Got r
 answer_in (Answered stage) = machine.Answered stage
 
 -- a move as one of a share, by a thread with these roots
-abbrev pub move_in : (roots : List Reference) → Move → moves.Move
+abbrev pub move_in : (roots : List WordValue) → Move → moves.Move
 move_in roots Works = moves.Works
 move_in roots GoesWrong = moves.GoesWrong
 move_in roots (ReadsWord base word value) = moves.ReadsWord base word value
@@ -47,6 +47,6 @@ move_in roots (EntersStage stage) = moves.EntersStage stage
 move_in roots (ReadsPostedAgain stage) = moves.ReadsPostedAgain stage
 
 -- if there is one
-abbrev pub made_by : (roots : List Reference) → Option Move → Option moves.Move
+abbrev pub made_by : (roots : List WordValue) → Option Move → Option moves.Move
 made_by roots None = None
 made_by roots (Some move) = Some (move_in roots move)

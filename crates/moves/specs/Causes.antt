@@ -1,7 +1,7 @@
 -- How a move itself breaks a run, by the shared words before it.
 use Rattle.std.specs.Prelude.{List, ℕ, ◌≡◌, ◌≢◌, Option, Some, None, slice_index}
 use Rattle.pools.specs.Heap.{Setup}
-use Rattle.runs.specs.Machine.{Reference, Machine}
+use Rattle.runs.specs.Machine.{WordValue, Machine}
 use Rattle.runs.specs.ModuleRuns.{Happening}
 use Rattle.runs.specs.Broken as broken
 use Rattle.runs.specs.Broken.{WentWrong, TouchedGone, IsCause}
@@ -12,7 +12,7 @@ use Rattle.moves.specs.declared.moves.Move.TheVariants.{GoesWrong, ReadsWord, Re
 use Rattle.moves.specs.declared.shared.Shared.{Shared}
 
 -- the first cause by which the reference that a step uses is gone, if it is gone
-abbrev pub IsTouch : Shared → Reference → Option Cause → Type 0
+abbrev pub IsTouch : Shared → WordValue → Option Cause → Type 0
 IsTouch h used None = (slice_index h.colours used.cell ≢ 0) × (slice_index h.births used.cell ≡ used.birth)
 IsTouch h used (Some (TouchBlue cell)) = (cell ≡ used.cell) × (slice_index h.colours used.cell ≡ 0)
 IsTouch h used (Some (TouchBirth cell)) = (cell ≡ used.cell) × (slice_index h.colours used.cell ≢ 0) × (slice_index h.births used.cell ≢ used.birth)

@@ -4,7 +4,7 @@ use Rattle.pools.specs.Heap.{Setup}
 use Rattle.colours.specs.Mutator as order
 use Rattle.colours.specs.Mutator.{Phase}
 use Rattle.runs.specs.Machine as machine
-use Rattle.runs.specs.Machine.{Reference, Action, Answer, Machine}
+use Rattle.runs.specs.Machine.{WordValue, Action, Answer, Machine}
 use Rattle.runs.specs.Moves.{step_of, phase_afterwards, ends_call, answer_of}
 use Rattle.runs.specs.Moves as moves
 use Rattle.runs.specs.Ends.{moved, stage_afterwards, old_by}
@@ -12,9 +12,9 @@ use Rattle.runs.specs.Tries.{hints_by}
 use Rattle.moves.specs.declared.call.Call.{Call}
 use Rattle.moves.specs.declared.call.Call.TheVariants as call
 use Rattle.moves.specs.declared.moves.Move.{Move}
-use Rattle.moves.specs.declared.stand.Stance.{Stance}
-use Rattle.moves.specs.declared.stand.Stance.TheVariants as stance
-use Rattle.moves.specs.declared.stand.Stand.{Stand}
+use Rattle.moves.specs.declared.thread_state.CallPhase.{CallPhase}
+use Rattle.moves.specs.declared.thread_state.CallPhase.TheVariants as call_phase
+use Rattle.moves.specs.declared.thread_state.ThreadState.{ThreadState}
 use Rattle.moves.specs.Calls.{action_of, move_in}
 use Rattle.moves.specs.Stands.{cells_to_try, phase_at, standing}
 
@@ -74,18 +74,18 @@ ends-between (moves.ReadsPostedFirst stage) phase e = e
 ends-between (moves.EntersStage stage) phase e = e
 
 -- between two calls neither the cells to try nor the roots matter
-pub between-phase : (cells to_try : List ℕ) (roots others : List Reference) (at : Stance) → order.is_between (phase_at cells roots at) ≡ true → phase_at to_try others at ≡ phase_at cells roots at
-between-phase cells to_try roots others stance.Ready e = refl
-between-phase cells to_try roots others stance.Ended e = refl
-between-phase cells to_try roots others (stance.MarkingOld c w o) e = absurd cc
-between-phase cells to_try roots others (stance.MarkingNew c w o) e = absurd cc
-between-phase cells to_try roots others (stance.Writing c w o n) e = absurd cc
-between-phase cells to_try roots others (stance.Trying n) e = absurd cc
-between-phase cells to_try roots others (stance.Answering p n) e = absurd cc
-between-phase cells to_try roots others stance.Absent e = absurd cc
-between-phase cells to_try roots others (stance.Arriving p) e = absurd cc
-between-phase cells to_try roots others stance.Entering e = absurd cc
-between-phase cells to_try roots others stance.Leaving e = absurd cc
+pub between-phase : (cells to_try : List ℕ) (roots others : List WordValue) (at : CallPhase) → order.is_between (phase_at cells roots at) ≡ true → phase_at to_try others at ≡ phase_at cells roots at
+between-phase cells to_try roots others call_phase.Ready e = refl
+between-phase cells to_try roots others call_phase.Ended e = refl
+between-phase cells to_try roots others (call_phase.MarkingOld c w o) e = absurd cc
+between-phase cells to_try roots others (call_phase.MarkingNew c w o) e = absurd cc
+between-phase cells to_try roots others (call_phase.Writing c w o n) e = absurd cc
+between-phase cells to_try roots others (call_phase.Trying n) e = absurd cc
+between-phase cells to_try roots others (call_phase.Answering p n) e = absurd cc
+between-phase cells to_try roots others call_phase.Absent e = absurd cc
+between-phase cells to_try roots others (call_phase.Arriving p) e = absurd cc
+between-phase cells to_try roots others call_phase.Entering e = absurd cc
+between-phase cells to_try roots others call_phase.Leaving e = absurd cc
 
 -- a cell is won only at a call's end, so until then the hints stay
 hints-within : (s : Setup) (hints : List ℕ) (stage : ℕ) (phase : Phase) (m : moves.Move) → ends_call m (phase_afterwards s stage phase (step_of m)) ≡ false → hints_by s hints (step_of m) ≡ hints
@@ -105,24 +105,24 @@ hints-within s hints stage phase (moves.EntersStage to) e = refl
 hints-within s hints stage phase (moves.ReadsPostedAgain posted) e = refl
 
 -- the thread after a move, where its call ends ..
-pub moved-between : (s : Setup) (m : Machine) (stand : Stand m.State) (move : Move) (state : m.State) (stage : ℕ) (at : Stance) (replaced : Reference) (hints : List ℕ) (answer : Answer)
-    → (let cells = cells_to_try s stand.hints (m.action stand.state) in phase_at cells (m.roots stand.state) at ≡ phase_afterwards s stand.stage (phase_at cells (m.roots stand.state) stand.stance) (step_of (move_in (m.roots stand.state) move)))
-    → ends_call (move_in (m.roots stand.state) move) (phase_at (cells_to_try s stand.hints (m.action stand.state)) (m.roots stand.state) at) ≡ true
-    → state ≡ m.after_answer stand.state answer → answer ≡ answer_of (m.action stand.state) (move_in (m.roots stand.state) move)
-    → stage ≡ stage_afterwards stand.stage (move_in (m.roots stand.state) move) → replaced ≡ old_by (move_in (m.roots stand.state) move) → hints ≡ hints_by s stand.hints (step_of (move_in (m.roots stand.state) move))
-    → standing s m (record { state = state; stage = stage; stance = at; replaced = replaced; hints = hints }) ≡ moved s m (standing s m stand) (move_in (m.roots stand.state) move)
-moved-between s m stand move state stage at replaced hints answer phase between after given is_stage is_old are_hints =
-    let ends = ap (ends_call (move_in (m.roots stand.state) move)) (sym phase) ∙ between in
-    let same = between-phase (cells_to_try s stand.hints (m.action stand.state)) (cells_to_try s hints (m.action state)) (m.roots stand.state) (m.roots state) at (ends-between (move_in (m.roots stand.state) move) (phase_at (cells_to_try s stand.hints (m.action stand.state)) (m.roots stand.state) at) between) ∙ phase in
+pub moved-between : (s : Setup) (m : Machine) (thread_state : ThreadState m.State) (move : Move) (state : m.State) (stage : ℕ) (at : CallPhase) (replaced : WordValue) (hints : List ℕ) (answer : Answer)
+    → (let cells = cells_to_try s thread_state.hints (m.action thread_state.state) in phase_at cells (m.roots thread_state.state) at ≡ phase_afterwards s thread_state.stage (phase_at cells (m.roots thread_state.state) thread_state.call_phase) (step_of (move_in (m.roots thread_state.state) move)))
+    → ends_call (move_in (m.roots thread_state.state) move) (phase_at (cells_to_try s thread_state.hints (m.action thread_state.state)) (m.roots thread_state.state) at) ≡ true
+    → state ≡ m.after_answer thread_state.state answer → answer ≡ answer_of (m.action thread_state.state) (move_in (m.roots thread_state.state) move)
+    → stage ≡ stage_afterwards thread_state.stage (move_in (m.roots thread_state.state) move) → replaced ≡ old_by (move_in (m.roots thread_state.state) move) → hints ≡ hints_by s thread_state.hints (step_of (move_in (m.roots thread_state.state) move))
+    → standing s m (record { state = state; stage = stage; call_phase = at; replaced = replaced; hints = hints }) ≡ moved s m (standing s m thread_state) (move_in (m.roots thread_state.state) move)
+moved-between s m thread_state move state stage at replaced hints answer phase between after given is_stage is_old are_hints =
+    let ends = ap (ends_call (move_in (m.roots thread_state.state) move)) (sym phase) ∙ between in
+    let same = between-phase (cells_to_try s thread_state.hints (m.action thread_state.state)) (cells_to_try s hints (m.action state)) (m.roots thread_state.state) (m.roots state) at (ends-between (move_in (m.roots thread_state.state) move) (phase_at (cells_to_try s thread_state.hints (m.action thread_state.state)) (m.roots thread_state.state) at) between) ∙ phase in
     rw (ends, same, after, given, is_stage, is_old, are_hints) refl
 
 -- .. and where it does not
-pub moved-within : (s : Setup) (m : Machine) (stand : Stand m.State) (move : Move) (stage : ℕ) (at : Stance) (replaced : Reference) (hints : List ℕ)
-    → (let cells = cells_to_try s stand.hints (m.action stand.state) in phase_at cells (m.roots stand.state) at ≡ phase_afterwards s stand.stage (phase_at cells (m.roots stand.state) stand.stance) (step_of (move_in (m.roots stand.state) move)))
-    → ends_call (move_in (m.roots stand.state) move) (phase_at (cells_to_try s stand.hints (m.action stand.state)) (m.roots stand.state) at) ≡ false
-    → stage ≡ stage_afterwards stand.stage (move_in (m.roots stand.state) move) → replaced ≡ old_by (move_in (m.roots stand.state) move) → hints ≡ hints_by s stand.hints (step_of (move_in (m.roots stand.state) move))
-    → standing s m (record { state = stand.state; stage = stage; stance = at; replaced = replaced; hints = hints }) ≡ moved s m (standing s m stand) (move_in (m.roots stand.state) move)
-moved-within s m stand move stage at replaced hints phase within is_stage is_old are_hints =
-    let ends = ap (ends_call (move_in (m.roots stand.state) move)) (sym phase) ∙ within in
-    let kept = hints-within s stand.hints stand.stage (phase_at (cells_to_try s stand.hints (m.action stand.state)) (m.roots stand.state) stand.stance) (move_in (m.roots stand.state) move) ends in
+pub moved-within : (s : Setup) (m : Machine) (thread_state : ThreadState m.State) (move : Move) (stage : ℕ) (at : CallPhase) (replaced : WordValue) (hints : List ℕ)
+    → (let cells = cells_to_try s thread_state.hints (m.action thread_state.state) in phase_at cells (m.roots thread_state.state) at ≡ phase_afterwards s thread_state.stage (phase_at cells (m.roots thread_state.state) thread_state.call_phase) (step_of (move_in (m.roots thread_state.state) move)))
+    → ends_call (move_in (m.roots thread_state.state) move) (phase_at (cells_to_try s thread_state.hints (m.action thread_state.state)) (m.roots thread_state.state) at) ≡ false
+    → stage ≡ stage_afterwards thread_state.stage (move_in (m.roots thread_state.state) move) → replaced ≡ old_by (move_in (m.roots thread_state.state) move) → hints ≡ hints_by s thread_state.hints (step_of (move_in (m.roots thread_state.state) move))
+    → standing s m (record { state = thread_state.state; stage = stage; call_phase = at; replaced = replaced; hints = hints }) ≡ moved s m (standing s m thread_state) (move_in (m.roots thread_state.state) move)
+moved-within s m thread_state move stage at replaced hints phase within is_stage is_old are_hints =
+    let ends = ap (ends_call (move_in (m.roots thread_state.state) move)) (sym phase) ∙ within in
+    let kept = hints-within s thread_state.hints thread_state.stage (phase_at (cells_to_try s thread_state.hints (m.action thread_state.state)) (m.roots thread_state.state) thread_state.call_phase) (move_in (m.roots thread_state.state) move) ends in
     rw (ends, are_hints, kept, phase, is_stage, is_old) refl

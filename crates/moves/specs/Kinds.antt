@@ -5,10 +5,10 @@ use Rattle.pools.specs.Heap.{Setup, cells, kind_of, IsOfLayout}
 use Rattle.pools.specs.declared.word_kind.WordKind.{WordKind}
 use Rattle.pools.specs.declared.word_kind.WordKind.TheVariants as kind
 use Rattle.pools.specs.Layouts.{is_reference_kind}
-use Rattle.runs.specs.Machine.{Reference, Action, Read, StorePlain, Write, Alloc, Answer, Got}
+use Rattle.runs.specs.Machine.{WordValue, Action, Read, StorePlain, Write, Alloc, Answer, Got}
 
 -- a word of this kind may hold the value: a number of 64 bits, or null or a cell of its layout
-abbrev pub MayHold : Setup → Option WordKind → Reference → Type 0
+abbrev pub MayHold : Setup → Option WordKind → WordValue → Type 0
 MayHold s None value = ⊥
 MayHold s (Some (kind.Integer bits)) value = value.cell < 2 ^ 64
 MayHold s (Some (kind.Reference layout)) value = (value.cell ≡ 0) ⊎ IsOfLayout s layout value.cell
@@ -27,9 +27,9 @@ AnswersByKind s (Alloc layout) (Got r) = (r.cell ≡ 0) ⊎ IsOfLayout s layout 
 AnswersByKind s action answer = Unit {0}
 
 -- a state that fits asks for what fits, names cells as its roots, and its next state fits
-pub record KeepsKinds {State : Type 0} (s : Setup) (action : State → Action) (after_answer : State → Answer → State) (roots : State → List Reference) (Fits : State → Type 0) (state : State) : Type 0 where
+pub record KeepsKinds {State : Type 0} (s : Setup) (action : State → Action) (after_answer : State → Answer → State) (roots : State → List WordValue) (Fits : State → Type 0) (state : State) : Type 0 where
   pub asks : AsksByKind s (action state)
-  pub roots_fit : (r : Reference) → IsIn r (roots state) → r.cell < cells s
+  pub roots_fit : (r : WordValue) → IsIn r (roots state) → r.cell < cells s
   pub goes_on : (answer : Answer) → AnswersByKind s (action state) answer → Fits (after_answer state answer)
 
 -- a thread in this state may get this answer: the state fits a heap whose cells are numbered by 32 bits, and the answer fits what the thread asked for

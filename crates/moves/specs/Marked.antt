@@ -8,21 +8,21 @@ use Rattle.pools.specs.Heap.{Setup}
 use Rattle.colours.specs.Mutator as order
 use Rattle.colours.specs.Mutator.{non_null, phase_after}
 use Rattle.colours.specs.Steps.{Mark}
-use Rattle.runs.specs.Machine.{Reference}
+use Rattle.runs.specs.Machine.{WordValue}
 use Rattle.runs.specs.Moves.{cells_of, next_root}
-use Rattle.moves.specs.declared.stand.Stance.{Stance}
-use Rattle.moves.specs.declared.stand.Stance.TheVariants.{Answering}
+use Rattle.moves.specs.declared.thread_state.CallPhase.{CallPhase}
+use Rattle.moves.specs.declared.thread_state.CallPhase.TheVariants.{Answering}
 use Rattle.moves.specs.Moving.{not_null, MarksNext}
 use Rattle.moves.specs.Stands.{marked_of, phase_at}
 
 -- the cell of a root that is not null
-non_null-get : (roots : List Reference) (at : ℕ) (r : Reference) → slice_get (not_null roots) at ≡ Some r → slice_get (non_null (cells_of roots)) at ≡ Some r.cell
+non_null-get : (roots : List WordValue) (at : ℕ) (r : WordValue) → slice_get (not_null roots) at ≡ Some r → slice_get (non_null (cells_of roots)) at ≡ Some r.cell
 non_null-get [] at r e = absurd cc
 non_null-get (root ∷ roots) at r e = go (non_null-get roots) at (not (root.cell == 0)) e
   where
-    go : ((at : ℕ) (r : Reference) → slice_get (not_null roots) at ≡ Some r → slice_get (non_null (cells_of roots)) at ≡ Some r.cell) → (at : ℕ) (b : Bool)
+    go : ((at : ℕ) (r : WordValue) → slice_get (not_null roots) at ≡ Some r → slice_get (non_null (cells_of roots)) at ≡ Some r.cell) → (at : ℕ) (b : Bool)
         → slice_get (if b then root ∷ not_null roots else not_null roots) at ≡ Some r → slice_get (if b then root.cell ∷ non_null (cells_of roots) else non_null (cells_of roots)) at ≡ Some r.cell
-    go rest zero true e = let same : root ≡ r = cc in ap (λ (q : Reference). Some q.cell) same
+    go rest zero true e = let same : root ≡ r = cc in ap (λ (q : WordValue). Some q.cell) same
     go rest (suc at) true e = rest at r e
     go rest at false e = rest at r e
 
@@ -33,15 +33,15 @@ taken-more cells count cell e =
     rw add-one (ap reverse (take-suc cells count 0 within) ∙ reverse-append (take count cells) _ ∙ ap (λ v. v ∷ reverse (take count cells)) (get_or_from_slice_get cells count cell 0 e))
 
 -- a thread that answers a stage, after the mark of its next root
-pub answering-mark : (s : Setup) (stage : ℕ) (cells : List ℕ) (roots : List Reference) (stance : Stance) (answered marked cell : ℕ) → stance ≡ Answering answered marked → MarksNext roots stance cell
-    → order.Answering answered (marked_of roots (marked + 1)) ≡ phase_after s stage (phase_at cells roots stance) (Mark cell)
-answering-mark s stage cells roots stance answered marked cell e next =
-    let here : MarksNext roots (Answering answered marked) cell = subst (λ (v : Stance). MarksNext roots v cell) e next in
+pub answering-mark : (s : Setup) (stage : ℕ) (cells : List ℕ) (roots : List WordValue) (call_phase : CallPhase) (answered marked cell : ℕ) → call_phase ≡ Answering answered marked → MarksNext roots call_phase cell
+    → order.Answering answered (marked_of roots (marked + 1)) ≡ phase_after s stage (phase_at cells roots call_phase) (Mark cell)
+answering-mark s stage cells roots call_phase answered marked cell e next =
+    let here : MarksNext roots (Answering answered marked) cell = subst (λ (v : CallPhase). MarksNext roots v cell) e next in
     let got = non_null-get roots marked here.0 here.1 in
     rw e (ap (order.Answering answered) (taken-more (non_null (cells_of roots)) marked cell (got ∙ ap (λ c. Some c) here.2)))
 
 -- as many roots have cells as are not null
-non_null-length : (roots : List Reference) → length (non_null (cells_of roots)) ≡ length (not_null roots)
+non_null-length : (roots : List WordValue) → length (non_null (cells_of roots)) ≡ length (not_null roots)
 non_null-length [] = refl
 non_null-length (root ∷ roots) = go (non_null-length roots) (not (root.cell == 0))
   where
@@ -51,7 +51,7 @@ non_null-length (root ∷ roots) = go (non_null-length roots) (not (root.cell ==
     go rest false = rest
 
 -- the root after those that are marked
-pub next_root-marked : (roots : List Reference) (marked : ℕ) → next_root roots (marked_of roots marked) ≡ slice_get (not_null roots) marked
+pub next_root-marked : (roots : List WordValue) (marked : ℕ) → next_root roots (marked_of roots marked) ≡ slice_get (not_null roots) marked
 next_root-marked roots marked = go (nat_le marked (length (not_null roots))) refl
   where
     counted : length (marked_of roots marked) ≡ min marked (length (not_null roots))

@@ -50,7 +50,7 @@ pub record AreAfter (s : Setup) (run : List Happening) (h : Shared) : Type 0 whe
   pub births : (cell : ℕ) → slice_index h.births cell ≡ birth_of s run cell
 
 -- so, with a place for each thread, cell and word of the heap
-pub record StandAfter (s : Setup) (run : List Happening) (h : Shared) : Type 0 where
+pub record ThreadStateAfter (s : Setup) (run : List Happening) (h : Shared) : Type 0 where
   pub shape : HasShape s h
   pub afterwards : AreAfter s run h
 

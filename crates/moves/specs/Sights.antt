@@ -6,7 +6,7 @@ use Rattle.pools.specs.Heap.{Setup}
 use Rattle.colours.specs.declared.place.Place.TheVariants.{Posted, Colour, Word}
 use Rattle.colours.specs.Steps.{Step}
 use Rattle.colours.specs.Mutator.{Phase, Ready, Trying, Absent, Entering, stage_of, phase_of}
-use Rattle.runs.specs.Machine.{Reference, Action, Read, Write, Alloc, Safepoint, Machine}
+use Rattle.runs.specs.Machine.{WordValue, Action, Read, Write, Alloc, Safepoint, Machine}
 use Rattle.runs.specs.Moves.{Move, Works, ReadsWord, ReadsOldValue, Claims, ReadsPosted, ReadsPostedFirst, ReadsPostedAgain, steps_of, state_after, old_of}
 use Rattle.runs.specs.ModuleRuns.{Happening, share_of}
 use Rattle.runs.specs.NextMoves.{Sight, next_move, try_of, sight_after}
@@ -28,22 +28,22 @@ record AreAlike (h k : Sight) : Type 0 where
   is_blue : (c : ℕ) → h.is_blue c ≡ k.is_blue c
 
 -- references with one cell and one birth are one
-one_reference : (a b : Reference) → a.cell ≡ b.cell → a.birth ≡ b.birth → a ≡ b
+one_reference : (a b : WordValue) → a.cell ≡ b.cell → a.birth ≡ b.birth → a ≡ b
 one_reference a b cell birth =
-    let keep : Reference → Reference = λ r. r in
+    let keep : WordValue → WordValue = λ r. r in
     ap (λ n. keep (record { cell = n; birth = a.birth })) cell ∙ ap (λ n. keep (record { cell = b.cell; birth = n })) birth
 
 -- the same try
 alike_try : (h k : Sight) → AreAlike h k → (layout : ℕ) (tried : List ℕ) → try_of h (h.claim layout tried) ≡ try_of k (k.claim layout tried)
-alike_try h k a layout tried = ap (λ (r : Reference). Claims r (h.is_blue r.cell)) (a.claim layout tried) ∙ ap (Claims (k.claim layout tried)) (a.is_blue (k.claim layout tried).cell)
+alike_try h k a layout tried = ap (λ (r : WordValue). Claims r (h.is_blue r.cell)) (a.claim layout tried) ∙ ap (Claims (k.claim layout tried)) (a.is_blue (k.claim layout tried).cell)
 
 -- the same next move
-alike_next : (s : Setup) (h k : Sight) → AreAlike h k → (stage : ℕ) (roots : List Reference) (old : Reference) (action : Action) (phase : Phase)
+alike_next : (s : Setup) (h k : Sight) → AreAlike h k → (stage : ℕ) (roots : List WordValue) (old : WordValue) (action : Action) (phase : Phase)
     → next_move s h stage roots old action phase ≡ next_move s k stage roots old action phase
 alike_next s h k a stage roots old action Absent = ap (λ n. Some (ReadsPostedFirst n)) a.posted
 alike_next s h k a stage roots old action Entering = ap (λ n. Some (ReadsPostedAgain n)) a.posted
-alike_next s h k a stage roots old (Read base word) Ready = ap (λ (r : Reference). Some (ReadsWord base word r)) (a.word base.cell word)
-alike_next s h k a stage roots old (Write base word value) Ready = ap (λ (r : Reference). Some (ReadsOldValue base word r)) (a.word base.cell word)
+alike_next s h k a stage roots old (Read base word) Ready = ap (λ (r : WordValue). Some (ReadsWord base word r)) (a.word base.cell word)
+alike_next s h k a stage roots old (Write base word value) Ready = ap (λ (r : WordValue). Some (ReadsOldValue base word r)) (a.word base.cell word)
 alike_next s h k a stage roots old (Alloc layout) Ready = ap (λ (m : Move). Some (if slice_index s.pools layout == 0 then Works else m)) (alike_try h k a layout [])
 alike_next s h k a stage roots old (Alloc layout) (Trying tried) = ap (λ (m : Move). Some m) (alike_try h k a layout tried)
 alike_next s h k a stage roots old Safepoint Ready = ap (λ n. Some (ReadsPosted n)) a.posted
@@ -73,10 +73,10 @@ alike_after s run log shared hints b are = record {
 }
 
 -- the next step of a thread that is after a run, from the words as they are
-pub next_in_words : (s : Setup) (m : Machine) (starts : ℕ → m.State) (run : List Happening) (t : ℕ) (stand : Standing m.State) (shared : Shared) → AreAfter s run shared → StandsAfter s m starts run t stand
-    → next_by s m starts run (Thread t) ≡ by_thread t (next_move_of s m (sight_in s shared stand.hints) stand)
-next_in_words s m starts run t stand shared afterwards stands =
+pub next_in_words : (s : Setup) (m : Machine) (starts : ℕ → m.State) (run : List Happening) (t : ℕ) (thread_state : Standing m.State) (shared : Shared) → AreAfter s run shared → StandsAfter s m starts run t thread_state
+    → next_by s m starts run (Thread t) ≡ by_thread t (next_move_of s m (sight_in s shared thread_state.hints) thread_state)
+next_in_words s m starts run t thread_state shared afterwards stands =
     let share = share_of t run in
     let state = state_after s m t (starts t) share in
-    let same = alike_next s (sight_after s run (by_hint s (steps_of share))) (sight_in s shared stand.hints) (alike_after s run (steps_of share) shared stand.hints afterwards stands.hints) (stage_of (steps_of share)) (m.roots state) (old_of share) (m.action state) (phase_of s t (steps_of share)) in
-    ap (by_thread t) (same ∙ sym ((goes_on s m starts run t stand stands).next (sight_in s shared stand.hints)))
+    let same = alike_next s (sight_after s run (by_hint s (steps_of share))) (sight_in s shared thread_state.hints) (alike_after s run (steps_of share) shared thread_state.hints afterwards stands.hints) (stage_of (steps_of share)) (m.roots state) (old_of share) (m.action state) (phase_of s t (steps_of share)) in
+    ap (by_thread t) (same ∙ sym ((goes_on s m starts run t thread_state stands).next (sight_in s shared thread_state.hints)))

@@ -3,15 +3,15 @@ use Rattle.std.specs.Prelude.{ℕ, zero, suc, ◌<◌, ◌^◌, List, [], ◌∷
 use Rattle.pools.specs.Heap.{Setup}
 use Rattle.colours.specs.Mutator as order
 use Rattle.colours.specs.Mutator.{Phase, non_null}
-use Rattle.runs.specs.Machine.{Reference, Action, Alloc, Machine}
+use Rattle.runs.specs.Machine.{WordValue, Action, Alloc, Machine}
 use Rattle.runs.specs.Moves.{cells_of}
 use Rattle.runs.specs.NextMoves.{Sight}
 use Rattle.runs.specs.Ends.{Standing}
 use Rattle.runs.specs.Tries.{cells_of_pool}
 use Rattle.moves.specs.declared.shared.Shared.{Shared}
-use Rattle.moves.specs.declared.stand.Stance.{Stance}
-use Rattle.moves.specs.declared.stand.Stance.TheVariants.{Ready, MarkingOld, MarkingNew, Writing, Trying, Answering, Ended, Absent, Arriving, Entering, Leaving}
-use Rattle.moves.specs.declared.stand.Stand.{Stand}
+use Rattle.moves.specs.declared.thread_state.CallPhase.{CallPhase}
+use Rattle.moves.specs.declared.thread_state.CallPhase.TheVariants.{Ready, MarkingOld, MarkingNew, Writing, Trying, Answering, Ended, Absent, Arriving, Entering, Leaving}
+use Rattle.moves.specs.declared.thread_state.ThreadState.{ThreadState}
 use Rattle.moves.specs.Rows.{word_at}
 
 -- the cells of a layout's pool, in the order in which a thread with these hints tries them
@@ -29,11 +29,11 @@ tried_of cells zero = []
 tried_of cells (suc count) = slice_index cells count ∷ tried_of cells count
 
 -- the first roots that are not null, this number of them, the last one first
-abbrev pub marked_of : List Reference → (count : ℕ) → List ℕ
+abbrev pub marked_of : List WordValue → (count : ℕ) → List ℕ
 marked_of roots count = reverse (take count (non_null (cells_of roots)))
 
 -- where a thread with these cells to try and these roots is
-abbrev pub phase_at : (cells : List ℕ) → (roots : List Reference) → Stance → Phase
+abbrev pub phase_at : (cells : List ℕ) → (roots : List WordValue) → CallPhase → Phase
 phase_at cells roots Ready = order.Ready
 phase_at cells roots (MarkingOld cell word old) = order.MarkingOld cell word old
 phase_at cells roots (MarkingNew cell word old) = order.MarkingNew cell word old
@@ -52,18 +52,18 @@ MayTryMore pools (Alloc layout) tried = (layout < length pools) × (tried < slic
 MayTryMore pools action tried = Unit {0}
 
 -- the same for a thread that tries cells
-abbrev pub HasTryLeft : (pools : List ℕ) → Action → Stance → Type 0
+abbrev pub HasTryLeft : (pools : List ℕ) → Action → CallPhase → Type 0
 HasTryLeft pools action (Trying tried) = MayTryMore pools action tried
-HasTryLeft pools action stance = Unit {0}
+HasTryLeft pools action call_phase = Unit {0}
 
 -- a thread of this machine
-abbrev pub standing : (s : Setup) (m : Machine) → Stand m.State → Standing m.State
-standing s m stand = record {
-  state = stand.state;
-  stage = stand.stage;
-  phase = phase_at (cells_to_try s stand.hints (m.action stand.state)) (m.roots stand.state) stand.stance;
-  old = stand.replaced;
-  hints = stand.hints;
+abbrev pub standing : (s : Setup) (m : Machine) → ThreadState m.State → Standing m.State
+standing s m thread_state = record {
+  state = thread_state.state;
+  stage = thread_state.stage;
+  phase = phase_at (cells_to_try s thread_state.hints (m.action thread_state.state)) (m.roots thread_state.state) thread_state.call_phase;
+  old = thread_state.replaced;
+  hints = thread_state.hints;
 }
 
 -- what a thread with these hints sees of the shared words

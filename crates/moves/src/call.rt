@@ -1,4 +1,4 @@
-use crate::reference::Reference;
+use crate::word_value::WordValue;
 use pools::LayoutId;
 
 /// What a thread's current instruction asks for. A base is the cell of the globals, as cell 0, or a reference that is not null.
@@ -7,20 +7,20 @@ pub enum Call {
     /// One step that touches no shared word.
     Local,
     Read {
-        base: Reference,
+        base: WordValue,
         word: u32,
     },
     /// Without the barrier.
     StorePlain {
-        base: Reference,
+        base: WordValue,
         word: u32,
-        value: Reference,
+        value: WordValue,
     },
     /// After the barrier.
     Write {
-        base: Reference,
+        base: WordValue,
         word: u32,
-        value: Reference,
+        value: WordValue,
     },
     Alloc(LayoutId),
     Safepoint,
@@ -34,7 +34,7 @@ pub enum Call {
 pub enum Answer {
     Done,
     /// What was read, or the cell of an alloc.
-    Got(Reference),
+    Got(WordValue),
     /// Of a safepoint: the stage that the thread answered, if another one was posted.
     Answered(Option<u64>),
 }

@@ -1,8 +1,8 @@
 ghost use Rattle.moves.specs.Causes.{Breaks, IsTouch};
 
 use crate::moves::Move;
-use crate::reference::Reference;
 use crate::shared::Shared;
+use crate::word_value::WordValue;
 
 /// How a move itself breaks a run.
 #[derive(Clone, Copy)]
@@ -31,7 +31,7 @@ pub fn broken_by(shared: &Shared, made: &Move) -> Option<Cause>
 }
 
 /// The cause by which the reference that a step uses is gone.
-fn touched(shared: &Shared, used: Reference) -> Option<Cause>
+fn touched(shared: &Shared, used: WordValue) -> Option<Cause>
     ensures { IsTouch shared.now used result }
 {
     if shared.colour(used.cell) == 0 {

@@ -2,7 +2,7 @@ ghost use Rattle.std.specs.Prelude.{◌≡◌, ◌<◌, [], ◌∷◌, ◌++◌,
 ghost use Rattle.runs.specs.Moves.{null};
 ghost use Rattle.moves.specs.Rows.{word_at, with_word};
 
-use crate::reference::{NULL, Reference};
+use crate::word_value::{NULL, WordValue};
 use items::Items;
 use std::alloc::{AllocError, Global};
 use std::marker::Model;
@@ -10,14 +10,14 @@ use std::marker::Model;
 /// The words of each cell.
 #[derive(Drop)]
 pub struct CellWords {
-    rows: Vec<Items<Reference>>,
+    rows: Vec<Items<WordValue>>,
 }
 
 impl Model for CellWords {
     ghost use Rattle.std.specs.Prelude.{List};
-    ghost use Rattle.runs.specs.Machine.{Reference};
+    ghost use Rattle.runs.specs.Machine.{WordValue};
 
-    ghost Value = { List (List Reference) };
+    ghost Value = { List (List WordValue) };
 
     ghost view = { λ rows. rows.rows.items };
 }
@@ -33,7 +33,7 @@ impl CellWords {
     }
 
     /// One cell more, with these words.
-    pub fn push(&mut self, row: Items<Reference>) -> Result<(), AllocError>
+    pub fn push(&mut self, row: Items<WordValue>) -> Result<(), AllocError>
         ensures ok { OnOk result (self.new ≡ self.old ++ row ∷ []) }
         ensures err { OnErr result (self.new ≡ self.old) }
     {
@@ -42,7 +42,7 @@ impl CellWords {
     }
 
     /// What a word of a cell holds; null outside the cells.
-    pub fn word(&self, cell: u64, word: u32) -> Reference
+    pub fn word(&self, cell: u64, word: u32) -> WordValue
         ensures { result ≡ word_at self.now cell word }
     {
         match self.rows.get(cell as usize) {
@@ -52,7 +52,7 @@ impl CellWords {
     }
 
     /// The words of a cell; none where there is no such cell.
-    pub fn row(&self, cell: u64) -> &[Reference]
+    pub fn row(&self, cell: u64) -> &[WordValue]
         ensures { result.now ≡ slice_index_or self.now cell [] }
     {
         match self.rows.get(cell as usize) {
@@ -62,7 +62,7 @@ impl CellWords {
     }
 
     /// Puts a reference, or a number, into a word of a cell.
-    pub fn put(&mut self, cell: u64, word: u32, value: Reference)
+    pub fn put(&mut self, cell: u64, word: u32, value: WordValue)
         requires is_cell { cell < length self.old }
         requires is_word { word < length (slice_index_or self.old cell []) }
         ensures { self.new ≡ with_word self.old cell word value }
@@ -73,7 +73,7 @@ impl CellWords {
 }
 
 /// The reference at this place; null outside the row.
-fn reference_at(row: &[Reference], at: usize) -> Reference
+fn reference_at(row: &[WordValue], at: usize) -> WordValue
     ensures { result ≡ slice_index_or row.now at null }
 {
     row.get(at).copied().unwrap_or(NULL)

@@ -1,7 +1,7 @@
 ghost use Rattle.std.specs.Prelude.{ℕ, ◌≡◌, ◌+◌, ◌<◌, ◌^◌, List, length, min, slice_index};
 ghost use Rattle.pools.specs.Heap.{Setup};
 ghost use Rattle.colours.specs.Calls.{cells_from};
-ghost use Rattle.runs.specs.Machine.{Reference as AReference};
+ghost use Rattle.runs.specs.Machine.{WordValue as AWordValue};
 ghost use Rattle.runs.specs.Moves.{step_of};
 ghost use Rattle.runs.specs.Tries.{hints_by};
 ghost use Rattle.moves.specs.Calls.{action_of, move_in};
@@ -42,9 +42,9 @@ fn place_from(hint: u32, count: u32, tried: u64) -> u64
 }
 
 /// Where the thread won a cell, the hint for the cell's layout becomes the place after it.
-pub(crate) fn note_win(pools: &Pools, call: &Call, hints: &mut Items<u32>, made: &Move)
+pub(crate) fn record_win(pools: &Pools, call: &Call, hints: &mut Items<u32>, made: &Move)
     requires { HasHint pools.now hints.old made.now (action_of call.now) }
-    ensures { (s : Setup) (roots : List AReference) → s.pools ≡ pools.now → WinsOfLayout s made.now call.now
+    ensures { (s : Setup) (roots : List AWordValue) → s.pools ≡ pools.now → WinsOfLayout s made.now call.now
         → hints.new ≡ hints_by s hints.old (step_of (move_in roots made.now)) }
 {
     let Move::Claims { claimed, won } = made else {

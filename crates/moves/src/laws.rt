@@ -1,6 +1,6 @@
 ghost use Rattle.std.specs.Prelude.{ℕ, ◌≡◌, ◌<◌, ◌∷◌, Option, List};
 ghost use Rattle.pools.specs.Heap.{Setup};
-ghost use Rattle.runs.specs.Machine.{Reference, machine_of};
+ghost use Rattle.runs.specs.Machine.{WordValue, machine_of};
 ghost use Rattle.runs.specs.ModuleRuns.{Happening, OfThread, share_of, IsModuleRun};
 ghost use Rattle.runs.specs.Ends.{StandsAfter, next_move_of};
 ghost use Rattle.runs.specs.Tries.{TriesByHint};
@@ -9,7 +9,7 @@ ghost use Rattle.moves.specs.declared.actor.Actor.TheVariants.{Thread};
 ghost use Rattle.moves.specs.declared.cause.Cause.{Cause};
 ghost use Rattle.moves.specs.declared.moves.Move.{Move};
 ghost use Rattle.moves.specs.declared.shared.Shared.{Shared};
-ghost use Rattle.moves.specs.declared.stand.Stand.{Stand};
+ghost use Rattle.moves.specs.declared.thread_state.ThreadState.{ThreadState};
 ghost use Rattle.moves.specs.Runs.{run_by, next_by, by_thread, AreActors};
 ghost use Rattle.moves.specs.Calls.{move_in};
 ghost use Rattle.moves.specs.Causes.{Breaks, IsStepCause};
@@ -30,14 +30,14 @@ pub fn drawn_law<M: Machine>()
 /// The law of sights: where the words and births are those after a run, and a thread is in its state after its share of the
 /// run, the next move from these is the thread's next step in the run.
 pub fn sight_law<M: Machine>()
-    ensures { (s : Setup) (starts : ℕ → M) (run : List Happening) (t : ℕ) (stand : Stand M) (shared : Shared) → AreAfter s run shared
-        → StandsAfter s (machine_of M.action M.after_answer M.roots) starts run t (standing s (machine_of M.action M.after_answer M.roots) stand)
-        → next_by s (machine_of M.action M.after_answer M.roots) starts run (Thread t) ≡ by_thread t (next_move_of s (machine_of M.action M.after_answer M.roots) (sight_in s shared stand.hints) (standing s (machine_of M.action M.after_answer M.roots) stand)) }
+    ensures { (s : Setup) (starts : ℕ → M) (run : List Happening) (t : ℕ) (thread_state : ThreadState M) (shared : Shared) → AreAfter s run shared
+        → StandsAfter s (machine_of M.action M.after_answer M.roots) starts run t (standing s (machine_of M.action M.after_answer M.roots) thread_state)
+        → next_by s (machine_of M.action M.after_answer M.roots) starts run (Thread t) ≡ by_thread t (next_move_of s (machine_of M.action M.after_answer M.roots) (sight_in s shared thread_state.hints) (standing s (machine_of M.action M.after_answer M.roots) thread_state)) }
 {}
 
 /// The law of touches: where the words and births are those after a run, the cause that they give for a move is the first by
 /// which the run is broken after it. Where they give none, the move is not wrong and touches no cell that is gone.
 pub fn touch_law<M: Machine>()
-    ensures { (s : Setup) (starts : ℕ → M) (run : List Happening) (t : ℕ) (roots : List Reference) (shared : Shared) (made : Move) (cause : Option Cause) → AreAfter s run shared → Breaks shared made cause
+    ensures { (s : Setup) (starts : ℕ → M) (run : List Happening) (t : ℕ) (roots : List WordValue) (shared : Shared) (made : Move) (cause : Option Cause) → AreAfter s run shared → Breaks shared made cause
         → IsStepCause s (machine_of M.action M.after_answer M.roots) starts (OfThread t (move_in roots made) ∷ run) cause }
 {}

@@ -1,4 +1,4 @@
-use crate::reference::Reference;
+use crate::word_value::WordValue;
 
 /// A step of a thread: a local one, or one on the heap with its references.
 #[derive(Clone, Copy)]
@@ -8,30 +8,30 @@ pub enum Move {
     /// The step of a thread at an instruction that has no meaning.
     GoesWrong,
     ReadsWord {
-        base: Reference,
+        base: WordValue,
         word: u32,
-        value: Reference,
+        value: WordValue,
     },
     /// Reads what a barriered store will replace.
     ReadsOldValue {
-        base: Reference,
+        base: WordValue,
         word: u32,
-        value: Reference,
+        value: WordValue,
     },
-    Marks(Reference),
+    Marks(WordValue),
     StoresAfterBarrier {
-        base: Reference,
+        base: WordValue,
         word: u32,
-        value: Reference,
+        value: WordValue,
     },
     StoresPlain {
-        base: Reference,
+        base: WordValue,
         word: u32,
-        value: Reference,
+        value: WordValue,
     },
     /// Tries to take a free cell; the reference has the birth that the claim gives.
     Claims {
-        claimed: Reference,
+        claimed: WordValue,
         won: bool,
     },
     ReadsPosted(u64),

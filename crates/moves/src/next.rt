@@ -1,24 +1,24 @@
 ghost use Rattle.std.specs.Prelude.{ℕ, ◌≡◌, ◌<◌, ◌^◌, ◌==◌, not, List, Some, filter, length, slice_get, slice_index, IfOk, OnSome};
 ghost use Rattle.pools.specs.Heap.{Setup};
 ghost use Rattle.colours.specs.Mutator as order;
-ghost use Rattle.runs.specs.Machine.{Reference as AReference, machine_of};
+ghost use Rattle.runs.specs.Machine.{WordValue as AWordValue, machine_of};
 ghost use Rattle.runs.specs.Moves.{null};
 ghost use Rattle.runs.specs.Machine.{Alloc, Safepoint};
 ghost use Rattle.runs.specs.NextMoves.{Sight, next_move, mark_or_answer, try_of};
 ghost use Rattle.runs.specs.Ends.{next_move_of};
 ghost use Rattle.moves.specs.Calls.{action_of, move_in, made_by};
-ghost use Rattle.moves.specs.declared.stand.Stance.{Stance as AStance};
-ghost use Rattle.moves.specs.declared.stand.Stance.TheVariants.{Trying, Answering};
+ghost use Rattle.moves.specs.declared.thread_state.CallPhase.{CallPhase as ACallPhase};
+ghost use Rattle.moves.specs.declared.thread_state.CallPhase.TheVariants.{Trying, Answering};
 ghost use Rattle.moves.specs.Moving.{CountsMark, HasRoom, HasRoomForNext};
 ghost use Rattle.moves.specs.Stands.{MayTryMore, HasTryLeft, marked_of, phase_at, standing, sight_in};
 
 use crate::call::Call;
 use crate::hints::next_cell;
 use crate::moves::Move;
-use crate::reference::Reference;
 use crate::runner::Runner;
 use crate::shared::Shared;
-use crate::stand::{Stance, Stand};
+use crate::thread_state::{CallPhase, ThreadState};
+use crate::word_value::WordValue;
 use colours::is_async;
 use items::Items;
 use pools::{LayoutId, Pools};
@@ -28,37 +28,43 @@ use std::alloc::AllocError;
 pub fn next_move<M: Runner>(
     shared: &Shared,
     pools: &Pools,
-    stand: &Stand<M>,
+    thread_state: &ThreadState<M>,
 ) -> Result<Option<Move>, AllocError>
     requires births { (cell : ℕ) → slice_index shared.now.births cell < 2 ^ 62 }
-    requires room { HasTryLeft pools.now (M.action stand.now.state) stand.now.stance }
+    requires room { HasTryLeft pools.now (M.action thread_state.now.state) thread_state.now.call_phase }
     ensures next { (s : Setup) → s.pools ≡ pools.now → IfOk result (λ made.
-        next_move_of s (machine_of M.action M.after_answer M.roots) (sight_in s shared.now stand.now.hints) (standing s (machine_of M.action M.after_answer M.roots) stand.now) ≡ made_by (M.roots stand.now.state) made) }
+        next_move_of s (machine_of M.action M.after_answer M.roots) (sight_in s shared.now thread_state.now.hints) (standing s (machine_of M.action M.after_answer M.roots) thread_state.now) ≡ made_by (M.roots thread_state.now.state) made) }
     // The count that the move raises stays in range: it is at most the roots of a list, or the cells of a pool.
-    ensures room { IfOk result (HasRoomForNext stand.now.stance) }
+    ensures room { IfOk result (HasRoomForNext thread_state.now.call_phase) }
 {
-    let call = stand.state.call();
-    match stand.stance {
-        Stance::Ready => Ok(Some(first_move(shared, pools, &stand.hints, &call))),
-        Stance::Answering { stage, marked } => match &call {
-            Call::Safepoint => Ok(Some(answering_move(&stand.state, stage, marked)?)),
+    let call = thread_state.state.call();
+    match thread_state.call_phase {
+        CallPhase::Ready => Ok(Some(first_move(shared, pools, &thread_state.hints, &call))),
+        CallPhase::Answering { stage, marked } => match &call {
+            Call::Safepoint => Ok(Some(answering_move(&thread_state.state, stage, marked)?)),
             _ => Ok(None),
         },
-        Stance::MarkingOld { .. } => Ok(mark_of_old(&call, stand.replaced)),
-        Stance::MarkingNew { .. } => Ok(mark_or_store(&call, stand.stage)),
-        Stance::Writing { .. } => Ok(store_of_new(&call)),
-        Stance::Trying { tried } => Ok(next_try(shared, pools, &stand.hints, &call, tried)),
-        Stance::Ended => Ok(None),
-        Stance::Absent => Ok(Some(Move::ReadsPostedFirst(shared.posted))),
-        Stance::Arriving { stage } => Ok(Some(Move::EntersStage(stage))),
-        Stance::Entering => Ok(Some(Move::ReadsPostedAgain(shared.posted))),
-        Stance::Leaving => Ok(Some(Move::Ends)),
+        CallPhase::MarkingOld { .. } => Ok(mark_of_old(&call, thread_state.replaced)),
+        CallPhase::MarkingNew { .. } => Ok(mark_or_store(&call, thread_state.stage)),
+        CallPhase::Writing { .. } => Ok(store_of_new(&call)),
+        CallPhase::Trying { tried } => Ok(next_try(
+            shared,
+            pools,
+            &thread_state.hints,
+            &call,
+            tried,
+        )),
+        CallPhase::Ended => Ok(None),
+        CallPhase::Absent => Ok(Some(Move::ReadsPostedFirst(shared.posted))),
+        CallPhase::Arriving { stage } => Ok(Some(Move::EntersStage(stage))),
+        CallPhase::Entering => Ok(Some(Move::ReadsPostedAgain(shared.posted))),
+        CallPhase::Leaving => Ok(Some(Move::Ends)),
     }
 }
 
 /// The move of a thread that answers a stage, after this number of marks of roots.
 fn answering_move<M: Runner>(state: &M, stage: u64, marked: usize) -> Result<Move, AllocError>
-    ensures next { (s : Setup) (h : Sight) (own : ℕ) (old : AReference) → let roots = M.roots state.now in IfOk result (λ made.
+    ensures next { (s : Setup) (h : Sight) (own : ℕ) (old : AWordValue) → let roots = M.roots state.now in IfOk result (λ made.
         next_move s h own roots old Safepoint (order.Answering stage (marked_of roots marked)) ≡ Some (move_in roots made)) }
     ensures room { IfOk result (HasRoom (Answering stage marked)) }
 {
@@ -72,7 +78,7 @@ fn answering_move<M: Runner>(state: &M, stage: u64, marked: usize) -> Result<Mov
 /// The first move of a call.
 fn first_move(shared: &Shared, pools: &Pools, hints: &Items<u32>, call: &Call) -> Move
     requires { (cell : ℕ) → slice_index shared.now.births cell < 2 ^ 62 }
-    ensures { (s : Setup) (stage : ℕ) (roots : List AReference) (old : AReference) → s.pools ≡ pools.now
+    ensures { (s : Setup) (stage : ℕ) (roots : List AWordValue) (old : AWordValue) → s.pools ≡ pools.now
         → next_move s (sight_in s shared.now hints.now) stage roots old (action_of call.now) order.Ready ≡ Some (move_in roots result) }
 {
     match call {
@@ -102,7 +108,7 @@ fn first_move(shared: &Shared, pools: &Pools, hints: &Items<u32>, call: &Call) -
 /// The first move of an alloc: a local one where the layout has no cell.
 fn alloc_move(shared: &Shared, pools: &Pools, hints: &Items<u32>, layout: LayoutId) -> Move
     requires { (cell : ℕ) → slice_index shared.now.births cell < 2 ^ 62 }
-    ensures { (s : Setup) (stage : ℕ) (roots : List AReference) (old : AReference) → s.pools ≡ pools.now
+    ensures { (s : Setup) (stage : ℕ) (roots : List AWordValue) (old : AWordValue) → s.pools ≡ pools.now
         → next_move s (sight_in s shared.now hints.now) stage roots old (Alloc layout) order.Ready ≡ Some (move_in roots result) }
 {
     if pools.count(layout) == 0 {
@@ -112,8 +118,8 @@ fn alloc_move(shared: &Shared, pools: &Pools, hints: &Items<u32>, layout: Layout
 }
 
 /// The mark of the value that a barriered store replaces.
-fn mark_of_old(call: &Call, old: Reference) -> Option<Move>
-    ensures { (s : Setup) (h : Sight) (stage : ℕ) (roots : List AReference) (cell word replaced : ℕ)
+fn mark_of_old(call: &Call, old: WordValue) -> Option<Move>
+    ensures { (s : Setup) (h : Sight) (stage : ℕ) (roots : List AWordValue) (cell word replaced : ℕ)
         → next_move s h stage roots old (action_of call.now) (order.MarkingOld cell word replaced) ≡ made_by roots result }
 {
     match call {
@@ -124,7 +130,7 @@ fn mark_of_old(call: &Call, old: Reference) -> Option<Move>
 
 /// The mark of the value that a barriered store stores, at a sync stage; else the store.
 fn mark_or_store(call: &Call, stage: u64) -> Option<Move>
-    ensures { (s : Setup) (h : Sight) (roots : List AReference) (old : AReference) (cell word replaced : ℕ)
+    ensures { (s : Setup) (h : Sight) (roots : List AWordValue) (old : AWordValue) (cell word replaced : ℕ)
         → next_move s h stage roots old (action_of call.now) (order.MarkingNew cell word replaced) ≡ made_by roots result }
 {
     match call {
@@ -142,7 +148,7 @@ fn mark_or_store(call: &Call, stage: u64) -> Option<Move>
 
 /// The store after the barrier.
 fn store_of_new(call: &Call) -> Option<Move>
-    ensures { (s : Setup) (h : Sight) (stage : ℕ) (roots : List AReference) (old : AReference) (cell word replaced new : ℕ)
+    ensures { (s : Setup) (h : Sight) (stage : ℕ) (roots : List AWordValue) (old : AWordValue) (cell word replaced new : ℕ)
         → next_move s h stage roots old (action_of call.now) (order.Writing cell word replaced new) ≡ made_by roots result }
 {
     match call {
@@ -165,7 +171,7 @@ fn next_try(
 ) -> Option<Move>
     requires births { (cell : ℕ) → slice_index shared.now.births cell < 2 ^ 62 }
     requires room { MayTryMore pools.now (action_of call.now) tried }
-    ensures next { (s : Setup) (stage : ℕ) (roots : List AReference) (old : AReference) (before : List ℕ) → s.pools ≡ pools.now → length before ≡ tried
+    ensures next { (s : Setup) (stage : ℕ) (roots : List AWordValue) (old : AWordValue) (before : List ℕ) → s.pools ≡ pools.now → length before ≡ tried
         → next_move s (sight_in s shared.now hints.now) stage roots old (action_of call.now) (order.Trying before) ≡ made_by roots result }
     ensures room { HasRoomForNext (Trying tried) result }
 {
@@ -186,12 +192,12 @@ fn claim_of(
     requires births { (cell : ℕ) → slice_index shared.now.births cell < 2 ^ 62 }
     requires is_layout { layout < length pools.now }
     requires left { tried < slice_index pools.now layout }
-    ensures { (s : Setup) (roots : List AReference) (before : List ℕ) → s.pools ≡ pools.now → length before ≡ tried
+    ensures { (s : Setup) (roots : List AWordValue) (before : List ℕ) → s.pools ≡ pools.now → length before ≡ tried
         → try_of (sight_in s shared.now hints.now) ((sight_in s shared.now hints.now).claim layout before) ≡ move_in roots result }
 {
     let cell = next_cell(pools, hints, layout, tried);
     Move::Claims {
-        claimed: Reference {
+        claimed: WordValue {
             cell,
             birth: shared.birth(cell) + 1,
         },
@@ -200,9 +206,9 @@ fn claim_of(
 }
 
 /// The mark of the next root, or the answer where none is left.
-fn mark_or_answer(stage: u64, root: Option<Reference>) -> Move
-    ensures next { (roots : List AReference) → move_in roots result ≡ mark_or_answer stage roots root }
-    ensures room { (stance : AStance) → OnSome root (CountsMark stance) → HasRoom stance result }
+fn mark_or_answer(stage: u64, root: Option<WordValue>) -> Move
+    ensures next { (roots : List AWordValue) → move_in roots result ≡ mark_or_answer stage roots root }
+    ensures room { (call_phase : ACallPhase) → OnSome root (CountsMark call_phase) → HasRoom call_phase result }
 {
     match root {
         Some(root) => Move::Marks(root),
@@ -211,7 +217,7 @@ fn mark_or_answer(stage: u64, root: Option<Reference>) -> Move
 }
 
 /// The root at this place among those that are not null.
-fn root_after(roots: &[Reference], marked: usize) -> Option<Reference>
+fn root_after(roots: &[WordValue], marked: usize) -> Option<WordValue>
     ensures root { result ≡ slice_get (filter (λ r. not (r.cell == 0)) roots.now) marked }
     ensures few { OnSome result (marked < 2 ^ 63) }
 {

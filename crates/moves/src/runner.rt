@@ -1,13 +1,13 @@
 ghost use Rattle.std.specs.Prelude.{◌≡◌, List, IfOk, OnOk, OnErr};
 ghost use Rattle.pools.specs.Heap.{Setup};
-ghost use Rattle.runs.specs.Machine.{Reference as AReference, Answer as AnAnswer};
+ghost use Rattle.runs.specs.Machine.{WordValue as AWordValue, Answer as AnAnswer};
 ghost use Rattle.moves.specs.Calls.{action_of, answer_in};
 ghost use Rattle.moves.specs.Kinds.{KeepsKinds, MayAnswer};
 ghost use Rattle.moves.specs.RootsAfter.{IsToldOfRoots, AddsNewest};
 
 use crate::call::{Answer, Call};
-use crate::reference::Reference;
 use crate::roots_after::RootsAfter;
+use crate::word_value::WordValue;
 use runs::Machine;
 use std::alloc::AllocError;
 
@@ -18,18 +18,18 @@ pub trait Runner: Machine {
     ghost fits: { Setup → Self → Type 0 };
 
     /// What the root slots of the newest frames hold, the oldest of these frames first.
-    ghost newest: { Self → List AReference };
+    ghost newest: { Self → List AWordValue };
 
     /// What the thread asks for.
     fn call(&self) -> Call
         ensures { action_of result ≡ Self.action self.now };
 
     /// What the root slots of all frames hold, the oldest frame's first.
-    fn root_references(&self) -> Result<Vec<Reference>, AllocError>
+    fn root_references(&self) -> Result<Vec<WordValue>, AllocError>
         ensures { IfOk result (λ roots. roots.items ≡ Self.roots self.now) };
 
     /// What those of the newest frames hold. It takes no time in the number of frames.
-    fn newest_roots(&self) -> Result<Vec<Reference>, AllocError>
+    fn newest_roots(&self) -> Result<Vec<WordValue>, AllocError>
         ensures { IfOk result (λ roots. roots.items ≡ Self.newest self.now) };
 
     /// The thread goes on with the answer, which fits what it asked for. Returns what its roots are to those before. Without

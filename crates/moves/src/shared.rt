@@ -3,7 +3,7 @@ ghost use Rattle.moves.specs.Shared.{CanHold, CanTake, with_move, with_number};
 
 use crate::cell_words::CellWords;
 use crate::moves::Move;
-use crate::reference::Reference;
+use crate::word_value::WordValue;
 use colours::{DONE, Place, claim_at, mark_at};
 use items::Items;
 use trace_sweep::Words;
@@ -72,7 +72,7 @@ impl Shared {
                 self.words.put(
                     u64::from(cell),
                     word,
-                    Reference {
+                    WordValue {
                         cell: number,
                         birth: 0,
                     },

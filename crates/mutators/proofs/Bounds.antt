@@ -4,7 +4,7 @@ use Rattle.lemmas.specs.Bools.{and_parts, and_true}
 use Rattle.lemmas.specs.Numbers.{lt_true, lt_yes}
 use Rattle.certs.specs.declared.certs.Certs.{Certs}
 use Rattle.certs.specs.declared.section.Promise.{Promise}
-use Rattle.facts.specs.Lines.{promised_below}
+use Rattle.facts.specs.Claims.{promised_below}
 use Rattle.soundness.specs.Meaning.{IsBelow}
 use Rattle.program_runner.specs.Threads.{MeetPromises}
 use Rattle.certs.specs.declared.section.Section.{Section}

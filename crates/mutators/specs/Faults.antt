@@ -4,7 +4,7 @@ use Rattle.std.specs.List.{list_all, zip}
 use Rattle.layout.specs.Layouts.{LaidOut}
 use Rattle.certs.specs.declared.section.Promise.{Promise}
 use Rattle.certs.specs.declared.section.Section.{Section}
-use Rattle.facts.specs.Lines.{promised_below}
+use Rattle.facts.specs.Claims.{promised_below}
 use Rattle.block_rules.specs.Promises.{promises_in}
 use Rattle.machine.specs.Start.{StartsByReference, StartsWrongly}
 use Rattle.program_runner.specs.Threads.{MeetPromises}

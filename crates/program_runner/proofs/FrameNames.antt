@@ -4,7 +4,7 @@ use Rattle.std.proofs.lemmas.List.{map-append, append_cancel_right, length-take-
 use Rattle.ir_ast.specs.declared.module.Module.{Module}
 use Rattle.machine.specs.declared.frame.Frame.{Frame}
 use Rattle.machine.specs.Machine.{frame_roots, roots_of}
-use Rattle.runs.specs.Machine.{Reference}
+use Rattle.runs.specs.Machine.{WordValue}
 use Rattle.program_safety.specs.Threads.{reference_in}
 use Rattle.program_runner.specs.Newest.{names_of}
 
@@ -33,11 +33,11 @@ there_first xs count n few lt =
 
 module _ (m : Module) where
   -- what the roots of a frame refer to
-  abbrev pub own_names : Frame → List Reference
+  abbrev pub own_names : Frame → List WordValue
   own_names frame = map reference_in (frame_roots m frame (slice_get m.functions frame.function))
 
   -- frames hold this list exactly if those from one on hold the rest of it
-  abbrev pub IsRest : (frames : List Frame) (roots : List Reference) (n : ℕ) (rest : List Reference) → Type 0
+  abbrev pub IsRest : (frames : List Frame) (roots : List WordValue) (n : ℕ) (rest : List WordValue) → Type 0
   IsRest frames roots n rest = (names_of m frames ≡ roots) ↔ (names_of m (drop n frames) ≡ rest)
 
   -- those from one on hold what those below it do, and its own roots
@@ -46,7 +46,7 @@ module _ (m : Module) where
       ap (names_of m) is ∙ map-append reference_in (roots_of m (drop (n + 1) frames)) (frame_roots m frame (slice_get m.functions frame.function))
 
   -- with one frame more compared
-  pub rest_before : (frames : List Frame) (roots : List Reference) (n : ℕ) (rest before : List Reference) (frame : Frame) → drop n frames ≡ frame ∷ drop (n + 1) frames
+  pub rest_before : (frames : List Frame) (roots : List WordValue) (n : ℕ) (rest before : List WordValue) (frame : Frame) → drop n frames ≡ frame ∷ drop (n + 1) frames
       → IsRest frames roots n rest → rest ≡ before ++ own_names frame → IsRest frames roots (n + 1) before
   rest_before frames roots n rest before frame there is ends = (
     (λ same. append_cancel_right (names_of m (drop (n + 1) frames)) before (own_names frame) (sym (names_from frames n frame there) ∙ is.0 same ∙ ends)),
@@ -54,6 +54,6 @@ module _ (m : Module) where
   )
 
   -- where the rest does not end with the frame's roots, the frames hold another list
-  pub no_rest : (frames : List Frame) (roots : List Reference) (n : ℕ) (rest : List Reference) (frame : Frame) → drop n frames ≡ frame ∷ drop (n + 1) frames
-      → IsRest frames roots n rest → ((before : List Reference) → rest ≢ before ++ own_names frame) → names_of m frames ≢ roots
+  pub no_rest : (frames : List Frame) (roots : List WordValue) (n : ℕ) (rest : List WordValue) (frame : Frame) → drop n frames ≡ frame ∷ drop (n + 1) frames
+      → IsRest frames roots n rest → ((before : List WordValue) → rest ≢ before ++ own_names frame) → names_of m frames ≢ roots
   no_rest frames roots n rest frame there is other same = other (names_of m (drop (n + 1) frames)) (sym (is.0 same) ∙ names_from frames n frame there)

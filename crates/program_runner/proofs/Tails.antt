@@ -6,18 +6,18 @@ use Rattle.std.proofs.Math.Seq.{drop-append_seam}
 use Rattle.std.specs.Option.{option_map}
 use Rattle.lemmas.specs.Numbers.{test_true, test_yes}
 use Rattle.lemmas.specs.Bools.{and_parts}
-use Rattle.runs.specs.Machine.{Reference}
+use Rattle.runs.specs.Machine.{WordValue}
 
 -- references whose cells and births are the same are one
-pub one_reference : (a b : Reference) → (a.cell == b.cell) && (a.birth == b.birth) ≡ true → a ≡ b
+pub one_reference : (a b : WordValue) → (a.cell == b.cell) && (a.birth == b.birth) ≡ true → a ≡ b
 one_reference a b e =
     let parts = and_parts (a.cell == b.cell) (a.birth == b.birth) e in
-    let whole : Reference → Reference = λ r. r in
+    let whole : WordValue → WordValue = λ r. r in
     ap (λ n. whole (record { cell = n; birth = a.birth })) (test_true a.cell b.cell parts.0) ∙ ap (λ n. whole (record { cell = b.cell; birth = n })) (test_true a.birth b.birth parts.1)
 
 -- and one reference has one cell and one birth
-pub same_parts : (a b : Reference) → a ≡ b → (a.cell == b.cell) && (a.birth == b.birth) ≡ true
-same_parts a b e = rw (test_yes a.cell b.cell (ap (λ (r : Reference). r.cell) e), test_yes a.birth b.birth (ap (λ (r : Reference). r.birth) e)) refl
+pub same_parts : (a b : WordValue) → a ≡ b → (a.cell == b.cell) && (a.birth == b.birth) ≡ true
+same_parts a b e = rw (test_yes a.cell b.cell (ap (λ (r : WordValue). r.cell) e), test_yes a.birth b.birth (ap (λ (r : WordValue). r.birth) e)) refl
 
 module _ {X R : Type 0} (names : X → R) where
   -- with one element more

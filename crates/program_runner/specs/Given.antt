@@ -18,7 +18,7 @@ use Rattle.machine.specs.Asks.{only_if, read_action}
 use Rattle.machine.specs.Elements.{global_kind, is_read_as, read_value}
 use Rattle.machine.specs.Machine.{alloc_value, read_at}
 use Rattle.runs.specs.Machine as runs
-use Rattle.runs.specs.Machine.{Reference}
+use Rattle.runs.specs.Machine.{WordValue}
 use Rattle.moves.specs.Kinds.{MayHold, AnswersByKind}
 use Rattle.program_safety.specs.Threads.{asked_as, word_read, given_as}
 use Rattle.program_runner.specs.Kinds.{FitsHeap, IsHeapWith}
@@ -48,7 +48,7 @@ read_there m written (Some k) e = λ none. cc
 -- ---- answers
 
 -- what was read in a word of references is null or a cell, whose number has 32 bits
-abbrev pub NamesCell : Option WordKind → Reference → Type 0
+abbrev pub NamesCell : Option WordKind → WordValue → Type 0
 NamesCell (Some (kind.Reference layout)) found = found.cell < 2 ^ 32
 NamesCell k found = Unit {0}
 
@@ -95,21 +95,21 @@ module _ (s : Setup) where
   nothing_at p (Some (place.Global g)) given h = nothing_read (global_kind p.of_module g) given h
 
   -- null, or a reference to a cell of the layout
-  found : (layout : ℕ) (r : Reference) → (r.cell ≡ 0) ⊎ IsOfLayout s layout r.cell → (b : Bool) → (r.cell == 0) ≡ b
+  found : (layout : ℕ) (r : WordValue) → (r.cell ≡ 0) ⊎ IsOfLayout s layout r.cell → (b : Bool) → (r.cell == 0) ≡ b
       → FitsHeap s (read_value (Some (kind.Reference layout)) (if b then answer.Null else answer.Cell (record { cell = r.cell; birth = r.birth })))
   found layout r h true e = tt
   found layout r (inl z) false e = let t : (r.cell == 0) ≡ true = (Decides-eqb r.cell 0).1 z in absurd cc
   found layout r (inr of) false e = of
 
   -- the same of an alloc
-  claimed : (layout : ℕ) (r : Reference) → (r.cell ≡ 0) ⊎ IsOfLayout s layout r.cell → (b : Bool) → (r.cell == 0) ≡ b
+  claimed : (layout : ℕ) (r : WordValue) → (r.cell ≡ 0) ⊎ IsOfLayout s layout r.cell → (b : Bool) → (r.cell == 0) ≡ b
       → FitsHeap s (alloc_value (Some layout) (if b then answer.Null else answer.Cell (record { cell = r.cell; birth = r.birth })))
   claimed layout r h true e = tt
   claimed layout r (inl z) false e = let t : (r.cell == 0) ≡ true = (Decides-eqb r.cell 0).1 z in absurd cc
   claimed layout r (inr of) false e = of
 
   -- what a word holds is read as it is
-  word_fits : (k : Option WordKind) (r : Reference) → MayHold s k r → FitsHeap s (read_value k (word_read k r))
+  word_fits : (k : Option WordKind) (r : WordValue) → MayHold s k r → FitsHeap s (read_value k (word_read k r))
   word_fits None r h = tt
   word_fits (Some (kind.Integer bits)) r h = h
   word_fits (Some (kind.Reference layout)) r h = found layout r h (r.cell == 0) refl

@@ -27,7 +27,7 @@ use Rattle.machine.specs.declared.frame.Frame.{Frame}
 use Rattle.machine.specs.declared.value.Pointee.{Pointee}
 use Rattle.machine.specs.declared.value.Value.{Value}
 use Rattle.machine.specs.declared.value.Value.TheVariants as value
-use Rattle.machine.specs.Asks.{read_action, load_action, gcread_action, alloc_of, alloc_action, layout_named, call_action, declare_of, function_numbered, number_called, target_at, way_of, memory_action, op_action}
+use Rattle.machine.specs.Asks.{read_action, load_action, gcread_action, alloc_of, alloc_action, layout_named, call_action, declare_of, function_numbered, number_called, target_at, edge_of, memory_action, op_action}
 use Rattle.machine.specs.Elements.{element_offset}
 use Rattle.machine.specs.Jumps.{entry_for, entry_value, phi_value, phis_of, put_register, put_phis}
 use Rattle.machine.specs.Kinds.{register_at, bits_at, value_of, slot_at_place, address_at_place}
@@ -235,7 +235,7 @@ module _ (s : Setup) where
       end_fits below end.Unreachable others = tt
       end_fits below end.ReturnVoid others = returned_fit frame.into (result_of p.of_module frame.registers end.ReturnVoid) below (result_fits end.ReturnVoid) others
       end_fits below (end.Return argument) others = returned_fit frame.into (result_of p.of_module frame.registers (end.Return argument)) below (result_fits (end.Return argument)) others
-      end_fits below x others = (block_fits p.of_module f (target_at f (way_of p.of_module frame.registers x)) frame fits, others)
+      end_fits below x others = (block_fits p.of_module f (target_at f (edge_of p.of_module frame.registers x)) frame fits, others)
 
       -- if there is one
       last_fits : (below : List Frame) (x : Option AnEnd) → FramesFit s below → FramesFit s (after_last p f frame below x)

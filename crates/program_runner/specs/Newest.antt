@@ -8,16 +8,16 @@ use Rattle.machine.specs.declared.value.Value.{Value}
 use Rattle.machine.specs.Machine.{action, after_answer, frame_roots, frames_returned, roots_of, set_register}
 use Rattle.moves.specs.RootsAfter.{AddsNewest}
 use Rattle.runs.specs.Machine as runs
-use Rattle.runs.specs.Machine.{Reference}
+use Rattle.runs.specs.Machine.{WordValue}
 use Rattle.program_safety.specs.Threads.{ProgramThread, goes_on, given_as, names, reference_in}
 use Rattle.program_runner.specs.Steps.{by_step}
 
 -- what the roots of some frames refer to
-abbrev pub names_of : Module → List Frame → List Reference
+abbrev pub names_of : Module → List Frame → List WordValue
 names_of m frames = map reference_in (roots_of m frames)
 
 -- those of the newest two frames of a thread, or of fewer where there are fewer
-abbrev pub newest : ProgramThread → List Reference
+abbrev pub newest : ProgramThread → List WordValue
 newest t = names_of t.program.of_module (take 2 t.state.frames)
 
 -- the oldest frames, this number of them, are the same

@@ -9,7 +9,7 @@ use Rattle.machine.specs.declared.frame.Frame.{Frame}
 use Rattle.machine.specs.declared.value.Value.{Value}
 use Rattle.machine.specs.declared.value.Value.TheVariants as value
 use Rattle.machine.specs.Machine.{slot_value, frame_roots, roots_of}
-use Rattle.runs.specs.Machine.{Reference}
+use Rattle.runs.specs.Machine.{WordValue}
 use Rattle.program_safety.specs.Threads.{reference_in}
 use Rattle.program_runner.specs.Kinds.{FitsHeap, FrameFits, FramesFit}
 use Rattle.program_runner.specs.Begun.{AllFit}
@@ -45,7 +45,7 @@ module _ (s : Setup) where
   named (value.Address at) h = omega arith
 
   -- a value that fits names a cell of the heap
-  pub all_named : (values : List Value) → AllFit s values → (r : Reference) → IsIn r (map reference_in values) → r.cell < cells s
+  pub all_named : (values : List Value) → AllFit s values → (r : WordValue) → IsIn r (map reference_in values) → r.cell < cells s
   all_named [] all r (is) = absurd is
-  all_named (v ∷ values) all r (inl same) = subst (λ (q : Reference). q.cell < cells s) (sym same) (named v all.0)
+  all_named (v ∷ values) all r (inl same) = subst (λ (q : WordValue). q.cell < cells s) (sym same) (named v all.0)
   all_named (v ∷ values) all r (inr later) = all_named values all.1 r later

@@ -4,21 +4,21 @@ ghost use Rattle.program_runner.specs.Given.{NamesCell};
 ghost use Rattle.program_safety.specs.Threads.{in_run, reference_in, stored, asked_as, null_or_cell, word_read};
 
 use machine::{Action, Answer as ThreadAnswer, Reference as ThreadReference, Value};
-use moves::{Call, NULL, Reference};
+use moves::{Call, NULL, WordValue};
 use pools::WordKind;
 
 /// A reference of a thread, as one of a run.
-fn in_run(at: ThreadReference) -> Reference
+fn in_run(at: ThreadReference) -> WordValue
     ensures { result ≡ in_run at }
 {
-    Reference {
+    WordValue {
         cell: u64::from(at.cell),
         birth: at.birth,
     }
 }
 
 /// What a value refers to; null where it is no reference.
-pub(crate) fn reference_in(value: Value) -> Reference
+pub(crate) fn reference_in(value: Value) -> WordValue
     ensures { result ≡ reference_in value }
 {
     match value {
@@ -28,11 +28,11 @@ pub(crate) fn reference_in(value: Value) -> Reference
 }
 
 /// What a value is in a word: a number is kept as a cell's number.
-fn stored(value: Value) -> Reference
+fn stored(value: Value) -> WordValue
     ensures { result ≡ stored value }
 {
     match value {
-        Value::Number(number) => Reference {
+        Value::Number(number) => WordValue {
             cell: number,
             birth: 0,
         },
@@ -68,7 +68,7 @@ pub(crate) fn asked_as(action: Action) -> Call
 }
 
 /// Null or a reference to a cell, as an answer.
-pub(crate) fn null_or_cell(found: Reference) -> ThreadAnswer
+pub(crate) fn null_or_cell(found: WordValue) -> ThreadAnswer
     requires { found.cell < 2 ^ 32 }
     ensures { result ≡ null_or_cell found }
 {
@@ -82,7 +82,7 @@ pub(crate) fn null_or_cell(found: Reference) -> ThreadAnswer
 }
 
 /// What was read in a word of this kind, as an answer.
-pub(crate) fn word_read(kind: Option<WordKind>, found: Reference) -> ThreadAnswer
+pub(crate) fn word_read(kind: Option<WordKind>, found: WordValue) -> ThreadAnswer
     requires { NamesCell kind found }
     ensures { result ≡ word_read kind found }
 {

@@ -2,13 +2,13 @@ ghost use Rattle.std.specs.Prelude.{◌≡◌, ◌≢◌, ◌≤◌, ◌-◌, �
 ghost use Rattle.machine.specs.Machine.{action, after_answer};
 ghost use Rattle.machine.specs.declared.answer.Answer.{Answer as AnAnswer};
 ghost use Rattle.moves.specs.RootsAfter.{IsToldOfRoots};
-ghost use Rattle.runs.specs.Machine.{Reference as AReference};
+ghost use Rattle.runs.specs.Machine.{WordValue as AWordValue};
 ghost use Rattle.program_safety.specs.Threads.{reference_in};
 ghost use Rattle.program_runner.specs.Newest.{names_of, AreKept};
 
 use crate::answers::reference_in;
 use machine::{Action, FrameRoots, Thread};
-use moves::{Reference, RootsAfter};
+use moves::{RootsAfter, WordValue};
 use std::alloc::AllocError;
 
 /// A step after which a thread goes on changes at most this number of its frames, the newest.
@@ -29,7 +29,7 @@ pub(crate) fn kept(thread: &Thread<'_>, asked: &Action) -> usize
 pub(crate) fn add_newest(
     thread: &Thread<'_>,
     count: usize,
-    names: &mut Vec<Reference>,
+    names: &mut Vec<WordValue>,
 ) -> Result<(), AllocError>
     requires { count ≤ length thread.now.state.frames }
     ensures { OnOk result (names.new.items ≡ names.old.items ++ names_of thread.now.program.of_module (take count thread.now.state.frames)) }
@@ -41,7 +41,7 @@ pub(crate) fn add_newest(
 }
 
 /// What the roots of the frames above this number of the oldest ones are to these. It takes no memory.
-pub(crate) fn compared(thread: &Thread<'_>, kept: usize, before: &[Reference]) -> RootsAfter
+pub(crate) fn compared(thread: &Thread<'_>, kept: usize, before: &[WordValue]) -> RootsAfter
     requires { kept ≤ length thread.now.state.frames }
     ensures { IsToldOfRoots result before.now (names_of thread.now.program.of_module (take (length thread.now.state.frames - kept) thread.now.state.frames)) }
 {
@@ -52,7 +52,7 @@ pub(crate) fn compared(thread: &Thread<'_>, kept: usize, before: &[Reference]) -
 }
 
 /// Whether the roots of the newest frames, this number of them, refer to these.
-fn has_newest(thread: &Thread<'_>, count: usize, roots: &[Reference]) -> bool
+fn has_newest(thread: &Thread<'_>, count: usize, roots: &[WordValue]) -> bool
     requires { count ≤ length thread.now.state.frames }
     ensures { IsTrue result ↔ (names_of thread.now.program.of_module (take count thread.now.state.frames) ≡ roots.now) }
 {
@@ -67,7 +67,7 @@ fn has_newest(thread: &Thread<'_>, count: usize, roots: &[Reference]) -> bool
 }
 
 /// What the roots of a frame refer to, after others.
-fn add_names(own: &FrameRoots<'_>, names: &mut Vec<Reference>) -> Result<(), AllocError>
+fn add_names(own: &FrameRoots<'_>, names: &mut Vec<WordValue>) -> Result<(), AllocError>
     ensures { OnOk result (names.new.items ≡ names.old.items ++ map reference_in own.now) }
 {
     for place in 0..own.len() {
@@ -77,9 +77,9 @@ fn add_names(own: &FrameRoots<'_>, names: &mut Vec<Reference>) -> Result<(), All
 }
 
 /// What comes before the roots of a frame, if these end with what they refer to.
-fn before_names<'a>(own: &FrameRoots<'_>, roots: &'a [Reference]) -> Option<&'a [Reference]>
+fn before_names<'a>(own: &FrameRoots<'_>, roots: &'a [WordValue]) -> Option<&'a [WordValue]>
     ensures before { IfSome result (λ before. roots.now ≡ before.now ++ map reference_in own.now) }
-    ensures none { result ≡ None → (before : List AReference) → roots.now ≢ before ++ map reference_in own.now }
+    ensures none { result ≡ None → (before : List AWordValue) → roots.now ≢ before ++ map reference_in own.now }
 {
     let count = own.len();
     if roots.len() < count {

@@ -12,7 +12,7 @@ use crate::answers::{asked_as, null_or_cell, reference_in, word_read};
 use crate::newest::{CHANGED, add_newest, compared, kept};
 use layout::Program;
 use machine::{Action, Answer as ThreadAnswer, Ending, Thread};
-use moves::{Answer, Call, Reference, RootsAfter, Runner};
+use moves::{Answer, Call, RootsAfter, Runner, WordValue};
 use pools::WordKind;
 use runs::Machine;
 use std::alloc::{AllocError, Global};
@@ -26,8 +26,10 @@ pub struct ProgramThread<'a> {
     program: &'a Program,
     setup: &'a Setup,
     thread: Thread<'a>,
+    /// What the thread asks for. Its instruction is looked at once, when the thread comes to it.
+    asked: Action,
     /// What its newest frames' roots were before the last answer; here, so that an answer seldom takes memory for it.
-    before: Vec<Reference>,
+    before: Vec<WordValue>,
 }
 
 impl<'a> Model for ProgramThread<'a> {
@@ -58,11 +60,13 @@ impl<'a> ProgramThread<'a> {
         requires { thread.program ≡ program.now }
         ensures { result ≡ record { heap = heap_of program.now setup.now; program = program.now; state = thread.entry.state } }
     {
+        let asked = thread.next();
         ProgramThread {
             alloc,
             program,
             setup,
             thread,
+            asked,
             before: Vec::new(alloc),
         }
     }
@@ -95,12 +99,11 @@ impl<'a> ProgramThread<'a> {
     }
 
     /// An answer to what the thread asked for, as an answer to the thread.
-    fn given_as(&self, asked: Action, answer: Answer) -> ThreadAnswer
-        requires asked { asked ≡ action self.now.program self.now.state }
-        requires may { (s : Heap) × MayAnswer s (FitsThread s) asks self.now (answer_in answer) }
+    fn given_as(&self, answer: Answer) -> ThreadAnswer
+        requires { (s : Heap) × MayAnswer s (FitsThread s) asks self.now (answer_in answer) }
         ensures { result ≡ given_as self.now.heap (action self.now.program self.now.state) (answer_in answer) }
     {
-        match (asked, answer) {
+        match (self.asked, answer) {
             (Action::Read { at, word }, Answer::Got(found)) => {
                 word_read(self.kind(at.cell, word), found)
             }
@@ -125,10 +128,10 @@ impl<'a> Runner for ProgramThread<'a> {
     ghost keeps_roots = { thread_adds_newest };
 
     fn call(&self) -> Call {
-        asked_as(self.thread.next())
+        asked_as(self.asked)
     }
 
-    fn root_references(&self) -> Result<Vec<Reference>, AllocError> {
+    fn root_references(&self) -> Result<Vec<WordValue>, AllocError> {
         let values = self.thread.roots()?;
         values
             .iter()
@@ -136,19 +139,19 @@ impl<'a> Runner for ProgramThread<'a> {
             .collect(self.alloc)
     }
 
-    fn newest_roots(&self) -> Result<Vec<Reference>, AllocError> {
+    fn newest_roots(&self) -> Result<Vec<WordValue>, AllocError> {
         let mut newest = Vec::new(self.alloc);
         add_newest(&self.thread, self.thread.frames().min(CHANGED), &mut newest)?;
         Ok(newest)
     }
 
     fn answer(&mut self, answer: Answer) -> Result<RootsAfter, AllocError> {
-        let asked = self.thread.next();
-        let given = self.given_as(asked, answer);
-        let kept = kept(&self.thread, &asked);
+        let given = self.given_as(answer);
+        let kept = kept(&self.thread, &self.asked);
         self.before.clear();
         add_newest(&self.thread, self.thread.frames() - kept, &mut self.before)?;
         self.thread.resume(given)?;
+        self.asked = self.thread.next();
         Ok(compared(&self.thread, kept, self.before.as_slice()))
     }
 }

@@ -3,7 +3,7 @@ use Rattle.std.proofs.Common.{◌≡◌, ◌<◌, ℕ, zero, suc, inl, inr, List
 use Rattle.std.specs.List.{Contains}
 use Rattle.lemmas.specs.Lists.{IsIn}
 use Rattle.machine.specs.declared.value.Value.{Value}
-use Rattle.runs.specs.Machine.{Reference}
+use Rattle.runs.specs.Machine.{WordValue}
 use Rattle.program_safety.specs.Threads.{reference_in}
 
 -- one value more in front
@@ -11,7 +11,7 @@ after_one : (v w : Value) (values : List Value) → Contains values w → Contai
 after_one v w values c = (suc c.0, omega (arith, c.1), c.2)
 
 -- a reference among those of some values is that of one of them
-pub from_values : (values : List Value) (r : Reference) → IsIn r (map reference_in values) → (v : Value) × Contains values v × (r ≡ reference_in v)
+pub from_values : (values : List Value) (r : WordValue) → IsIn r (map reference_in values) → (v : Value) × Contains values v × (r ≡ reference_in v)
 from_values [] r h = absurd h
 from_values (v ∷ values) r (inl e) = (v, (0, omega arith, refl), e)
 from_values (v ∷ values) r (inr h) =

@@ -17,7 +17,7 @@ use Rattle.machine.specs.declared.value.Reference.{Reference as ThreadReference}
 use Rattle.machine.specs.declared.value.Value.{Value}
 use Rattle.machine.specs.declared.value.Value.TheVariants as value
 use Rattle.machine.specs.Log.{Log, Held, HoldsCell, IsFresh, RefersTo, RefersToCell, IsNullOrHeld, IsNullOrHeldOf, MayBeRead, MayBeStored, MayBeWritten, MayTouch, Keeps, Possible}
-use Rattle.runs.specs.Machine.{Reference}
+use Rattle.runs.specs.Machine.{WordValue}
 use Rattle.runs.specs.Moves.{Move, Works, ReadsWord, StoresAfterBarrier, StoresPlain, Claims, ReadsPosted, StoresStage, steps_of, answer_of}
 use Rattle.runs.specs.Discipline as discipline
 use Rattle.runs.specs.Discipline.{Holds, MayName, MayPut, MayCall, IsPossibleMove}
@@ -95,14 +95,14 @@ named s share log (value.Address at) b h = absurd h
 
 -- roots that are null or held by a log may be named
 pub may_name : (s : Setup) (share : List Move) (log : Log) (roots : List Value) → BearsOut s share log → ((root : Value) → Contains roots root → IsNullOrHeld log root)
-    → (r : Reference) → IsIn r (map reference_in roots) → MayName s share r
+    → (r : WordValue) → IsIn r (map reference_in roots) → MayName s share r
 may_name s share log roots b rooted r h =
     let there = from_values roots r h in
     subst (λ q. MayName s share q) (sym there.2) (named s share log there.0 b (rooted there.0 there.1))
 
 -- ---- a read
 
-read_found : (s : Setup) (share : List Move) (log : Log) (at : ThreadReference) (word : ℕ) (v : Reference) (roots : List Value) (layout : ℕ) (z : Bool)
+read_found : (s : Setup) (share : List Move) (log : Log) (at : ThreadReference) (word : ℕ) (v : WordValue) (roots : List Value) (layout : ℕ) (z : Bool)
     → kind_of s at.cell word ≡ Some (kind.Reference layout) → (v.cell == 0) ≡ z → BearsOut s share log → MayFind s (steps_of share) (Some (kind.Reference layout)) v.cell
     → MayBeRead s log (Some (kind.Reference layout)) (if z then answer.Null else answer.Cell (at_thread v))
     × BearsOut s (ReadsWord (in_run at) word v ∷ share) (with_step (Read at word) (if z then answer.Null else answer.Cell (at_thread v)) roots log)
@@ -122,7 +122,7 @@ read_found s share log at word v roots layout false is e b find =
     brought r (inl g) = inl (ap in_run (sym g), rw is refl, not_null)
     brought r (inr h) = inr (tt, b.held r h)
 
-read_after : (s : Setup) (share : List Move) (log : Log) (at : ThreadReference) (word : ℕ) (v : Reference) (roots : List Value) (k : Option WordKind)
+read_after : (s : Setup) (share : List Move) (log : Log) (at : ThreadReference) (word : ℕ) (v : WordValue) (roots : List Value) (k : Option WordKind)
     → kind_of s at.cell word ≡ k → BearsOut s share log → k ≢ None → MayFind s (steps_of share) k v.cell
     → MayBeRead s log k (word_read k v) × BearsOut s (ReadsWord (in_run at) word v ∷ share) (with_step (Read at word) (word_read k v) roots log)
 read_after s share log at word v roots None is b there find = absurd (there refl)
@@ -153,10 +153,10 @@ write_leaves s log (Some (kind.Reference layout)) v c h n d = not_the_cell s log
 -- ---- an alloc
 
 -- a cell of a layout is no null
-cell_given : (s : Setup) (layout : ℕ) (r : Reference) → IsOfLayout s layout r.cell → null_or_cell r ≡ answer.Cell (at_thread r)
+cell_given : (s : Setup) (layout : ℕ) (r : WordValue) → IsOfLayout s layout r.cell → null_or_cell r ≡ answer.Cell (at_thread r)
 cell_given s layout r of = rw (test_no r.cell 0 (λ e. omega (arith, of.0, e))) refl
 
-claimed : (s : Setup) (share : List Move) (log : Log) (layout : ℕ) (r : Reference) (roots : List Value) → BearsOut s share log → IsOfLayout s layout r.cell → (mutator.Held s (steps_of share) r.cell → ⊥)
+claimed : (s : Setup) (share : List Move) (log : Log) (layout : ℕ) (r : WordValue) (roots : List Value) → BearsOut s share log → IsOfLayout s layout r.cell → (mutator.Held s (steps_of share) r.cell → ⊥)
     → Left s share log (Alloc layout) (answer.Cell (at_thread r)) roots (Claims r true)
 claimed s share log layout r roots b of apart = record {
   possible = (of, not_held);

@@ -9,7 +9,7 @@ use Rattle.machine.specs.declared.answer.Answer.{Answer}
 use Rattle.machine.specs.Machine.{State, action, after_answer, roots}
 use Rattle.machine.specs.Log.{Log, IsSafe, Safe}
 use Rattle.soundness.specs.Discipline.{AreCertified, CertifiedIsNeverWrong}
-use Rattle.runs.specs.Machine.{Reference}
+use Rattle.runs.specs.Machine.{WordValue}
 use Rattle.runs.specs.Moves.{Move, answer_of}
 use Rattle.runs.specs.Discipline.{MayName, MayCall, IsPossibleMove}
 use Rattle.runs.specs.Soundness.{EndsCall, Grows, IsSound, AreSound}
@@ -25,7 +25,7 @@ now s share t h = h.safe []
 calls : (s : Setup) (share : List Move) (t : ProgramThread) → Sound s share t → MayCall s share (asks t)
 calls s share t h = may_call s share h.log (action t.program t.state) h.borne_out (now s share t h).keeps
 
-all_named : (s : Setup) (share : List Move) (t : ProgramThread) → Sound s share t → (r : Reference) → IsIn r (names t) → MayName s share r
+all_named : (s : Setup) (share : List Move) (t : ProgramThread) → Sound s share t → (r : WordValue) → IsIn r (names t) → MayName s share r
 all_named s share t h = may_name s share h.log (roots t.program.of_module t.state) h.borne_out (now s share t h).rooted
 
 grows : (s : Setup) (share more : List Move) (t : ProgramThread) → Sound s share t → Grows s share more → Sound s more t

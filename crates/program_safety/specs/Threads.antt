@@ -13,26 +13,26 @@ use Rattle.machine.specs.declared.value.Value.{Value}
 use Rattle.machine.specs.declared.value.Value.TheVariants as value
 use Rattle.machine.specs.Machine.{State, action, after_answer, roots}
 use Rattle.runs.specs.Machine as runs
-use Rattle.runs.specs.Machine.{Reference, Machine, machine_of}
+use Rattle.runs.specs.Machine.{WordValue, Machine, machine_of}
 use Rattle.runs.specs.Moves.{null}
 
 -- ---- references
 
 -- a reference of a thread, as one of a run
-abbrev pub in_run : ThreadReference → Reference
+abbrev pub in_run : ThreadReference → WordValue
 in_run at = record { cell = at.cell; birth = at.birth }
 
 -- a reference of a run, as one of a thread
-abbrev pub at_thread : Reference → ThreadReference
+abbrev pub at_thread : WordValue → ThreadReference
 at_thread r = record { cell = r.cell; birth = r.birth }
 
 -- what a value refers to; what is no reference names null
-abbrev pub reference_in : Value → Reference
+abbrev pub reference_in : Value → WordValue
 reference_in (value.Cell layout at) = in_run at
 reference_in _ = null
 
 -- what a value is in a word: a number is kept as a cell's number
-abbrev pub stored : Value → Reference
+abbrev pub stored : Value → WordValue
 stored (value.Number n) = record { cell = n; birth = 0 }
 stored v = reference_in v
 
@@ -50,11 +50,11 @@ asked_as End = runs.End
 asked_as Wrong = runs.Wrong
 
 -- null or a reference, as an answer
-abbrev pub null_or_cell : Reference → Answer
+abbrev pub null_or_cell : WordValue → Answer
 null_or_cell r = if r.cell == 0 then answer.Null else answer.Cell (at_thread r)
 
 -- what was read in a word of this kind, as an answer
-abbrev pub word_read : Option WordKind → Reference → Answer
+abbrev pub word_read : Option WordKind → WordValue → Answer
 word_read None r = answer.Done
 word_read (Some (kind.Integer bits)) r = answer.Number r.cell
 word_read (Some (kind.Reference layout)) r = null_or_cell r
@@ -83,7 +83,7 @@ abbrev pub goes_on : ProgramThread → runs.Answer → ProgramThread
 goes_on t given = record t { state = after_answer t.program t.state (given_as t.heap (action t.program t.state) given) }
 
 -- what its roots refer to
-abbrev pub names : ProgramThread → List Reference
+abbrev pub names : ProgramThread → List WordValue
 names t = map reference_in (roots t.program.of_module t.state)
 
 -- the machine of all threads of programs

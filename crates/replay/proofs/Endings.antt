@@ -7,7 +7,7 @@ use Rattle.pools.specs.Heap.{Setup, is_late}
 use Rattle.colours.specs.Runs.{turns_of, word_after}
 use Rattle.colours.specs.Mutator as order
 use Rattle.colours.specs.Mutator.{phase_of}
-use Rattle.runs.specs.Machine.{Reference}
+use Rattle.runs.specs.Machine.{WordValue}
 use Rattle.runs.specs.Machine as machine
 use Rattle.runs.specs.Moves.{Move, steps_of}
 use Rattle.runs.specs.ModuleRuns.{Happening, OfThread, share_of, heap_of}
@@ -16,9 +16,9 @@ use Rattle.runs.specs.NextMoves.{Sight, next_move}
 use Rattle.moves.specs.declared.actor.Actor.{Actor}
 use Rattle.moves.specs.declared.actor.Actor.TheVariants.{Thread, Collector}
 use Rattle.moves.specs.declared.shared.Shared.{Shared}
-use Rattle.moves.specs.declared.stand.Stance.{Stance}
-use Rattle.moves.specs.declared.stand.Stance.TheVariants.{Ready, MarkingOld, MarkingNew, Writing, Trying, Answering, Ended, Absent, Arriving, Entering, Leaving}
-use Rattle.moves.specs.declared.stand.Stand.{Stand}
+use Rattle.moves.specs.declared.thread_state.CallPhase.{CallPhase}
+use Rattle.moves.specs.declared.thread_state.CallPhase.TheVariants.{Ready, MarkingOld, MarkingNew, Writing, Trying, Answering, Ended, Absent, Arriving, Entering, Leaving}
+use Rattle.moves.specs.declared.thread_state.ThreadState.{ThreadState}
 use Rattle.moves.specs.Runs.{run_by, by_thread, by_collector, next_by, next_turn, collector_after, with_next}
 use Rattle.moves.specs.Stands.{cells_to_try, standing, phase_at, sight_in}
 use Rattle.moves.specs.Sights.{next_in_words}
@@ -39,33 +39,33 @@ use Rattle.replay.specs.Worlds.{AreEndings, ending_at, ending_of, run_of}
 -- ---- one thread
 
 -- a thread has ended, or says how it ends
-by_stance : (cells : List ℕ) (roots : List Reference) (stance : Stance) (t : ProgramThread) (kept : Option ThreadOutcome)
-    → ((ending_in stance t kept ≡ unwrap_or kept thread.Ended) × (phase_at cells roots stance ≡ order.Ended)) ⊎ ((ending_in stance t kept ≡ ending_at t) × (phase_at cells roots stance ≢ order.Ended))
-by_stance cells roots Ready t kept = inr (refl, λ e. absurd cc)
-by_stance cells roots (MarkingOld cell word old) t kept = inr (refl, λ e. absurd cc)
-by_stance cells roots (MarkingNew cell word old) t kept = inr (refl, λ e. absurd cc)
-by_stance cells roots (Writing cell word old new) t kept = inr (refl, λ e. absurd cc)
-by_stance cells roots (Trying tried) t kept = inr (refl, λ e. absurd cc)
-by_stance cells roots (Answering stage marked) t kept = inr (refl, λ e. absurd cc)
-by_stance cells roots Ended t kept = inl (refl, refl)
-by_stance cells roots Absent t kept = inr (refl, λ e. absurd cc)
-by_stance cells roots (Arriving posted) t kept = inr (refl, λ e. absurd cc)
-by_stance cells roots Entering t kept = inr (refl, λ e. absurd cc)
-by_stance cells roots Leaving t kept = inr (refl, λ e. absurd cc)
+by_call_phase : (cells : List ℕ) (roots : List WordValue) (call_phase : CallPhase) (t : ProgramThread) (kept : Option ThreadOutcome)
+    → ((ending_in call_phase t kept ≡ unwrap_or kept thread.Ended) × (phase_at cells roots call_phase ≡ order.Ended)) ⊎ ((ending_in call_phase t kept ≡ ending_at t) × (phase_at cells roots call_phase ≢ order.Ended))
+by_call_phase cells roots Ready t kept = inr (refl, λ e. absurd cc)
+by_call_phase cells roots (MarkingOld cell word old) t kept = inr (refl, λ e. absurd cc)
+by_call_phase cells roots (MarkingNew cell word old) t kept = inr (refl, λ e. absurd cc)
+by_call_phase cells roots (Writing cell word old new) t kept = inr (refl, λ e. absurd cc)
+by_call_phase cells roots (Trying tried) t kept = inr (refl, λ e. absurd cc)
+by_call_phase cells roots (Answering stage marked) t kept = inr (refl, λ e. absurd cc)
+by_call_phase cells roots Ended t kept = inl (refl, refl)
+by_call_phase cells roots Absent t kept = inr (refl, λ e. absurd cc)
+by_call_phase cells roots (Arriving posted) t kept = inr (refl, λ e. absurd cc)
+by_call_phase cells roots Entering t kept = inr (refl, λ e. absurd cc)
+by_call_phase cells roots Leaving t kept = inr (refl, λ e. absurd cc)
 
 -- one that has ended has no next move
-none_next : (s : Setup) (h : Sight) (stage : ℕ) (roots : List Reference) (old : Reference) (action : machine.Action) (phase : order.Phase) → phase ≡ order.Ended
+none_next : (s : Setup) (h : Sight) (stage : ℕ) (roots : List WordValue) (old : WordValue) (action : machine.Action) (phase : order.Phase) → phase ≡ order.Ended
     → next_move s h stage roots old action phase ≡ None
 none_next s h stage roots old action phase e = rw e refl
 
 -- a thread that is so after this run, and the endings that were kept so far
-module _ (p : LaidOut) (setup : traced.Setup) (run : List Happening) (t : ℕ) (stand : Stand ProgramThread) (endings : List ThreadOutcome) where
+module _ (p : LaidOut) (setup : traced.Setup) (run : List Happening) (t : ℕ) (thread_state : ThreadState ProgramThread) (endings : List ThreadOutcome) where
   abbrev Stands : Type 0
-  Stands = StandsAfter (heaps.heap_of p setup) program_machine (starts_of p setup) run t (standing (heaps.heap_of p setup) program_machine stand)
+  Stands = StandsAfter (heaps.heap_of p setup) program_machine (starts_of p setup) run t (standing (heaps.heap_of p setup) program_machine thread_state)
 
   -- the cells that it tries
   abbrev to_try : List ℕ
-  to_try = cells_to_try (heaps.heap_of p setup) stand.hints (program_machine.action stand.state)
+  to_try = cells_to_try (heaps.heap_of p setup) thread_state.hints (program_machine.action thread_state.state)
 
   abbrev ComesAfter : List Happening → ThreadOutcome → Type 0
   ComesAfter longer ending = AreEndings p setup longer (slice_set endings t ending)
@@ -94,18 +94,18 @@ module _ (p : LaidOut) (setup : traced.Setup) (run : List Happening) (t : ℕ) (
           ∙ ap (λ (moves : List Move). Some (ending_of (heaps.heap_of p setup) u (starts_of p setup u) moves)) (sym share)
 
   -- after a step of the thread, or none
-  either : (next : Option Move) → (phase_at to_try (names stand.state) stand.stance ≡ order.Ended → next ≡ None) → Stands → t < length setup.starts → AreEndings p setup run endings
-      → ComesAfter (with_next (by_thread t next) run) (ending_in stand.stance stand.state (slice_get endings t))
-  either None none stands is_thread are = put (ending_in stand.stance stand.state (slice_get endings t)) run are is_thread (λ u e. refl) (λ ended. own ended (by_stance to_try (names stand.state) stand.stance stand.state (slice_get endings t)))
+  either : (next : Option Move) → (phase_at to_try (names thread_state.state) thread_state.call_phase ≡ order.Ended → next ≡ None) → Stands → t < length setup.starts → AreEndings p setup run endings
+      → ComesAfter (with_next (by_thread t next) run) (ending_in thread_state.call_phase thread_state.state (slice_get endings t))
+  either None none stands is_thread are = put (ending_in thread_state.call_phase thread_state.state (slice_get endings t)) run are is_thread (λ u e. refl) (λ ended. own ended (by_call_phase to_try (names thread_state.state) thread_state.call_phase thread_state.state (slice_get endings t)))
     where
       own : phase_of (heaps.heap_of p setup) t (steps_of (share_of t run)) ≡ order.Ended
-          → ((ending_in stand.stance stand.state (slice_get endings t) ≡ unwrap_or (slice_get endings t) thread.Ended) × (phase_at to_try (names stand.state) stand.stance ≡ order.Ended))
-          ⊎ ((ending_in stand.stance stand.state (slice_get endings t) ≡ ending_at stand.state) × (phase_at to_try (names stand.state) stand.stance ≢ order.Ended))
-          → ending_in stand.stance stand.state (slice_get endings t) ≡ ending_of (heaps.heap_of p setup) t (starts_of p setup t) (share_of t run)
+          → ((ending_in thread_state.call_phase thread_state.state (slice_get endings t) ≡ unwrap_or (slice_get endings t) thread.Ended) × (phase_at to_try (names thread_state.state) thread_state.call_phase ≡ order.Ended))
+          ⊎ ((ending_in thread_state.call_phase thread_state.state (slice_get endings t) ≡ ending_at thread_state.state) × (phase_at to_try (names thread_state.state) thread_state.call_phase ≢ order.Ended))
+          → ending_in thread_state.call_phase thread_state.state (slice_get endings t) ≡ ending_of (heaps.heap_of p setup) t (starts_of p setup t) (share_of t run)
       own ended (inl q) = q.0 ∙ ap (λ (o : Option ThreadOutcome). unwrap_or o thread.Ended) (are.each t is_thread ended)
       own ended (inr q) = absurd (q.1 (stands.phase ∙ ended))
   either (Some move) none stands is_thread are =
-      put (ending_in stand.stance stand.state (slice_get endings t)) (OfThread t move ∷ run) are is_thread others (λ ended. own (by_stance to_try (names stand.state) stand.stance stand.state (slice_get endings t)))
+      put (ending_in thread_state.call_phase thread_state.state (slice_get endings t)) (OfThread t move ∷ run) are is_thread others (λ ended. own (by_call_phase to_try (names thread_state.state) thread_state.call_phase thread_state.state (slice_get endings t)))
     where
       others : (u : ℕ) → (t == u) ≡ false → share_of u (OfThread t move ∷ run) ≡ share_of u run
       others u e = rw e refl
@@ -113,16 +113,16 @@ module _ (p : LaidOut) (setup : traced.Setup) (run : List Happening) (t : ℕ) (
       shares : share_of t (OfThread t move ∷ run) ≡ move ∷ share_of t run
       shares = rw (test_yes t t refl) refl
 
-      own : ((ending_in stand.stance stand.state (slice_get endings t) ≡ unwrap_or (slice_get endings t) thread.Ended) × (phase_at to_try (names stand.state) stand.stance ≡ order.Ended))
-          ⊎ ((ending_in stand.stance stand.state (slice_get endings t) ≡ ending_at stand.state) × (phase_at to_try (names stand.state) stand.stance ≢ order.Ended))
-          → ending_in stand.stance stand.state (slice_get endings t) ≡ ending_of (heaps.heap_of p setup) t (starts_of p setup t) (share_of t (OfThread t move ∷ run))
+      own : ((ending_in thread_state.call_phase thread_state.state (slice_get endings t) ≡ unwrap_or (slice_get endings t) thread.Ended) × (phase_at to_try (names thread_state.state) thread_state.call_phase ≡ order.Ended))
+          ⊎ ((ending_in thread_state.call_phase thread_state.state (slice_get endings t) ≡ ending_at thread_state.state) × (phase_at to_try (names thread_state.state) thread_state.call_phase ≢ order.Ended))
+          → ending_in thread_state.call_phase thread_state.state (slice_get endings t) ≡ ending_of (heaps.heap_of p setup) t (starts_of p setup t) (share_of t (OfThread t move ∷ run))
       own (inl q) = let e : Some move ≡ None = none q.1 in absurd cc
       own (inr q) = q.0 ∙ ap ending_at stands.state ∙ ap (ending_of (heaps.heap_of p setup) t (starts_of p setup t)) (sym shares)
 
 -- ---- one step
 
 -- after the next step of a thread, what it said before it is how it ended, if it did
-pub kept : (p : LaidOut) (setup : traced.Setup) (before : List Actor) (threads : List (Stand ProgramThread)) (shared : Shared) (c : Collecting) (endings : List ThreadOutcome) (t : ℕ)
+pub kept : (p : LaidOut) (setup : traced.Setup) (before : List Actor) (threads : List (ThreadState ProgramThread)) (shared : Shared) (c : Collecting) (endings : List ThreadOutcome) (t : ℕ)
     → stepping.IsEnd (heaps.heap_of p setup) program_machine (FitsThread (heaps.heap_of p setup)) (starts_of p setup) (run_of p setup before) threads shared c
     → t < length setup.starts → AreEndings p setup (run_of p setup before) endings
     → AreEndings p setup (run_of p setup (Thread t ∷ before)) (slice_set endings t (ending_after (slice_get threads t) (slice_get endings t)))
@@ -135,10 +135,10 @@ kept p setup before threads shared c endings t end is_thread are =
     let next = next_move_of s program_machine (sight_in s shared found.0.hints) (standing s program_machine found.0) in
     let by = next_in_words s program_machine (starts_of p setup) run t (standing s program_machine found.0) shared end.words.afterwards stands in
     let cells = cells_to_try s found.0.hints (program_machine.action found.0.state) in
-    let none : phase_at cells (names found.0.state) found.0.stance ≡ order.Ended → next ≡ None =
-    λ e. none_next s (sight_in s shared found.0.hints) found.0.stage (names found.0.state) found.0.replaced (program_machine.action found.0.state) (phase_at cells (names found.0.state) found.0.stance) e in
+    let none : phase_at cells (names found.0.state) found.0.call_phase ≡ order.Ended → next ≡ None =
+    λ e. none_next s (sight_in s shared found.0.hints) found.0.stage (names found.0.state) found.0.replaced (program_machine.action found.0.state) (phase_at cells (names found.0.state) found.0.call_phase) e in
     let one = either p setup run t found.0 endings next none stands is_thread are in
-    let said = subst (λ (x : Option (Stand ProgramThread)). AreEndings p setup (with_next (by_thread t next) run) (slice_set endings t (ending_after x (slice_get endings t)))) (sym found.1) one in
+    let said = subst (λ (x : Option (ThreadState ProgramThread)). AreEndings p setup (with_next (by_thread t next) run) (slice_set endings t (ending_after x (slice_get endings t)))) (sym found.1) one in
     subst (λ (o : Option Happening). AreEndings p setup (with_next o run) (slice_set endings t (ending_after (slice_get threads t) (slice_get endings t)))) (sym by) said
 
 -- a step of the collector ends no thread

@@ -7,13 +7,13 @@ use Rattle.colours.specs.Runs.{turns_of}
 use Rattle.pools.specs.Heap as heap
 use Rattle.trace_sweep.specs.Collecting.{Collecting}
 use Rattle.trace_sweep.specs.Stands as collector
-use Rattle.runs.specs.Machine.{Reference, Machine}
+use Rattle.runs.specs.Machine.{WordValue, Machine}
 use Rattle.runs.specs.Moves.{null}
 use Rattle.runs.specs.ModuleRuns.{Happening, heap_of}
 use Rattle.runs.specs.Ends.{Standing, StandsAfter, IsEndOf}
 use Rattle.moves.specs.declared.actor.Actor.{Actor}
 use Rattle.moves.specs.declared.shared.Shared.{Shared}
-use Rattle.moves.specs.declared.stand.Stand.{Stand}
+use Rattle.moves.specs.declared.thread_state.ThreadState.{ThreadState}
 use Rattle.moves.specs.Rows.{word_at}
 use Rattle.moves.specs.Stands.{standing}
 use Rattle.moves.specs.Drawn.{drawn}
@@ -33,14 +33,14 @@ from_map f (x ∷ xs) zero b at = (x, refl, cc)
 from_map f (x ∷ xs) (suc k) b at = from_map f xs k b at
 
 -- a word of the rows is what is in its row
-in_row : (rows : List (List Reference)) (c i : ℕ) (r : Reference) (row : List Reference) → slice_get rows c ≡ Some row → slice_get row i ≡ Some r → word_at rows c i ≡ r
+in_row : (rows : List (List WordValue)) (c i : ℕ) (r : WordValue) (row : List WordValue) → slice_get rows c ≡ Some row → slice_get row i ≡ Some r → word_at rows c i ≡ r
 in_row rows c i r row at within =
-    ap (λ (found : List Reference). slice_index_or found i null) (get_or_from_slice_get rows c row [] at) ∙ get_or_from_slice_get row i r null within
+    ap (λ (found : List WordValue). slice_index_or found i null) (get_or_from_slice_get rows c row [] at) ∙ get_or_from_slice_get row i r null within
 
 -- ---- the end
 
 -- where the actors are at the end of a run, after which the collector is so
-pub is_end_of : (s : heap.Setup) (m : Machine) (Fits : m.State → Type 0) (starts : ℕ → m.State) (run : List Happening) (threads : List (Stand m.State)) (shared : Shared) (c : Collecting)
+pub is_end_of : (s : heap.Setup) (m : Machine) (Fits : m.State → Type 0) (starts : ℕ → m.State) (run : List Happening) (threads : List (ThreadState m.State)) (shared : Shared) (c : Collecting)
     → stepping.IsEnd s m Fits starts run threads shared c → (stands : collector.StandsAfter s (turns_of (heap_of run)) c)
     → IsEndOf s m starts run (record {
       threads = map (standing s m) threads;
@@ -53,14 +53,14 @@ pub is_end_of : (s : heap.Setup) (m : Machine) (Fits : m.State → Type 0) (star
     })
 is_end_of s m Fits starts run threads shared c e stands = record {
   count = length-map threads (standing s m) ∙ e.count;
-  threads = λ t stand at. let found = from_map (standing s m) threads t stand at in subst (λ (x : Standing m.State). StandsAfter s m starts run t x) found.2 (e.stands t found.0 found.1);
+  threads = λ t thread_state at. let found = from_map (standing s m) threads t thread_state at in subst (λ (x : Standing m.State). StandsAfter s m starts run t x) found.2 (e.stands t found.0 found.1);
   stages = λ t. e.words.afterwards.words (Stage t);
   posted = e.words.afterwards.words Posted;
   colours = λ c. e.words.afterwards.words (Colour c);
   births = e.words.afterwards.births;
   words = λ c i r row at within. let same = in_row shared.words c i r row at within in record {
-    cell_is = ap (λ (x : Reference). x.cell) (sym same) ∙ e.words.afterwards.words (Word c i);
-    birth_is = ap (λ (x : Reference). x.birth) (sym same) ∙ e.words.afterwards.word_births c i;
+    cell_is = ap (λ (x : WordValue). x.cell) (sym same) ∙ e.words.afterwards.words (Word c i);
+    birth_is = ap (λ (x : WordValue). x.birth) (sym same) ∙ e.words.afterwards.word_births c i;
   };
   collector = stands.collects;
 }

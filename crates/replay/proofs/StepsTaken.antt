@@ -5,7 +5,7 @@ use Rattle.std.proofs.lemmas.List.Sums.{sum_by-cons, count_by-le-length}
 use Rattle.pools.specs.Heap.{Setup}
 use Rattle.colours.specs.declared.turn.Turn.{Turn}
 use Rattle.colours.specs.declared.turn.Turn.TheVariants as turn
-use Rattle.runs.specs.Machine.{Machine, Reference}
+use Rattle.runs.specs.Machine.{Machine, WordValue}
 use Rattle.runs.specs.ModuleRuns.{Happening, OfThread, OfCollector}
 use Rattle.runs.specs.Broken as broken
 use Rattle.runs.specs.Broken.{Touched, used_by, IsBlue, IsReborn, IsBroken, IsCause, Shows, GoesBefore, IsReachable, IsGone, WentWrong, TouchedGone}
@@ -55,7 +55,7 @@ count-more p x xs n b is same =
     omega (arith, more, test, is)
 
 -- a thread's move claims a cell where it is made as one
-move-claims : (t : ℕ) (roots : List Reference) (move : Move) → claims (OfThread t (move_in roots move)) ≡ claims_made (Thread t move)
+move-claims : (t : ℕ) (roots : List WordValue) (move : Move) → claims (OfThread t (move_in roots move)) ≡ claims_made (Thread t move)
 move-claims t roots move.Works = refl
 move-claims t roots move.GoesWrong = refl
 move-claims t roots (move.ReadsWord base word value) = refl
@@ -83,12 +83,12 @@ turn-frees (turn.ClearWord cell word) = refl
 turn-frees (turn.Free cell) = refl
 
 -- what was made claims a cell where the happening does that it tells
-claims_told : (roots : ℕ → List Reference) (made : Made) (happening : Happening) → Tells roots made happening → claims happening ≡ claims_made made
+claims_told : (roots : ℕ → List WordValue) (made : Made) (happening : Happening) → Tells roots made happening → claims happening ≡ claims_made made
 claims_told roots (Thread t move) happening tells = ap claims tells ∙ move-claims t (roots t) move
 claims_told roots (Collector turn) happening tells = ap claims tells
 
 -- and frees one
-frees_told : (roots : ℕ → List Reference) (made : Made) (happening : Happening) → Tells roots made happening → frees happening ≡ frees_made made
+frees_told : (roots : ℕ → List WordValue) (made : Made) (happening : Happening) → Tells roots made happening → frees happening ≡ frees_made made
 frees_told roots (Thread t move) happening tells = ap frees tells
 frees_told roots (Collector turn) happening tells = ap frees tells ∙ turn-frees turn
 
@@ -128,11 +128,11 @@ pub none_gone : (s : Setup) (m : Machine) (starts : ℕ → m.State) (run : List
 none_gone s m starts run unbroken r reached gone = unbroken (inr (inr (r, reached, gone)))
 
 -- a touch of this kind is one of a cell that was gone
-touched_gone : (s : Setup) (P : List Happening → Reference → Type 0) → ((run : List Happening) (r : Reference) → P run r → IsGone s run r) → (run : List Happening) → Touched P run → TouchedGone s run
+touched_gone : (s : Setup) (P : List Happening → WordValue → Type 0) → ((run : List Happening) (r : WordValue) → P run r → IsGone s run r) → (run : List Happening) → Touched P run → TouchedGone s run
 touched_gone s P f [] x = x
 touched_gone s P f (OfThread t move ∷ run) x = go (used_by move) x
   where
-    go : (o : Option Reference) → MatchOption o ⊥ (P run) → MatchOption o ⊥ (IsGone s run)
+    go : (o : Option WordValue) → MatchOption o ⊥ (P run) → MatchOption o ⊥ (IsGone s run)
     go None y = y
     go (Some r) y = f run r y
 touched_gone s P f (OfCollector turn ∷ run) x = x

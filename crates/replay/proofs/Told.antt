@@ -3,13 +3,13 @@ use Rattle.std.proofs.Common.{◌≡◌, ◌<◌, ◌≤◌, ◌⊎◌, inl, inr
 use Rattle.lemmas.specs.Lists.{get_some, get_end}
 use Rattle.colours.specs.Mutator as order
 use Rattle.colours.specs.Mutator.{stage_of, phase_of}
-use Rattle.runs.specs.Machine.{Reference}
+use Rattle.runs.specs.Machine.{WordValue}
 use Rattle.runs.specs.Moves.{steps_of}
 use Rattle.runs.specs.ModuleRuns.{share_of}
 use Rattle.moves.specs.declared.actor.Actor as run
-use Rattle.moves.specs.declared.stand.Stance.{Stance}
-use Rattle.moves.specs.declared.stand.Stance.TheVariants.{Ready, MarkingOld, MarkingNew, Writing, Trying, Answering, Ended, Absent, Arriving, Entering, Leaving}
-use Rattle.moves.specs.declared.stand.Stand.{Stand}
+use Rattle.moves.specs.declared.thread_state.CallPhase.{CallPhase}
+use Rattle.moves.specs.declared.thread_state.CallPhase.TheVariants.{Ready, MarkingOld, MarkingNew, Writing, Trying, Answering, Ended, Absent, Arriving, Entering, Leaving}
+use Rattle.moves.specs.declared.thread_state.ThreadState.{ThreadState}
 use Rattle.moves.specs.Stands.{cells_to_try, phase_at}
 use Rattle.program_runner.specs.Threads.{ProgramThread, program_machine, names}
 use Rattle.program_runner.specs.Heaps.{heap_of}
@@ -57,8 +57,8 @@ one_more_told ends count told last are is = record {
 
 -- ---- the ends
 
--- where a thread is by its stance, is where it is by its phase
-by_phase : (cells : List ℕ) (roots : List Reference) (stance : Stance) (stage : ℕ) (kept ending : ThreadOutcome) → (phase_at cells roots stance ≡ order.Ended → kept ≡ ending) → end_at stance stage kept ≡ end_in (phase_at cells roots stance) stage ending
+-- where a thread is by the phase of its call, is where it is by its phase
+by_phase : (cells : List ℕ) (roots : List WordValue) (call_phase : CallPhase) (stage : ℕ) (kept ending : ThreadOutcome) → (phase_at cells roots call_phase ≡ order.Ended → kept ≡ ending) → end_at call_phase stage kept ≡ end_in (phase_at cells roots call_phase) stage ending
 by_phase cells roots Ready stage kept ending same = refl
 by_phase cells roots (MarkingOld cell word old) stage kept ending same = refl
 by_phase cells roots (MarkingNew cell word old) stage kept ending same = refl
@@ -81,9 +81,9 @@ told_is w before b t few =
     let stands = end.stands t found.0 found.1 in
     let ending = ending_of s t (starts_of w.program w.setup t) share in
     let to_try = cells_to_try s found.0.hints (program_machine.action found.0.state) in
-    let same = λ (e : phase_at to_try (names found.0.state) found.0.stance ≡ order.Ended). ap (λ (o : Option ThreadOutcome). unwrap_or o thread.Ended) (b.ends.endings.each t few (sym stands.phase ∙ e)) in
-    ap (λ (o : Option (Stand ProgramThread)). end_told o (slice_get w.endings t)) found.1
-    ∙ by_phase to_try (names found.0.state) found.0.stance found.0.stage (unwrap_or (slice_get w.endings t) thread.Ended) ending same
+    let same = λ (e : phase_at to_try (names found.0.state) found.0.call_phase ≡ order.Ended). ap (λ (o : Option ThreadOutcome). unwrap_or o thread.Ended) (b.ends.endings.each t few (sym stands.phase ∙ e)) in
+    ap (λ (o : Option (ThreadState ProgramThread)). end_told o (slice_get w.endings t)) found.1
+    ∙ by_phase to_try (names found.0.state) found.0.call_phase found.0.stage (unwrap_or (slice_get w.endings t) thread.Ended) ending same
     ∙ ap (λ (phase : order.Phase). end_in phase found.0.stage ending) stands.phase
     ∙ ap (λ (stage : ℕ). end_in (phase_of s t (steps_of share)) stage ending) stands.stage
 

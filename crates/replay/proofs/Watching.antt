@@ -135,13 +135,13 @@ room_for_more p setup before count done actor v few more is =
 pub reports : (p : LaidOut) (setup : Setup) (before : List Actor) (w : Watch) (ends : List ThreadOutcome) (posted : ℕ) → IsWatched p setup before w → AreEndsOf w.world before ends → posted ≡ w.world.shared.posted
     → Reports p setup before (record { threads = ends; steps = w.steps; claims = w.claims; frees = w.frees; posted = posted })
 reports p setup before w ends posted is ends_are posted_is =
-    let Stand : LaidOut → Setup → Type 0 = λ q begun. AreEndsAfter q begun (run_of q begun before) ends in
-    let stand : Stand p setup = subst (λ q. Stand q setup) is.program (subst (λ begun. Stand w.world.program begun) is.setup_is ends_are) in
+    let ThreadState : LaidOut → Setup → Type 0 = λ q begun. AreEndsAfter q begun (run_of q begun before) ends in
+    let thread_state : ThreadState p setup = subst (λ q. ThreadState q setup) is.program (subst (λ begun. ThreadState w.world.program begun) is.setup_is ends_are) in
     let Posts : LaidOut → Setup → Type 0 = λ q begun. posted ≡ word_after (heap_of q begun) (events_of (run_of q begun before)) Posted in
     let posts : Posts p setup = subst (λ q. Posts q setup) is.program (subst (λ begun. Posts w.world.program begun) is.setup_is (posted_is ∙ is.afterwards.ends.ends.posted)) in
     record {
-      one_each = stand.one_each;
-      threads = stand.each;
+      one_each = thread_state.one_each;
+      threads = thread_state.each;
       steps_are = is.steps;
       claims_are = is.claims_are;
       frees_are = is.frees_are;

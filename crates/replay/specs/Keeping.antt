@@ -3,38 +3,38 @@ use Rattle.std.specs.Prelude.{ℕ, Option, Some, None, List, slice_get, slice_se
 use Rattle.program_runner.specs.Threads.{ProgramThread}
 use Rattle.trace_text.specs.declared.trace.Actor.{Actor}
 use Rattle.trace_text.specs.declared.trace.Actor.TheVariants.{Thread, Collector}
-use Rattle.moves.specs.declared.stand.Stance.{Stance}
-use Rattle.moves.specs.declared.stand.Stance.TheVariants.{Ended, Absent, Arriving, Entering, Leaving}
-use Rattle.moves.specs.declared.stand.Stand.{Stand}
+use Rattle.moves.specs.declared.thread_state.CallPhase.{CallPhase}
+use Rattle.moves.specs.declared.thread_state.CallPhase.TheVariants.{Ended, Absent, Arriving, Entering, Leaving}
+use Rattle.moves.specs.declared.thread_state.ThreadState.{ThreadState}
 use Rattle.replay.specs.declared.thread_outcome.ThreadOutcome.{ThreadOutcome}
 use Rattle.replay.specs.declared.thread_outcome.ThreadOutcome.TheVariants as thread
 use Rattle.replay.specs.Worlds.{ending_at}
 
--- how a thread in this stance has ended, if its next step is its last one: what is kept where it has ended already, else what it says
-abbrev pub ending_in : Stance → ProgramThread → (kept : Option ThreadOutcome) → ThreadOutcome
+-- how a thread in this phase of a call has ended, if its next step is its last one: what is kept where it has ended already, else what it says
+abbrev pub ending_in : CallPhase → ProgramThread → (kept : Option ThreadOutcome) → ThreadOutcome
 ending_in Ended t kept = unwrap_or kept thread.Ended
-ending_in stance t kept = ending_at t
+ending_in call_phase t kept = ending_at t
 
 -- so of a thread of a list, if it is there
-abbrev pub ending_after : Option (Stand ProgramThread) → (kept : Option ThreadOutcome) → ThreadOutcome
+abbrev pub ending_after : Option (ThreadState ProgramThread) → (kept : Option ThreadOutcome) → ThreadOutcome
 ending_after None kept = unwrap_or kept thread.Ended
-ending_after (Some stand) kept = ending_in stand.stance stand.state kept
+ending_after (Some thread_state) kept = ending_in thread_state.call_phase thread_state.state kept
 
 -- the endings after a step of an actor; the collector ends no thread
-abbrev pub endings_after : Actor → List (Stand ProgramThread) → List ThreadOutcome → List ThreadOutcome
+abbrev pub endings_after : Actor → List (ThreadState ProgramThread) → List ThreadOutcome → List ThreadOutcome
 endings_after (Thread t) threads endings = slice_set endings t (ending_after (slice_get threads t) (slice_get endings t))
 endings_after Collector threads endings = endings
 
--- where a thread in this stance is, at this stage, and how it ended if it has
-abbrev pub end_at : Stance → (stage : ℕ) → (ending : ThreadOutcome) → ThreadOutcome
+-- where a thread in this phase of a call is, at this stage, and how it ended if it has
+abbrev pub end_at : CallPhase → (stage : ℕ) → (ending : ThreadOutcome) → ThreadOutcome
 end_at Ended stage ending = ending
 end_at Absent stage ending = thread.Absent
 end_at (Arriving posted) stage ending = thread.Absent
 end_at Entering stage ending = thread.Absent
 end_at Leaving stage ending = thread.Absent
-end_at stance stage ending = thread.Running stage
+end_at call_phase stage ending = thread.Running stage
 
 -- so of a thread of a list, if it is there
-abbrev pub end_told : Option (Stand ProgramThread) → Option ThreadOutcome → ThreadOutcome
+abbrev pub end_told : Option (ThreadState ProgramThread) → Option ThreadOutcome → ThreadOutcome
 end_told None ending = thread.Ended
-end_told (Some stand) ending = end_at stand.stance stand.stage (unwrap_or ending thread.Ended)
+end_told (Some thread_state) ending = end_at thread_state.call_phase thread_state.stage (unwrap_or ending thread.Ended)

@@ -21,7 +21,7 @@ use Rattle.trace_text.specs.declared.trace.Actor.TheVariants as traced_actor
 use Rattle.trace_text.specs.declared.trace.Setup.{Setup}
 use Rattle.moves.specs.declared.actor.Actor.{Actor}
 use Rattle.moves.specs.declared.actor.Actor.TheVariants.{Thread, Collector}
-use Rattle.moves.specs.declared.stand.Stand.{Stand}
+use Rattle.moves.specs.declared.thread_state.ThreadState.{ThreadState}
 use Rattle.moves.specs.declared.shared.Shared.{Shared}
 use Rattle.moves.specs.Runs.{run_by, AreActors}
 use Rattle.moves.specs.Stands.{standing}
@@ -39,7 +39,7 @@ use Rattle.setups.specs.Setups.{starts_of}
 pub record World : Type 0 where
   pub program : LaidOut
   pub setup : Setup
-  pub threads : List (Stand ProgramThread)
+  pub threads : List (ThreadState ProgramThread)
   pub shared : Shared
   pub collector : Collecting
   pub endings : List ThreadOutcome

@@ -13,7 +13,7 @@ use crate::thread_outcome::ThreadOutcome;
 use items::Items;
 use layout::Program;
 use machine::Ending;
-use moves::{Stance, Stand};
+use moves::{CallPhase, ThreadState};
 use program_runner::{ProgramThread, begun_law, program_law};
 use setups::{SetupFault, begun_threads, values_at_start};
 use std::alloc::{AllocError, Global};
@@ -172,12 +172,12 @@ fn ending_after(
     match actors.thread(thread) {
         None
         | Some(
-            Stand {
-                stance: Stance::Ended,
+            ThreadState {
+                call_phase: CallPhase::Ended,
                 ..
             },
         ) => kept_end(endings, thread),
-        Some(stand) => ended_by(&stand.state.ending()),
+        Some(thread_state) => ended_by(&thread_state.state.ending()),
     }
 }
 
@@ -190,12 +190,13 @@ fn end_told(
     ensures { result ≡ end_told (slice_get actors.now.threads.items thread) (slice_get endings.now thread) }
 {
     match actors.thread(thread) {
-        Some(stand) => match stand.stance {
-            Stance::Ended => kept_end(endings, thread),
-            Stance::Absent | Stance::Arriving { .. } | Stance::Entering | Stance::Leaving => {
-                ThreadOutcome::Absent
-            }
-            _ => ThreadOutcome::Running(stand.stage),
+        Some(thread_state) => match thread_state.call_phase {
+            CallPhase::Ended => kept_end(endings, thread),
+            CallPhase::Absent
+            | CallPhase::Arriving { .. }
+            | CallPhase::Entering
+            | CallPhase::Leaving => { ThreadOutcome::Absent }
+            _ => ThreadOutcome::Running(thread_state.stage),
         },
         None => ThreadOutcome::Ended,
     }

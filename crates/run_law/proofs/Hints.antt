@@ -4,14 +4,14 @@ use Rattle.lemmas.specs.Lists.{sum_cons}
 use Rattle.lemmas.specs.Numbers.{lt_false}
 use Rattle.pools.specs.Heap.{Setup, IsOfLayout, layout_of, layout_at, cells}
 use Rattle.pools.specs.Pools.{first_cell}
-use Rattle.runs.specs.Machine.{Reference, Action}
+use Rattle.runs.specs.Machine.{WordValue, Action}
 use Rattle.runs.specs.TryLemmas.{within}
 use Rattle.moves.specs.declared.moves.Move.{Move}
 use Rattle.moves.specs.declared.moves.Move.TheVariants as made
 use Rattle.moves.specs.declared.shared.Shared.{Shared}
-use Rattle.moves.specs.declared.stand.Stance.{Stance}
+use Rattle.moves.specs.declared.thread_state.CallPhase.{CallPhase}
 use Rattle.moves.specs.Calls.{move_in}
-use Rattle.moves.specs.Moving.{CanNote, HasHint}
+use Rattle.moves.specs.Moving.{CanRecord, HasHint}
 use Rattle.run_law.proofs.Chosen.{IsChosen}
 
 -- the pools before that of a place end at the place or before it
@@ -35,12 +35,12 @@ not-before s layout cell o =
     omega (arith, before, o.0)
 
 -- there is one, and the place after the cell fits
-pub has-hint : (s : Setup) (h : Shared) (hints : List ℕ) (roots : List Reference) (action : Action) (at : Stance) (move : Move) → cells s ≤ 2 ^ 32 → length hints ≡ length s.pools
+pub has-hint : (s : Setup) (h : Shared) (hints : List ℕ) (roots : List WordValue) (action : Action) (at : CallPhase) (move : Move) → cells s ≤ 2 ^ 32 → length hints ≡ length s.pools
     → IsChosen s h hints roots action at (move_in roots move) → HasHint s.pools hints move action
 has-hint s h hints roots action at (made.Claims r true) few count c =
     let left = c.5.left in
     let is_layout = within s.pools c.0 (λ z. omega (arith, left, z)) in
-    let noted : CanNote s.pools hints c.0 r.cell = record {
+    let noted : CanRecord s.pools hints c.0 r.cell = record {
       is_layout = is_layout;
       has_hint = omega (arith, is_layout, count);
       in_pool = not-before s c.0 r.cell c.2;

@@ -6,7 +6,7 @@ use Rattle.pools.specs.declared.word_kind.WordKind.{WordKind}
 use Rattle.pools.specs.Layouts.{is_reference_kind}
 use Rattle.colours.specs.declared.place.Place.TheVariants.{Word}
 use Rattle.colours.specs.Mutator.{HasBegun}
-use Rattle.runs.specs.Machine.{Reference, Action, Local, Read, StorePlain, Write, Alloc, Safepoint, End, Wrong, Got, Machine}
+use Rattle.runs.specs.Machine.{WordValue, Action, Local, Read, StorePlain, Write, Alloc, Safepoint, End, Wrong, Got, Machine}
 use Rattle.runs.specs.Moves.{answer_of}
 use Rattle.runs.specs.Ends.{moved, old_by}
 use Rattle.moves.specs.declared.call.Call.{Call}
@@ -14,8 +14,8 @@ use Rattle.moves.specs.declared.call.Call.TheVariants as call
 use Rattle.moves.specs.declared.moves.Move.{Move}
 use Rattle.moves.specs.declared.moves.Move.TheVariants as made
 use Rattle.moves.specs.declared.shared.Shared.{Shared}
-use Rattle.moves.specs.declared.stand.Stance.{Stance}
-use Rattle.moves.specs.declared.stand.Stand.{Stand}
+use Rattle.moves.specs.declared.thread_state.CallPhase.{CallPhase}
+use Rattle.moves.specs.declared.thread_state.ThreadState.{ThreadState}
 use Rattle.moves.specs.Calls.{action_of, move_in}
 use Rattle.moves.specs.Kinds.{MayHold, AsksByKind, AnswersByKind, KeepsKinds}
 use Rattle.moves.specs.Moving.{MayMake, TriesNext}
@@ -55,7 +55,7 @@ reference-there None is = absurd cc
 reference-there (Some kind) is = λ e. absurd cc
 
 -- and so is one that may hold a value
-holds-there : (s : Setup) (h : Shared) (cell word : ℕ) (value : Reference) → HasShape s h → cell < cells s → MayHold s (kind_of s cell word) value → CanHold h (Word cell word)
+holds-there : (s : Setup) (h : Shared) (cell word : ℕ) (value : WordValue) → HasShape s h → cell < cells s → MayHold s (kind_of s cell word) value → CanHold h (Word cell word)
 holds-there s h cell word value shape is_cell may = go (kind_of s cell word) refl may
   where
     go : (k : Option WordKind) → kind_of s cell word ≡ k → MayHold s k value → CanHold h (Word cell word)
@@ -65,7 +65,7 @@ holds-there s h cell word value shape is_cell may = go (kind_of s cell word) ref
 -- ---- the move may be made
 
 -- what it puts fits
-pub puts : (s : Setup) (h : Shared) (hints : List ℕ) (roots : List Reference) (action : Action) (at : Stance) (move : Move) → AsksByKind s action → IsChosen s h hints roots action at (move_in roots move) → PutsByKind s move
+pub puts : (s : Setup) (h : Shared) (hints : List ℕ) (roots : List WordValue) (action : Action) (at : CallPhase) (move : Move) → AsksByKind s action → IsChosen s h hints roots action at (move_in roots move) → PutsByKind s move
 puts s h hints roots action at (made.StoresAfterBarrier base word value) a c = let asks : AsksByKind s (Write base word value) = subst (λ (x : Action). AsksByKind s x) c a in asks.2
 puts s h hints roots action at (made.StoresPlain base word value) a c = let asks : AsksByKind s (StorePlain base word value) = subst (λ (x : Action). AsksByKind s x) c a in asks.1
 puts s h hints roots action at made.Works a c = tt
@@ -82,7 +82,7 @@ puts s h hints roots action at (made.EntersStage next) a c = tt
 puts s h hints roots action at (made.ReadsPostedAgain posted) a c = tt
 
 -- a claim agrees with the state of its cell
-pub sees : (s : Setup) (h : Shared) (hints : List ℕ) (roots : List Reference) (action : Action) (at : Stance) (move : Move) → IsChosen s h hints roots action at (move_in roots move) → SeesCell h move
+pub sees : (s : Setup) (h : Shared) (hints : List ℕ) (roots : List WordValue) (action : Action) (at : CallPhase) (move : Move) → IsChosen s h hints roots action at (move_in roots move) → SeesCell h move
 sees s h hints roots action at (made.Claims r won) c = (c.3, c.4)
 sees s h hints roots action at made.Works c = tt
 sees s h hints roots action at made.GoesWrong c = tt
@@ -99,7 +99,7 @@ sees s h hints roots action at (made.EntersStage next) c = tt
 sees s h hints roots action at (made.ReadsPostedAgain posted) c = tt
 
 -- its places are there
-pub takes : (s : Setup) (h : Shared) (hints : List ℕ) (roots : List Reference) (action : Action) (at : Stance) (t stage : ℕ) (move : Move) → HasShape s h → AsksByKind s action → t < s.threads → (HasBegun (phase_at (cells_to_try s hints action) roots at) → stage < 2 ^ 62)
+pub takes : (s : Setup) (h : Shared) (hints : List ℕ) (roots : List WordValue) (action : Action) (at : CallPhase) (t stage : ℕ) (move : Move) → HasShape s h → AsksByKind s action → t < s.threads → (HasBegun (phase_at (cells_to_try s hints action) roots at) → stage < 2 ^ 62)
     → IsChosen s h hints roots action at (move_in roots move) → CanTake h t stage move
 takes s h hints roots action at t stage (made.StoresAfterBarrier base word value) shape a lt few c =
     let asks : AsksByKind s (Write base word value) = subst (λ (x : Action). AsksByKind s x) c a in
@@ -125,7 +125,7 @@ takes s h hints roots action at t stage (made.ReadsOldValue base word value) sha
 takes s h hints roots action at t stage (made.ReadsPosted posted) shape a lt few c = tt
 
 -- it is the next one of its call
-pub may-make : (s : Setup) (h : Shared) (hints : List ℕ) (roots : List Reference) (action : Action) (at : Stance) (move : Move) (asked : Call) → action_of asked ≡ action → IsChosen s h hints roots action at (move_in roots move)
+pub may-make : (s : Setup) (h : Shared) (hints : List ℕ) (roots : List WordValue) (action : Action) (at : CallPhase) (move : Move) (asked : Call) → action_of asked ≡ action → IsChosen s h hints roots action at (move_in roots move)
     → MayMake s hints roots asked at move
 may-make s h hints roots action at (made.Marks r) asked e c = c.1
 may-make s h hints roots action at (made.Claims r won) asked e c =
@@ -152,7 +152,7 @@ BringsNothing (made.Claims r won) = ⊥
 BringsNothing move = Unit {0}
 
 -- such a move returns nothing but null
-nothing-fits : (s : Setup) (roots : List Reference) (action : Action) (move : Move) → BringsNothing move → AnswersByKind s action (answer_of action (move_in roots move))
+nothing-fits : (s : Setup) (roots : List WordValue) (action : Action) (move : Move) → BringsNothing move → AnswersByKind s action (answer_of action (move_in roots move))
 nothing-fits s roots Local move q = tt
 nothing-fits s roots (StorePlain base word value) move q = tt
 nothing-fits s roots (Write base word value) move q = tt
@@ -187,11 +187,11 @@ nothing-fits s roots (Alloc layout) (made.EntersStage next) q = tt
 nothing-fits s roots (Alloc layout) (made.ReadsPostedAgain posted) q = tt
 
 -- the answer fits what was asked for
-pub answers : (s : Setup) (h : Shared) (hints : List ℕ) (roots : List Reference) (action : Action) (at : Stance) (move : Move) → HasShape s h → AsksByKind s action → IsChosen s h hints roots action at (move_in roots move)
+pub answers : (s : Setup) (h : Shared) (hints : List ℕ) (roots : List WordValue) (action : Action) (at : CallPhase) (move : Move) → HasShape s h → AsksByKind s action → IsChosen s h hints roots action at (move_in roots move)
     → AnswersByKind s action (answer_of action (move_in roots move))
 answers s h hints roots action at (made.ReadsWord base word value) shape a c =
     let asks : AsksByKind s (Read base word) = subst (λ (x : Action). AsksByKind s x) c.0 a in
-    let fits : MayHold s (kind_of s base.cell word) value = subst (λ (x : Reference). MayHold s (kind_of s base.cell word) x) (sym c.1) (word-fits s h base.cell word shape asks.0 asks.1) in
+    let fits : MayHold s (kind_of s base.cell word) value = subst (λ (x : WordValue). MayHold s (kind_of s base.cell word) x) (sym c.1) (word-fits s h base.cell word shape asks.0 asks.1) in
     subst (λ (x : Action). AnswersByKind s x (answer_of x (move_in roots (made.ReadsWord base word value)))) (sym c.0) fits
 answers s h hints roots action at (made.Claims r true) shape a c =
     let fits : AnswersByKind s (Alloc c.0) (Got r) = inr c.2 in
@@ -217,21 +217,21 @@ either-fits Fits true x y f g = f
 either-fits Fits false x y f g = g
 
 -- so the state after the move fits
-pub moved-fits : (s : Setup) (m : Machine) (Fits : m.State → Type 0) (h : Shared) (stand : Stand m.State) (move : Move) → HasShape s h → KeepsKinds s m.action m.after_answer m.roots Fits stand.state → Fits stand.state
-    → IsChosen s h stand.hints (m.roots stand.state) (m.action stand.state) stand.stance (move_in (m.roots stand.state) move)
-    → Fits (moved s m (standing s m stand) (move_in (m.roots stand.state) move)).state
-moved-fits s m Fits h stand move shape keeps fits c =
+pub moved-fits : (s : Setup) (m : Machine) (Fits : m.State → Type 0) (h : Shared) (thread_state : ThreadState m.State) (move : Move) → HasShape s h → KeepsKinds s m.action m.after_answer m.roots Fits thread_state.state → Fits thread_state.state
+    → IsChosen s h thread_state.hints (m.roots thread_state.state) (m.action thread_state.state) thread_state.call_phase (move_in (m.roots thread_state.state) move)
+    → Fits (moved s m (standing s m thread_state) (move_in (m.roots thread_state.state) move)).state
+moved-fits s m Fits h thread_state move shape keeps fits c =
     either-fits Fits _ _ _
-    (keeps.goes_on (answer_of (m.action stand.state) (move_in (m.roots stand.state) move)) (answers s h stand.hints (m.roots stand.state) (m.action stand.state) stand.stance move shape keeps.asks c))
+    (keeps.goes_on (answer_of (m.action thread_state.state) (move_in (m.roots thread_state.state) move)) (answers s h thread_state.hints (m.roots thread_state.state) (m.action thread_state.state) thread_state.call_phase move shape keeps.asks c))
     fits
 
 -- and what a write under way has read is a cell
-pub replaced-cell : (s : Setup) (h : Shared) (hints : List ℕ) (roots : List Reference) (action : Action) (at : Stance) (move : Move) → HasShape s h → AsksByKind s action → IsChosen s h hints roots action at (move_in roots move)
+pub replaced-cell : (s : Setup) (h : Shared) (hints : List ℕ) (roots : List WordValue) (action : Action) (at : CallPhase) (move : Move) → HasShape s h → AsksByKind s action → IsChosen s h hints roots action at (move_in roots move)
     → (old_by (move_in roots move)).cell < cells s
 replaced-cell s h hints roots action at (made.ReadsOldValue base word value) shape a c =
     let asks : AsksByKind s (Write base word c.0) = subst (λ (x : Action). AsksByKind s x) c.1 a in
     let fits = word-fits s h base.cell word shape asks.0 (reference-there (kind_of s base.cell word) asks.1) in
-    subst (λ (x : Reference). x.cell < cells s) (sym c.2) (cell-held s (kind_of s base.cell word) (word_at h.words base.cell word) asks.1 fits)
+    subst (λ (x : WordValue). x.cell < cells s) (sym c.2) (cell-held s (kind_of s base.cell word) (word_at h.words base.cell word) asks.1 fits)
 replaced-cell s h hints roots action at made.Works shape a c = omega arith
 replaced-cell s h hints roots action at made.GoesWrong shape a c = omega arith
 replaced-cell s h hints roots action at (made.ReadsWord base word value) shape a c = omega arith

@@ -6,7 +6,7 @@ use Rattle.colours.specs.declared.place.Place.{Place}
 use Rattle.colours.specs.declared.place.Place.TheVariants.{Posted, Stage, Colour, Word}
 use Rattle.colours.specs.Colours.{mark_at, claim_at, done}
 use Rattle.colours.specs.Steps.{Step, ask_of, same_place, left_by}
-use Rattle.runs.specs.Machine.{Reference}
+use Rattle.runs.specs.Machine.{WordValue}
 use Rattle.runs.specs.Moves.{step_of}
 use Rattle.moves.specs.declared.moves.Move.{Move}
 use Rattle.moves.specs.declared.moves.Move.TheVariants as made
@@ -17,17 +17,17 @@ use Rattle.moves.specs.Shared.{held_at, CanHold, CanTake, with_number, with_move
 use Rattle.run_law.proofs.Rows.{entry-set, word-set}
 
 -- a part of a reference that a test chooses
-cell-of : (b : Bool) (r q : Reference) → (if b then r else q).cell ≡ (if b then r.cell else q.cell)
+cell-of : (b : Bool) (r q : WordValue) → (if b then r else q).cell ≡ (if b then r.cell else q.cell)
 cell-of true r q = refl
 cell-of false r q = refl
 
 -- another reference in a word
-pub held-word : (h : Shared) (c i : ℕ) (r : Reference) (p : Place) → CanHold h (Word c i)
+pub held-word : (h : Shared) (c i : ℕ) (r : WordValue) (p : Place) → CanHold h (Word c i)
     → held_at (record h { words = with_word h.words c i r }) p ≡ (if same_place (Word c i) p then r.cell else held_at h p)
 held-word h c i r Posted can = refl
 held-word h c i r (Stage thread) can = refl
 held-word h c i r (Colour cell) can = refl
-held-word h c i r (Word d j) can = ap (λ (x : Reference). x.cell) (word-set h.words c i r d j can.0 can.1) ∙ cell-of ((c == d) && (i == j)) r (word_at h.words d j)
+held-word h c i r (Word d j) can = ap (λ (x : WordValue). x.cell) (word-set h.words c i r d j can.0 can.1) ∙ cell-of ((c == d) && (i == j)) r (word_at h.words d j)
 
 -- another number in a place
 pub held-number : (h : Shared) (q : Place) (n : ℕ) (p : Place) → CanHold h q → held_at (with_number h q n) p ≡ (if same_place q p then n else held_at h p)
@@ -81,7 +81,7 @@ left_in thread stage None p m = m
 left_in thread stage (Some step) p m = left_by (ask_of thread stage step) p m
 
 -- the same for each move
-pub held-left : (h : Shared) (t stage : ℕ) (roots : List Reference) (move : Move) (p : Place) → CanTake h t stage move → SeesCell h move
+pub held-left : (h : Shared) (t stage : ℕ) (roots : List WordValue) (move : Move) (p : Place) → CanTake h t stage move → SeesCell h move
     → held_at (with_move h t stage move) p ≡ left_in t stage (step_of (move_in roots move)) p (held_at h p)
 held-left h t stage roots made.Works p can sees = refl
 held-left h t stage roots made.GoesWrong p can sees = refl

@@ -3,7 +3,7 @@ use Rattle.std.proofs.Common.{◌≡◌, ◌<◌, ℕ, ◌==◌, ◌&&◌, Bool,
 use Rattle.std.proofs.lemmas.List.{length-set, get_or-set_other}
 use Rattle.std.proofs.lemmas.Grind.{get_or-set_at}
 use Rattle.lemmas.specs.Numbers.{test_true, test_false}
-use Rattle.runs.specs.Machine.{Reference}
+use Rattle.runs.specs.Machine.{WordValue}
 use Rattle.runs.specs.Moves.{null}
 use Rattle.moves.specs.Rows.{word_at, with_word}
 
@@ -16,10 +16,10 @@ entry-set {A} xs i j v d lt = go (i == j) refl
     go false e = get_or-set_other xs i j v d (λ x. test_false i j e (sym x))
 
 -- a word of rows in which one was replaced
-pub word-set : (rows : List (List Reference)) (c i : ℕ) (v : Reference) (d j : ℕ) → c < length rows → i < length (slice_index_or rows c [])
+pub word-set : (rows : List (List WordValue)) (c i : ℕ) (v : WordValue) (d j : ℕ) → c < length rows → i < length (slice_index_or rows c [])
     → word_at (with_word rows c i v) d j ≡ (if (c == d) && (i == j) then v else word_at rows d j)
 word-set rows c i v d j is_row is_word =
-    ap (λ (row : List Reference). slice_index_or row j null) (entry-set rows c d (slice_set (slice_index_or rows c []) i v) [] is_row) ∙ go (c == d) refl
+    ap (λ (row : List WordValue). slice_index_or row j null) (entry-set rows c d (slice_set (slice_index_or rows c []) i v) [] is_row) ∙ go (c == d) refl
   where
     go : (b : Bool) → (c == d) ≡ b → slice_index_or (if b then slice_set (slice_index_or rows c []) i v else slice_index_or rows d []) j null ≡ (if b && (i == j) then v else word_at rows d j)
     go true e =
@@ -28,9 +28,9 @@ word-set rows c i v d j is_row is_word =
     go false e = refl
 
 -- no row is longer or shorter
-pub row-set : (rows : List (List Reference)) (c i : ℕ) (v : Reference) (d : ℕ) → c < length rows
+pub row-set : (rows : List (List WordValue)) (c i : ℕ) (v : WordValue) (d : ℕ) → c < length rows
     → length (slice_index_or (with_word rows c i v) d []) ≡ length (slice_index_or rows d [])
-row-set rows c i v d is_row = ap (λ (row : List Reference). length row) (entry-set rows c d (slice_set (slice_index_or rows c []) i v) [] is_row) ∙ go (c == d) refl
+row-set rows c i v d is_row = ap (λ (row : List WordValue). length row) (entry-set rows c d (slice_set (slice_index_or rows c []) i v) [] is_row) ∙ go (c == d) refl
   where
     go : (b : Bool) → (c == d) ≡ b → length (if b then slice_set (slice_index_or rows c []) i v else slice_index_or rows d []) ≡ length (slice_index_or rows d [])
     go true e = length-set (slice_index_or rows c []) i v ∙ ap (λ n. length (slice_index_or rows n [])) (test_true c d e)

@@ -6,7 +6,7 @@ use Rattle.lemmas.specs.Bools.{and_parts}
 use Rattle.pools.specs.Heap.{Setup, cells, kind_of}
 use Rattle.pools.specs.declared.word_kind.WordKind.{WordKind}
 use Rattle.colours.specs.declared.place.Place.TheVariants.{Word}
-use Rattle.runs.specs.Machine.{Reference}
+use Rattle.runs.specs.Machine.{WordValue}
 use Rattle.moves.specs.declared.moves.Move.{Move}
 use Rattle.moves.specs.declared.moves.Move.TheVariants as made
 use Rattle.moves.specs.declared.shared.Shared.{Shared}
@@ -60,14 +60,14 @@ shape-posted s h n shape = record {
 }
 
 -- another reference in a word, that fits its kind
-pub shape-word : (s : Setup) (h : Shared) (c i : ℕ) (r : Reference) → HasShape s h → CanHold h (Word c i) → MayHold s (kind_of s c i) r → HasShape s (record h { words = with_word h.words c i r })
+pub shape-word : (s : Setup) (h : Shared) (c i : ℕ) (r : WordValue) → HasShape s h → CanHold h (Word c i) → MayHold s (kind_of s c i) r → HasShape s (record h { words = with_word h.words c i r })
 shape-word s h c i r shape can may = record {
   stages = shape.stages;
   colours = shape.colours;
   births = shape.births;
   rows = length-set h.words c (slice_set (slice_index_or h.words c []) i r) ∙ shape.rows;
   row = λ d lt. row-set h.words c i r d can.0 ∙ shape.row d lt;
-  kinds = λ d j kind lt is. subst (λ (x : Reference). MayHold s (Some kind) x) (sym (word-set h.words c i r d j can.0 can.1)) (go d j kind lt is ((c == d) && (i == j)) refl);
+  kinds = λ d j kind lt is. subst (λ (x : WordValue). MayHold s (Some kind) x) (sym (word-set h.words c i r d j can.0 can.1)) (go d j kind lt is ((c == d) && (i == j)) refl);
 }
   where
     go : (d j : ℕ) (kind : WordKind) → d < cells s → kind_of s d j ≡ Some kind → (b : Bool) → ((c == d) && (i == j)) ≡ b → MayHold s (Some kind) (if b then r else word_at h.words d j)

@@ -4,7 +4,7 @@ use Rattle.pools.specs.Heap.{Setup, cells}
 use Rattle.pools.specs.Ends.{pool_ends}
 use Rattle.colours.specs.Steps.{Step}
 use Rattle.colours.specs.Mutator.{Phase, Ended, HasBegun, phase_of}
-use Rattle.runs.specs.Machine.{Reference, Action, Alloc, Machine}
+use Rattle.runs.specs.Machine.{WordValue, Action, Alloc, Machine}
 use Rattle.runs.specs.Moves as moves
 use Rattle.runs.specs.Moves.{steps_of}
 use Rattle.runs.specs.ModuleRuns.{Happening, share_of}
@@ -15,9 +15,9 @@ use Rattle.runs.specs.TryLemmas.{StandsSo, stands_so, within}
 use Rattle.run_law.specs.Bounds.{IsBounded}
 use Rattle.moves.specs.declared.moves.Move.{Move}
 use Rattle.moves.specs.declared.shared.Shared.{Shared}
-use Rattle.moves.specs.declared.stand.Stance.{Stance}
-use Rattle.moves.specs.declared.stand.Stance.TheVariants as stance
-use Rattle.moves.specs.declared.stand.Stand.{Stand}
+use Rattle.moves.specs.declared.thread_state.CallPhase.{CallPhase}
+use Rattle.moves.specs.declared.thread_state.CallPhase.TheVariants as call_phase
+use Rattle.moves.specs.declared.thread_state.ThreadState.{ThreadState}
 use Rattle.moves.specs.Calls.{move_in}
 use Rattle.moves.specs.Kinds.{KeepsKinds}
 use Rattle.moves.specs.Shared.{CanTake}
@@ -36,84 +36,84 @@ few-tried : (s : Setup) (layout tried : ℕ) → cells s ≤ 2 ^ 32 → layout <
 few-tried s layout tried few is_layout left = let ends = pool_ends s.pools layout is_layout in omega (arith, few, left, ends)
 
 -- there is a pool, a cell of it was not tried, and fewer than 2^32 were
-try-left : (s : Setup) (log : List Step) (action : Action) (order : List ℕ) (roots : List Reference) (at : Stance) → cells s ≤ 2 ^ 32 → StandsSo s log action (phase_at order roots at) → HasTryLeft s.pools action at
-try-left s log action order roots stance.Ready few f = tt
-try-left s log action order roots (stance.MarkingOld c i o) few f = tt
-try-left s log action order roots (stance.MarkingNew c i o) few f = tt
-try-left s log action order roots (stance.Writing c i o n) few f = tt
-try-left s log action order roots (stance.Answering next marked) few f = tt
-try-left s log action order roots stance.Ended few f = tt
-try-left s log action order roots stance.Absent few f = tt
-try-left s log action order roots (stance.Arriving posted) few f = tt
-try-left s log action order roots stance.Entering few f = tt
-try-left s log action order roots stance.Leaving few f = tt
-try-left s log (Alloc layout) order roots (stance.Trying tried) few f =
+try-left : (s : Setup) (log : List Step) (action : Action) (order : List ℕ) (roots : List WordValue) (at : CallPhase) → cells s ≤ 2 ^ 32 → StandsSo s log action (phase_at order roots at) → HasTryLeft s.pools action at
+try-left s log action order roots call_phase.Ready few f = tt
+try-left s log action order roots (call_phase.MarkingOld c i o) few f = tt
+try-left s log action order roots (call_phase.MarkingNew c i o) few f = tt
+try-left s log action order roots (call_phase.Writing c i o n) few f = tt
+try-left s log action order roots (call_phase.Answering next marked) few f = tt
+try-left s log action order roots call_phase.Ended few f = tt
+try-left s log action order roots call_phase.Absent few f = tt
+try-left s log action order roots (call_phase.Arriving posted) few f = tt
+try-left s log action order roots call_phase.Entering few f = tt
+try-left s log action order roots call_phase.Leaving few f = tt
+try-left s log (Alloc layout) order roots (call_phase.Trying tried) few f =
     let some = f.few in
     let count = tried_of-length order tried in
     let left : tried < slice_index s.pools layout = omega (arith, some, count) in
     let is_layout = within s.pools layout (λ z. omega (arith, left, z)) in
     (is_layout, left, few-tried s layout tried few is_layout left)
-try-left s log action order roots (stance.Trying tried) few f = absurd f
+try-left s log action order roots (call_phase.Trying tried) few f = absurd f
 
 -- ---- each next move
 
 -- a thread that has a next move has not ended
-not-ended : (s : Setup) (h : Sight) (stage : ℕ) (roots : List Reference) (old : Reference) (action : Action) (phase : Phase) (move : moves.Move) → next_move s h stage roots old action phase ≡ Some move → phase ≢ Ended
+not-ended : (s : Setup) (h : Sight) (stage : ℕ) (roots : List WordValue) (old : WordValue) (action : Action) (phase : Phase) (move : moves.Move) → next_move s h stage roots old action phase ≡ Some move → phase ≢ Ended
 not-ended s h stage roots old action phase move e is =
     let none = subst (λ (p : Phase). next_move s h stage roots old action p ≡ Some move) is e in
     absurd cc
 
 -- of a thread of a run
 pub thread-grows : (s : Setup) (m : Machine) (Fits : m.State → Type 0) → ((state : m.State) → Fits state → KeepsKinds s m.action m.after_answer m.roots Fits state)
-    → (starts : ℕ → m.State) (run : List Happening) (t : ℕ) (stand : Stand m.State) (h : Shared) → IsBounded s run → ThreadIsAfter s m Fits starts run t stand h → ThreadGrows s m Fits run t stand h
-thread-grows s m Fits keeps_kinds starts run t stand h bounded b = record {
+    → (starts : ℕ → m.State) (run : List Happening) (t : ℕ) (thread_state : ThreadState m.State) (h : Shared) → IsBounded s run → ThreadIsAfter s m Fits starts run t thread_state h → ThreadGrows s m Fits run t thread_state h
+thread-grows s m Fits keeps_kinds starts run t thread_state h bounded b = record {
   births = λ cell. subst (λ n. n < 2 ^ 62) (sym (b.words.afterwards.births cell)) (bounded.births cell);
-  try_left = try-left s log action to_try roots stand.stance b.few_cells tries;
+  try_left = try-left s log action to_try roots thread_state.call_phase b.few_cells tries;
   move = grows;
 }
   where
-    roots : List Reference
-    roots = m.roots stand.state
+    roots : List WordValue
+    roots = m.roots thread_state.state
 
     action : Action
-    action = m.action stand.state
+    action = m.action thread_state.state
 
-    keeps : KeepsKinds s m.action m.after_answer m.roots Fits stand.state
-    keeps = keeps_kinds stand.state b.fits
+    keeps : KeepsKinds s m.action m.after_answer m.roots Fits thread_state.state
+    keeps = keeps_kinds thread_state.state b.fits
 
     log : List Step
     log = steps_of (share_of t run)
 
     to_try : List ℕ
-    to_try = cells_to_try s stand.hints action
+    to_try = cells_to_try s thread_state.hints action
 
-    tries : StandsSo s log action (phase_at to_try roots stand.stance)
+    tries : StandsSo s log action (phase_at to_try roots thread_state.call_phase)
     tries =
-        subst (λ (p : Phase). StandsSo s log (m.action stand.state) p) (sym b.stands.phase)
+        subst (λ (p : Phase). StandsSo s log (m.action thread_state.state) p) (sym b.stands.phase)
         (subst (λ (q : m.State). StandsSo s log (m.action q) (phase_of s t log)) (sym b.stands.state)
         (stands_so s m t (starts t) (share_of t run) (is_share s m starts run t b.is_run) b.tries))
 
-    grows : (made : Move) → next_move_of s m (sight_in s h stand.hints) (standing s m stand) ≡ Some (move_in roots made) → MoveGrows s m Fits run t stand h made
+    grows : (made : Move) → next_move_of s m (sight_in s h thread_state.hints) (standing s m thread_state) ≡ Some (move_in roots made) → MoveGrows s m Fits run t thread_state h made
     grows made e = record {
-      may_make = λ call asks. may-make s h stand.hints roots action stand.stance made call asks is;
-      hint = has-hint s h stand.hints roots action stand.stance made b.few_cells b.stands.hints.one_each is;
+      may_make = λ call asks. may-make s h thread_state.hints roots action thread_state.call_phase made call asks is;
+      hint = has-hint s h thread_state.hints roots action thread_state.call_phase made b.few_cells b.stands.hints.one_each is;
       can_take = can;
-      words = words-grow s run t stand.stage roots h made b.stands.stage b.words can
-          (sees s h stand.hints roots action stand.stance made is)
-          (puts s h stand.hints roots action stand.stance made keeps.asks is);
-      answers = answers s h stand.hints roots action stand.stance made b.words.shape keeps.asks is;
-      fits = moved-fits s m Fits h stand made b.words.shape keeps b.fits is;
-      replaced = replaced-cell s h stand.hints roots action stand.stance made b.words.shape keeps.asks is;
+      words = words-grow s run t thread_state.stage roots h made b.stands.stage b.words can
+          (sees s h thread_state.hints roots action thread_state.call_phase made is)
+          (puts s h thread_state.hints roots action thread_state.call_phase made keeps.asks is);
+      answers = answers s h thread_state.hints roots action thread_state.call_phase made b.words.shape keeps.asks is;
+      fits = moved-fits s m Fits h thread_state made b.words.shape keeps b.fits is;
+      replaced = replaced-cell s h thread_state.hints roots action thread_state.call_phase made b.words.shape keeps.asks is;
     }
       where
-        is : IsChosen s h stand.hints roots action stand.stance (move_in roots made)
-        is = is-chosen s h stand.hints log stand.stage roots stand.replaced action stand.stance (move_in roots made) keeps.asks keeps.roots_fit b.replaced tries e
+        is : IsChosen s h thread_state.hints roots action thread_state.call_phase (move_in roots made)
+        is = is-chosen s h thread_state.hints log thread_state.stage roots thread_state.replaced action thread_state.call_phase (move_in roots made) keeps.asks keeps.roots_fit b.replaced tries e
 
         goes : phase_of s t (steps_of (share_of t run)) ≢ Ended
-        goes = λ ended. not-ended s (sight_in s h stand.hints) stand.stage roots stand.replaced action (phase_at to_try roots stand.stance) (move_in roots made) e (b.stands.phase ∙ ended)
+        goes = λ ended. not-ended s (sight_in s h thread_state.hints) thread_state.stage roots thread_state.replaced action (phase_at to_try roots thread_state.call_phase) (move_in roots made) e (b.stands.phase ∙ ended)
 
-        few : HasBegun (phase_at to_try roots stand.stance) → stand.stage < 2 ^ 62
+        few : HasBegun (phase_at to_try roots thread_state.call_phase) → thread_state.stage < 2 ^ 62
         few begun = subst (λ n. n < 2 ^ 62) (sym b.stands.stage) (bounded.stages t b.is_thread (subst (λ (p : Phase). HasBegun p) b.stands.phase begun) goes)
 
-        can : CanTake h t stand.stage made
-        can = takes s h stand.hints roots action stand.stance t stand.stage made b.words.shape keeps.asks b.is_thread few is
+        can : CanTake h t thread_state.stage made
+        can = takes s h thread_state.hints roots action thread_state.call_phase t thread_state.stage made b.words.shape keeps.asks b.is_thread few is

@@ -12,7 +12,7 @@ use Rattle.colours.specs.Collector.{Collection, Posting, Waiting, ShadingGlobals
 use Rattle.trace_sweep.specs.Turns.{turn_in, afterwards, next_cell, pass_after_look, list_after, list_after_look, kept_list, list_limit}
 use Rattle.trace_sweep.specs.Below.{AreBelow, add-below}
 use Rattle.trace_sweep.specs.Collecting.{plan_of, in_order, NamesCells}
-use Rattle.runs.specs.Machine.{Reference}
+use Rattle.runs.specs.Machine.{WordValue}
 use Rattle.runs.specs.Moves.{null}
 use Rattle.moves.specs.declared.shared.Shared.{Shared}
 use Rattle.moves.specs.Rows.{word_at}
@@ -54,8 +54,8 @@ cell-found s h cell word shape is_cell is =
     cell-held s (kind_of s cell word) (word_at h.words cell word) is (word-fits s h cell word shape is_cell (reference-there (kind_of s cell word) is))
 
 -- outside the cells there is null
-null-outside : (rows : List (List Reference)) (cell word : ℕ) → length rows ≤ cell → word_at rows cell word ≡ null
-null-outside rows cell word past = ap (λ (row : List Reference). slice_index_or row word null) (get_or_past rows cell [] past)
+null-outside : (rows : List (List WordValue)) (cell word : ℕ) → length rows ≤ cell → word_at rows cell word ≡ null
+null-outside rows cell word past = ap (λ (row : List WordValue). slice_index_or row word null) (get_or_past rows cell [] past)
 
 -- so each names a cell
 pub names-cells : (s : Setup) (h : Shared) → HasShape s h → NamesCells (plan_of s) (held_at h)
@@ -67,7 +67,7 @@ names-cells s h shape cell word is = go (nat_lt cell (cells s)) refl
     go false e =
         let rows = shape.rows in
         let past : length h.words ≤ cell = grind (arith, nat_tests) in
-        let none = ap (λ (r : Reference). r.cell) (null-outside h.words cell word past) in
+        let none = ap (λ (r : WordValue). r.cell) (null-outside h.words cell word past) in
         omega (arith, none)
 
 -- ---- where it is after a look

@@ -6,7 +6,7 @@ use Rattle.colours.specs.declared.place.Place.{Place}
 use Rattle.colours.specs.Steps.{Step, ask_of, left_by}
 use Rattle.colours.specs.Mutator.{stage_of, wins}
 use Rattle.colours.specs.Runs.{Event, log_of, word_after, births_after}
-use Rattle.runs.specs.Machine.{Reference}
+use Rattle.runs.specs.Machine.{WordValue}
 use Rattle.runs.specs.Moves.{step_of, steps_of}
 use Rattle.runs.specs.ModuleRuns.{Happening, OfThread, share_of, with_step, heap_of, birth_in, left_birth}
 use Rattle.runs.specs.Shares.{log_is}
@@ -15,7 +15,7 @@ use Rattle.moves.specs.declared.moves.Move.TheVariants as made
 use Rattle.moves.specs.declared.shared.Shared.{Shared}
 use Rattle.moves.specs.Calls.{move_in}
 use Rattle.moves.specs.Rows.{word_at, with_word}
-use Rattle.moves.specs.Shared.{StandAfter, CanTake, with_move}
+use Rattle.moves.specs.Shared.{ThreadStateAfter, CanTake, with_move}
 use Rattle.run_law.proofs.Rows.{entry-set, word-set}
 use Rattle.run_law.proofs.Places.{SeesCell, left_in, held-left}
 use Rattle.run_law.proofs.Shapes.{PutsByKind, shape-move}
@@ -32,20 +32,20 @@ left-afterwards s t stage (Some step) h p e = ap (λ n. left_by (ask_of t n step
 -- ---- births in words
 
 -- a part of a reference that a test chooses
-birth-of : (b : Bool) (r q : Reference) → (if b then r else q).birth ≡ (if b then r.birth else q.birth)
+birth-of : (b : Bool) (r q : WordValue) → (if b then r else q).birth ≡ (if b then r.birth else q.birth)
 birth-of true r q = refl
 birth-of false r q = refl
 
 -- what a store leaves
-pub birth-stored : (rows : List (List Reference)) (c i : ℕ) (r : Reference) (d j n : ℕ) → word_at (with_word rows c i r) d j ≡ (if (c == d) && (i == j) then r else word_at rows d j) → (word_at rows d j).birth ≡ n
+pub birth-stored : (rows : List (List WordValue)) (c i : ℕ) (r : WordValue) (d j n : ℕ) → word_at (with_word rows c i r) d j ≡ (if (c == d) && (i == j) then r else word_at rows d j) → (word_at rows d j).birth ≡ n
     → (word_at (with_word rows c i r) d j).birth ≡ (if (c == d) && (i == j) then r.birth else n)
 birth-stored rows c i r d j n e same =
-    ap (λ (x : Reference). x.birth) e
+    ap (λ (x : WordValue). x.birth) e
     ∙ birth-of ((c == d) && (i == j)) r (word_at rows d j)
     ∙ ap (λ m. if (c == d) && (i == j) then r.birth else m) same
 
 -- the same for each move
-birth-left : (h : Shared) (t stage : ℕ) (roots : List Reference) (move : Move) (d j n : ℕ) → CanTake h t stage move → (word_at h.words d j).birth ≡ n
+birth-left : (h : Shared) (t stage : ℕ) (roots : List WordValue) (move : Move) (d j n : ℕ) → CanTake h t stage move → (word_at h.words d j).birth ≡ n
     → (word_at (with_move h t stage move).words d j).birth ≡ left_birth (move_in roots move) d j n
 birth-left h t stage roots made.Works d j n can same = same
 birth-left h t stage roots made.GoesWrong d j n can same = same
@@ -88,7 +88,7 @@ born-won births c birth d next e = e ∙ go (c == d) refl
     go false is = rw (test_no d c (λ x. test_false c d is (sym x))) refl
 
 -- the same for each move
-born-left : (h : Shared) (t stage : ℕ) (roots : List Reference) (move : Move) (d : ℕ) → CanTake h t stage move → SeesCell h move
+born-left : (h : Shared) (t stage : ℕ) (roots : List WordValue) (move : Move) (d : ℕ) → CanTake h t stage move → SeesCell h move
     → slice_index (with_move h t stage move).births d ≡ won_by (step_of (move_in roots move)) d (slice_index h.births d)
 born-left h t stage roots made.Works d can sees = refl
 born-left h t stage roots made.GoesWrong d can sees = refl
@@ -109,20 +109,20 @@ born-left h t stage roots (made.Claims r true) d can sees = born-won h.births r.
 -- ---- all of them
 
 -- after a thread's move
-pub words-grow : (s : Setup) (run : List Happening) (t stage : ℕ) (roots : List Reference) (h : Shared) (move : Move) → stage ≡ stage_of (steps_of (share_of t run))
-    → StandAfter s run h → CanTake h t stage move → SeesCell h move → PutsByKind s move
-    → StandAfter s (OfThread t (move_in roots move) ∷ run) (with_move h t stage move)
-words-grow s run t stage roots h move is_stage stand can sees puts = record {
-  shape = shape-move s h t stage move stand.shape can puts;
+pub words-grow : (s : Setup) (run : List Happening) (t stage : ℕ) (roots : List WordValue) (h : Shared) (move : Move) → stage ≡ stage_of (steps_of (share_of t run))
+    → ThreadStateAfter s run h → CanTake h t stage move → SeesCell h move → PutsByKind s move
+    → ThreadStateAfter s (OfThread t (move_in roots move) ∷ run) (with_move h t stage move)
+words-grow s run t stage roots h move is_stage thread_state can sees puts = record {
+  shape = shape-move s h t stage move thread_state.shape can puts;
   afterwards = record {
     words = λ p.
         held-left h t stage roots move p can sees
-        ∙ ap (left_in t stage (step_of (move_in roots move)) p) (stand.afterwards.words p)
+        ∙ ap (left_in t stage (step_of (move_in roots move)) p) (thread_state.afterwards.words p)
         ∙ left-afterwards s t stage (step_of (move_in roots move)) (heap_of run) p (is_stage ∙ ap stage_of (sym (log_is t run)));
-    word_births = λ d j. birth-left h t stage roots move d j (birth_in run d j) can (stand.afterwards.word_births d j);
+    word_births = λ d j. birth-left h t stage roots move d j (birth_in run d j) can (thread_state.afterwards.word_births d j);
     births = λ d.
         born-left h t stage roots move d can sees
-        ∙ ap (won_by (step_of (move_in roots move)) d) (stand.afterwards.births d)
+        ∙ ap (won_by (step_of (move_in roots move)) d) (thread_state.afterwards.births d)
         ∙ born-afterwards s t (step_of (move_in roots move)) (heap_of run) d;
   };
 }

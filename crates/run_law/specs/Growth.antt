@@ -8,7 +8,7 @@ use Rattle.trace_sweep.specs.Collecting.{Collecting, NamesCells}
 use Rattle.trace_sweep.specs.Stands as collector
 use Rattle.trace_sweep.specs.Stands.{IsStepOn}
 use Rattle.trace_sweep.specs.declared.motion.Motion.{Motion}
-use Rattle.runs.specs.Machine.{Reference, Machine, Action, Answer, machine_of}
+use Rattle.runs.specs.Machine.{WordValue, Machine, Action, Answer, machine_of}
 use Rattle.runs.specs.Moves.{answer_of}
 use Rattle.runs.specs.ModuleRuns.{Happening, OfThread, OfCollector, share_of, heap_of, IsModuleRun}
 use Rattle.runs.specs.Ends.{StandsAfter, moved, next_move_of}
@@ -16,46 +16,46 @@ use Rattle.runs.specs.Tries.{TriesByHint}
 use Rattle.moves.specs.declared.call.Call.{Call}
 use Rattle.moves.specs.declared.moves.Move.{Move}
 use Rattle.moves.specs.declared.shared.Shared.{Shared}
-use Rattle.moves.specs.declared.stand.Stand.{Stand}
+use Rattle.moves.specs.declared.thread_state.ThreadState.{ThreadState}
 use Rattle.moves.specs.Calls.{action_of, move_in}
 use Rattle.moves.specs.Kinds.{AnswersByKind}
 use Rattle.moves.specs.Moving.{HasHint, MayMake}
-use Rattle.moves.specs.Shared.{StandAfter, CanHold, CanTake, with_move, with_number, held_at}
+use Rattle.moves.specs.Shared.{ThreadStateAfter, CanHold, CanTake, with_move, with_number, held_at}
 use Rattle.moves.specs.Stands.{HasTryLeft, standing, sight_in}
 
 -- ---- threads
 
 -- where a thread of a run is, with a state that fits the heap, and the words and births after the run
-pub record ThreadIsAfter (s : Setup) (m : Machine) (Fits : m.State → Type 0) (starts : ℕ → m.State) (run : List Happening) (t : ℕ) (stand : Stand m.State) (h : Shared) : Type 0 where
+pub record ThreadIsAfter (s : Setup) (m : Machine) (Fits : m.State → Type 0) (starts : ℕ → m.State) (run : List Happening) (t : ℕ) (thread_state : ThreadState m.State) (h : Shared) : Type 0 where
   pub few_cells : cells s ≤ 2 ^ 32
   pub is_run : IsModuleRun s m starts run
   pub tries : TriesByHint s m t (starts t) (share_of t run)
   pub is_thread : t < s.threads
-  pub stands : StandsAfter s m starts run t (standing s m stand)
-  pub fits : Fits stand.state
-  pub replaced : stand.replaced.cell < cells s
-  pub words : StandAfter s run h
+  pub stands : StandsAfter s m starts run t (standing s m thread_state)
+  pub fits : Fits thread_state.state
+  pub replaced : thread_state.replaced.cell < cells s
+  pub words : ThreadStateAfter s run h
 
 -- a next move of the thread may be made, and leaves the words and births after the longer run
-pub record MoveGrows (s : Setup) (m : Machine) (Fits : m.State → Type 0) (run : List Happening) (t : ℕ) (stand : Stand m.State) (h : Shared) (made : Move) : Type 0 where
-  pub may_make : (call : Call) → action_of call ≡ m.action stand.state → MayMake s stand.hints (m.roots stand.state) call stand.stance made
-  pub hint : HasHint s.pools stand.hints made (m.action stand.state)
-  pub can_take : CanTake h t stand.stage made
-  pub words : StandAfter s (OfThread t (move_in (m.roots stand.state) made) ∷ run) (with_move h t stand.stage made)
-  pub answers : AnswersByKind s (m.action stand.state) (answer_of (m.action stand.state) (move_in (m.roots stand.state) made))
-  pub fits : Fits (moved s m (standing s m stand) (move_in (m.roots stand.state) made)).state
-  pub replaced : (moved s m (standing s m stand) (move_in (m.roots stand.state) made)).old.cell < cells s
+pub record MoveGrows (s : Setup) (m : Machine) (Fits : m.State → Type 0) (run : List Happening) (t : ℕ) (thread_state : ThreadState m.State) (h : Shared) (made : Move) : Type 0 where
+  pub may_make : (call : Call) → action_of call ≡ m.action thread_state.state → MayMake s thread_state.hints (m.roots thread_state.state) call thread_state.call_phase made
+  pub hint : HasHint s.pools thread_state.hints made (m.action thread_state.state)
+  pub can_take : CanTake h t thread_state.stage made
+  pub words : ThreadStateAfter s (OfThread t (move_in (m.roots thread_state.state) made) ∷ run) (with_move h t thread_state.stage made)
+  pub answers : AnswersByKind s (m.action thread_state.state) (answer_of (m.action thread_state.state) (move_in (m.roots thread_state.state) made))
+  pub fits : Fits (moved s m (standing s m thread_state) (move_in (m.roots thread_state.state) made)).state
+  pub replaced : (moved s m (standing s m thread_state) (move_in (m.roots thread_state.state) made)).old.cell < cells s
 
 -- what the next move of a thread needs, and each move that is the next one
-pub record ThreadGrows (s : Setup) (m : Machine) (Fits : m.State → Type 0) (run : List Happening) (t : ℕ) (stand : Stand m.State) (h : Shared) : Type 0 where
+pub record ThreadGrows (s : Setup) (m : Machine) (Fits : m.State → Type 0) (run : List Happening) (t : ℕ) (thread_state : ThreadState m.State) (h : Shared) : Type 0 where
   pub births : (cell : ℕ) → slice_index h.births cell < 2 ^ 62
-  pub try_left : HasTryLeft s.pools (m.action stand.state) stand.stance
-  pub move : (made : Move) → next_move_of s m (sight_in s h stand.hints) (standing s m stand) ≡ Some (move_in (m.roots stand.state) made) → MoveGrows s m Fits run t stand h made
+  pub try_left : HasTryLeft s.pools (m.action thread_state.state) thread_state.call_phase
+  pub move : (made : Move) → next_move_of s m (sight_in s h thread_state.hints) (standing s m thread_state) ≡ Some (move_in (m.roots thread_state.state) made) → MoveGrows s m Fits run t thread_state h made
 
 -- the same for each thread of a machine that obeys the kinds of words
-abbrev pub ThreadsGrow : (s : Setup) {State : Type 0} (action : State → Action) (after_answer : State → Answer → State) (roots : State → List Reference) (Fits : State → Type 0) → Type 0
-ThreadsGrow s {State} action after_answer roots Fits = (starts : ℕ → State) (run : List Happening) (t : ℕ) (stand : Stand State) (h : Shared)
-    → ThreadIsAfter s (machine_of action after_answer roots) Fits starts run t stand h → ThreadGrows s (machine_of action after_answer roots) Fits run t stand h
+abbrev pub ThreadsGrow : (s : Setup) {State : Type 0} (action : State → Action) (after_answer : State → Answer → State) (roots : State → List WordValue) (Fits : State → Type 0) → Type 0
+ThreadsGrow s {State} action after_answer roots Fits = (starts : ℕ → State) (run : List Happening) (t : ℕ) (thread_state : ThreadState State) (h : Shared)
+    → ThreadIsAfter s (machine_of action after_answer roots) Fits starts run t thread_state h → ThreadGrows s (machine_of action after_answer roots) Fits run t thread_state h
 
 -- ---- the collector
 
@@ -83,14 +83,14 @@ with_stored h motion (Some n) = with_number h motion.place n
 pub record CollectorIsAfter (s : Setup) (run : List Happening) (c : Collecting) (h : Shared) : Type 0 where
   pub stands : collector.StandsAfter s (turns_of (heap_of run)) c
   pub in_heap : IsInHeap s c
-  pub words : StandAfter s run h
+  pub words : ThreadStateAfter s run h
 
 -- its next step may be made, and leaves the words and births after the longer run
 pub record MotionGrows (s : Setup) (run : List Happening) (h : Shared) (motion : Motion) (afterwards : Collecting) : Type 0 where
   pub can_hold : CanHold h motion.place
   pub stands : collector.StandsAfter s (turns_of (heap_of (OfCollector motion.turn ∷ run))) afterwards
   pub in_heap : IsInHeap s afterwards
-  pub words : StandAfter s (OfCollector motion.turn ∷ run) (with_stored h motion motion.stored)
+  pub words : ThreadStateAfter s (OfCollector motion.turn ∷ run) (with_stored h motion motion.stored)
 
 -- the same after each run
 abbrev pub CollectorGrows : Setup → Type 0

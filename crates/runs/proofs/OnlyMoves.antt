@@ -9,7 +9,7 @@ use Rattle.colours.specs.Colours.{is_async}
 use Rattle.colours.specs.Steps.{Step, Found, ask_of, place_of}
 use Rattle.colours.specs.Mutator.{Phase, Ready, MarkingOld, MarkingNew, Writing, Trying, Answering, Absent, Arriving, Entering, Leaving, MayFollow, non_null, stage_of, phase_of}
 use Rattle.colours.specs.Runs.{word_after, log_of, ByThread, MayHappen}
-use Rattle.runs.specs.Machine.{Reference, Action, Local, Read, StorePlain, Write, Alloc, Safepoint, End, Wrong, Machine}
+use Rattle.runs.specs.Machine.{WordValue, Action, Local, Read, StorePlain, Write, Alloc, Safepoint, End, Wrong, Machine}
 use Rattle.runs.specs.Moves.{Move, Works, GoesWrong, ReadsWord, ReadsOldValue, Marks, StoresAfterBarrier, StoresPlain, Claims, ReadsPosted, StoresStage, ReadsPostedFirst, EntersStage, ReadsPostedAgain, cells_of, step_of, steps_of, state_after, next_root, old_of, IsOfTry, AsksFor, Follows}
 use Rattle.runs.specs.ModuleRuns.{Happening, share_of, heap_of, birth_of, FindsBirth}
 use Rattle.runs.specs.NextMoves.{Sight, IsSightOf, next_move, next_move_in, mark_or_answer, try_of, IsThisMove, NextMovesAreOnly}
@@ -17,7 +17,7 @@ use Rattle.runs.specs.NextMoveLemmas.{non_null_cells, length_cells}
 use Rattle.runs.specs.TryLemmas.{some_cell}
 
 -- references with one cell and one birth are one
-one_reference : (r q : Reference) → r.cell ≡ q.cell → r.birth ≡ q.birth → r ≡ q
+one_reference : (r q : WordValue) → r.cell ≡ q.cell → r.birth ≡ q.birth → r ≡ q
 one_reference r q cell birth = λ i. record { cell = cell i; birth = birth i }
 
 -- the next move, if there is one, is this one
@@ -30,11 +30,11 @@ by_test : (b c : Bool) (one other move : Move) → b ≡ c → IsThis (Some (if 
 by_test b c one other move e h = subst (λ (t : Bool). IsThis (Some (if t then one else other)) move) (sym e) h
 
 -- where each root is marked none is left
-none_next : (roots : List Reference) (marked : List ℕ) → reverse marked ≡ non_null (cells_of roots) → next_root roots marked ≡ None
+none_next : (roots : List WordValue) (marked : List ℕ) → reverse marked ≡ non_null (cells_of roots) → next_root roots marked ≡ None
 none_next roots marked all = slice_get_past rs (length marked) (omega (arith, same))
   where
-    rs : List Reference
-    rs = filter (λ (q : Reference). not (q.cell == 0)) roots
+    rs : List WordValue
+    rs = filter (λ (q : WordValue). not (q.cell == 0)) roots
 
     same : length marked ≡ length rs
     same = sym (length-reverse marked) ∙ ap length (all ∙ non_null_cells roots) ∙ length_cells rs
@@ -45,17 +45,17 @@ record Fits (s : Setup) (run : List Happening) (t stage seen : ℕ) (phase : Pha
   finds : MatchOption (step_of move) (Unit {0}) (λ step. Found step (word_after s (heap_of run) (place_of (ask_of t seen step))))
   births : FindsBirth s run move
 
-module _ (s : Setup) (run : List Happening) (h : Sight) (is : IsSightOf s run h) (t stage seen : ℕ) (roots : List Reference) (old : Reference) where
+module _ (s : Setup) (run : List Happening) (h : Sight) (is : IsSightOf s run h) (t stage seen : ℕ) (roots : List WordValue) (old : WordValue) where
   -- what a word holds
-  held : (base at : Reference) (word place : ℕ) (value : Reference) → at ≡ base → place ≡ word → word_after s (heap_of run) (Word at.cell place) ≡ value.cell
+  held : (base at : WordValue) (word place : ℕ) (value : WordValue) → at ≡ base → place ≡ word → word_after s (heap_of run) (Word at.cell place) ≡ value.cell
       → FindsBirth s run (ReadsWord at place value) → value ≡ h.word base.cell word
   held base at word place value a b cell birth =
       one_reference value (h.word at.cell place) (sym cell ∙ sym (is.word at.cell place)) (birth ∙ sym (is.word_birth at.cell place)) ∙ (λ i. h.word (a i).cell (b i))
 
   -- a try of one cell is one try
-  one_try : (phase : Phase) (layout : ℕ) (tried : List ℕ) (r : Reference) (won : Bool) → Fits s run t stage seen phase (Claims r won) → IsThisMove (try_of h (h.claim layout tried)) (Claims r won)
+  one_try : (phase : Phase) (layout : ℕ) (tried : List ℕ) (r : WordValue) (won : Bool) → Fits s run t stage seen phase (Claims r won) → IsThisMove (try_of h (h.claim layout tried)) (Claims r won)
   one_try phase layout tried r won f same =
-      let q : Reference = h.claim layout tried in
+      let q : WordValue = h.claim layout tried in
       let birth : r.birth ≡ q.birth = f.births ∙ ap (λ c. suc (birth_of s run c)) same ∙ sym (is.claim_birth layout tried) in
       let wins : won ≡ h.is_blue q.cell = f.finds ∙ ap (λ c. word_after s (heap_of run) (Colour c) == 0) same ∙ sym (is.is_blue q.cell) in
       λ i. Claims (one_reference r q same birth i) (wins i)
@@ -70,7 +70,7 @@ module _ (s : Setup) (run : List Happening) (h : Sight) (is : IsSightOf s run h)
   asked (Write base word value) (MarkingOld c p o) (Marks r) a f = ap Marks a
   asked (Write base word value) (MarkingNew c p o) (Marks r) a f =
       let sync : is_async stage ≡ false = f.follows.0 in
-      let some : (value.cell == 0) ≡ false = test_no value.cell 0 (subst (λ (v : Reference). v.cell ≢ 0) a f.follows.1) in
+      let some : (value.cell == 0) ≡ false = test_no value.cell 0 (subst (λ (v : WordValue). v.cell ≢ 0) a f.follows.1) in
       by_test (is_async stage || (value.cell == 0)) false (StoresAfterBarrier base word value) (Marks value) (Marks r) (rw (sync, some) refl) (ap Marks a)
   asked (Write base word value) (MarkingNew c p o) (StoresAfterBarrier b w v) a f = go (is_async stage) refl
     where
@@ -80,7 +80,7 @@ module _ (s : Setup) (run : List Happening) (h : Sight) (is : IsSightOf s run h)
       go : (x : Bool) → is_async stage ≡ x → IsThis (Some (if is_async stage || (value.cell == 0) then StoresAfterBarrier base word value else Marks value)) (StoresAfterBarrier b w v)
       go true e = by_test (is_async stage || (value.cell == 0)) true (StoresAfterBarrier base word value) (Marks value) (StoresAfterBarrier b w v) (rw e refl) stored
       go false e =
-          let none : (value.cell == 0) ≡ true = test_yes value.cell 0 (subst (λ (x : Reference). x.cell ≡ 0) a.2 (f.follows.2 e)) in
+          let none : (value.cell == 0) ≡ true = test_yes value.cell 0 (subst (λ (x : WordValue). x.cell ≡ 0) a.2 (f.follows.2 e)) in
           by_test (is_async stage || (value.cell == 0)) true (StoresAfterBarrier base word value) (Marks value) (StoresAfterBarrier b w v) (rw (e, none) refl) stored
   asked (Write base word value) (Writing c p o n) (StoresAfterBarrier b w v) a f = λ i. StoresAfterBarrier (a.0 i) (a.1 i) (a.2 i)
   asked (Alloc layout) Ready Works a f = by_test (slice_index s.pools layout == 0) true Works (try_of h (h.claim layout [])) Works (test_yes (slice_index s.pools layout) 0 a) refl
@@ -91,7 +91,7 @@ module _ (s : Setup) (run : List Happening) (h : Sight) (is : IsSightOf s run h)
   asked Safepoint Ready (ReadsPosted posted) a f = ap ReadsPosted (sym f.finds ∙ sym is.posted)
   asked Safepoint (Answering next marked) (Marks r) a f =
       by_test (is_async next) true (mark_or_answer next roots (next_root roots marked)) (StoresStage next roots) (Marks r) f.follows.0
-      (subst (λ (o : Option Reference). IsThis (Some (mark_or_answer next roots o)) (Marks r)) (sym a) refl)
+      (subst (λ (o : Option WordValue). IsThis (Some (mark_or_answer next roots o)) (Marks r)) (sym a) refl)
   asked Safepoint (Answering next marked) (StoresStage to rs) a f = go (is_async next) refl
     where
       stored : StoresStage to rs ≡ StoresStage next roots
@@ -100,9 +100,9 @@ module _ (s : Setup) (run : List Happening) (h : Sight) (is : IsSightOf s run h)
       go : (x : Bool) → is_async next ≡ x → IsThis (Some (if is_async next then mark_or_answer next roots (next_root roots marked) else StoresStage next roots)) (StoresStage to rs)
       go false e = by_test (is_async next) false (mark_or_answer next roots (next_root roots marked)) (StoresStage next roots) (StoresStage to rs) e stored
       go true e =
-          let all : reverse marked ≡ non_null (cells_of roots) = f.follows.1 e ∙ ap (λ (l : List Reference). non_null (cells_of l)) a in
+          let all : reverse marked ≡ non_null (cells_of roots) = f.follows.1 e ∙ ap (λ (l : List WordValue). non_null (cells_of l)) a in
           by_test (is_async next) true (mark_or_answer next roots (next_root roots marked)) (StoresStage next roots) (StoresStage to rs) e
-          (subst (λ (o : Option Reference). IsThis (Some (mark_or_answer next roots o)) (StoresStage to rs)) (sym (none_next roots marked all)) stored)
+          (subst (λ (o : Option WordValue). IsThis (Some (mark_or_answer next roots o)) (StoresStage to rs)) (sym (none_next roots marked all)) stored)
   asked End Ready (StoresStage to rs) a f = λ i. StoresStage (a.0 i) (a.1 i)
   asked action phase move a f = absurd a
 
@@ -142,7 +142,7 @@ only_next s m starts run h t is move next = as_matched (next_move_in s m starts 
     seen : ℕ
     seen = stage_of (log_of t (heap_of run))
 
-    roots : List Reference
+    roots : List WordValue
     roots = m.roots (state_after s m t (starts t) share)
 
     action : Action

@@ -10,7 +10,7 @@ use Rattle.pools.specs.Layouts.{is_reference_kind}
 use Rattle.colours.specs.Colours.{done}
 use Rattle.colours.specs.Steps.{Step}
 use Rattle.colours.specs.Mutator.{Phase, Ready, MarkingOld, MarkingNew, Writing, Trying, Answering, Ended, Absent, Arriving, Entering, Leaving, HasBegun, stage_of, phase_of, MayFollow}
-use Rattle.runs.specs.Machine.{Reference, Action, Local, Read, StorePlain, Write, Alloc, Safepoint, End, Wrong, Machine}
+use Rattle.runs.specs.Machine.{WordValue, Action, Local, Read, StorePlain, Write, Alloc, Safepoint, End, Wrong, Machine}
 use Rattle.runs.specs.Moves.{Move, Works, GoesWrong, ReadsWord, ReadsOldValue, Marks, StoresAfterBarrier, StoresPlain, Claims, ReadsPosted, StoresStage, ReadsPostedFirst, EntersStage, ReadsPostedAgain, step_of, logged, steps_of, phase_afterwards, ends_call, answer_of, state_after, old_of, IsOfTry, AsksFor, Follows, IsAsked, IsShare, HasEnded}
 use Rattle.runs.specs.Discipline.{Holds, MayName, MayPut, KeepsTo, ArePossible, MayCall}
 use Rattle.runs.specs.Broken.{IsUnderWay}
@@ -43,7 +43,7 @@ quiet s share (Claims r won) q = record { held = λ r h. inr (tt, h); fresh = λ
 quiet s share (ReadsPosted stage) q = record { held = λ r h. inr (tt, h); fresh = λ c f. inr (refl, refl, f) }
 quiet s share move q = absurd q
 
-next_at : (s : Setup) (m : Machine) (Sound : List Move → m.State → Type 0) (share : List Move) (state : m.State) (roots : List Reference) (stage : ℕ) (action : Action) (phase : Phase) (move : Move)
+next_at : (s : Setup) (m : Machine) (Sound : List Move → m.State → Type 0) (share : List Move) (state : m.State) (roots : List WordValue) (stage : ℕ) (action : Action) (phase : Phase) (move : Move)
     → AsksFor s roots (old_of share) action phase move → MayCall s share action
     → (EndsCall s roots action move → Sound (move ∷ share) (m.after_answer state (answer_of action move)))
     → (IsQuiet move → Sound (move ∷ share) state)
@@ -90,26 +90,26 @@ next_at s m Sound share state roots stage action phase move a k ends mid = absur
 
 -- ---- the discipline of each step
 
-put_named : (s : Setup) (share : List Move) (k : Option WordKind) (value : Reference) → IsTrue (is_reference_kind k) → MayPut s share k value → MayName s share value
+put_named : (s : Setup) (share : List Move) (k : Option WordKind) (value : WordValue) → IsTrue (is_reference_kind k) → MayPut s share k value → MayName s share value
 put_named s share None value r p = absurd p
 put_named s share (Some (kind.Integer bits)) value r p = absurd cc
 put_named s share (Some (kind.Reference layout)) value r (inl z) = inl z
 put_named s share (Some (kind.Reference layout)) value r (inr h) = inr h.0
 
-held_of : (s : Setup) (share : List Move) (r : Reference) → MayName s share r → r.cell ≢ 0 → Holds s share r
+held_of : (s : Setup) (share : List Move) (r : WordValue) → MayName s share r → r.cell ≢ 0 → Holds s share r
 held_of s share r (inl z) n = absurd (n z)
 held_of s share r (inr h) n = h
 
 -- what next_root gives is a root that isn't null
-pub get_in : (rs : List Reference) (i : ℕ) (r : Reference) → slice_get rs i ≡ Some r → IsIn r rs
+pub get_in : (rs : List WordValue) (i : ℕ) (r : WordValue) → slice_get rs i ≡ Some r → IsIn r rs
 get_in [] i r e = absurd cc
 get_in (q ∷ qs) zero r e = inl (some_is q r e)
   where
-    some_is : (q r : Reference) → Some q ≡ Some r → r ≡ q
+    some_is : (q r : WordValue) → Some q ≡ Some r → r ≡ q
     some_is q r e = cc
 get_in (q ∷ qs) (suc i) r e = inr (get_in qs i r e)
 
-filtered_in : (p : Reference → Bool) (rs : List Reference) (r : Reference) → IsIn r (filter p rs) → IsIn r rs
+filtered_in : (p : WordValue → Bool) (rs : List WordValue) (r : WordValue) → IsIn r (filter p rs) → IsIn r rs
 filtered_in p [] r h = h
 filtered_in p (q ∷ qs) r h = go (filtered_in p qs r) (p q) h
   where
@@ -118,11 +118,11 @@ filtered_in p (q ∷ qs) r h = go (filtered_in p qs r) (p q) h
     go rest true (inr h) = inr (rest h)
     go rest false h = inr (rest h)
 
-root_in : (roots : List Reference) (i : ℕ) (r : Reference) → slice_get (filter (λ (q : Reference). not (q.cell == 0)) roots) i ≡ Some r → IsIn r roots
-root_in roots i r e = filtered_in (λ (q : Reference). not (q.cell == 0)) roots r (get_in (filter (λ (q : Reference). not (q.cell == 0)) roots) i r e)
+root_in : (roots : List WordValue) (i : ℕ) (r : WordValue) → slice_get (filter (λ (q : WordValue). not (q.cell == 0)) roots) i ≡ Some r → IsIn r roots
+root_in roots i r e = filtered_in (λ (q : WordValue). not (q.cell == 0)) roots r (get_in (filter (λ (q : WordValue). not (q.cell == 0)) roots) i r e)
 
-keeps_at : (s : Setup) (share : List Move) (roots : List Reference) (stage : ℕ) (action : Action) (phase : Phase) (move : Move)
-    → AsksFor s roots (old_of share) action phase move → MayCall s share action → ((r : Reference) → IsIn r roots → MayName s share r) → Old s share phase
+keeps_at : (s : Setup) (share : List Move) (roots : List WordValue) (stage : ℕ) (action : Action) (phase : Phase) (move : Move)
+    → AsksFor s roots (old_of share) action phase move → MayCall s share action → ((r : WordValue) → IsIn r roots → MayName s share r) → Old s share phase
     → MatchOption (step_of move) (Unit {0}) (λ step. MayFollow s stage phase step) → KeepsTo s share move
 keeps_at s share roots stage Local Ready Works a k n o f = tt
 keeps_at s share roots stage Wrong Ready GoesWrong a k n o f = k
@@ -131,7 +131,7 @@ keeps_at s share roots stage (StorePlain base word value) Ready (StoresPlain b w
 keeps_at s share roots stage (Write base word value) Ready (ReadsOldValue b w v) a k n o f = rw (a.0, a.1) (k.0, k.1)
 keeps_at s share roots stage (Write base word value) (MarkingOld c i old) (Marks r) a k n o f = rw a o
 keeps_at s share roots stage (Write base word value) (MarkingNew c i old) (Marks r) a k n o f =
-    rw a (held_of s share value (put_named s share (kind_of s base.cell word) value k.1 k.2) (λ z. f.1 (ap (λ (q : Reference). q.cell) a ∙ z)))
+    rw a (held_of s share value (put_named s share (kind_of s base.cell word) value k.1 k.2) (λ z. f.1 (ap (λ (q : WordValue). q.cell) a ∙ z)))
 keeps_at s share roots stage (Write base word value) (MarkingNew c i old) (StoresAfterBarrier b w v) a k n o f = rw (a.0, a.1, a.2) k
 keeps_at s share roots stage (Write base word value) (Writing c i old new) (StoresAfterBarrier b w v) a k n o f = rw (a.0, a.1, a.2) k
 keeps_at s share roots stage (Alloc layout) Ready Works a k n o f = tt
@@ -139,8 +139,8 @@ keeps_at s share roots stage (Alloc layout) Ready (Claims r won) a k n o f = tt
 keeps_at s share roots stage (Alloc layout) (Trying tried) (Claims r won) a k n o f = tt
 keeps_at s share roots stage Safepoint Ready (ReadsPosted posted) a k n o f = tt
 keeps_at s share roots stage Safepoint (Answering next marked) (Marks r) a k n o f = held_of s share r (n r (root_in roots (length marked) r a)) f.1
-keeps_at s share roots stage Safepoint (Answering next marked) (StoresStage to rs) a k n o f = λ r h. n r (subst (λ (qs : List Reference). IsIn r qs) a h)
-keeps_at s share roots stage End Ready (StoresStage to rs) a k n o f = λ r h. absurd (subst (λ (qs : List Reference). IsIn r qs) a.1 h)
+keeps_at s share roots stage Safepoint (Answering next marked) (StoresStage to rs) a k n o f = λ r h. n r (subst (λ (qs : List WordValue). IsIn r qs) a h)
+keeps_at s share roots stage End Ready (StoresStage to rs) a k n o f = λ r h. absurd (subst (λ (qs : List WordValue). IsIn r qs) a.1 h)
 keeps_at s share roots stage action phase move a k n o f = absurd a
 
 -- ---- a late thread's try
@@ -164,13 +164,13 @@ try_keeps : (s : Setup) (share : List Move) (phase : Phase) (move : Move) → Is
 try_keeps s share Absent (ReadsPostedFirst posted) a = tt
 try_keeps s share (Arriving posted) (EntersStage next) a = tt
 try_keeps s share Entering (ReadsPostedAgain posted) a = tt
-try_keeps s share Leaving (StoresStage to roots) a = λ r h. absurd (subst (λ (qs : List Reference). IsIn r qs) a.1 h)
+try_keeps s share Leaving (StoresStage to roots) a = λ r h. absurd (subst (λ (qs : List WordValue). IsIn r qs) a.1 h)
 try_keeps s share phase move a = absurd a
 
 -- ---- every share
 
 -- a thread that has ended asks for nothing
-pub no_move : (s : Setup) (roots : List Reference) (old : Reference) (phase : Phase) (action : Action) (move : Move) → phase ≡ Ended
+pub no_move : (s : Setup) (roots : List WordValue) (old : WordValue) (phase : Phase) (action : Action) (move : Move) → phase ≡ Ended
     → IsOfTry phase move ⊎ AsksFor s roots old action phase move → ⊥
 no_move s roots old phase action move e a = go action (subst (λ (x : Phase). IsOfTry x move ⊎ AsksFor s roots old action x move) e a)
   where
@@ -276,7 +276,7 @@ careful s m t start Sound sound first = record {
             keeps_at s share (m.roots state) (stage_of (steps_of share)) (m.action state) phase move x
             (sound.calls share state y.facts) (sound.roots share state y.facts) y.old (follows s t (steps_of share) (step_of move) a.0)
 
-    root_named : (share : List Move) → IsShare s m t start share → ArePossible s share → IsUnderWay (phase_of s t (steps_of share)) → (r : Reference) → IsIn r (m.roots (state_after s m t start share)) → MayName s share r
+    root_named : (share : List Move) → IsShare s m t start share → ArePossible s share → IsUnderWay (phase_of s t (steps_of share)) → (r : WordValue) → IsIn r (m.roots (state_after s m t start share)) → MayName s share r
     root_named share h p n r x = go (afterwards s m t start Sound sound first share h p)
       where
         go : (HasEnded s t share ⊎ Standing s m t start Sound share (state_after s m t start share) (phase_of s t (steps_of share))) → MayName s share r

@@ -3,17 +3,17 @@ use Rattle.std.proofs.Common.{◌≡◌, ◌<◌, ◌≤◌, ◌⊎◌, inl, inr
 use Rattle.std.proofs.Math.Path.{ap}
 use Rattle.std.proofs.lemmas.Bool.{cases_lt}
 use Rattle.pools.specs.Heap.{Setup}
-use Rattle.runs.specs.Machine.{Reference, Machine}
+use Rattle.runs.specs.Machine.{WordValue, Machine}
 use Rattle.runs.specs.ModuleRuns.{Happening, OfThread, OfCollector}
 use Rattle.runs.specs.Broken.{IsBlue, IsReborn, IsGone, Touched, TouchedGone, used_by, IsBroken, Cause, Wrong, TouchBlue, TouchBirth, ReachBlue, ReachBirth, Shows, rank, cell_of, GoesBefore, IsCause}
 
 -- ---- what is broken shows a cause, and the other way round
 
-touched_so : (P Q : List Happening → Reference → Type 0) → ((run : List Happening) (r : Reference) → P run r → Q run r) → (run : List Happening) → Touched P run → Touched Q run
+touched_so : (P Q : List Happening → WordValue → Type 0) → ((run : List Happening) (r : WordValue) → P run r → Q run r) → (run : List Happening) → Touched P run → Touched Q run
 touched_so P Q f [] x = x
 touched_so P Q f (OfThread t move ∷ run) x = go (used_by move) x
   where
-    go : (o : Option Reference) → MatchOption o ⊥ (P run) → MatchOption o ⊥ (Q run)
+    go : (o : Option WordValue) → MatchOption o ⊥ (P run) → MatchOption o ⊥ (Q run)
     go None y = y
     go (Some r) y = f run r y
 touched_so P Q f (OfCollector turn ∷ run) x = x
@@ -32,7 +32,7 @@ touch_shows : (s : Setup) (run : List Happening) → TouchedGone s run
 touch_shows s [] x = absurd x
 touch_shows s (OfThread t move ∷ run) x = go (used_by move) x
   where
-    go : (o : Option Reference) → MatchOption o ⊥ (IsGone s run)
+    go : (o : Option WordValue) → MatchOption o ⊥ (IsGone s run)
         → (cell : ℕ) × (MatchOption o ⊥ (λ r. (r.cell ≡ cell) × IsBlue s run r) ⊎ MatchOption o ⊥ (λ r. (r.cell ≡ cell) × IsReborn s run r))
     go None y = absurd y
     go (Some r) (inl y) = (r.cell, inl (refl, y))

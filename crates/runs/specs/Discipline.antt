@@ -6,40 +6,40 @@ use Rattle.pools.specs.declared.word_kind.WordKind.TheVariants as kind
 use Rattle.pools.specs.Heap.{Setup, kind_of, IsOfLayout}
 use Rattle.pools.specs.Layouts.{is_reference_kind}
 use Rattle.colours.specs.Mutator.{Fresh, IsPossible}
-use Rattle.runs.specs.Machine.{Reference, Action, Read, StorePlain, Write, Wrong}
+use Rattle.runs.specs.Machine.{WordValue, Action, Read, StorePlain, Write, Wrong}
 use Rattle.runs.specs.Moves.{Move, GoesWrong, ReadsWord, ReadsOldValue, Marks, StoresAfterBarrier, StoresPlain, Claims, StoresStage, null, step_of, steps_of}
 
 -- ---- what is held
 
 -- the move gives the thread this reference
-abbrev pub Brings : Setup → Move → Reference → Type 0
+abbrev pub Brings : Setup → Move → WordValue → Type 0
 Brings s (ReadsWord base word value) r = (r ≡ value) × IsTrue (is_reference_kind (kind_of s base.cell word)) × (value.cell ≢ 0)
 Brings s (ReadsOldValue base word value) r = (r ≡ value) × IsTrue (is_reference_kind (kind_of s base.cell word)) × (value.cell ≢ 0)
 Brings s (Claims q won) r = (r ≡ q) × IsTrue won
 Brings s move r = ⊥
 
 -- and leaves it this one: at an answer only the roots stay
-abbrev pub Leaves : Move → Reference → Type 0
+abbrev pub Leaves : Move → WordValue → Type 0
 Leaves (StoresStage stage roots) r = IsIn r roots
 Leaves move r = Unit {0}
 
 -- the thread holds the reference: a move of its share brought it, and each one since left it
-abbrev pub Holds : Setup → List Move → Reference → Type 0
+abbrev pub Holds : Setup → List Move → WordValue → Type 0
 Holds s [] r = ⊥
 Holds s (move ∷ share) r = Brings s move r ⊎ (Leaves move r × Holds s share r)
 
 -- ---- the discipline
 
 -- the base of a read or a store is the cell of the globals, or held
-abbrev pub MayTouch : Setup → List Move → Reference → Type 0
+abbrev pub MayTouch : Setup → List Move → WordValue → Type 0
 MayTouch s share r = (r ≡ null) ⊎ Holds s share r
 
 -- a root is null, or held
-abbrev pub MayName : Setup → List Move → Reference → Type 0
+abbrev pub MayName : Setup → List Move → WordValue → Type 0
 MayName s share r = (r.cell ≡ 0) ⊎ Holds s share r
 
 -- a value that may be stored in a word of this kind
-abbrev pub MayPut : Setup → List Move → Option WordKind → Reference → Type 0
+abbrev pub MayPut : Setup → List Move → Option WordKind → WordValue → Type 0
 MayPut s share None value = ⊥
 MayPut s share (Some (kind.Integer bits)) value = value.cell < 2 ^ bits
 MayPut s share (Some (kind.Reference layout)) value = (value.cell ≡ 0) ⊎ (Holds s share value × IsOfLayout s layout value.cell)
@@ -54,7 +54,7 @@ KeepsTo s share (StoresAfterBarrier base word value) =
     MayTouch s share base × IsTrue (is_reference_kind (kind_of s base.cell word)) × MayPut s share (kind_of s base.cell word) value
 KeepsTo s share (StoresPlain base word value) =
     MayTouch s share base × (IsTrue (is_reference_kind (kind_of s base.cell word)) → Fresh s (steps_of share) base.cell) × MayPut s share (kind_of s base.cell word) value
-KeepsTo s share (StoresStage stage roots) = (r : Reference) → IsIn r roots → MayName s share r
+KeepsTo s share (StoresStage stage roots) = (r : WordValue) → IsIn r roots → MayName s share r
 KeepsTo s share move = Unit {0}
 
 -- the thread may make the whole call that the action asks for. What a write will store is looked at before the old value is read

@@ -6,30 +6,30 @@ use Rattle.colours.specs.Colours.{done}
 use Rattle.colours.specs.Steps as step
 use Rattle.colours.specs.Steps.{Step}
 use Rattle.colours.specs.Mutator.{Phase, Ready, MarkingOld, MarkingNew, Writing, Trying, Answering, Ended, Absent, Arriving, Entering, Leaving, is_between, stage_of, phase_of, phase_after, MayFollow}
-use Rattle.runs.specs.Machine.{Reference, Action, Local, Read, StorePlain, Write, Alloc, Safepoint, End, Wrong, Answer, Done, Got, Answered, Machine}
+use Rattle.runs.specs.Machine.{WordValue, Action, Local, Read, StorePlain, Write, Alloc, Safepoint, End, Wrong, Answer, Done, Got, Answered, Machine}
 
 -- a step of a thread: a local one, or one on the heap with its references
 pub data Move : Type 0 where
   Works : Move  -- a local step
   GoesWrong : Move  -- the step of a thread at an instruction that has no meaning
-  ReadsWord : (base : Reference) (word : ℕ) (value : Reference) → Move
-  ReadsOldValue : (base : Reference) (word : ℕ) (value : Reference) → Move
-  Marks : Reference → Move
-  StoresAfterBarrier : (base : Reference) (word : ℕ) (value : Reference) → Move
-  StoresPlain : (base : Reference) (word : ℕ) (value : Reference) → Move
-  Claims : Reference → (won : Bool) → Move  -- with the birth that the claim gives
+  ReadsWord : (base : WordValue) (word : ℕ) (value : WordValue) → Move
+  ReadsOldValue : (base : WordValue) (word : ℕ) (value : WordValue) → Move
+  Marks : WordValue → Move
+  StoresAfterBarrier : (base : WordValue) (word : ℕ) (value : WordValue) → Move
+  StoresPlain : (base : WordValue) (word : ℕ) (value : WordValue) → Move
+  Claims : WordValue → (won : Bool) → Move  -- with the birth that the claim gives
   ReadsPosted : (stage : ℕ) → Move
-  StoresStage : (stage : ℕ) (roots : List Reference) → Move
+  StoresStage : (stage : ℕ) (roots : List WordValue) → Move
   ReadsPostedFirst : (stage : ℕ) → Move
   EntersStage : (stage : ℕ) → Move
   ReadsPostedAgain : (stage : ℕ) → Move
 
 -- the null reference. As a base it means the cell of the globals
-abbrev pub null : Reference
+abbrev pub null : WordValue
 null = record { cell = 0; birth = 0 }
 
 -- the cells of references
-abbrev pub cells_of : List Reference → List ℕ
+abbrev pub cells_of : List WordValue → List ℕ
 cells_of [] = []
 cells_of (r ∷ rs) = r.cell ∷ cells_of rs
 
@@ -97,11 +97,11 @@ HasEnded s t share = phase_of s t (steps_of share) ≡ Ended
 -- ---- what may come next
 
 -- the root to be marked next: after this number of marks, null left out
-abbrev pub next_root : List Reference → (marked : List ℕ) → Option Reference
+abbrev pub next_root : List WordValue → (marked : List ℕ) → Option WordValue
 next_root roots marked = slice_get (filter (λ r. not (r.cell == 0)) roots) (length marked)
 
 -- the reference that a write has just read
-abbrev pub old_of : List Move → Reference
+abbrev pub old_of : List Move → WordValue
 old_of (ReadsOldValue base word value ∷ share) = value
 old_of _ = null
 
@@ -114,7 +114,7 @@ IsOfTry Leaving (StoresStage to roots) = (to ≡ done) × (roots ≡ [])
 IsOfTry phase move = ⊥
 
 -- the action asks for this move at this place of its call. The roots are those of the state
-abbrev pub AsksFor : Setup → (roots : List Reference) → (old : Reference) → Action → Phase → Move → Type 0
+abbrev pub AsksFor : Setup → (roots : List WordValue) → (old : WordValue) → Action → Phase → Move → Type 0
 AsksFor s roots old Local Ready Works = Unit {0}
 AsksFor s roots old Wrong Ready GoesWrong = Unit {0}
 AsksFor s roots old (Read base word) Ready (ReadsWord b w v) = (b ≡ base) × (w ≡ word)

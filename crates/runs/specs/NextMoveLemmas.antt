@@ -11,7 +11,7 @@ use Rattle.colours.specs.Colours.{is_async, done}
 use Rattle.colours.specs.Steps.{Step, Found, ask_of, place_of}
 use Rattle.colours.specs.Mutator.{Phase, Ready, MarkingOld, MarkingNew, Writing, Trying, Answering, Ended, Absent, Arriving, Entering, Leaving, is_between, MayFollow, non_null, stage_of, phase_of}
 use Rattle.colours.specs.Runs.{ByThread, log_of, word_after, MayHappen}
-use Rattle.runs.specs.Machine.{Reference, Action, Local, Read, StorePlain, Write, Alloc, Safepoint, End, Wrong, Machine}
+use Rattle.runs.specs.Machine.{WordValue, Action, Local, Read, StorePlain, Write, Alloc, Safepoint, End, Wrong, Machine}
 use Rattle.runs.specs.Moves.{Move, Works, GoesWrong, ReadsWord, ReadsOldValue, Marks, StoresAfterBarrier, StoresPlain, Claims, ReadsPosted, StoresStage, ReadsPostedFirst, EntersStage, ReadsPostedAgain, null, cells_of, step_of, steps_of, phase_afterwards, ends_call, answer_of, state_after, next_root, old_of, IsOfTry, AsksFor, Follows, IsShare}
 use Rattle.runs.specs.ModuleRuns.{Happening, OfThread, share_of, heap_of, FindsBirth, IsNext}
 use Rattle.runs.specs.NextMoves.{Sight, IsSightOf, next_move, next_move_in, mark_or_answer, try_of, TriesInPool, NextMovesAreNext}
@@ -20,45 +20,45 @@ use Rattle.runs.specs.Calls.{get_in, phase_with}
 
 -- ---- the roots to be marked
 
-pub non_null_cells : (roots : List Reference) → non_null (cells_of roots) ≡ cells_of (filter (λ (r : Reference). not (r.cell == 0)) roots)
+pub non_null_cells : (roots : List WordValue) → non_null (cells_of roots) ≡ cells_of (filter (λ (r : WordValue). not (r.cell == 0)) roots)
 non_null_cells [] = refl
 non_null_cells (r ∷ roots) = go (non_null_cells roots) (not (r.cell == 0))
   where
-    go : non_null (cells_of roots) ≡ cells_of (filter (λ (q : Reference). not (q.cell == 0)) roots) → (b : Bool)
-        → (if b then r.cell ∷ non_null (cells_of roots) else non_null (cells_of roots)) ≡ cells_of (if b then r ∷ filter (λ (q : Reference). not (q.cell == 0)) roots else filter (λ (q : Reference). not (q.cell == 0)) roots)
+    go : non_null (cells_of roots) ≡ cells_of (filter (λ (q : WordValue). not (q.cell == 0)) roots) → (b : Bool)
+        → (if b then r.cell ∷ non_null (cells_of roots) else non_null (cells_of roots)) ≡ cells_of (if b then r ∷ filter (λ (q : WordValue). not (q.cell == 0)) roots else filter (λ (q : WordValue). not (q.cell == 0)) roots)
     go e true = ap (λ (cs : List ℕ). r.cell ∷ cs) e
     go e false = e
 
-pub length_cells : (rs : List Reference) → length (cells_of rs) ≡ length rs
+pub length_cells : (rs : List WordValue) → length (cells_of rs) ≡ length rs
 length_cells [] = refl
 length_cells (r ∷ rs) = ap suc (length_cells rs)
 
-get_cell : (rs : List Reference) (k : ℕ) (r : Reference) → slice_get rs k ≡ Some r → slice_get (cells_of rs) k ≡ Some r.cell
+get_cell : (rs : List WordValue) (k : ℕ) (r : WordValue) → slice_get rs k ≡ Some r → slice_get (cells_of rs) k ≡ Some r.cell
 get_cell [] k r e = absurd cc
-get_cell (q ∷ qs) zero r e = let same : q ≡ r = cc in ap (λ (x : Reference). Some x.cell) same
+get_cell (q ∷ qs) zero r e = let same : q ≡ r = cc in ap (λ (x : WordValue). Some x.cell) same
 get_cell (q ∷ qs) (suc k) r e = get_cell qs k r e
 
 -- each root so far is marked, and this one is next
-one_more : (roots : List Reference) (marked : List ℕ) (r : Reference) → next_root roots marked ≡ Some r → reverse marked ≡ take (length marked) (non_null (cells_of roots))
+one_more : (roots : List WordValue) (marked : List ℕ) (r : WordValue) → next_root roots marked ≡ Some r → reverse marked ≡ take (length marked) (non_null (cells_of roots))
     → reverse (r.cell ∷ marked) ≡ take (length (r.cell ∷ marked)) (non_null (cells_of roots))
 one_more roots marked r e h =
     let cs : List ℕ = non_null (cells_of roots) in
     let k : ℕ = length marked in
-    let at : slice_get cs k ≡ Some r.cell = subst (λ (xs : List ℕ). slice_get xs k ≡ Some r.cell) (sym (non_null_cells roots)) (get_cell (filter (λ (q : Reference). not (q.cell == 0)) roots) k r e) in
+    let at : slice_get cs k ≡ Some r.cell = subst (λ (xs : List ℕ). slice_get xs k ≡ Some r.cell) (sym (non_null_cells roots)) (get_cell (filter (λ (q : WordValue). not (q.cell == 0)) roots) k r e) in
     let next : take (suc k) cs ≡ take k cs ++ (r.cell ∷ []) = take-suc cs k r.cell (slice_get_within cs k r.cell at) ∙ ap (λ (x : ℕ). take k cs ++ (x ∷ [])) (get_or_from_slice_get cs k r.cell r.cell at) in
     reverse-append (r.cell ∷ []) marked ∙ ap (λ (xs : List ℕ). xs ++ (r.cell ∷ [])) h ∙ sym next
 
 -- none is left
-all_marked : (roots : List Reference) (marked : List ℕ) → next_root roots marked ≡ None → reverse marked ≡ take (length marked) (non_null (cells_of roots)) → reverse marked ≡ non_null (cells_of roots)
+all_marked : (roots : List WordValue) (marked : List ℕ) → next_root roots marked ≡ None → reverse marked ≡ take (length marked) (non_null (cells_of roots)) → reverse marked ≡ non_null (cells_of roots)
 all_marked roots marked e h = h ∙ take_all (length marked) (non_null (cells_of roots)) short
   where
-    rs : List Reference
-    rs = filter (λ (q : Reference). not (q.cell == 0)) roots
+    rs : List WordValue
+    rs = filter (λ (q : WordValue). not (q.cell == 0)) roots
 
     within : length rs ≤ length marked
     within = go (slice_get_cases rs (length marked)).1
       where
-        go : ((x : Reference) × (length marked < length rs) × (slice_get rs (length marked) ≡ Some x) × (get_or rs (length marked) x ≡ x)) ⊎ ((length rs ≤ length marked) × (slice_get rs (length marked) ≡ None)) → length rs ≤ length marked
+        go : ((x : WordValue) × (length marked < length rs) × (slice_get rs (length marked) ≡ Some x) × (get_or rs (length marked) x ≡ x)) ⊎ ((length rs ≤ length marked) × (slice_get rs (length marked) ≡ None)) → length rs ≤ length marked
         go (inl y) = let bad : Some y.0 ≡ None = sym y.2 ∙ e in absurd cc
         go (inr y) = y.0
 
@@ -66,15 +66,15 @@ all_marked roots marked e h = h ∙ take_all (length marked) (non_null (cells_of
     short = rw (non_null_cells roots, length_cells rs) within
 
 -- the roots that are handed out are not null
-next_some : (rs : List Reference) (k : ℕ) (r : Reference) → slice_get (filter (λ (q : Reference). not (q.cell == 0)) rs) k ≡ Some r → r.cell ≢ 0
-next_some rs k r e = passes rs (get_in (filter (λ (q : Reference). not (q.cell == 0)) rs) k r e)
+next_some : (rs : List WordValue) (k : ℕ) (r : WordValue) → slice_get (filter (λ (q : WordValue). not (q.cell == 0)) rs) k ≡ Some r → r.cell ≢ 0
+next_some rs k r e = passes rs (get_in (filter (λ (q : WordValue). not (q.cell == 0)) rs) k r e)
   where
-    passes : (rs : List Reference) → IsIn r (filter (λ (q : Reference). not (q.cell == 0)) rs) → r.cell ≢ 0
+    passes : (rs : List WordValue) → IsIn r (filter (λ (q : WordValue). not (q.cell == 0)) rs) → r.cell ≢ 0
     passes [] h = absurd h
     passes (q ∷ qs) h = go (passes qs) (not (q.cell == 0)) refl h
       where
-        go : (IsIn r (filter (λ (x : Reference). not (x.cell == 0)) qs) → r.cell ≢ 0) → (b : Bool) → not (q.cell == 0) ≡ b
-            → IsIn r (if b then q ∷ filter (λ (x : Reference). not (x.cell == 0)) qs else filter (λ (x : Reference). not (x.cell == 0)) qs) → r.cell ≢ 0
+        go : (IsIn r (filter (λ (x : WordValue). not (x.cell == 0)) qs) → r.cell ≢ 0) → (b : Bool) → not (q.cell == 0) ≡ b
+            → IsIn r (if b then q ∷ filter (λ (x : WordValue). not (x.cell == 0)) qs else filter (λ (x : WordValue). not (x.cell == 0)) qs) → r.cell ≢ 0
         go rest true n (inl same) = λ z. not_null q.cell n (sym (same_cell same) ∙ z)
         go rest true n (inr x) = rest x
         go rest false n x = rest x
@@ -82,7 +82,7 @@ next_some rs k r e = passes rs (get_in (filter (λ (q : Reference). not (q.cell 
 -- ---- where a thread is agrees with its instruction
 
 -- the place in the call is one of the action's calls, and names the action's words and values
-abbrev Fits : (roots : List Reference) (old : Reference) → Action → Phase → Type 0
+abbrev Fits : (roots : List WordValue) (old : WordValue) → Action → Phase → Type 0
 Fits roots old action Ready = Unit {0}
 Fits roots old action Ended = Unit {0}
 Fits roots old action Absent = Unit {0}
@@ -96,7 +96,7 @@ Fits roots old (Alloc layout) (Trying tried) = Unit {0}
 Fits roots old Safepoint (Answering next marked) = IsTrue (is_async next) → reverse marked ≡ take (length marked) (non_null (cells_of roots))
 Fits roots old action phase = ⊥
 
-fits_at : (s : Setup) (stage : ℕ) (roots : List Reference) (share : List Move) (action : Action) (phase : Phase) (move : Move) → AsksFor s roots (old_of share) action phase move
+fits_at : (s : Setup) (stage : ℕ) (roots : List WordValue) (share : List Move) (action : Action) (phase : Phase) (move : Move) → AsksFor s roots (old_of share) action phase move
     → Fits roots (old_of share) action phase → Fits roots (old_of (move ∷ share)) action (phase_afterwards s stage phase (step_of move))
 fits_at s stage roots share Local Ready Works a f = tt
 fits_at s stage roots share Wrong Ready GoesWrong a f = tt
@@ -143,7 +143,7 @@ fits_at s stage roots share End Ready (StoresStage to rs) a f = go (to == done)
 fits_at s stage roots share action phase move a f = absurd a
 
 -- to a late thread's try each action fits
-fits_try : (s : Setup) (stage : ℕ) (roots : List Reference) (old : Reference) (action : Action) (phase : Phase) (move : Move) → IsOfTry phase move
+fits_try : (s : Setup) (stage : ℕ) (roots : List WordValue) (old : WordValue) (action : Action) (phase : Phase) (move : Move) → IsOfTry phase move
     → Fits roots old action (phase_afterwards s stage phase (step_of move))
 fits_try s stage roots old action Absent (ReadsPostedFirst posted) a = tt
 fits_try s stage roots old action (Arriving posted) (EntersStage next) a = tt
@@ -160,7 +160,7 @@ ends_between (ReadsPostedAgain stage) phase e = refl
 ends_between move phase e = e
 
 -- between two calls anything fits
-fits_between : (m : Machine) (state next : m.State) (old : Reference) (move : Move) (phase : Phase) → Fits (m.roots state) old (m.action state) phase
+fits_between : (m : Machine) (state next : m.State) (old : WordValue) (move : Move) (phase : Phase) → Fits (m.roots state) old (m.action state) phase
     → Fits (m.roots (if ends_call move phase then next else state)) old (m.action (if ends_call move phase then next else state)) phase
 fits_between m state next old move Ready f = tt
 fits_between m state next old move Ended f = tt
@@ -201,11 +201,11 @@ fits s m t start (move ∷ share) h =
 -- ---- what is chosen is asked
 
 -- a move that the grammar lets follow, and that is of a try or that the instruction asks for
-abbrev IsFine : Setup → (stage : ℕ) → (roots : List Reference) → (old : Reference) → Action → Phase → Move → Type 0
+abbrev IsFine : Setup → (stage : ℕ) → (roots : List WordValue) → (old : WordValue) → Action → Phase → Move → Type 0
 IsFine s stage roots old action phase move =
     MatchOption (step_of move) (Unit {0}) (λ step. MayFollow s stage phase step) × (IsOfTry phase move ⊎ AsksFor s roots old action phase move)
 
-chosen : (s : Setup) (h : Sight) (stage : ℕ) (roots : List Reference) (old : Reference) (action : Action) (phase : Phase) → Fits roots old action phase → TriesInPool s h action phase
+chosen : (s : Setup) (h : Sight) (stage : ℕ) (roots : List WordValue) (old : WordValue) (action : Action) (phase : Phase) → Fits roots old action phase → TriesInPool s h action phase
     → MatchOption (next_move s h stage roots old action phase) (Unit {0}) (IsFine s stage roots old action phase)
 chosen s h stage roots old action Absent f c = (tt, inl tt)
 chosen s h stage roots old action (Arriving posted) f c = (refl, inl tt)
@@ -239,14 +239,14 @@ chosen s h stage roots old Safepoint (Answering next marked) f c = go (is_async 
     go false e = ((refl, λ x. absurd cc), inr refl)
     go true e = at (next_root roots marked) refl
       where
-        at : (o : Option Reference) → next_root roots marked ≡ o → IsFine s stage roots old Safepoint (Answering next marked) (mark_or_answer next roots o)
+        at : (o : Option WordValue) → next_root roots marked ≡ o → IsFine s stage roots old Safepoint (Answering next marked) (mark_or_answer next roots o)
         at None n = ((refl, λ x. all_marked roots marked n (f e)), inr refl)
         at (Some r) n = ((e, next_some roots (length marked) r n), inr n)
 chosen s h stage roots old End Ready f c = ((refl, refl), inr (refl, refl))
 chosen s h stage roots old action phase f c = tt
 
 -- only to a thread that has ended there is none
-none_left : (s : Setup) (h : Sight) (stage : ℕ) (roots : List Reference) (old : Reference) (action : Action) (phase : Phase) → Fits roots old action phase
+none_left : (s : Setup) (h : Sight) (stage : ℕ) (roots : List WordValue) (old : WordValue) (action : Action) (phase : Phase) → Fits roots old action phase
     → next_move s h stage roots old action phase ≡ None → phase ≡ Ended
 none_left s h stage roots old action Ended f e = refl
 none_left s h stage roots old action Absent f e = absurd cc
@@ -274,7 +274,7 @@ none_left s h stage roots old action phase f e = absurd f
 abbrev StandsThere : Setup → List Happening → (t stage : ℕ) → Move → Type 0
 StandsThere s run t stage move = MatchOption (step_of move) (Unit {0}) (λ step. Found step (word_after s (heap_of run) (place_of (ask_of t stage step)))) × FindsBirth s run move
 
-found_at : (s : Setup) (run : List Happening) (h : Sight) → IsSightOf s run h → (t stage : ℕ) (roots : List Reference) (old : Reference) (action : Action) (phase : Phase)
+found_at : (s : Setup) (run : List Happening) (h : Sight) → IsSightOf s run h → (t stage : ℕ) (roots : List WordValue) (old : WordValue) (action : Action) (phase : Phase)
     → MatchOption (next_move s h stage roots old action phase) (Unit {0}) (StandsThere s run t stage)
 found_at s run h k t stage roots old action Absent = (sym k.posted, tt)
 found_at s run h k t stage roots old action (Arriving posted) = (tt, tt)
@@ -306,7 +306,7 @@ found_at s run h k t stage roots old Safepoint (Answering next marked) = go (is_
     go false = (tt, tt)
     go true = at (next_root roots marked)
       where
-        at : (o : Option Reference) → StandsThere s run t stage (mark_or_answer next roots o)
+        at : (o : Option WordValue) → StandsThere s run t stage (mark_or_answer next roots o)
         at None = (tt, tt)
         at (Some r) = (tt, tt)
 found_at s run h k t stage roots old End Ready = (tt, tt)

@@ -5,28 +5,28 @@ use Rattle.colours.specs.declared.place.Place.TheVariants.{Posted, Colour, Word}
 use Rattle.colours.specs.Colours.{is_async, done}
 use Rattle.colours.specs.Mutator.{Phase, Ready, MarkingOld, MarkingNew, Writing, Trying, Answering, Ended, Absent, Arriving, Entering, Leaving, MayTry, stage_of, phase_of}
 use Rattle.colours.specs.Runs.{word_after}
-use Rattle.runs.specs.Machine.{Reference, Action, Local, Read, StorePlain, Write, Alloc, Safepoint, End, Wrong, Machine}
+use Rattle.runs.specs.Machine.{WordValue, Action, Local, Read, StorePlain, Write, Alloc, Safepoint, End, Wrong, Machine}
 use Rattle.runs.specs.Moves.{Move, Works, GoesWrong, ReadsWord, ReadsOldValue, Marks, StoresAfterBarrier, StoresPlain, Claims, ReadsPosted, StoresStage, ReadsPostedFirst, EntersStage, ReadsPostedAgain, next_root, steps_of, state_after, old_of}
 use Rattle.runs.specs.ModuleRuns.{Happening, OfThread, share_of, heap_of, birth_of, birth_in, IsNext, IsModuleRun}
 
 -- the contents of the heap, and the order in which cells are tried
 pub record Sight : Type 0 where
-  pub word : (cell word : ℕ) → Reference
+  pub word : (cell word : ℕ) → WordValue
   pub posted : ℕ
-  pub claim : (layout : ℕ) (tried : List ℕ) → Reference  -- the cell that is tried next, with the birth that it would get
+  pub claim : (layout : ℕ) (tried : List ℕ) → WordValue  -- the cell that is tried next, with the birth that it would get
   pub is_blue : (cell : ℕ) → Bool
 
 -- the mark of the next root, or the answer where none is left
-abbrev pub mark_or_answer : (stage : ℕ) → List Reference → Option Reference → Move
+abbrev pub mark_or_answer : (stage : ℕ) → List WordValue → Option WordValue → Move
 mark_or_answer stage roots None = StoresStage stage roots
 mark_or_answer stage roots (Some r) = Marks r
 
 -- the try of this cell
-abbrev pub try_of : Sight → Reference → Move
+abbrev pub try_of : Sight → WordValue → Move
 try_of h r = Claims r (h.is_blue r.cell)
 
 -- the next move of a thread at this stage, in this phase of the call that its action asks for
-abbrev pub next_move : Setup → Sight → (stage : ℕ) → (roots : List Reference) → (old : Reference) → Action → Phase → Option Move
+abbrev pub next_move : Setup → Sight → (stage : ℕ) → (roots : List WordValue) → (old : WordValue) → Action → Phase → Option Move
 next_move s h stage roots old action Absent = Some (ReadsPostedFirst h.posted)
 next_move s h stage roots old action (Arriving posted) = Some (EntersStage posted)
 next_move s h stage roots old action Entering = Some (ReadsPostedAgain h.posted)

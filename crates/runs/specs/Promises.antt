@@ -7,7 +7,7 @@ use Rattle.colours.specs.Mutator.{IsPossible, Ready, phase_of}
 use Rattle.colours.specs.Runs.{Event, ByThread, log_of, IsHeapRun}
 use Rattle.colours.specs.Safety.{KeptIsAlive}
 use Rattle.runs.specs.Machine as machine
-use Rattle.runs.specs.Machine.{Reference, Machine}
+use Rattle.runs.specs.Machine.{WordValue, Machine}
 use Rattle.runs.specs.Moves.{Move, state_after, IsAsked, IsShare, steps_of}
 use Rattle.runs.specs.Discipline.{MayName, KeepsTo, MayCall, ArePossible}
 use Rattle.runs.specs.ModuleRuns.{Happening, IsModuleRun, share_of}
@@ -20,7 +20,7 @@ pub record IsCareful (s : Setup) (m : Machine) (thread : ℕ) (start : m.State) 
   pub calls : (share : List Move) → IsShare s m thread start share → ArePossible s share → phase_of s thread (steps_of share) ≡ Ready
       → MayCall s share (m.action (state_after s m thread start share))
   pub roots : (share : List Move) → IsShare s m thread start share → ArePossible s share → IsUnderWay (phase_of s thread (steps_of share))
-      → (r : Reference) → IsIn r (m.roots (state_after s m thread start share)) → MayName s share r
+      → (r : WordValue) → IsIn r (m.roots (state_after s m thread start share)) → MayName s share r
 
 -- each thread is careful
 abbrev pub AreCareful : (s : Setup) (m : Machine) (starts : ℕ → m.State) → Type 0

@@ -14,7 +14,7 @@ use Rattle.colours.specs.Steps.{Step, ReadWord, ReadOldValue, Mark, StoreAfterBa
 use Rattle.colours.specs.Mutator.{Held, Keeps, IsDisciplined, IsPossible, phase_of}
 use Rattle.colours.specs.Runs.{Event, ByThread, ByCollector, log_of, word_after, births_after, puts, value_put, IsAlive, IsHeapRun, MayHappen, KeepsDiscipline, Kept, globals, held, further}
 use Rattle.colours.specs.Frames.{word_left}
-use Rattle.runs.specs.Machine.{Reference, Machine}
+use Rattle.runs.specs.Machine.{WordValue, Machine}
 use Rattle.runs.specs.Moves.{Move, Works, GoesWrong, ReadsWord, ReadsOldValue, Marks, StoresAfterBarrier, StoresPlain, Claims, ReadsPosted, StoresStage, ReadsPostedFirst, EntersStage, ReadsPostedAgain, step_of, steps_of, state_after, old_of, AsksFor}
 use Rattle.runs.specs.Discipline.{Brings, Holds, MayTouch, MayName, MayPut, KeepsTo, ArePossible, IsPossibleMove}
 use Rattle.runs.specs.ModuleRuns.{Happening, OfThread, OfCollector, share_of, with_step, heap_of, birth_of, birth_in, FindsBirth, IsNext, IsModuleRun}
@@ -28,7 +28,7 @@ use Rattle.runs.specs.Births.{birth_stays, birth_given, birth_elsewhere, word_bi
 pub record Invariant (s : Setup) (run : List Happening) : Type 0 where
   pub discipline : KeepsDiscipline s (heap_of run)
   pub possible : (t : ℕ) → ArePossible s (share_of t run)
-  pub held_births : (t : ℕ) (r : Reference) → Holds s (share_of t run) r → r.birth ≡ (births_after s (heap_of run)).with_thread t r.cell
+  pub held_births : (t : ℕ) (r : WordValue) → Holds s (share_of t run) r → r.birth ≡ (births_after s (heap_of run)).with_thread t r.cell
   pub word_births : (c i : ℕ) → IsTrue (is_reference_kind (kind_of s c i)) → word_after s (heap_of run) (Word c i) ≢ 0 → birth_in run c i ≡ (births_after s (heap_of run)).in_word c i
 
 start : (s : Setup) → Invariant s []
@@ -65,17 +65,17 @@ elsewhere_with s t u None h c e = refl
 elsewhere_with s t u (Some step) h c e = birth_elsewhere s h t u step c e
 
 -- a reference that a move brings has the birth that the heap gives
-brought : (s : Setup) (run : List Happening) → Invariant s run → (t : ℕ) (move : Move) (r : Reference) → Brings s move r
+brought : (s : Setup) (run : List Happening) → Invariant s run → (t : ℕ) (move : Move) (r : WordValue) → Brings s move r
     → MatchOption (step_of move) (Unit {0}) (λ step. MayHappen s (heap_of run) (ByThread t step)) → FindsBirth s run move
     → r.birth ≡ (births_after s (heap_of (OfThread t move ∷ run))).with_thread t r.cell
 brought s run inv t (ReadsWord base word value) r b m f =
-    ap (λ (x : Reference). x.birth) b.0 ∙ f ∙ inv.word_births base.cell word b.1 (λ z. b.2 (sym m.2 ∙ z))
+    ap (λ (x : WordValue). x.birth) b.0 ∙ f ∙ inv.word_births base.cell word b.1 (λ z. b.2 (sym m.2 ∙ z))
     ∙ sym (birth_given s (heap_of run) t (ReadWord base.cell word value.cell) r.cell (brings_gains s (ReadsWord base word value) r b))
 brought s run inv t (ReadsOldValue base word value) r b m f =
-    ap (λ (x : Reference). x.birth) b.0 ∙ f ∙ inv.word_births base.cell word b.1 (λ z. b.2 (sym m.2 ∙ z))
+    ap (λ (x : WordValue). x.birth) b.0 ∙ f ∙ inv.word_births base.cell word b.1 (λ z. b.2 (sym m.2 ∙ z))
     ∙ sym (birth_given s (heap_of run) t (ReadOldValue base.cell word value.cell) r.cell (brings_gains s (ReadsOldValue base word value) r b))
 brought s run inv t (Claims q won) r b m f =
-    ap (λ (x : Reference). x.birth) b.0 ∙ f ∙ ap (λ (c : ℕ). suc (birth_of s run c)) (sym (same_cell b.0))
+    ap (λ (x : WordValue). x.birth) b.0 ∙ f ∙ ap (λ (c : ℕ). suc (birth_of s run c)) (sym (same_cell b.0))
     ∙ sym (birth_given s (heap_of run) t (Claim q.cell won) r.cell (brings_gains s (Claims q won) r b))
 brought s run inv t Works r b m f = absurd b
 brought s run inv t GoesWrong r b m f = absurd b
@@ -88,7 +88,7 @@ brought s run inv t (ReadsPostedFirst stage) r b m f = absurd b
 brought s run inv t (EntersStage stage) r b m f = absurd b
 brought s run inv t (ReadsPostedAgain stage) r b m f = absurd b
 
-put_held : (s : Setup) (share : List Move) (k : Option WordKind) (value : Reference) → IsTrue (is_reference_kind k) → MayPut s share k value → value.cell ≢ 0 → Holds s share value
+put_held : (s : Setup) (share : List Move) (k : Option WordKind) (value : WordValue) → IsTrue (is_reference_kind k) → MayPut s share k value → value.cell ≢ 0 → Holds s share value
 put_held s share None value r p n = absurd p
 put_held s share (Some (kind.Integer bits)) value r p n = absurd cc
 put_held s share (Some (kind.Reference layout)) value r (inl z) n = absurd (n z)
@@ -103,7 +103,7 @@ quiet s run inv t step c i p r n =
     inv.word_births c i r (λ z. n (w ∙ z)) ∙ sym b
 
 -- a step that stores a value
-put : (s : Setup) (run : List Happening) → Invariant s run → (t : ℕ) (step : Step) (base : Reference) (word : ℕ) (value : Reference) (c i : ℕ)
+put : (s : Setup) (run : List Happening) → Invariant s run → (t : ℕ) (step : Step) (base : WordValue) (word : ℕ) (value : WordValue) (c i : ℕ)
     → puts step c i ≡ ((base.cell == c) && (word == i)) → value_put step ≡ value.cell → MayPut s (share_of t run) (kind_of s base.cell word) value → IsTrue (is_reference_kind (kind_of s c i))
     → word_after s (ByThread t step ∷ heap_of run) (Word c i) ≢ 0
     → (if (base.cell == c) && (word == i) then value.birth else birth_in run c i) ≡ (births_after s (ByThread t step ∷ heap_of run)).in_word c i
@@ -186,13 +186,13 @@ thread_next s m starts g run r inv t move n = record {
     possible_next u true e = (inv.possible u, subst (λ (v : ℕ). IsPossibleMove s (share_of v run) move) (test_true t u e) possible)
     possible_next u false e = inv.possible u
 
-    own : (q : Reference) → Holds s (move ∷ share_of t run) q → q.birth ≡ (births_after s (with_step t (step_of move) h)).with_thread t q.cell
+    own : (q : WordValue) → Holds s (move ∷ share_of t run) q → q.birth ≡ (births_after s (with_step t (step_of move) h)).with_thread t q.cell
     own q (inl b) = brought s run inv t move q b n.2 n.3
     own q (inr x) =
         let x1 : Held s (log_of t h) q.cell = subst (λ (log : List Step). Held s log q.cell) (sym (log_is t run)) (holds_held s (share_of t run) q x.1) in
         inv.held_births t q x.1 ∙ sym (stays_with s g.law t (step_of move) h now before q.cell (leaves_keeps move q x.0) x1)
 
-    held_next : (u : ℕ) (q : Reference) (b : Bool) → (t == u) ≡ b → Holds s (if b then move ∷ share_of u run else share_of u run) q
+    held_next : (u : ℕ) (q : WordValue) (b : Bool) → (t == u) ≡ b → Holds s (if b then move ∷ share_of u run else share_of u run) q
         → q.birth ≡ (births_after s (with_step t (step_of move) h)).with_thread u q.cell
     held_next u q true e x =
         let P : ℕ → Type 0 = λ v. Holds s (move ∷ share_of v run) q → q.birth ≡ (births_after s (with_step t (step_of move) h)).with_thread v q.cell in
@@ -234,36 +234,36 @@ invariant s m starts g (OfCollector turn ∷ run) r = turn_next s run (invariant
 
 -- ---- what follows
 
-not_gone : (s : Setup) (run : List Happening) (r : Reference) → IsAlive s (heap_of run) r.cell r.birth → ¬ IsGone s run r
+not_gone : (s : Setup) (run : List Happening) (r : WordValue) → IsAlive s (heap_of run) r.cell r.birth → ¬ IsGone s run r
 not_gone s run r a (inl blue) = a.not_blue blue
 not_gone s run r a (inr other) = other a.same_birth
 
 -- what a thread holds is alive
 holds_alive : (s : Setup) (m : Machine) (starts : ℕ → m.State) → Setting s m starts → (run : List Happening) → IsModuleRun s m starts run → Invariant s run
-    → (t : ℕ) (r : Reference) → Holds s (share_of t run) r → Kept s (heap_of run) r.cell r.birth
+    → (t : ℕ) (r : WordValue) → Holds s (share_of t run) r → Kept s (heap_of run) r.cell r.birth
 holds_alive s m starts g run e inv t r h =
     let x : Held s (log_of t (heap_of run)) r.cell = subst (λ (log : List Step). Held s log r.cell) (sym (log_is t run)) (holds_held s (share_of t run) r h) in
     subst (λ (b : ℕ). Kept s (heap_of run) r.cell b) (sym (inv.held_births t r h)) (held t r.cell x)
 
 -- a base that a thread may touch
 base_kept : (s : Setup) (m : Machine) (starts : ℕ → m.State) → Setting s m starts → (run : List Happening) → IsModuleRun s m starts run → Invariant s run
-    → (t : ℕ) (r : Reference) → MayTouch s (share_of t run) r → Kept s (heap_of run) r.cell r.birth
-base_kept s m starts g run e inv t r (inl z) = subst (λ (q : Reference). Kept s (heap_of run) q.cell q.birth) (sym z) globals
+    → (t : ℕ) (r : WordValue) → MayTouch s (share_of t run) r → Kept s (heap_of run) r.cell r.birth
+base_kept s m starts g run e inv t r (inl z) = subst (λ (q : WordValue). Kept s (heap_of run) q.cell q.birth) (sym z) globals
 base_kept s m starts g run e inv t r (inr h) = holds_alive s m starts g run e inv t r h
 
 -- each path of references is one from what is kept
 reached_kept : (s : Setup) (m : Machine) (starts : ℕ → m.State) → Setting s m starts → (run : List Happening) → IsModuleRun s m starts run → Invariant s run
-    → (r : Reference) → IsReachable s m starts run r → Kept s (heap_of run) r.cell r.birth
+    → (r : WordValue) → IsReachable s m starts run r → Kept s (heap_of run) r.cell r.birth
 reached_kept s m starts g run e inv r h = go h
   where
-    root : (r : Reference) → IsRoot s m starts run r → r.cell ≢ 0 → Kept s (heap_of run) r.cell r.birth
+    root : (r : WordValue) → IsRoot s m starts run r → r.cell ≢ 0 → Kept s (heap_of run) r.cell r.birth
     root r x n = named ((g.careful x.thread x.is_thread).roots (share_of x.thread run) (is_share s m starts run x.thread e) (inv.possible x.thread) x.is_under_way r x.is_root)
       where
         named : MayName s (share_of x.thread run) r → Kept s (heap_of run) r.cell r.birth
         named (inl z) = absurd (n z)
         named (inr h) = holds_alive s m starts g run e inv x.thread r h
 
-    go : {r : Reference} → Reached s run (IsRoot s m starts run) r → Kept s (heap_of run) r.cell r.birth
+    go : {r : WordValue} → Reached s run (IsRoot s m starts run) r → Kept s (heap_of run) r.cell r.birth
     go broken.globals = globals
     go (broken.from r x n) = root r x n
     go (broken.further r i x ref n) =
@@ -295,7 +295,7 @@ safe s m starts setup law careful run r broken = go broken
     wrong (OfThread t (ReadsPostedAgain stage) ∷ run) e x = x
     wrong (OfCollector turn ∷ run) e x = x
 
-    alive : (run : List Happening) → IsModuleRun s m starts run → (t : ℕ) (r : Reference) → MayTouch s (share_of t run) r → ¬ IsGone s run r
+    alive : (run : List Happening) → IsModuleRun s m starts run → (t : ℕ) (r : WordValue) → MayTouch s (share_of t run) r → ¬ IsGone s run r
     alive run e t r may =
         let inv = invariant s m starts g run e in
         not_gone s run r ((law.kept (heap_of run) (heap_is s m starts g run e inv)) r.cell r.birth (base_kept s m starts g run e inv t r may))

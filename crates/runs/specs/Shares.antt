@@ -10,14 +10,14 @@ use Rattle.pools.specs.Layouts.{is_reference_kind}
 use Rattle.colours.specs.Steps.{Step}
 use Rattle.colours.specs.Mutator.{Held, Keeps, gains, IsDisciplined, IsPossible, IsPossibleLog, MayUse, MayStore}
 use Rattle.colours.specs.Runs.{Event, ByThread, log_of, IsRun, MayHappen}
-use Rattle.runs.specs.Machine.{Reference, Machine}
+use Rattle.runs.specs.Machine.{WordValue, Machine}
 use Rattle.runs.specs.Moves.{Move, Works, GoesWrong, ReadsWord, ReadsOldValue, Marks, StoresAfterBarrier, StoresPlain, Claims, ReadsPosted, StoresStage, ReadsPostedFirst, EntersStage, ReadsPostedAgain, cells_of, step_of, logged, steps_of, IsShare, IsAsked}
 use Rattle.runs.specs.Discipline.{Brings, Leaves, Holds, MayTouch, MayName, MayPut, KeepsTo, ArePossible}
 use Rattle.runs.specs.ModuleRuns.{Happening, OfThread, OfCollector, share_of, with_step, heap_of, IsModuleRun}
 
 -- equal references have one cell
-pub same_cell : {r q : Reference} → r ≡ q → r.cell ≡ q.cell
-same_cell e = ap (λ (x : Reference). x.cell) e
+pub same_cell : {r q : WordValue} → r ≡ q → r.cell ≡ q.cell
+same_cell e = ap (λ (x : WordValue). x.cell) e
 
 -- ---- logs
 
@@ -66,7 +66,7 @@ is_share s m starts (OfCollector turn ∷ run) t r = is_share s m starts run t r
 
 -- ---- without births
 
-in_cells : (r : Reference) (rs : List Reference) → IsIn r rs → IsIn r.cell (cells_of rs)
+in_cells : (r : WordValue) (rs : List WordValue) → IsIn r rs → IsIn r.cell (cells_of rs)
 in_cells r [] h = absurd h
 in_cells r (q ∷ qs) (inl e) = inl (same_cell e)
 in_cells r (q ∷ qs) (inr h) = inr (in_cells r qs h)
@@ -75,7 +75,7 @@ found : (k : Option WordKind) (value c : ℕ) → IsTrue (is_reference_kind k) �
 found k value c h n e = rw (h, e, test_yes value value refl, test_no value 0 n) refl
 
 -- what a move brings, its step gives
-pub brings_gains : (s : Setup) (move : Move) (r : Reference) → Brings s move r → MatchOption (step_of move) ⊥ (λ step. IsTrue (gains s step r.cell))
+pub brings_gains : (s : Setup) (move : Move) (r : WordValue) → Brings s move r → MatchOption (step_of move) ⊥ (λ step. IsTrue (gains s step r.cell))
 brings_gains s (ReadsWord base word value) r h = found (kind_of s base.cell word) value.cell r.cell h.1 h.2 (same_cell h.0)
 brings_gains s (ReadsOldValue base word value) r h = found (kind_of s base.cell word) value.cell r.cell h.1 h.2 (same_cell h.0)
 brings_gains s (Claims q won) r h = rw (h.1, test_yes r.cell q.cell (same_cell h.0)) refl
@@ -91,7 +91,7 @@ brings_gains s (EntersStage stage) r h = absurd h
 brings_gains s (ReadsPostedAgain stage) r h = absurd h
 
 -- and what it leaves, its step leaves
-pub leaves_keeps : (move : Move) (r : Reference) → Leaves move r → MatchOption (step_of move) (Unit {0}) (λ step. Keeps step r.cell)
+pub leaves_keeps : (move : Move) (r : WordValue) → Leaves move r → MatchOption (step_of move) (Unit {0}) (λ step. Keeps step r.cell)
 leaves_keeps (StoresStage stage roots) r h = in_cells r roots h
 leaves_keeps Works r h = tt
 leaves_keeps GoesWrong r h = tt
@@ -107,7 +107,7 @@ leaves_keeps (EntersStage stage) r h = tt
 leaves_keeps (ReadsPostedAgain stage) r h = tt
 
 -- the cell of a reference that a share holds is held by its log
-pub holds_held : (s : Setup) (share : List Move) (r : Reference) → Holds s share r → Held s (steps_of share) r.cell
+pub holds_held : (s : Setup) (share : List Move) (r : WordValue) → Holds s share r → Held s (steps_of share) r.cell
 holds_held s [] r h = absurd h
 holds_held s (move ∷ share) r (inl b) = go (step_of move) (brings_gains s move r b)
   where
@@ -121,19 +121,19 @@ holds_held s (move ∷ share) r (inr h) = go (holds_held s share r h.1) (step_of
     go before (Some step) x = inr (x, before)
 
 -- what a move may touch, its steps may use
-pub may_use : (s : Setup) (share : List Move) (r : Reference) → MayTouch s share r → MayUse s (steps_of share) r.cell
+pub may_use : (s : Setup) (share : List Move) (r : WordValue) → MayTouch s share r → MayUse s (steps_of share) r.cell
 may_use s share r (inl e) = inl (same_cell e)
 may_use s share r (inr h) = inr (holds_held s share r h)
 
 -- and what it may put
-pub may_store : (s : Setup) (share : List Move) (k : Option WordKind) (value : Reference) → MayPut s share k value → MayStore s (steps_of share) k value.cell
+pub may_store : (s : Setup) (share : List Move) (k : Option WordKind) (value : WordValue) → MayPut s share k value → MayStore s (steps_of share) k value.cell
 may_store s share None value h = h
 may_store s share (Some (kind.Integer bits)) value h = h
 may_store s share (Some (kind.Reference layout)) value (inl z) = inl z
 may_store s share (Some (kind.Reference layout)) value (inr h) = inr (holds_held s share value h.0, h.1)
 
 -- and so with all that it may name
-pub name_cells : (s : Setup) (share : List Move) (roots : List Reference) → ((r : Reference) → IsIn r roots → MayName s share r) → (c : ℕ) → IsIn c (cells_of roots) → MayUse s (steps_of share) c
+pub name_cells : (s : Setup) (share : List Move) (roots : List WordValue) → ((r : WordValue) → IsIn r roots → MayName s share r) → (c : ℕ) → IsIn c (cells_of roots) → MayUse s (steps_of share) c
 name_cells s share [] h c x = absurd x
 name_cells s share (q ∷ qs) h c (inl e) = go (h q (inl refl))
   where

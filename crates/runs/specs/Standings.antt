@@ -8,7 +8,7 @@ use Rattle.pools.specs.Pools.{first_cell}
 use Rattle.colours.specs.Steps.{Step, Claim}
 use Rattle.colours.specs.Steps as step
 use Rattle.colours.specs.Mutator.{Phase, stage_of, phase_of}
-use Rattle.runs.specs.Machine.{Reference, Machine}
+use Rattle.runs.specs.Machine.{WordValue, Machine}
 use Rattle.runs.specs.Moves.{Move, Works, GoesWrong, ReadsWord, ReadsOldValue, Marks, StoresAfterBarrier, StoresPlain, Claims, ReadsPosted, StoresStage, ReadsPostedFirst, EntersStage, ReadsPostedAgain, step_of, steps_of, logged, phase_afterwards, ends_call, answer_of, state_after, old_of}
 use Rattle.runs.specs.ModuleRuns.{Happening, OfThread, OfCollector, share_of}
 use Rattle.runs.specs.NextMoves.{Sight, next_move, next_move_in}
@@ -69,20 +69,20 @@ pub begins : (s : Setup) (m : Machine) (starts : ℕ → m.State) (t : ℕ) → 
 begins s m starts t = record { state = refl; stage = refl; phase = refl; old = refl; hints = no-hints s }
 
 -- a thread has this state after this share
-record IsAt (s : Setup) (m : Machine) (t : ℕ) (start : m.State) (share : List Move) (stand : Standing m.State) : Type 0 where
-  state : stand.state ≡ state_after s m t start share
-  stage : stand.stage ≡ stage_of (steps_of share)
-  phase : stand.phase ≡ phase_of s t (steps_of share)
-  old : stand.old ≡ old_of share
-  hints : AreHints s (steps_of share) stand.hints
+record IsAt (s : Setup) (m : Machine) (t : ℕ) (start : m.State) (share : List Move) (thread_state : Standing m.State) : Type 0 where
+  state : thread_state.state ≡ state_after s m t start share
+  stage : thread_state.stage ≡ stage_of (steps_of share)
+  phase : thread_state.phase ≡ phase_of s t (steps_of share)
+  old : thread_state.old ≡ old_of share
+  hints : AreHints s (steps_of share) thread_state.hints
 
-at_share : (s : Setup) (m : Machine) (starts : ℕ → m.State) (run : List Happening) (t : ℕ) (stand : Standing m.State) → StandsAfter s m starts run t stand → IsAt s m t (starts t) (share_of t run) stand
-at_share s m starts run t stand x = record { state = x.state; stage = x.stage; phase = x.phase; old = x.old; hints = x.hints }
+at_share : (s : Setup) (m : Machine) (starts : ℕ → m.State) (run : List Happening) (t : ℕ) (thread_state : Standing m.State) → StandsAfter s m starts run t thread_state → IsAt s m t (starts t) (share_of t run) thread_state
+at_share s m starts run t thread_state x = record { state = x.state; stage = x.stage; phase = x.phase; old = x.old; hints = x.hints }
 
-after_run : (s : Setup) (m : Machine) (starts : ℕ → m.State) (run : List Happening) (t : ℕ) (share : List Move) (stand : Standing m.State) → share_of t run ≡ share → IsAt s m t (starts t) share stand
-    → StandsAfter s m starts run t stand
-after_run s m starts run t share stand e x =
-    let y : IsAt s m t (starts t) (share_of t run) stand = subst (λ (q : List Move). IsAt s m t (starts t) q stand) (sym e) x in
+after_run : (s : Setup) (m : Machine) (starts : ℕ → m.State) (run : List Happening) (t : ℕ) (share : List Move) (thread_state : Standing m.State) → share_of t run ≡ share → IsAt s m t (starts t) share thread_state
+    → StandsAfter s m starts run t thread_state
+after_run s m starts run t share thread_state e x =
+    let y : IsAt s m t (starts t) (share_of t run) thread_state = subst (λ (q : List Move). IsAt s m t (starts t) q thread_state) (sym e) x in
     record { state = y.state; stage = y.stage; phase = y.phase; old = y.old; hints = y.hints }
 
 -- ---- its own move
@@ -106,37 +106,37 @@ old_with : (move : Move) (share : List Move) → old_by move ≡ old_of (move �
 old_with (ReadsOldValue base word value) share = refl
 old_with move share = refl
 
-own_move : (s : Setup) (m : Machine) (t : ℕ) (start : m.State) (share : List Move) (stand : Standing m.State) → IsAt s m t start share stand → (move : Move) → IsAt s m t start (move ∷ share) (moved s m stand move)
-own_move s m t start share stand x move = record {
-  state = ap (λ (q : m.State). after q (phase_afterwards s stand.stage stand.phase (step_of move))) x.state ∙ ap (λ (q : Phase). after (state_after s m t start share) q) same_phase;
+own_move : (s : Setup) (m : Machine) (t : ℕ) (start : m.State) (share : List Move) (thread_state : Standing m.State) → IsAt s m t start share thread_state → (move : Move) → IsAt s m t start (move ∷ share) (moved s m thread_state move)
+own_move s m t start share thread_state x move = record {
+  state = ap (λ (q : m.State). after q (phase_afterwards s thread_state.stage thread_state.phase (step_of move))) x.state ∙ ap (λ (q : Phase). after (state_after s m t start share) q) same_phase;
   stage = ap (λ (n : ℕ). stage_afterwards n move) x.stage ∙ stage_with (steps_of share) move share refl;
   phase = same_phase;
   old = old_with move share;
-  hints = hints-with s (steps_of share) stand.hints (step_of move) x.hints;
+  hints = hints-with s (steps_of share) thread_state.hints (step_of move) x.hints;
 }
   where
     after : m.State → Phase → m.State
     after state phase = if ends_call move phase then m.after_answer state (answer_of (m.action state) move) else state
 
-    same_phase : phase_afterwards s stand.stage stand.phase (step_of move) ≡ phase_of s t (steps_of (move ∷ share))
+    same_phase : phase_afterwards s thread_state.stage thread_state.phase (step_of move) ≡ phase_of s t (steps_of (move ∷ share))
     same_phase =
-        ap (λ (n : ℕ). phase_afterwards s n stand.phase (step_of move)) x.stage
+        ap (λ (n : ℕ). phase_afterwards s n thread_state.phase (step_of move)) x.stage
         ∙ ap (λ (q : Phase). phase_afterwards s (stage_of (steps_of share)) q (step_of move)) x.phase
         ∙ phase_with s t (steps_of share) (step_of move)
 
 -- ---- every happening
 
 -- the thread goes on from where it is
-pub goes_on : (s : Setup) (m : Machine) (starts : ℕ → m.State) (run : List Happening) (t : ℕ) (stand : Standing m.State) → StandsAfter s m starts run t stand → GoesOn s m starts run t stand
-goes_on s m starts run t stand x = record {
+pub goes_on : (s : Setup) (m : Machine) (starts : ℕ → m.State) (run : List Happening) (t : ℕ) (thread_state : Standing m.State) → StandsAfter s m starts run t thread_state → GoesOn s m starts run t thread_state
+goes_on s m starts run t thread_state x = record {
   next = same_next;
-  own = λ move. after_run s m starts (OfThread t move ∷ run) t (move ∷ share_of t run) (moved s m stand move) (here move) (own_move s m t (starts t) (share_of t run) stand at move);
-  other = λ u move n. after_run s m starts (OfThread u move ∷ run) t (share_of t run) stand (elsewhere u move n) at;
-  collector = λ turn. after_run s m starts (OfCollector turn ∷ run) t (share_of t run) stand refl at;
+  own = λ move. after_run s m starts (OfThread t move ∷ run) t (move ∷ share_of t run) (moved s m thread_state move) (here move) (own_move s m t (starts t) (share_of t run) thread_state at move);
+  other = λ u move n. after_run s m starts (OfThread u move ∷ run) t (share_of t run) thread_state (elsewhere u move n) at;
+  collector = λ turn. after_run s m starts (OfCollector turn ∷ run) t (share_of t run) thread_state refl at;
 }
   where
-    at : IsAt s m t (starts t) (share_of t run) stand
-    at = at_share s m starts run t stand x
+    at : IsAt s m t (starts t) (share_of t run) thread_state
+    at = at_share s m starts run t thread_state x
 
     here : (move : Move) → share_of t (OfThread t move ∷ run) ≡ move ∷ share_of t run
     here move = rw (test_yes t t refl) refl
@@ -144,11 +144,11 @@ goes_on s m starts run t stand x = record {
     elsewhere : (u : ℕ) (move : Move) → u ≢ t → share_of t (OfThread u move ∷ run) ≡ share_of t run
     elsewhere u move n = rw (test_no u t n) refl
 
-    same_next : (h : Sight) → next_move_of s m h stand ≡ next_move_in s m starts run h t
+    same_next : (h : Sight) → next_move_of s m h thread_state ≡ next_move_in s m starts run h t
     same_next h =
-        ap (λ (q : m.State). next_move s h stand.stage (m.roots q) stand.old (m.action q) stand.phase) x.state
-        ∙ ap (λ (n : ℕ). next_move s h n (m.roots state) stand.old (m.action state) stand.phase) x.stage
-        ∙ ap (λ (r : Reference). next_move s h (stage_of (steps_of share)) (m.roots state) r (m.action state) stand.phase) x.old
+        ap (λ (q : m.State). next_move s h thread_state.stage (m.roots q) thread_state.old (m.action q) thread_state.phase) x.state
+        ∙ ap (λ (n : ℕ). next_move s h n (m.roots state) thread_state.old (m.action state) thread_state.phase) x.stage
+        ∙ ap (λ (r : WordValue). next_move s h (stage_of (steps_of share)) (m.roots state) r (m.action state) thread_state.phase) x.old
         ∙ ap (λ (q : Phase). next_move s h (stage_of (steps_of share)) (m.roots state) (old_of share) (m.action state) q) x.phase
       where
         share : List Move

@@ -9,7 +9,7 @@ use Rattle.colours.specs.Calls.{AreApart, IsPoolInOrder}
 use Rattle.colours.specs.Hints.{pool_by_hint}
 use Rattle.colours.specs.Colours.{done}
 use Rattle.colours.specs.Mutator.{Phase, Ready, MarkingOld, MarkingNew, Writing, Trying, Answering, Ended, Absent, Arriving, Entering, Leaving, MayTry, stage_of, phase_of}
-use Rattle.runs.specs.Machine.{Reference, Action, Local, Read, StorePlain, Write, Alloc, Safepoint, End, Wrong, Machine}
+use Rattle.runs.specs.Machine.{WordValue, Action, Local, Read, StorePlain, Write, Alloc, Safepoint, End, Wrong, Machine}
 use Rattle.runs.specs.Moves.{Move, Works, GoesWrong, ReadsWord, ReadsOldValue, Marks, StoresAfterBarrier, StoresPlain, Claims, ReadsPosted, StoresStage, ReadsPostedFirst, EntersStage, ReadsPostedAgain, step_of, steps_of, logged, phase_afterwards, ends_call, answer_of, state_after, old_of, IsOfTry, AsksFor, IsShare}
 use Rattle.runs.specs.ModuleRuns.{Happening, share_of}
 use Rattle.runs.specs.NextMoves.{next_move, next_move_in, try_of, sight_after, TriesInPool}
@@ -120,7 +120,7 @@ some_cell s layout cell o =
     let some : slice_index s.pools layout ≢ 0 = subst (λ (l : ℕ). slice_index s.pools l ≢ 0) o.2 (has_cells s.pools (cell - 1) (omega (arith, o.0, o.1))) in
     omega (arith, some)
 
-stands_at : (s : Setup) (log : List Step) (stage : ℕ) (roots : List Reference) (old : Reference) (action : Action) (phase : Phase) (move : Move) → AsksFor s roots old action phase move → IsByHint s log action phase move
+stands_at : (s : Setup) (log : List Step) (stage : ℕ) (roots : List WordValue) (old : WordValue) (action : Action) (phase : Phase) (move : Move) → AsksFor s roots old action phase move → IsByHint s log action phase move
     → StandsSo s log action phase → StandsSo s (logged (step_of move) log) action (phase_afterwards s stage phase (step_of move))
 stands_at s log stage roots old Local Ready Works a l f = tt
 stands_at s log stage roots old Wrong Ready GoesWrong a l f = tt
@@ -230,7 +230,7 @@ every : (P : Move → Type 0) → ((move : Move) → P move) → (o : Option Mov
 every P f None = tt
 every P f (Some move) = f move
 
-next_by_hint : (s : Setup) (run : List Happening) (log : List Step) (stage : ℕ) (roots : List Reference) (old : Reference) (action : Action) (phase : Phase)
+next_by_hint : (s : Setup) (run : List Happening) (log : List Step) (stage : ℕ) (roots : List WordValue) (old : WordValue) (action : Action) (phase : Phase)
     → MatchOption (next_move s (sight_after s run (by_hint s log)) stage roots old action phase) (Unit {0}) (IsByHint s log action phase)
 next_by_hint s run log stage roots old (Alloc layout) Ready = go (slice_index s.pools layout == 0)
   where

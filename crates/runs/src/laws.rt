@@ -57,9 +57,9 @@ pub fn next_move_law<M: Machine>()
 /// where it is after one more happening.
 pub fn standing_law<M: Machine>()
     ensures begun { (s : Setup) (starts : ℕ → M) (t : ℕ) → StandsAfter s (machine_of M.action M.after_answer M.roots) starts [] t (begun s (machine_of M.action M.after_answer M.roots) starts t) }
-    ensures goes_on { (s : Setup) (starts : ℕ → M) (run : List Happening) (t : ℕ) (stand : Standing M)
-        → StandsAfter s (machine_of M.action M.after_answer M.roots) starts run t stand
-        → GoesOn s (machine_of M.action M.after_answer M.roots) starts run t stand }
+    ensures goes_on { (s : Setup) (starts : ℕ → M) (run : List Happening) (t : ℕ) (thread_state : Standing M)
+        → StandsAfter s (machine_of M.action M.after_answer M.roots) starts run t thread_state
+        → GoesOn s (machine_of M.action M.after_answer M.roots) starts run t thread_state }
 {}
 
 /// The law of real threads, whose references have no births: after a log of possible answers each call that the machine of a

@@ -1,6 +1,6 @@
 ghost use Rattle.std.specs.Prelude.{List};
 ghost use Rattle.pools.specs.Heap.{Setup};
-ghost use Rattle.runs.specs.Machine.{Reference, Action, Answer};
+ghost use Rattle.runs.specs.Machine.{WordValue, Action, Answer};
 ghost use Rattle.runs.specs.Moves.{Move};
 
 /// A thread's machine. Its values are the thread's states.
@@ -12,7 +12,7 @@ pub trait Machine {
     ghost after_answer: { Self → Answer → Self };
 
     /// What the root slots of all frames hold, the oldest frame's first.
-    ghost roots: { Self → List Reference };
+    ghost roots: { Self → List WordValue };
 }
 
 /// A machine with a predicate of shares and the states after them, as facts about a program are.

@@ -4,7 +4,7 @@ use Rattle.pools.specs.Heap.{Setup, IsOfLayout}
 use Rattle.colours.specs.Steps.{Step, Claim}
 use Rattle.colours.specs.Mutator.{Phase, Ready, Trying, phase_of, phase_after, stage_of, after_loss, MayFollow}
 use Rattle.lemmas.specs.Numbers.{test_yes, test_no}
-use Rattle.runs.specs.Machine.{Reference, Action, Machine, Got}
+use Rattle.runs.specs.Machine.{WordValue, Action, Machine, Got}
 use Rattle.runs.specs.Machine as machine
 use Rattle.runs.specs.Moves.{Claims, null, AsksFor}
 use Rattle.moves.specs.Kinds.{AnswersByKind}
@@ -17,25 +17,25 @@ use Rattle.serving.proofs.ReadServed.{at_most}
 use Rattle.serving.proofs.PoolSizes.{no_more}
 
 -- where a thread stands after tries of these cells that were lost, if a cell is left
-abbrev stance : List ℕ → Phase
-stance [] = Ready
-stance (cell ∷ cells) = Trying (cell ∷ cells)
+abbrev call_phase : List ℕ → Phase
+call_phase [] = Ready
+call_phase (cell ∷ cells) = Trying (cell ∷ cells)
 
 module _ (s : Setup) (layout : ℕ) where
-  follows : (cells : List ℕ) (stage cell : ℕ) (won : Bool) → AreOfPool s layout (cell ∷ cells) → MayFollow s stage (stance cells) (Claim cell won)
+  follows : (cells : List ℕ) (stage cell : ℕ) (won : Bool) → AreOfPool s layout (cell ∷ cells) → MayFollow s stage (call_phase cells) (Claim cell won)
   follows [] stage cell won are = (are.0.0, are.0.1)
   follows (c ∷ cells) stage cell won are = (subst (λ (l : ℕ). IsOfLayout s l cell) (sym are.2.0.2) are.0, are.1)
 
-  asks : (roots : List Reference) (old : Reference) (cells : List ℕ) (cell : ℕ) (won : Bool) → IsOfLayout s layout cell
-      → AsksFor s roots old (machine.Alloc layout) (stance cells) (Claims (record { cell = cell; birth = 0 }) won)
+  asks : (roots : List WordValue) (old : WordValue) (cells : List ℕ) (cell : ℕ) (won : Bool) → IsOfLayout s layout cell
+      → AsksFor s roots old (machine.Alloc layout) (call_phase cells) (Claims (record { cell = cell; birth = 0 }) won)
   asks roots old [] cell won o = o
   asks roots old (c ∷ cells) cell won o = o
 
-  lost_then : (cells : List ℕ) (stage cell : ℕ) → phase_after s stage (stance cells) (Claim cell false) ≡ after_loss s cells cell
+  lost_then : (cells : List ℕ) (stage cell : ℕ) → phase_after s stage (call_phase cells) (Claim cell false) ≡ after_loss s cells cell
   lost_then [] stage cell = refl
   lost_then (c ∷ cells) stage cell = refl
 
-  won_then : (cells : List ℕ) (stage cell : ℕ) → phase_after s stage (stance cells) (Claim cell true) ≡ Ready
+  won_then : (cells : List ℕ) (stage cell : ℕ) → phase_after s stage (call_phase cells) (Claim cell true) ≡ Ready
   won_then [] stage cell = refl
   won_then (c ∷ cells) stage cell = refl
 
@@ -48,11 +48,11 @@ module _ (s : Setup) (layout : ℕ) where
 module _ (m : Machine) (start : m.State) (moves : ℕ) (t : Holder) (state : m.State) (v : Serves m start moves t state) (layout : ℕ) (ready : phase_of t.setup t.thread t.log ≡ Ready) (e : m.action state ≡ machine.Alloc layout) where
   -- after lost tries, while a cell is left
   all_lost : (cells : List ℕ) → AreOfPool t.setup layout cells → length cells < slice_index t.setup.pools layout
-      → (old : Reference) × Under t.setup m t.thread start state (machine.Alloc layout) moves (lost cells ++ t.log) (stance cells) old
+      → (old : WordValue) × Under t.setup m t.thread start state (machine.Alloc layout) moves (lost cells ++ t.log) (call_phase cells) old
   all_lost [] are few = (_, begins m start moves t state v (machine.Alloc layout) ready e)
   all_lost (cell ∷ cells) are few = let before = all_lost cells are.2 (omega arith) in (
     null,
-    further t.setup m t.thread start state (machine.Alloc layout) moves (lost cells ++ t.log) (stance cells) before.0 before.1
+    further t.setup m t.thread start state (machine.Alloc layout) moves (lost cells ++ t.log) (call_phase cells) before.0 before.1
         (Claims (record { cell = cell; birth = 0 }) false) (Claim cell false) refl
         (follows t.setup layout cells (stage_of (lost cells ++ t.log)) cell false are)
         (asks t.setup layout (m.roots state) before.0 cells cell false are.0) refl (Trying (cell ∷ cells))
@@ -64,7 +64,7 @@ module _ (m : Machine) (start : m.State) (moves : ℕ) (t : Holder) (state : m.S
       → Over t.setup m t.thread start (m.after_answer state (Got null)) (suc moves) (lost cells ++ t.log)
   none_won [] are all = works t.setup m t.thread start state (machine.Alloc layout) moves t.log _ (begins m start moves t state v (machine.Alloc layout) ready e) (sym all)
   none_won (cell ∷ cells) are all = let before = all_lost cells are.2 (omega arith) in
-      last t.setup m t.thread start state (machine.Alloc layout) moves (lost cells ++ t.log) (stance cells) before.0 before.1
+      last t.setup m t.thread start state (machine.Alloc layout) moves (lost cells ++ t.log) (call_phase cells) before.0 before.1
       (Claims (record { cell = cell; birth = 0 }) false) (Claim cell false) refl
       (follows t.setup layout cells (stage_of (lost cells ++ t.log)) cell false are)
       (asks t.setup layout (m.roots state) before.0 cells cell false are.0) refl Ready
@@ -74,7 +74,7 @@ module _ (m : Machine) (start : m.State) (moves : ℕ) (t : Holder) (state : m.S
   one_won : (cell : ℕ) (cells : List ℕ) → AreOfPool t.setup layout (cell ∷ cells)
       → Over t.setup m t.thread start (m.after_answer state (Got (record { cell = cell; birth = 0 }))) (suc moves) (Claim cell true ∷ (lost cells ++ t.log))
   one_won cell cells are = let few = no_more t.setup layout (cell ∷ cells) are in let before = all_lost cells are.2 (omega (arith, few)) in
-      last t.setup m t.thread start state (machine.Alloc layout) moves (lost cells ++ t.log) (stance cells) before.0 before.1
+      last t.setup m t.thread start state (machine.Alloc layout) moves (lost cells ++ t.log) (call_phase cells) before.0 before.1
       (Claims (record { cell = cell; birth = 0 }) true) (Claim cell true) refl
       (follows t.setup layout cells (stage_of (lost cells ++ t.log)) cell true are)
       (asks t.setup layout (m.roots state) before.0 cells cell true are.0) refl Ready

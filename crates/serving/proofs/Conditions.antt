@@ -6,7 +6,7 @@ use Rattle.pools.specs.Heap.{kind_of}
 use Rattle.pools.specs.Layouts.{is_reference_kind}
 use Rattle.colours.specs.Steps.{Step}
 use Rattle.colours.specs.Mutator.{Ready, phase_of, MayUse, MayStore, IsPossibleLog, Fresh}
-use Rattle.runs.specs.Machine.{Reference, Action, Read, StorePlain, Write, Wrong, Machine}
+use Rattle.runs.specs.Machine.{WordValue, Action, Read, StorePlain, Write, Wrong, Machine}
 use Rattle.runs.specs.Moves.{cells_of, steps_of}
 use Rattle.runs.specs.Broken.{IsUnderWay}
 use Rattle.runs.specs.Discipline.{MayName, ArePossible}
@@ -25,11 +25,11 @@ module _ (m : Machine) (start : m.State) (moves : ℕ) (t : Holder) (state : m.S
   calls : (action : Action) → m.action state ≡ action → discipline.MayCall t.setup v.real.share action
   calls action e = subst (discipline.MayCall t.setup v.real.share) (ap m.action v.real.leads_to ∙ e) (v.careful.calls v.real.share v.real.asked are_possible at_ready)
 
-  pub may_read : (base : Reference) (word cell : ℕ) → cell ≡ base.cell → m.action state ≡ Read base word → MayUse t.setup t.log cell × (kind_of t.setup cell word ≢ None)
+  pub may_read : (base : WordValue) (word cell : ℕ) → cell ≡ base.cell → m.action state ≡ Read base word → MayUse t.setup t.log cell × (kind_of t.setup cell word ≢ None)
   may_read base word cell number e = let c : discipline.MayCall t.setup v.real.share (Read base word) = calls (Read base word) e in
       subst (λ (d : ℕ). MayUse t.setup t.log d × (kind_of t.setup d word ≢ None)) (sym number) (subst (λ (l : List Step). MayUse t.setup l base.cell) v.real.steps (may_use t.setup v.real.share base c.0), c.1)
 
-  pub may_write : (base : Reference) (word : ℕ) (value : Reference) (cell new : ℕ) → cell ≡ base.cell → new ≡ value.cell → m.action state ≡ Write base word value
+  pub may_write : (base : WordValue) (word : ℕ) (value : WordValue) (cell new : ℕ) → cell ≡ base.cell → new ≡ value.cell → m.action state ≡ Write base word value
       → MayUse t.setup t.log cell × IsTrue (is_reference_kind (kind_of t.setup cell word)) × MayStore t.setup t.log (kind_of t.setup cell word) new
   may_write base word value cell new number same e = let c : discipline.MayCall t.setup v.real.share (Write base word value) = calls (Write base word value) e in
       subst (λ (d : ℕ). MayUse t.setup t.log d × IsTrue (is_reference_kind (kind_of t.setup d word)) × MayStore t.setup t.log (kind_of t.setup d word) new) (sym number) (
@@ -38,7 +38,7 @@ module _ (m : Machine) (start : m.State) (moves : ℕ) (t : Holder) (state : m.S
         subst (λ (n : ℕ). MayStore t.setup t.log (kind_of t.setup base.cell word) n) (sym same) (subst (λ (l : List Step). MayStore t.setup l (kind_of t.setup base.cell word) value.cell) v.real.steps (may_store t.setup v.real.share (kind_of t.setup base.cell word) value c.2)),
       )
 
-  pub may_store_plain : (base : Reference) (word : ℕ) (value : Reference) (cell : ℕ) → cell ≡ base.cell → m.action state ≡ StorePlain base word value
+  pub may_store_plain : (base : WordValue) (word : ℕ) (value : WordValue) (cell : ℕ) → cell ≡ base.cell → m.action state ≡ StorePlain base word value
       → MayUse t.setup t.log cell × (IsTrue (is_reference_kind (kind_of t.setup cell word)) → Fresh t.setup t.log cell) × MayStore t.setup t.log (kind_of t.setup cell word) value.cell
   may_store_plain base word value cell number e = let c : discipline.MayCall t.setup v.real.share (StorePlain base word value) = calls (StorePlain base word value) e in
       subst (λ (d : ℕ). MayUse t.setup t.log d × (IsTrue (is_reference_kind (kind_of t.setup d word)) → Fresh t.setup t.log d) × MayStore t.setup t.log (kind_of t.setup d word) value.cell) (sym number) (
@@ -53,5 +53,5 @@ module _ (m : Machine) (start : m.State) (moves : ℕ) (t : Holder) (state : m.S
   -- each root may be named at a safepoint
   pub may_name : (c : ℕ) → IsIn c (cells_of (m.roots state)) → MayUse t.setup t.log c
   may_name c a = subst (λ (l : List Step). MayUse t.setup l c) v.real.steps (name_cells t.setup v.real.share (m.roots state)
-      (subst (λ (x : m.State). (r : Reference) → IsIn r (m.roots x) → MayName t.setup v.real.share r) v.real.leads_to
+      (subst (λ (x : m.State). (r : WordValue) → IsIn r (m.roots x) → MayName t.setup v.real.share r) v.real.leads_to
       (v.careful.roots v.real.share v.real.asked are_possible (subst IsUnderWay (sym at_ready) tt))) c a)

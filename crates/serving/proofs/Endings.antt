@@ -4,7 +4,7 @@ use Rattle.pools.specs.Heap.{Setup, cells}
 use Rattle.colours.specs.Colours.{done}
 use Rattle.colours.specs.Steps.{StoreStage}
 use Rattle.colours.specs.Mutator.{Ready, Ended, phase_of}
-use Rattle.runs.specs.Machine.{Reference, Action, Machine, Answer, Done, Answered}
+use Rattle.runs.specs.Machine.{WordValue, Action, Machine, Answer, Done, Answered}
 use Rattle.runs.specs.Machine as machine
 use Rattle.runs.specs.Moves.{StoresStage}
 use Rattle.runs.specs.RealThreads.{IsWholeShare, Left, finished}

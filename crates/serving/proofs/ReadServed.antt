@@ -6,7 +6,7 @@ use Rattle.pools.specs.declared.word_kind.WordKind.TheVariants as kind
 use Rattle.colours.specs.Colours.{done}
 use Rattle.colours.specs.Steps.{Step, ReadWord, StorePlain}
 use Rattle.colours.specs.Mutator.{Ready, phase_of, stage_of, IsPossible, MayFind}
-use Rattle.runs.specs.Machine.{Reference, Action, Machine, Done, Got}
+use Rattle.runs.specs.Machine.{WordValue, Action, Machine, Done, Got}
 use Rattle.runs.specs.Machine as machine
 use Rattle.runs.specs.Moves.{ReadsWord, StoresPlain}
 use Rattle.moves.specs.Kinds.{MayHold, AnswersByKind}
@@ -36,7 +36,7 @@ holds s log (Some (kind.Integer bits)) value n f small = small
 holds s log (Some (kind.Reference layout)) value n (inl z) small = inl z
 holds s log (Some (kind.Reference layout)) value n (inr o) small = inr o.0
 
-module _ (m : Machine) (heap : Shared) (t : Holder) (state : m.State) (call : MayCall heap t) (base : Reference) (word cell : ℕ) (number : cell ≡ base.cell) (after : Holder) where
+module _ (m : Machine) (heap : Shared) (t : Holder) (state : m.State) (call : MayCall heap t) (base : WordValue) (word cell : ℕ) (number : cell ≡ base.cell) (after : Holder) where
   pub read_served : (value : ℕ) → m.action state ≡ machine.Read base word → kind_of t.setup cell word ≢ None → IsPossible t.setup t.log (ReadWord cell word value) → value < 2 ^ 64
       → IsNow t (ReadWord cell word value ∷ t.log) after → IsServed m heap t state after (Got (record { cell = value; birth = 0 }))
   read_served value e there possible small now = record {
@@ -55,7 +55,7 @@ module _ (m : Machine) (heap : Shared) (t : Holder) (state : m.State) (call : Ma
       is : IsNow t (ReadWord base.cell word value ∷ t.log) after
       is = now ∙ ap (λ (c : ℕ). with_log t (ReadWord c word value ∷ t.log)) number
 
-  pub plain_served : (value : Reference) (stored : ℕ) → m.action state ≡ machine.StorePlain base word value → stored ≡ value.cell
+  pub plain_served : (value : WordValue) (stored : ℕ) → m.action state ≡ machine.StorePlain base word value → stored ≡ value.cell
       → IsNow t (StorePlain cell word stored ∷ t.log) after → IsServed m heap t state after Done
   plain_served value stored e same now = record {
     token = token.0;

@@ -6,7 +6,7 @@ use Rattle.colours.specs.Steps.{Step, Mark, ReadPosted, StoreStage}
 use Rattle.colours.specs.Mutator.{Ready, Answering, non_null, phase_of, stage_of, MayUse}
 use Rattle.lemmas.specs.Numbers.{test_yes, test_no}
 use Rattle.lemmas.specs.Lists.{IsIn}
-use Rattle.runs.specs.Machine.{Reference, Action, Machine, Answered}
+use Rattle.runs.specs.Machine.{WordValue, Action, Machine, Answered}
 use Rattle.runs.specs.Machine as machine
 use Rattle.runs.specs.Moves.{ReadsPosted, Marks, StoresStage, null, cells_of}
 use Rattle.moves.specs.Kinds.{AnswersByKind}
@@ -19,38 +19,38 @@ use Rattle.serving.proofs.UnderWay.{Under, Over, begins, further, last, ends}
 use Rattle.serving.proofs.ReadServed.{at_most}
 
 -- what comes after that number
-after_front : (front : List Reference) (r : Reference) (rest : List Reference) (n : ℕ) → n ≡ length front → slice_get (front ++ (r ∷ rest)) n ≡ Some r
+after_front : (front : List WordValue) (r : WordValue) (rest : List WordValue) (n : ℕ) → n ≡ length front → slice_get (front ++ (r ∷ rest)) n ≡ Some r
 after_front [] r rest zero e = refl
 after_front [] r rest (suc n) e = absurd (omega arith)
 after_front (q ∷ front) r rest zero e = absurd (omega arith)
 after_front (q ∷ front) r rest (suc n) e = after_front front r rest n (omega arith)
 
-one_more : (front : List Reference) (r : Reference) (rest : List Reference) → front ++ (r ∷ rest) ≡ (front ++ r ∷ []) ++ rest
+one_more : (front : List WordValue) (r : WordValue) (rest : List WordValue) → front ++ (r ∷ rest) ≡ (front ++ r ∷ []) ++ rest
 one_more front r rest = sym (append_assoc front (r ∷ []) rest)
 
-longer : (front : List Reference) (r : Reference) → length (front ++ r ∷ []) ≡ suc (length front)
+longer : (front : List WordValue) (r : WordValue) → length (front ++ r ∷ []) ≡ suc (length front)
 longer front r = omega (arith, length-append front (r ∷ []))
 
 module _ (m : Machine) (start : m.State) (moves : ℕ) (t : Holder) (state : m.State) (posted : ℕ) (async : IsTrue (is_async posted)) where
   -- after the first roots, the marks of the rest lead on
-  abbrev Marked : List Reference → Type 0
-  Marked rest = (front : List Reference) (log : List Step) (made : List ℕ) (old : Reference) → not_null (m.roots state) ≡ front ++ not_null rest → length made ≡ length front
+  abbrev Marked : List WordValue → Type 0
+  Marked rest = (front : List WordValue) (log : List Step) (made : List ℕ) (old : WordValue) → not_null (m.roots state) ≡ front ++ not_null rest → length made ≡ length front
       → Under t.setup m t.thread start state machine.Safepoint moves log (Answering posted made) old
-      → (last_old : Reference) × Under t.setup m t.thread start state machine.Safepoint moves (with_marks (cells_of rest) log) (Answering posted (pushed (cells_of rest) made)) last_old
+      → (last_old : WordValue) × Under t.setup m t.thread start state machine.Safepoint moves (with_marks (cells_of rest) log) (Answering posted (pushed (cells_of rest) made)) last_old
 
-  one_root : (cell birth : ℕ) (rest : List Reference) → Marked rest → Marked (record { cell = cell; birth = birth } ∷ rest)
+  one_root : (cell birth : ℕ) (rest : List WordValue) → Marked rest → Marked (record { cell = cell; birth = birth } ∷ rest)
   one_root zero birth rest next front log made old all same u = next front log made old all same u
   one_root (suc cell) birth rest next front log made old all same u = next (front ++ q ∷ []) (Mark (suc cell) ∷ log) (suc cell ∷ made) null (parts ∙ one_more front q (not_null rest)) (let n = longer front q in omega arith)
       (further t.setup m t.thread start state machine.Safepoint moves log (Answering posted made) old u (Marks q) (Mark (suc cell)) refl (async, λ z. omega arith)
-      (ap (λ (l : List Reference). slice_get l (length made)) parts ∙ after_front front q (not_null rest) (length made) same) tt (Answering posted (suc cell ∷ made)) refl refl)
+      (ap (λ (l : List WordValue). slice_get l (length made)) parts ∙ after_front front q (not_null rest) (length made) same) tt (Answering posted (suc cell ∷ made)) refl refl)
     where
-      q : Reference
+      q : WordValue
       q = record { cell = suc cell; birth = birth }
 
       parts : not_null (m.roots state) ≡ front ++ (q ∷ not_null rest)
       parts = all ∙ rw (test_no (suc cell) 0 (λ z. omega arith)) refl
 
-  marked : (rest : List Reference) → Marked rest
+  marked : (rest : List WordValue) → Marked rest
   marked [] front log made old all same u = (old, u)
   marked (r ∷ rest) front log made old all same u = one_root r.cell r.birth rest (marked rest) front log made old all same u
 
@@ -64,7 +64,7 @@ module _ (m : Machine) (start : m.State) (moves : ℕ) (t : Holder) (state : m.S
   looked other = further t.setup m t.thread start state machine.Safepoint moves t.log Ready _ (begins m start moves t state v machine.Safepoint ready e)
       (ReadsPosted posted) (ReadPosted posted) refl tt tt tt (Answering posted []) (rw (test_no posted (stage_of t.log) other) refl) refl
 
-  stores : (log : List Step) (made : List ℕ) (old : Reference) → Under t.setup m t.thread start state machine.Safepoint moves log (Answering posted made) old
+  stores : (log : List Step) (made : List ℕ) (old : WordValue) → Under t.setup m t.thread start state machine.Safepoint moves log (Answering posted made) old
       → (IsTrue (is_async posted) → reverse made ≡ non_null (cells_of (m.roots state))) → posted ≢ done
       → Over t.setup m t.thread start (m.after_answer state (Answered (Some posted))) (suc moves) (StoreStage posted (cells_of (m.roots state)) ∷ log)
   stores log made old u named running = last t.setup m t.thread start state machine.Safepoint moves log (Answering posted made) old u

@@ -3,7 +3,7 @@ use Rattle.std.proofs.Common.{◌≡◌, ℕ, suc, ◌≤◌, Bool, true, false,
 use Rattle.pools.specs.Heap.{Setup}
 use Rattle.colours.specs.Steps.{Step}
 use Rattle.colours.specs.Mutator.{Phase, Ready, phase_of, phase_after, stage_of, MayFollow}
-use Rattle.runs.specs.Machine.{Reference, Action, Machine}
+use Rattle.runs.specs.Machine.{WordValue, Action, Machine}
 use Rattle.runs.specs.Moves.{Move, Works, ReadsOldValue, null, step_of, steps_of, state_after, ends_call, answer_of, old_of, AsksFor, IsAsked, IsShare}
 use Rattle.runs.specs.RealThreads.{BringsNoBirth, HasNoBirths, IsRealShare}
 use Rattle.runs.specs.Promises.{IsCareful}
@@ -11,7 +11,7 @@ use Rattle.heap_table.specs.Holders.{Holder, IsNow}
 use Rattle.serving.specs.Serving.{Serves}
 
 -- the share so far leads to this state, which asks for this action; this is the thread's state, after at least this number of moves
-pub record Under (s : Setup) (m : Machine) (t : ℕ) (start : m.State) (state : m.State) (action : Action) (moves : ℕ) (log : List Step) (phase : Phase) (old : Reference) : Type 0 where
+pub record Under (s : Setup) (m : Machine) (t : ℕ) (start : m.State) (state : m.State) (action : Action) (moves : ℕ) (log : List Step) (phase : Phase) (old : WordValue) : Type 0 where
   pub share : List Move
   pub asked : IsShare s m t start share
   pub no_births : HasNoBirths share
@@ -23,7 +23,7 @@ pub record Under (s : Setup) (m : Machine) (t : ℕ) (start : m.State) (state : 
   pub long : moves ≤ length share
 
 -- what was read for a write, by the last move alone
-abbrev pub old_by : Move → Reference
+abbrev pub old_by : Move → WordValue
 old_by (ReadsOldValue base word value) = value
 old_by _ = null
 
@@ -36,7 +36,7 @@ pub record Over (s : Setup) (m : Machine) (t : ℕ) (start : m.State) (next : m.
   pub real : IsRealShare s m t start log next
   pub long : moves ≤ length real.share
 
-module _ (s : Setup) (m : Machine) (t : ℕ) (start : m.State) (state : m.State) (action : Action) (moves : ℕ) (log : List Step) (phase : Phase) (old : Reference) (u : Under s m t start state action moves log phase old)
+module _ (s : Setup) (m : Machine) (t : ℕ) (start : m.State) (state : m.State) (action : Action) (moves : ℕ) (log : List Step) (phase : Phase) (old : WordValue) (u : Under s m t start state action moves log phase old)
     (move : Move) where
   asks_for : AsksFor s (m.roots state) old action phase move → AsksFor s (m.roots (state_after s m t start u.share)) (old_of u.share) (m.action (state_after s m t start u.share)) (phase_of s t (steps_of u.share)) move
   asks_for a = rw (u.leads_to, u.asks, u.steps, u.stands, u.read) a
@@ -77,7 +77,7 @@ module _ (s : Setup) (m : Machine) (t : ℕ) (start : m.State) (state : m.State)
     }
 
 -- a call that is one local move
-pub works : (s : Setup) (m : Machine) (t : ℕ) (start : m.State) (state : m.State) (action : Action) (moves : ℕ) (log : List Step) (old : Reference) (u : Under s m t start state action moves log Ready old)
+pub works : (s : Setup) (m : Machine) (t : ℕ) (start : m.State) (state : m.State) (action : Action) (moves : ℕ) (log : List Step) (old : WordValue) (u : Under s m t start state action moves log Ready old)
     → AsksFor s (m.roots state) old action Ready Works → Over s m t start (m.after_answer state (answer_of action Works)) (suc moves) log
 works s m t start state action moves log old u a = record {
   real = record {

@@ -6,7 +6,7 @@ use Rattle.colours.specs.Steps.{Step, ReadOldValue, Mark, StoreAfterBarrier}
 use Rattle.colours.specs.Mutator.{Ready, MarkingOld, MarkingNew, Writing, phase_of, stage_of}
 use Rattle.colours.specs.Calls.{marks, marks_of_new}
 use Rattle.lemmas.specs.Numbers.{test_no}
-use Rattle.runs.specs.Machine.{Reference, Action, Machine, Done}
+use Rattle.runs.specs.Machine.{WordValue, Action, Machine, Done}
 use Rattle.runs.specs.Machine as machine
 use Rattle.runs.specs.Moves.{ReadsOldValue, Marks, StoresAfterBarrier, null}
 use Rattle.moves.specs.Kinds.{AnswersByKind}
@@ -17,7 +17,7 @@ use Rattle.serving.specs.Serving.{Serves, IsServed}
 use Rattle.serving.proofs.UnderWay.{Under, Over, begins, further, last, ends}
 use Rattle.serving.proofs.ReadServed.{at_most}
 
-module _ (m : Machine) (start : m.State) (moves : ℕ) (t : Holder) (state : m.State) (v : Serves m start moves t state) (base : Reference) (word new birth : ℕ)
+module _ (m : Machine) (start : m.State) (moves : ℕ) (t : Holder) (state : m.State) (v : Serves m start moves t state) (base : WordValue) (word new birth : ℕ)
     (ready : phase_of t.setup t.thread t.log ≡ Ready) (e : m.action state ≡ machine.Write base word (record { cell = new; birth = birth })) where
   abbrev action : Action
   action = machine.Write base word (record { cell = new; birth = birth })
@@ -52,7 +52,7 @@ module _ (m : Machine) (start : m.State) (moves : ℕ) (t : Holder) (state : m.S
       (StoresAfterBarrier base word (record { cell = new; birth = birth })) (StoreAfterBarrier base.cell word new) refl (refl, refl, refl) (refl, refl, refl) tt Ready refl refl
 
 -- by the stage and the new value
-pub written : (m : Machine) (start : m.State) (moves : ℕ) (t : Holder) (state : m.State) (v : Serves m start moves t state) (base : Reference) (word new birth : ℕ)
+pub written : (m : Machine) (start : m.State) (moves : ℕ) (t : Holder) (state : m.State) (v : Serves m start moves t state) (base : WordValue) (word new birth : ℕ)
     → phase_of t.setup t.thread t.log ≡ Ready → m.action state ≡ machine.Write base word (record { cell = new; birth = birth }) → (old : ℕ)
     → Over t.setup m t.thread start (m.after_answer state Done) (suc moves) (StoreAfterBarrier base.cell word new ∷ (marks_of_new (stage_of t.log) new ++ (marks old ++ (ReadOldValue base.cell word old ∷ t.log))))
 written m start moves t state v base word zero birth ready e old = go (is_async (stage_of t.log))
@@ -70,7 +70,7 @@ written m start moves t state v base word (suc n) birth ready e old = go (is_asy
 abbrev write_log : List Step → (cell word new old : ℕ) → List Step
 write_log log cell word new old = StoreAfterBarrier cell word new ∷ (marks_of_new (stage_of log) new ++ (marks old ++ (ReadOldValue cell word old ∷ log)))
 
-pub write_served : (m : Machine) (heap : Shared) (t : Holder) (state : m.State) (call : MayCall heap t) (base value : Reference) (word cell new : ℕ) (after : Holder)
+pub write_served : (m : Machine) (heap : Shared) (t : Holder) (state : m.State) (call : MayCall heap t) (base value : WordValue) (word cell new : ℕ) (after : Holder)
     → cell ≡ base.cell → new ≡ value.cell → m.action state ≡ machine.Write base word value
     → IsNow t after.log after → MayCall heap after → Writes (stage_of t.log) cell word new t.log after.log → IsServed m heap t state after Done
 write_served m heap t state call base value word cell new after number same e now ready_then writes = record {

@@ -1,7 +1,7 @@
 -- A thread of a machine that is served by the shared heap.
 use Rattle.std.specs.Prelude.{ℕ, suc, ◌≤◌, ◌≡◌, Bool, MatchBool, IsTrue, List, length}
 use Rattle.pools.specs.Heap.{Setup}
-use Rattle.runs.specs.Machine.{Machine, Answer, Reference}
+use Rattle.runs.specs.Machine.{Machine, Answer, WordValue}
 use Rattle.runs.specs.Moves.{cells_of}
 use Rattle.runs.specs.Promises.{IsCareful}
 use Rattle.runs.specs.RealThreads.{IsRealShare}
@@ -58,5 +58,5 @@ pub record StaysReady (m : Machine) (heap : Shared) (before : Holder) (state : m
   pub serves : (start : m.State) (moves : ℕ) → Serves m start moves before state → Serves m start moves after reached
 
 -- a list that is current has the cells of these roots
-abbrev pub AreListed : RootCells → List Reference → Type 0
+abbrev pub AreListed : RootCells → List WordValue → Type 0
 AreListed list roots = IsTrue list.are_current → list.cells.items ≡ cells_of roots

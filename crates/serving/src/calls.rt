@@ -5,7 +5,7 @@ ghost use Rattle.serving.specs.Serving.{MayServe, IsServed, AreListed};
 
 use crate::root_cells::{RootCells, cell_of};
 use heap_table::{Heap, Mutator};
-use moves::{Answer, NULL, Reference, Runner};
+use moves::{Answer, NULL, Runner, WordValue};
 use pools::LayoutId;
 use std::alloc::AllocError;
 
@@ -14,17 +14,17 @@ pub fn read_for<R: Runner>(
     heap: &Heap<'_>,
     me: &mut Mutator,
     machine: &R,
-    base: Reference,
+    base: WordValue,
     word: u32,
 ) -> Answer
     requires asked { R.action machine.now ≡ Read base word }
     requires may { MayServe (machine_of R.action R.after_answer R.roots) R.fits heap.now me.old machine.now }
     ensures { IsServed (machine_of R.action R.after_answer R.roots) heap.now me.old machine.now me.new (answer_in result) }
 {
-    me.is_of_run();
+    me.is_of_run_law();
     let cell = cell_of(heap, base);
     let value = heap.read(me, cell, word);
-    Answer::Got(Reference {
+    Answer::Got(WordValue {
         cell: value,
         birth: 0,
     })
@@ -35,15 +35,15 @@ pub fn store_plain_for<R: Runner>(
     heap: &Heap<'_>,
     me: &mut Mutator,
     machine: &R,
-    base: Reference,
+    base: WordValue,
     word: u32,
-    value: Reference,
+    value: WordValue,
 ) -> Answer
     requires asked { R.action machine.now ≡ StorePlain base word value }
     requires may { MayServe (machine_of R.action R.after_answer R.roots) R.fits heap.now me.old machine.now }
     ensures { IsServed (machine_of R.action R.after_answer R.roots) heap.now me.old machine.now me.new (answer_in result) }
 {
-    me.is_of_run();
+    me.is_of_run_law();
     let cell = cell_of(heap, base);
     heap.store_plain(me, cell, word, value.cell);
     Answer::Done
@@ -54,15 +54,15 @@ pub fn write_for<R: Runner>(
     heap: &Heap<'_>,
     me: &mut Mutator,
     machine: &R,
-    base: Reference,
+    base: WordValue,
     word: u32,
-    value: Reference,
+    value: WordValue,
 ) -> Answer
     requires asked { R.action machine.now ≡ Write base word value }
     requires may { MayServe (machine_of R.action R.after_answer R.roots) R.fits heap.now me.old machine.now }
     ensures { IsServed (machine_of R.action R.after_answer R.roots) heap.now me.old machine.now me.new (answer_in result) }
 {
-    me.is_of_run();
+    me.is_of_run_law();
     let cell = cell_of(heap, base);
     let new = cell_of(heap, value);
     heap.write(me, cell, word, new);
@@ -84,7 +84,7 @@ pub fn alloc_for<R: Runner>(
         return Answer::Got(NULL);
     }
     let cell = heap.alloc(me, layout);
-    Answer::Got(Reference {
+    Answer::Got(WordValue {
         cell: u64::from(cell),
         birth: 0,
     })
@@ -105,7 +105,7 @@ pub fn safepoint_for<R: Runner>(
     ensures err { OnErr result (me.new ≡ me.old) }
     ensures listed { AreListed roots.new (R.roots machine.now) }
 {
-    me.is_of_run();
+    me.is_of_run_law();
     roots.list(heap, me, machine)?;
     let Some(posted) = heap.poll(me) else {
         return Ok(Answer::Answered(None));

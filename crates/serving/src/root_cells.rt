@@ -1,12 +1,12 @@
 ghost use Rattle.std.specs.Prelude.{◌≡◌, ◌<◌, false, List, OnOk};
 ghost use Rattle.pools.specs.Heap.{cells};
-ghost use Rattle.runs.specs.Machine.{Reference as AReference};
+ghost use Rattle.runs.specs.Machine.{WordValue as AWordValue};
 ghost use Rattle.runs.specs.Moves.{cells_of};
 ghost use Rattle.moves.specs.RootsAfter.{IsToldOfRoots};
 ghost use Rattle.serving.specs.Serving.{AreListed};
 
 use heap_table::{Heap, Mutator};
-use moves::{Reference, RootsAfter, Runner};
+use moves::{RootsAfter, Runner, WordValue};
 use std::alloc::{AllocError, Global};
 
 /// The cells of a thread's roots. They are kept from one listing to the next, so that a thread seldom takes memory for them.
@@ -51,7 +51,7 @@ impl RootCells {
 
     /// The thread has gone on, and this is told of its roots.
     pub fn follow(&mut self, after: RootsAfter)
-        ensures { (before roots : List AReference) → IsToldOfRoots after before roots → AreListed self.old before → AreListed self.new roots }
+        ensures { (before roots : List AWordValue) → IsToldOfRoots after before roots → AreListed self.old before → AreListed self.new roots }
     {
         if let RootsAfter::Others = after {
             self.are_current = false;
@@ -79,10 +79,10 @@ fn fill<R: Runner>(
 }
 
 /// The number of a reference's cell.
-pub(crate) fn cell_of(heap: &Heap<'_>, at: Reference) -> u32
+pub(crate) fn cell_of(heap: &Heap<'_>, at: WordValue) -> u32
     requires { at.cell < cells heap.now.setup }
     ensures { result ≡ at.cell }
 {
-    heap.few_cells();
+    heap.few_cells_law();
     at.cell as u32
 }

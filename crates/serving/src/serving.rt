@@ -131,7 +131,7 @@ fn go_on<R: Runner>(
     ensures err { OnErr result (StaysReady (machine_of R.action R.after_answer R.roots) heap.now me.old machine.old me.new) }
     ensures listed { OnOk result (AreListed roots.new (R.roots machine.new)) }
 {
-    heap.few_cells();
+    heap.few_cells_law();
     let answer = make_call(heap, me, machine, roots)?;
     let after = machine.answer(answer)?;
     roots.follow(after);
@@ -152,7 +152,7 @@ fn make_call<R: Runner>(
     ensures err { OnErr result (me.new ≡ me.old) }
     ensures listed { AreListed roots.new (R.roots machine.now) }
 {
-    me.is_of_run();
+    me.is_of_run_law();
     match machine.call() {
         Call::Local => Ok(Answer::Done),
         Call::Read { base, word } => Ok(read_for(heap, me, machine, base, word)),

@@ -5,13 +5,13 @@ use Rattle.lemmas.specs.Lists.{IsIn}
 use Rattle.pools.specs.Heap.{Setup, cells_in, cells}
 use Rattle.colours.specs.Mutator.{Phase, phase_of}
 use Rattle.colours.specs.declared.turn.Turn.{Turn}
-use Rattle.runs.specs.Machine.{Reference, Answer, Machine}
+use Rattle.runs.specs.Machine.{WordValue, Answer, Machine}
 use Rattle.runs.specs.Moves.{Move, step_of, steps_of, state_after}
 use Rattle.runs.specs.Ends.{StandsAfter}
 use Rattle.runs.specs.ModuleRuns.{Happening, OfThread, OfCollector, share_of, IsNext}
 use Rattle.runs.specs.Broken.{IsUnderWay, IsRoot}
 use Rattle.moves.specs.declared.actor.Actor.{Actor}
-use Rattle.moves.specs.declared.stand.Stand.{Stand}
+use Rattle.moves.specs.declared.thread_state.ThreadState.{ThreadState}
 use Rattle.moves.specs.declared.moves.Move.{Move as AMove}
 use Rattle.moves.specs.declared.moves.Move.TheVariants as made
 use Rattle.moves.specs.Calls.{move_in}
@@ -41,10 +41,10 @@ use Rattle.stepping.proofs.RunRoots.{are-roots, under-way-is-own}
 -- ---- by all that can be reached
 
 module _ (s : Setup) (m : Machine) (Fits : m.State → Type 0) (starts : ℕ → m.State) (actors : List Actor) (a : Actors m.State) (b : AreAfterSteps s m Fits starts actors a)
-    (keeps : (state : m.State) → Fits state → KeepsKinds s m.action m.after_answer m.roots Fits state) (roots : List Reference) (all : roots ≡ roots_of m.roots a.threads.items)
+    (keeps : (state : m.State) → Fits state → KeepsKinds s m.action m.after_answer m.roots Fits state) (roots : List WordValue) (all : roots ≡ roots_of m.roots a.threads.items)
     (few : cells_in a.schema.pools.now ≤ 2 ^ 20) (w : Walk) (walked : IsShaped (cells s) w × IsWhole s a.shared roots w) where
   are-all : AreRoots s m starts (run_by s m starts actors) roots
-  are-all = subst (λ (rs : List Reference). AreRoots s m starts (run_by s m starts actors) rs) (sym all) (are-roots s m Fits starts actors a b keeps)
+  are-all = subst (λ (rs : List WordValue). AreRoots s m starts (run_by s m starts actors) rs) (sym all) (are-roots s m Fits starts actors a b keeps)
 
   -- what is gone first is what the walk tells
   pub first-met : (blue reborn : Option ℕ) → w.blue ≡ blue → w.reborn ≡ reborn → IsFirstGone s m starts (run_by s m starts actors) (gone_of blue reborn)
@@ -91,20 +91,20 @@ abbrev IsNoBeginning : AMove → Type 0
 IsNoBeginning (made.ReadsPostedAgain stage) = ⊥
 IsNoBeginning move = Unit {0}
 
-begins-none : (roots : List Reference) (move : AMove) → IsNoBeginning move → MatchOption (step_of (move_in roots move)) (Unit {0}) IsNoBegin
+begins-none : (roots : List WordValue) (move : AMove) → IsNoBeginning move → MatchOption (step_of (move_in roots move)) (Unit {0}) IsNoBegin
 begins-none roots (made.ReadsPostedAgain stage) none = none
 begins-none roots move none = tt
 
 -- a root of the thread was one before, or is one of these
-thread-owns : (s : Setup) (m : Machine) (newest : m.State → List Reference) (adds : (state : m.State) (given : Answer) → AddsNewest (m.roots state) (m.roots (m.after_answer state given)) (newest (m.after_answer state given)))
-    (starts : ℕ → m.State) (run : List Happening) (t : ℕ) (roots : List Reference) (move : AMove) → IsNext s m starts run (OfThread t (move_in roots move)) → (stand : Stand m.State)
-    → StandsAfter s m starts (OfThread t (move_in roots move) ∷ run) t (standing s m stand)
-    → (r : Reference) → IsUnderWay (phase_of s t (steps_of (share_of t (OfThread t (move_in roots move) ∷ run)))) → IsIn r (m.roots (state_after s m t (starts t) (share_of t (OfThread t (move_in roots move) ∷ run))))
-    → IsRoot s m starts run r ⊎ IsIn r (new_roots m.roots newest stand move)
-thread-owns s m newest adds starts run t roots (made.ReadsPostedAgain stage) next stand stands r way is_root =
-    inr (under-way-is-own (cells_to_try s stand.hints (m.action stand.state)) (m.roots stand.state) (m.roots stand.state) stand.stance r (subst (λ (p : Phase). IsUnderWay p) (sym stands.phase) way)
+thread-owns : (s : Setup) (m : Machine) (newest : m.State → List WordValue) (adds : (state : m.State) (given : Answer) → AddsNewest (m.roots state) (m.roots (m.after_answer state given)) (newest (m.after_answer state given)))
+    (starts : ℕ → m.State) (run : List Happening) (t : ℕ) (roots : List WordValue) (move : AMove) → IsNext s m starts run (OfThread t (move_in roots move)) → (thread_state : ThreadState m.State)
+    → StandsAfter s m starts (OfThread t (move_in roots move) ∷ run) t (standing s m thread_state)
+    → (r : WordValue) → IsUnderWay (phase_of s t (steps_of (share_of t (OfThread t (move_in roots move) ∷ run)))) → IsIn r (m.roots (state_after s m t (starts t) (share_of t (OfThread t (move_in roots move) ∷ run))))
+    → IsRoot s m starts run r ⊎ IsIn r (new_roots m.roots newest thread_state move)
+thread-owns s m newest adds starts run t roots (made.ReadsPostedAgain stage) next thread_state stands r way is_root =
+    inr (under-way-is-own (cells_to_try s thread_state.hints (m.action thread_state.state)) (m.roots thread_state.state) (m.roots thread_state.state) thread_state.call_phase r (subst (λ (p : Phase). IsUnderWay p) (sym stands.phase) way)
     (subst (λ (state : m.State). IsIn r (m.roots state)) (sym stands.state) is_root))
-thread-owns s m newest adds starts run t roots move next stand stands r way is_root =
+thread-owns s m newest adds starts run t roots move next thread_state stands r way is_root =
     elim (newest-own s m newest adds starts run t (move_in roots move) next (begins-none roots move tt) r way is_root) [
       | inl was ↦ inl was
       | inr new ↦ inr (subst (λ (state : m.State). IsIn r (newest state)) (sym stands.state) new)
@@ -140,9 +140,9 @@ module _ (s : Setup) (m : Machine) (Fits : m.State → Type 0) (starts : ℕ →
       subst (λ (x : Walk). IsCoverAfter s m starts (run_by s m starts (actor ∷ before)) x) (sym kept.0) (back (OfCollector turn) told w known.over covers)
 
   -- after a move of a thread
-  module _ (t : ℕ) (made : AMove) (of_thread : step.happening ≡ Thread t made) (stand : Stand m.State) (at : slice_get a.threads.items t ≡ Some stand)
+  module _ (t : ℕ) (made : AMove) (of_thread : step.happening ≡ Thread t made) (thread_state : ThreadState m.State) (at : slice_get a.threads.items t ≡ Some thread_state)
       (keeps : (state : m.State) → Fits state → KeepsKinds s m.action m.after_answer m.roots Fits state)
-      (newest : m.State → List Reference) (adds : (state : m.State) (given : Answer) → AddsNewest (m.roots state) (m.roots (m.after_answer state given)) (newest (m.after_answer state given))) where
+      (newest : m.State → List WordValue) (adds : (state : m.State) (given : Answer) → AddsNewest (m.roots state) (m.roots (m.after_answer state given)) (newest (m.after_answer state given))) where
     abbrev the_move : Move
     the_move = move_in (m.roots (state_after s m t (starts t) (share_of t before_run))) made
 
@@ -158,14 +158,14 @@ module _ (s : Setup) (m : Machine) (Fits : m.State → Type 0) (starts : ℕ →
     are : AreRoots s m starts (OfThread t the_move ∷ before_run) (roots_of m.roots a.threads.items)
     are = subst (λ run. AreRoots s m starts run (roots_of m.roots a.threads.items)) whole (are-roots s m Fits starts (actor ∷ before) a b keeps)
 
-    owns : (r : Reference) → IsRoot s m starts (OfThread t the_move ∷ before_run) r → IsRoot s m starts before_run r ⊎ IsIn r (new_roots m.roots newest stand made)
-    owns = root-or-own s m starts before_run t the_move (new_roots m.roots newest stand made)
-        (thread-owns s m newest adds starts before_run t (m.roots (state_after s m t (starts t) (share_of t before_run))) made (subst (λ h. IsNext s m starts before_run h) told next) stand (end.stands t stand at))
+    owns : (r : WordValue) → IsRoot s m starts (OfThread t the_move ∷ before_run) r → IsRoot s m starts before_run r ⊎ IsIn r (new_roots m.roots newest thread_state made)
+    owns = root-or-own s m starts before_run t the_move (new_roots m.roots newest thread_state made)
+        (thread-owns s m newest adds starts before_run t (m.roots (state_after s m t (starts t) (share_of t before_run))) made (subst (λ h. IsNext s m starts before_run h) told next) thread_state (end.stands t thread_state at))
 
     -- the walk before the step is closed but for what this move changes
-    pub move-near : (w : Walk) → IsCoverAfter s m starts before_run w → (stored : Reference) → IsStored s the_move stored → IsNearlyClosed s a.shared (roots_of m.roots a.threads.items) (new_roots m.roots newest stand made) stored w
+    pub move-near : (w : Walk) → IsCoverAfter s m starts before_run w → (stored : WordValue) → IsStored s the_move stored → IsNearlyClosed s a.shared (roots_of m.roots a.threads.items) (new_roots m.roots newest thread_state made) stored w
     move-near w known stored is_stored =
-        nearly-closed s m starts before_run t the_move (subst (λ h. IsNext s m starts before_run h) told next) w known.over known.covers a.shared end.words (roots_of m.roots a.threads.items) (new_roots m.roots newest stand made) stored are is_stored owns
+        nearly-closed s m starts before_run t the_move (subst (λ h. IsNext s m starts before_run h) told next) w known.over known.covers a.shared end.words (roots_of m.roots a.threads.items) (new_roots m.roots newest thread_state made) stored are is_stored owns
 
     -- and the one that went on is a cover after it
     pub move-kept : (o : Option Walk) → IfSome o (λ kept. IsOver (cells s) kept × IsClosed s a.shared (roots_of m.roots a.threads.items) kept) → IfSome o (IsCoverAfter s m starts (run_by s m starts (actor ∷ before)))

@@ -11,14 +11,14 @@ use Rattle.colours.specs.declared.turn.Turn.{Turn}
 use Rattle.colours.specs.declared.turn.Turn.TheVariants.{Free}
 use Rattle.colours.specs.Mutator.{phase_of}
 use Rattle.colours.specs.Runs.{word_after}
-use Rattle.runs.specs.Machine.{Reference, Answer, Machine}
+use Rattle.runs.specs.Machine.{WordValue, Answer, Machine}
 use Rattle.runs.specs.Moves.{Move, StoresAfterBarrier, StoresPlain, null, step_of, steps_of, state_after, ends_call, answer_of}
 use Rattle.runs.specs.ModuleRuns.{Happening, OfThread, OfCollector, share_of, heap_of, birth_of, birth_in, IsNext}
 use Rattle.runs.specs.Broken.{IsUnderWay, IsRoot, globals, from, further, IsReachable, IsGone}
 use Rattle.moves.specs.declared.shared.Shared.{Shared}
 use Rattle.moves.specs.RootsAfter.{AddsNewest}
 use Rattle.moves.specs.Rows.{word_at}
-use Rattle.moves.specs.Shared.{StandAfter}
+use Rattle.moves.specs.Shared.{ThreadStateAfter}
 use Rattle.stepping.specs.declared.walk.Walk.{Walk}
 use Rattle.stepping.specs.Reach.{AreRoots, LosesNothing}
 use Rattle.stepping.specs.Walks.{IsAtMost, IsSeen, IsClosed, IsNearlyClosed}
@@ -30,12 +30,12 @@ use Rattle.stepping.proofs.Exact.{held-kind, listed-met, word-is}
 
 module _ (s : Setup) (m : Machine) (starts : ℕ → m.State) (run : List Happening) (met : List Bool) (covers : Covers s m starts run met) where
   -- what can be reached is among the cells
-  kept-all : (r : Reference) → IsReachable s m starts run r → IsKept s run met r
+  kept-all : (r : WordValue) → IsReachable s m starts run r → IsKept s run met r
   kept-all _ globals = covers.globals
   kept-all _ (from r is_root n) = covers.roots r is_root n
   kept-all _ (further r word reached is n) = covers.words r.cell word (kept-all r reached).is_met is n
 
-  pub none-gone : (r : Reference) → IsReachable s m starts run r → ¬ IsGone s run r
+  pub none-gone : (r : WordValue) → IsReachable s m starts run r → ¬ IsGone s run r
   none-gone r reached gone = elim gone [
     | inl blue ↦ covers.claimed r.cell (kept-all r reached).is_met blue
     | inr reborn ↦ reborn (kept-all r reached).birth
@@ -45,7 +45,7 @@ module _ (s : Setup) (m : Machine) (starts : ℕ → m.State) (run : List Happen
 
 module _ (s : Setup) (m : Machine) (starts : ℕ → m.State) (run : List Happening) (met : List Bool) (covers : Covers s m starts run met) where
   -- what is kept stays so
-  kept-after : (happening : Happening) → IsNext s m starts run happening → (r : Reference) → IsKept s run met r → IsKept s (happening ∷ run) met r
+  kept-after : (happening : Happening) → IsNext s m starts run happening → (r : WordValue) → IsKept s run met r → IsKept s (happening ∷ run) met r
   kept-after happening next r kept = record { is_met = kept.is_met; birth = same-birth s m starts run happening next r.cell (covers.claimed r.cell kept.is_met) ∙ kept.birth }
 
   pub quiet-covers : (happening : Happening) → IsNext s m starts run happening → LosesNothing s m starts run happening → Covers s m starts (happening ∷ run) met
@@ -61,7 +61,7 @@ module _ (s : Setup) (m : Machine) (starts : ℕ → m.State) (run : List Happen
           let same = word-stays s run happening (adds-nothing s m starts run happening loses) cell word n in
           let whole : held_in s run cell word ≡ held_in s (happening ∷ run) cell word =
           sym (ap (λ c. record { cell = c; birth = birth_in (happening ∷ run) cell word }) same.0 ∙ ap (λ b. record { cell = word_after s (heap_of run) (Word cell word); birth = b }) same.1) in
-          subst (λ (q : Reference). IsKept s (happening ∷ run) met q) whole (kept-after happening next (held_in s run cell word) (covers.words cell word is_met is (λ z. n (same.0 ∙ z))))
+          subst (λ (q : WordValue). IsKept s (happening ∷ run) met q) whole (kept-after happening next (held_in s run cell word) (covers.words cell word is_met is (λ z. n (same.0 ∙ z))))
 
   -- after the freeing of another cell
   free-covers : (of : ℕ) → IsNext s m starts run (OfCollector (Free of)) → ¬ IsMet met of → Covers s m starts (OfCollector (Free of) ∷ run) met
@@ -92,11 +92,11 @@ met-known (first ∷ met) zero is = is
 met-known (first ∷ met) (suc cell) is = met-known met cell is
 
 -- a word of the heap holds what it held, or what the move stored
-abbrev put_in : (same : Bool) → (value was : Reference) → Reference
+abbrev put_in : (same : Bool) → (value was : WordValue) → WordValue
 put_in same value was = record { cell = if same then value.cell else was.cell; birth = if same then value.birth else was.birth }
 
-stored-or-same : (s : Setup) (base : Reference) (place : ℕ) (value stored : Reference) → (base.cell < cells s → IsTrue (is_reference_kind (kind_of s base.cell place)) → stored ≡ value)
-    → (cell word : ℕ) (was : Reference) → cell < cells s → IsTrue (is_reference_kind (kind_of s cell word)) → (same : Bool) → (base.cell == cell) ≡ same → (there : Bool) → (place == word) ≡ there
+stored-or-same : (s : Setup) (base : WordValue) (place : ℕ) (value stored : WordValue) → (base.cell < cells s → IsTrue (is_reference_kind (kind_of s base.cell place)) → stored ≡ value)
+    → (cell word : ℕ) (was : WordValue) → cell < cells s → IsTrue (is_reference_kind (kind_of s cell word)) → (same : Bool) → (base.cell == cell) ≡ same → (there : Bool) → (place == word) ≡ there
     → (put_in (same && there) value was ≡ was) ⊎ (put_in (same && there) value was ≡ stored)
 stored-or-same s base place value stored is_stored cell word was lt is true e true f =
     let here : base.cell ≡ cell = test_true base.cell cell e in
@@ -106,7 +106,7 @@ stored-or-same s base place value stored is_stored cell word was lt is true e tr
 stored-or-same s base place value stored is_stored cell word was lt is true e false f = inl refl
 stored-or-same s base place value stored is_stored cell word was lt is false e there f = inl refl
 
-held-after : (s : Setup) (run : List Happening) (t : ℕ) (move : Move) (stored : Reference) → IsStored s move stored → (cell word : ℕ) → cell < cells s → IsTrue (is_reference_kind (kind_of s cell word))
+held-after : (s : Setup) (run : List Happening) (t : ℕ) (move : Move) (stored : WordValue) → IsStored s move stored → (cell word : ℕ) → cell < cells s → IsTrue (is_reference_kind (kind_of s cell word))
     → (held_in s (OfThread t move ∷ run) cell word ≡ held_in s run cell word) ⊎ (held_in s (OfThread t move ∷ run) cell word ≡ stored)
 unfolding word_after
 held-after s run t (StoresAfterBarrier base place value) stored is_stored cell word lt is =
@@ -116,21 +116,21 @@ held-after s run t (StoresPlain base place value) stored is_stored cell word lt 
 held-after s run t move stored is_stored cell word lt is = inl refl
 
 module _ (s : Setup) (m : Machine) (starts : ℕ → m.State) (run : List Happening) (t : ℕ) (move : Move) (next : IsNext s m starts run (OfThread t move))
-    (w : Walk) (over : IsOver (cells s) w) (covers : Covers s m starts run w.met) (h : Shared) (stand : StandAfter s (OfThread t move ∷ run) h) where
+    (w : Walk) (over : IsOver (cells s) w) (covers : Covers s m starts run w.met) (h : Shared) (thread_state : ThreadStateAfter s (OfThread t move ∷ run) h) where
   not-free : (cell : ℕ) → IsMet w.met cell → slice_index h.colours cell ≢ 0
-  not-free cell is_met free = stays-claimed s run (OfThread t move) tt cell (covers.claimed cell is_met) (sym (stand.afterwards.words (Colour cell)) ∙ free)
+  not-free cell is_met free = stays-claimed s run (OfThread t move) tt cell (covers.claimed cell is_met) (sym (thread_state.afterwards.words (Colour cell)) ∙ free)
 
   -- what was kept is seen after the move
-  seen-kept : (r : Reference) → IsKept s run w.met r → IsSeen h w r
+  seen-kept : (r : WordValue) → IsKept s run w.met r → IsSeen h w r
   seen-kept r kept = record {
     met = met-known w.met r.cell kept.is_met;
     blue = λ free. absurd (not-free r.cell kept.is_met free);
-    reborn = λ n. absurd (n (stand.afterwards.births r.cell ∙ same-birth s m starts run (OfThread t move) next r.cell (covers.claimed r.cell kept.is_met) ∙ kept.birth));
+    reborn = λ n. absurd (n (thread_state.afterwards.births r.cell ∙ same-birth s m starts run (OfThread t move) next r.cell (covers.claimed r.cell kept.is_met) ∙ kept.birth));
   }
 
   -- the walk is closed but for what the move stored, and for the roots of its thread
-  pub nearly-closed : (roots own : List Reference) (stored : Reference) → AreRoots s m starts (OfThread t move ∷ run) roots → IsStored s move stored
-      → ((r : Reference) → IsRoot s m starts (OfThread t move ∷ run) r → IsRoot s m starts run r ⊎ IsIn r own) → IsNearlyClosed s h roots own stored w
+  pub nearly-closed : (roots own : List WordValue) (stored : WordValue) → AreRoots s m starts (OfThread t move ∷ run) roots → IsStored s move stored
+      → ((r : WordValue) → IsRoot s m starts (OfThread t move ∷ run) r → IsRoot s m starts run r ⊎ IsIn r own) → IsNearlyClosed s h roots own stored w
   nearly-closed roots own stored are is_stored owns = record {
     listed = over.listed;
     free = λ cell is_met free. absurd (not-free cell is_met free);
@@ -145,17 +145,17 @@ module _ (s : Setup) (m : Machine) (starts : ℕ → m.State) (run : List Happen
       words : (cell word : ℕ) → IsMet w.met cell → cell < cells s → IsTrue (is_reference_kind (kind_of s cell word)) → (word_at h.words cell word).cell ≢ 0
           → IsSeen h w (word_at h.words cell word) ⊎ (word_at h.words cell word ≡ stored)
       words cell word is_met lt is n =
-          let now = word-is s (OfThread t move ∷ run) h stand cell word in
+          let now = word-is s (OfThread t move ∷ run) h thread_state cell word in
           elim (held-after s run t move stored is_stored cell word lt is) [
             | inl same ↦ (let as_was : held_in s run cell word ≡ word_at h.words cell word = sym same ∙ now in
-                inl (subst (λ (q : Reference). IsSeen h w q) as_was (seen-kept (held_in s run cell word) (covers.words cell word is_met is (λ z. n (sym (ap (λ (q : Reference). q.cell) as_was) ∙ z))))))
+                inl (subst (λ (q : WordValue). IsSeen h w q) as_was (seen-kept (held_in s run cell word) (covers.words cell word is_met is (λ z. n (sym (ap (λ (q : WordValue). q.cell) as_was) ∙ z))))))
             | inr of_move ↦ inr (sym now ∙ of_move)
           ]
 
 -- a root after a move is one of these, or was one before, if those of the thread are
-pub root-or-own : (s : Setup) (m : Machine) (starts : ℕ → m.State) (run : List Happening) (t : ℕ) (move : Move) (own : List Reference)
-    → ((r : Reference) → IsUnderWay (phase_of s t (steps_of (share_of t (OfThread t move ∷ run)))) → IsIn r (m.roots (state_after s m t (starts t) (share_of t (OfThread t move ∷ run)))) → IsRoot s m starts run r ⊎ IsIn r own)
-    → (r : Reference) → IsRoot s m starts (OfThread t move ∷ run) r → IsRoot s m starts run r ⊎ IsIn r own
+pub root-or-own : (s : Setup) (m : Machine) (starts : ℕ → m.State) (run : List Happening) (t : ℕ) (move : Move) (own : List WordValue)
+    → ((r : WordValue) → IsUnderWay (phase_of s t (steps_of (share_of t (OfThread t move ∷ run)))) → IsIn r (m.roots (state_after s m t (starts t) (share_of t (OfThread t move ∷ run)))) → IsRoot s m starts run r ⊎ IsIn r own)
+    → (r : WordValue) → IsRoot s m starts (OfThread t move ∷ run) r → IsRoot s m starts run r ⊎ IsIn r own
 root-or-own s m starts run t move own owns r is = go (t == is.thread) refl is.is_under_way is.is_root
   where
     go : (b : Bool) → (t == is.thread) ≡ b → IsUnderWay (phase_of s is.thread (steps_of (if b then move ∷ share_of is.thread run else share_of is.thread run)))
@@ -166,14 +166,14 @@ root-or-own s m starts run t move own owns r is = go (t == is.thread) refl is.is
     go false e way is_root = inl (record { thread = is.thread; is_thread = is.is_thread; is_under_way = way; is_root = is_root })
 
 -- a root of the thread after a move by which it does not begin was one before, or is one of its newest frames
-module _ (s : Setup) (m : Machine) (newest : m.State → List Reference) (adds : (state : m.State) (given : Answer) → AddsNewest (m.roots state) (m.roots (m.after_answer state given)) (newest (m.after_answer state given)))
+module _ (s : Setup) (m : Machine) (newest : m.State → List WordValue) (adds : (state : m.State) (given : Answer) → AddsNewest (m.roots state) (m.roots (m.after_answer state given)) (newest (m.after_answer state given)))
     (starts : ℕ → m.State) (run : List Happening) (t : ℕ) (move : Move) (next : IsNext s m starts run (OfThread t move)) (no_begin : MatchOption (step_of move) (Unit {0}) IsNoBegin) where
-  before-or-newest : (state : m.State) (given : Answer) (r : Reference) → (b : Bool) → IsIn r (m.roots (if b then m.after_answer state given else state))
+  before-or-newest : (state : m.State) (given : Answer) (r : WordValue) → (b : Bool) → IsIn r (m.roots (if b then m.after_answer state given else state))
       → IsIn r (m.roots state) ⊎ IsIn r (newest (if b then m.after_answer state given else state))
   before-or-newest state given r true is_in = adds state given r is_in
   before-or-newest state given r false is_in = inl is_in
 
-  pub newest-own : (r : Reference) → IsUnderWay (phase_of s t (steps_of (share_of t (OfThread t move ∷ run)))) → IsIn r (m.roots (state_after s m t (starts t) (share_of t (OfThread t move ∷ run))))
+  pub newest-own : (r : WordValue) → IsUnderWay (phase_of s t (steps_of (share_of t (OfThread t move ∷ run)))) → IsIn r (m.roots (state_after s m t (starts t) (share_of t (OfThread t move ∷ run))))
       → IsRoot s m starts run r ⊎ IsIn r (newest (state_after s m t (starts t) (share_of t (OfThread t move ∷ run))))
   newest-own r way is_in =
       subst (λ (share : List Move). IsUnderWay (phase_of s t (steps_of share)) → IsIn r (m.roots (state_after s m t (starts t) share)) → IsRoot s m starts run r ⊎ IsIn r (newest (state_after s m t (starts t) share))) (sym own) here way is_in
@@ -193,16 +193,16 @@ module _ (s : Setup) (m : Machine) (newest : m.State → List Reference) (adds :
 
 -- ---- a walk that is closed
 
-module _ (s : Setup) (m : Machine) (starts : ℕ → m.State) (run : List Happening) (h : Shared) (roots : List Reference) (stand : StandAfter s run h) (are : AreRoots s m starts run roots)
+module _ (s : Setup) (m : Machine) (starts : ℕ → m.State) (run : List Happening) (h : Shared) (roots : List WordValue) (thread_state : ThreadStateAfter s run h) (are : AreRoots s m starts run roots)
     (w : Walk) (over : IsOver (cells s) w) (closed : IsClosed s h roots w) where
-  kept-seen : (r : Reference) → r.cell < cells s → IsSeen h w r → IsKept s run w.met r
+  kept-seen : (r : WordValue) → r.cell < cells s → IsSeen h w r → IsKept s run w.met r
   kept-seen r lt seen = record {
     is_met = listed-met w.met r.cell (omega (arith, lt, over.shaped.wide)) seen.met;
     birth = birth (slice_index h.births r.cell == r.birth) refl;
   }
     where
       birth : (b : Bool) → (slice_index h.births r.cell == r.birth) ≡ b → birth_of s run r.cell ≡ r.birth
-      birth true e = sym (stand.afterwards.births r.cell) ∙ test_true (slice_index h.births r.cell) r.birth e
+      birth true e = sym (thread_state.afterwards.births r.cell) ∙ test_true (slice_index h.births r.cell) r.birth e
       birth false e =
           let isnt : slice_index h.births r.cell ≢ r.birth = grind (arith, nat_tests) in
           absurd (subst (λ (least : Option ℕ). IsAtMost least r.cell) over.none_reborn (seen.reborn isnt))
@@ -210,7 +210,7 @@ module _ (s : Setup) (m : Machine) (starts : ℕ → m.State) (run : List Happen
   -- its cells are a cover
   pub closed-covers : Covers s m starts run w.met
   closed-covers = record {
-    claimed = λ cell is_met z. absurd (subst (λ (least : Option ℕ). IsAtMost least cell) over.none_free (closed.looked.free cell is_met (stand.afterwards.words (Colour cell) ∙ z)));
+    claimed = λ cell is_met z. absurd (subst (λ (least : Option ℕ). IsAtMost least cell) over.none_free (closed.looked.free cell is_met (thread_state.afterwards.words (Colour cell) ∙ z)));
     globals = kept-seen null (omega arith) closed.globals_seen;
     roots = λ r is_root n. let is_in = are.all r is_root n in kept-seen r (are.are_cells r is_in) (closed.roots_seen r is_in n);
     words = λ cell word is_met is n. words cell word is_met is n;
@@ -218,11 +218,11 @@ module _ (s : Setup) (m : Machine) (starts : ℕ → m.State) (run : List Happen
     where
       words : (cell word : ℕ) → IsMet w.met cell → IsTrue (is_reference_kind (kind_of s cell word)) → (held_in s run cell word).cell ≢ 0 → IsKept s run w.met (held_in s run cell word)
       words cell word is_met is n =
-          let now = word-is s run h stand cell word in
+          let now = word-is s run h thread_state cell word in
           let at = closed.looked.listed cell is_met in
           let lt : cell < cells s = subst (λ c. c < cells s) at.2 (over.shaped.within at.0 at.1) in
-          let m : (word_at h.words cell word).cell ≢ 0 = λ z. n (ap (λ (q : Reference). q.cell) now ∙ z) in
+          let m : (word_at h.words cell word).cell ≢ 0 = λ z. n (ap (λ (q : WordValue). q.cell) now ∙ z) in
           let seen = subst (λ c. IsTrue (is_reference_kind (kind_of s c word)) → (word_at h.words c word).cell ≢ 0 → IsSeen h w (word_at h.words c word)) at.2 (closed.looked.words_seen at.0 at.1 word) is m in
           let k = held-kind (kind_of s cell word) is in
-          let below : (word_at h.words cell word).cell < cells s = elim (stand.shape.kinds cell word (kind.Reference k.0) lt k.1) [ inl null_is ↦ absurd (m null_is) | inr of_layout ↦ of_layout.1 ] in
-          subst (λ (q : Reference). IsKept s run w.met q) (sym now) (kept-seen (word_at h.words cell word) below seen)
+          let below : (word_at h.words cell word).cell < cells s = elim (thread_state.shape.kinds cell word (kind.Reference k.0) lt k.1) [ inl null_is ↦ absurd (m null_is) | inr of_layout ↦ of_layout.1 ] in
+          subst (λ (q : WordValue). IsKept s run w.met q) (sym now) (kept-seen (word_at h.words cell word) below seen)

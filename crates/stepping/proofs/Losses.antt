@@ -11,7 +11,7 @@ use Rattle.colours.specs.Steps.{Step}
 use Rattle.colours.specs.Mutator.{Phase, Ended, Absent, Arriving, Entering, Leaving, stage_of, phase_of, phase_after, MayFollow}
 use Rattle.colours.specs.Collector.{posted_of}
 use Rattle.colours.specs.Runs.{word_after, births_after, log_of, turns_of}
-use Rattle.runs.specs.Machine.{Reference, Machine}
+use Rattle.runs.specs.Machine.{WordValue, Machine}
 use Rattle.runs.specs.Moves.{Move, Marks, StoresAfterBarrier, StoresPlain, Claims, ReadsPostedAgain, step_of, logged, steps_of, state_after, Follows}
 use Rattle.runs.specs.ModuleRuns.{Happening, OfThread, OfCollector, share_of, heap_of, birth_of, birth_in, IsNext, IsModuleRun}
 use Rattle.runs.specs.Broken.{IsUnderWay, IsRoot, globals, from, further, IsReachable, IsGone}
@@ -129,7 +129,7 @@ was-under_way s t log (Some made) no_begin follows way = under_way-before s (sta
 
 -- a root after the step was one before it
 pub root-before : (s : Setup) (m : Machine) (starts : ℕ → m.State) (run : List Happening) (happening : Happening) → IsNext s m starts run happening → LosesNothing s m starts run happening
-    → (r : Reference) → IsRoot s m starts (happening ∷ run) r → IsRoot s m starts run r
+    → (r : WordValue) → IsRoot s m starts (happening ∷ run) r → IsRoot s m starts run r
 root-before s m starts run (OfCollector turn) next loses r is = record { thread = is.thread; is_thread = is.is_thread; is_under_way = is.is_under_way; is_root = is.is_root }
 root-before s m starts run (OfThread t move) next loses r is = go (t == is.thread) refl is.is_under_way is.is_root
   where
@@ -138,7 +138,7 @@ root-before s m starts run (OfThread t move) next loses r is = go (t == is.threa
       thread = t;
       is_thread = next.0;
       is_under_way = was-under_way s t (steps_of (share_of t run)) (step_of move) (no-begin move loses.0) next.1.0 way;
-      is_root = subst (λ (rs : List Reference). IsIn r rs) loses.1 is_root;
+      is_root = subst (λ (rs : List WordValue). IsIn r rs) loses.1 is_root;
     }
 
     go : (b : Bool) → (t == is.thread) ≡ b → IsUnderWay (phase_of s is.thread (steps_of (if b then move ∷ share_of is.thread run else share_of is.thread run)))
@@ -152,7 +152,7 @@ root-before s m starts run (OfThread t move) next loses r is = go (t == is.threa
 
 -- what can be reached after the step could be reached before it
 reached-before : (s : Setup) (m : Machine) (starts : ℕ → m.State) (run : List Happening) (happening : Happening) → IsNext s m starts run happening → LosesNothing s m starts run happening
-    → (r : Reference) → IsReachable s m starts (happening ∷ run) r → IsReachable s m starts run r
+    → (r : WordValue) → IsReachable s m starts (happening ∷ run) r → IsReachable s m starts run r
 reached-before s m starts run happening next loses _ globals = globals
 reached-before s m starts run happening next loses _ (from r is_root n) = from r (root-before s m starts run happening next loses r is_root) n
 reached-before s m starts run happening next loses _ (further r word reached is n) =
@@ -160,11 +160,11 @@ reached-before s m starts run happening next loses _ (further r word reached is 
     let same = word-stays s run happening (adds-nothing s m starts run happening loses) r.cell word n in
     let whole : (record { cell = word_after s (heap_of run) (Word r.cell word); birth = birth_in run r.cell word }) ≡ (record { cell = word_after s (heap_of (happening ∷ run)) (Word r.cell word); birth = birth_in (happening ∷ run) r.cell word })
     = sym (ap (λ c. record { cell = c; birth = birth_in (happening ∷ run) r.cell word }) same.0 ∙ ap (λ b. record { cell = word_after s (heap_of run) (Word r.cell word); birth = b }) same.1) in
-    subst (λ (q : Reference). IsReachable s m starts run q) whole (further r word before is (λ z. n (same.0 ∙ z)))
+    subst (λ (q : WordValue). IsReachable s m starts run q) whole (further r word before is (λ z. n (same.0 ∙ z)))
 
 -- where nothing that is gone could be reached, nothing can be after the step
 pub nothing-lost : (s : Setup) (m : Machine) (starts : ℕ → m.State) (run : List Happening) (happening : Happening) → IsModuleRun s m starts (happening ∷ run) → LosesNothing s m starts run happening
-    → ((r : Reference) → IsReachable s m starts run r → ¬ IsGone s run r) → (r : Reference) → IsReachable s m starts (happening ∷ run) r → ¬ IsGone s (happening ∷ run) r
+    → ((r : WordValue) → IsReachable s m starts run r → ¬ IsGone s run r) → (r : WordValue) → IsReachable s m starts (happening ∷ run) r → ¬ IsGone s (happening ∷ run) r
 nothing-lost s m starts run happening is_run loses none r reached gone =
     let next = is_run.1 in
     let before = reached-before s m starts run happening next loses r reached in

@@ -6,7 +6,7 @@ use Rattle.std.proofs.lemmas.List.Sums.{sum_by-set}
 use Rattle.std.proofs.Math.ListN.{length-set}
 use Rattle.pools.specs.declared.word_kind.WordKind.{WordKind}
 use Rattle.pools.specs.Layouts.{is_reference_kind}
-use Rattle.runs.specs.Machine.{Reference}
+use Rattle.runs.specs.Machine.{WordValue}
 use Rattle.runs.specs.Moves.{null}
 use Rattle.moves.specs.declared.shared.Shared.{Shared}
 use Rattle.stepping.specs.declared.walk.Walk.{Walk}
@@ -72,7 +72,7 @@ widens-both v w x a b = record {
   same = λ place lt. b.same place (omega (arith, lt, a.longer)) ∙ a.same place lt;
 }
 
-pub widens-meeting : (h : Shared) (w : Walk) (r : Reference) → Widens w (meeting h w r)
+pub widens-meeting : (h : Shared) (w : Walk) (r : WordValue) → Widens w (meeting h w r)
 widens-meeting h w r = go (slice_index_or w.met r.cell true) refl
   where
     wide-set : length (slice_set w.met r.cell true) ≡ length w.met
@@ -103,7 +103,7 @@ at_most-here None cell = omega arith
 at_most-here (Some first) cell = omega arith
 
 -- a reference is seen, after itself
-pub seen-meeting : (h : Shared) (w : Walk) (r : Reference) → IsSeen h (meeting h w r) r
+pub seen-meeting : (h : Shared) (w : Walk) (r : WordValue) → IsSeen h (meeting h w r) r
 seen-meeting h w r = record {
   met = met-here w.met r.cell;
   blue = λ e. blue (slice_index h.colours r.cell == 0) refl e;
@@ -119,7 +119,7 @@ seen-meeting h w r = record {
     reborn false e n = at_most-here w.reborn r.cell
 
 -- what is seen stays so
-seen-stays : (h : Shared) (w : Walk) (r q : Reference) → IsSeen h w q → IsSeen h (meeting h w r) q
+seen-stays : (h : Shared) (w : Walk) (r q : WordValue) → IsSeen h w q → IsSeen h (meeting h w r) q
 seen-stays h w r q was = record {
   met = met-stays w.met r.cell q.cell was.met;
   blue = λ e. blue (slice_index h.colours r.cell == 0) (was.blue e);
@@ -137,21 +137,21 @@ seen-stays h w r q was = record {
 -- ---- several references
 
 -- the walk after some references of this kind
-pub data Meets (h : Shared) (P : Reference → Type 0) (w : Walk) : Walk → Type 0 where
+pub data Meets (h : Shared) (P : WordValue → Type 0) (w : Walk) : Walk → Type 0 where
   met-none : Meets h P w w
-  met-more : (v : Walk) (r : Reference) → Meets h P w v → P r → Meets h P w (meeting h v r)
+  met-more : (v : Walk) (r : WordValue) → Meets h P w v → P r → Meets h P w (meeting h v r)
 
 -- first these, and then those
-pub meets-both : (h : Shared) (P : Reference → Type 0) (w v : Walk) → Meets h P w v → (x : Walk) → Meets h P v x → Meets h P w x
+pub meets-both : (h : Shared) (P : WordValue → Type 0) (w v : Walk) → Meets h P w v → (x : Walk) → Meets h P v x → Meets h P w x
 meets-both h P w v before _ met-none = before
 meets-both h P w v before _ (met-more x r later is_such) = met-more x r (meets-both h P w v before x later) is_such
 
 -- any reference
-abbrev pub Any : Reference → Type 0
+abbrev pub Any : WordValue → Type 0
 Any r = Unit {0}
 
-module _ (h : Shared) (P : Reference → Type 0) (w : Walk) where
-  pub meets-following : (v : Walk) (r : Reference) → (r.cell ≢ 0 → P r) → Meets h P w v → Meets h P w (following h v r)
+module _ (h : Shared) (P : WordValue → Type 0) (w : Walk) where
+  pub meets-following : (v : Walk) (r : WordValue) → (r.cell ≢ 0 → P r) → Meets h P w v → Meets h P w (following h v r)
   meets-following v r is_such meets = go (r.cell == 0) refl
     where
       go : (b : Bool) → (r.cell == 0) ≡ b → Meets h P w (if b then v else meeting h v r)
@@ -159,14 +159,14 @@ module _ (h : Shared) (P : Reference → Type 0) (w : Walk) where
       go false e = met-more v r meets (is_such (grind (arith, nat_tests)))
 
   -- after a root, and after the first of several
-  pub meets-first : (found : List Reference) (count : ℕ) → ((place : ℕ) → place < count → (slice_index_or found place null).cell ≢ 0 → P (slice_index_or found place null)) → Meets h P w (following_first h found w count)
+  pub meets-first : (found : List WordValue) (count : ℕ) → ((place : ℕ) → place < count → (slice_index_or found place null).cell ≢ 0 → P (slice_index_or found place null)) → Meets h P w (following_first h found w count)
   unfolding following_first
   meets-first found zero are_such = met-none
   meets-first found (suc count) are_such =
       meets-following (following_first h found w count) (slice_index_or found count null) (are_such count (omega arith))
       (meets-first found count (λ place lt. are_such place (omega (arith, lt))))
 
-  meets-looking_at : (v : Walk) (kind : Option WordKind) (r : Reference) → (IsTrue (is_reference_kind kind) → r.cell ≢ 0 → P r) → Meets h P w v → Meets h P w (looking_at h v kind r)
+  meets-looking_at : (v : Walk) (kind : Option WordKind) (r : WordValue) → (IsTrue (is_reference_kind kind) → r.cell ≢ 0 → P r) → Meets h P w v → Meets h P w (looking_at h v kind r)
   meets-looking_at v kind r is_such meets = go (is_reference_kind kind) is_such
     where
       go : (b : Bool) → (IsTrue b → r.cell ≢ 0 → P r) → Meets h P w (if b then following h v r else v)
@@ -174,7 +174,7 @@ module _ (h : Shared) (P : Reference → Type 0) (w : Walk) where
       go false such = meets
 
   -- after the words of a cell
-  pub meets-looking : (kinds : List WordKind) (row : List Reference) (count : ℕ)
+  pub meets-looking : (kinds : List WordKind) (row : List WordValue) (count : ℕ)
       → ((word : ℕ) → IsTrue (is_reference_kind (slice_get kinds word)) → (slice_index_or row word null).cell ≢ 0 → P (slice_index_or row word null)) → Meets h P w (looking h kinds row w count)
   unfolding looking
   meets-looking kinds row zero are_such = met-none
@@ -187,24 +187,24 @@ module _ (h : Shared) (P : Reference → Type 0) (w : Walk) where
   widens-meets _ (met-more v r meets is_such) = widens-both w v (meeting h v r) (widens-meets v meets) (widens-meeting h v r)
 
   -- what is seen stays so
-  pub stays-meets : (q : Reference) → IsSeen h w q → (v : Walk) → Meets h P w v → IsSeen h v q
+  pub stays-meets : (q : WordValue) → IsSeen h w q → (v : Walk) → Meets h P w v → IsSeen h v q
   stays-meets q was _ met-none = was
   stays-meets q was _ (met-more v r meets is_such) = seen-stays h v r q (stays-meets q was v meets)
 
 -- ---- what several see
 
-pub seen-following : (h : Shared) (w : Walk) (r : Reference) → r.cell ≢ 0 → IsSeen h (following h w r) r
+pub seen-following : (h : Shared) (w : Walk) (r : WordValue) → r.cell ≢ 0 → IsSeen h (following h w r) r
 seen-following h w r n = go (r.cell == 0) refl
   where
     go : (b : Bool) → (r.cell == 0) ≡ b → IsSeen h (if b then w else meeting h w r) r
     go true e = let is : r.cell ≡ 0 = grind (arith, nat_tests) in absurd (n is)
     go false e = seen-meeting h w r
 
-stays-following : (h : Shared) (w : Walk) (r q : Reference) → IsSeen h w q → IsSeen h (following h w r) q
+stays-following : (h : Shared) (w : Walk) (r q : WordValue) → IsSeen h w q → IsSeen h (following h w r) q
 stays-following h w r q was = stays-meets h Any w q was (following h w r) (meets-following h Any w w r (λ n. tt) met-none)
 
 -- each of the first references was seen
-pub seen-first : (h : Shared) (found : List Reference) (w : Walk) (count place : ℕ) → place < count → (slice_index_or found place null).cell ≢ 0
+pub seen-first : (h : Shared) (found : List WordValue) (w : Walk) (count place : ℕ) → place < count → (slice_index_or found place null).cell ≢ 0
     → IsSeen h (following_first h found w count) (slice_index_or found place null)
 unfolding following_first
 seen-first h found w zero place lt n = absurd (omega (arith, lt))
@@ -219,18 +219,18 @@ seen-first h found w (suc last) place lt n = go (λ less. seen-first h found w l
         let isnt : place ≢ last = grind (arith, nat_tests) in
         stays-following h (following_first h found w last) (slice_index_or found last null) (slice_index_or found place null) (rest (omega (arith, lt, isnt)))
 
-seen-looking_at : (h : Shared) (w : Walk) (kind : Option WordKind) (r : Reference) → IsTrue (is_reference_kind kind) → r.cell ≢ 0 → IsSeen h (looking_at h w kind r) r
+seen-looking_at : (h : Shared) (w : Walk) (kind : Option WordKind) (r : WordValue) → IsTrue (is_reference_kind kind) → r.cell ≢ 0 → IsSeen h (looking_at h w kind r) r
 seen-looking_at h w kind r is n = go (is_reference_kind kind) is
   where
     go : (b : Bool) → IsTrue b → IsSeen h (if b then following h w r else w) r
     go true t = seen-following h w r n
     go false t = absurd cc
 
-stays-looking_at : (h : Shared) (w : Walk) (kind : Option WordKind) (r q : Reference) → IsSeen h w q → IsSeen h (looking_at h w kind r) q
+stays-looking_at : (h : Shared) (w : Walk) (kind : Option WordKind) (r q : WordValue) → IsSeen h w q → IsSeen h (looking_at h w kind r) q
 stays-looking_at h w kind r q was = stays-meets h Any w q was (looking_at h w kind r) (meets-looking_at h Any w w kind r (λ is n. tt) met-none)
 
 -- what its reference words hold is seen
-pub seen-looking : (h : Shared) (kinds : List WordKind) (row : List Reference) (w : Walk) (count word : ℕ) → word < count
+pub seen-looking : (h : Shared) (kinds : List WordKind) (row : List WordValue) (w : Walk) (count word : ℕ) → word < count
     → IsTrue (is_reference_kind (slice_get kinds word)) → (slice_index_or row word null).cell ≢ 0 → IsSeen h (looking h kinds row w count) (slice_index_or row word null)
 unfolding looking
 seen-looking h kinds row w zero word lt is n = absurd (omega (arith, lt))
@@ -249,37 +249,37 @@ seen-looking h kinds row w (suc last) word lt is n = go (λ less. seen-looking h
 -- ---- one by one
 
 -- after one more root
-pub first-more : (h : Shared) (found : List Reference) (w : Walk) (place : ℕ) (r : Reference) → slice_index_or found place null ≡ r → following h (following_first h found w place) r ≡ following_first h found w (place + 1)
+pub first-more : (h : Shared) (found : List WordValue) (w : Walk) (place : ℕ) (r : WordValue) → slice_index_or found place null ≡ r → following h (following_first h found w place) r ≡ following_first h found w (place + 1)
 unfolding following_first
 first-more h found w place r is = rw (add-one, is) refl
 
 -- the row stays as wide
-pub first-wide : (h : Shared) (found : List Reference) (w now : Walk) (count limit : ℕ) → now ≡ following_first h found w count → length w.met ≤ limit → length now.met ≤ limit
+pub first-wide : (h : Shared) (found : List WordValue) (w now : Walk) (count limit : ℕ) → now ≡ following_first h found w count → length w.met ≤ limit → length now.met ≤ limit
 first-wide h found w now count limit is few =
     let wide = (widens-meets h Any w (following_first h found w count) (meets-first h Any w found count (λ place lt n. tt))).wide in
     rw is (omega (arith, wide, few))
 
 -- after one more word
-pub looking-more : (h : Shared) (kinds : List WordKind) (row : List Reference) (w : Walk) (word : ℕ) (kind : WordKind) (held : Reference) → slice_get kinds word ≡ Some kind → held ≡ slice_index_or row word null
+pub looking-more : (h : Shared) (kinds : List WordKind) (row : List WordValue) (w : Walk) (word : ℕ) (kind : WordKind) (held : WordValue) → slice_get kinds word ≡ Some kind → held ≡ slice_index_or row word null
     → looking_at h (looking h kinds row w word) (Some kind) held ≡ looking h kinds row w (word + 1)
 unfolding looking
 looking-more h kinds row w word kind held is here = rw (add-one, is, here) refl
 
 -- what the words of a cell do to the row and the order
-pub widens-looking : (h : Shared) (kinds : List WordKind) (row : List Reference) (w : Walk) (count : ℕ) → Widens w (looking h kinds row w count)
+pub widens-looking : (h : Shared) (kinds : List WordKind) (row : List WordValue) (w : Walk) (count : ℕ) → Widens w (looking h kinds row w count)
 widens-looking h kinds row w count = widens-meets h Any w (looking h kinds row w count) (meets-looking h Any w kinds row count (λ word is n. tt))
 
 -- the row stays as wide
-pub looking-wide : (h : Shared) (kinds : List WordKind) (row : List Reference) (w now : Walk) (count limit : ℕ) → now ≡ looking h kinds row w count → length w.met ≤ limit → length now.met ≤ limit
+pub looking-wide : (h : Shared) (kinds : List WordKind) (row : List WordValue) (w now : Walk) (count limit : ℕ) → now ≡ looking h kinds row w count → length w.met ≤ limit → length now.met ≤ limit
 looking-wide h kinds row w now count limit is few =
     let wide = (widens-looking h kinds row w count).wide in
     rw is (omega (arith, wide, few))
 
 -- the order stays as long
-pub looking-longer : (h : Shared) (kinds : List WordKind) (row : List Reference) (w now : Walk) (count : ℕ) → now ≡ looking h kinds row w count → length w.order ≤ length now.order
+pub looking-longer : (h : Shared) (kinds : List WordKind) (row : List WordValue) (w now : Walk) (count : ℕ) → now ≡ looking h kinds row w count → length w.order ≤ length now.order
 looking-longer h kinds row w now count is = let widens = widens-looking h kinds row w count in rw is (omega (arith, widens.longer))
 
 -- and after one more cell fewer are left
-pub looking-smaller : (h : Shared) (kinds : List WordKind) (row : List Reference) (w now : Walk) (count looked : ℕ) → now ≡ looking h kinds row w count → looked < length w.order
+pub looking-smaller : (h : Shared) (kinds : List WordKind) (row : List WordValue) (w now : Walk) (count looked : ℕ) → now ≡ looking h kinds row w count → looked < length w.order
     → length now.order + sum_by unmet now.met - (looked + 1) < length w.order + sum_by unmet w.met - looked
 looking-smaller h kinds row w now count looked is lt = let widens = widens-looking h kinds row w count in rw is (omega (arith, widens.left, lt))

@@ -9,7 +9,7 @@ use Rattle.lemmas.specs.Lists.{IsIn}
 use Rattle.pools.specs.declared.word_kind.WordKind.{WordKind}
 use Rattle.pools.specs.Heap.{Setup, kind_of, words_of_cell}
 use Rattle.pools.specs.Layouts.{is_reference_kind}
-use Rattle.runs.specs.Machine.{Reference}
+use Rattle.runs.specs.Machine.{WordValue}
 use Rattle.runs.specs.Moves.{null}
 use Rattle.moves.specs.declared.shared.Shared.{Shared}
 use Rattle.moves.specs.Rows.{word_at}
@@ -26,7 +26,7 @@ none-past each place none = elim ((slice_get_cases each place).1) [
   | inr over ↦ over.0
 ]
 
-shaped-meeting : (cells : ℕ) (h : Shared) (w : Walk) (r : Reference) → IsShaped cells w → IsShaped cells (meeting h w r)
+shaped-meeting : (cells : ℕ) (h : Shared) (w : Walk) (r : WordValue) → IsShaped cells w → IsShaped cells (meeting h w r)
 shaped-meeting cells h w r shaped =
     let widens = widens-meeting h w r in
     record { wide = widens.wide ∙ shaped.wide; left = widens.left ∙ shaped.left; within = within (slice_index_or w.met r.cell true) refl; are_met = are_met (slice_index_or w.met r.cell true) refl }
@@ -72,7 +72,7 @@ shaped-meeting cells h w r shaped =
     are_met false e place lt = last-met place (place == length w.order) refl e lt
 
 -- after several references
-pub shaped-meets : (cells : ℕ) (h : Shared) (P : Reference → Type 0) (w : Walk) → IsShaped cells w → (v : Walk) → Meets h P w v → IsShaped cells v
+pub shaped-meets : (cells : ℕ) (h : Shared) (P : WordValue → Type 0) (w : Walk) → IsShaped cells w → (v : Walk) → Meets h P w v → IsShaped cells v
 shaped-meets cells h P w shaped _ met-none = shaped
 shaped-meets cells h P w shaped _ (met-more v r meets is_such) = shaped-meeting cells h v r (shaped-meets cells h P w shaped v meets)
 
@@ -100,8 +100,8 @@ least-one P (Some first) cell h here = go (nat_le first cell) refl
         let is : cell ≡ min first cell = omega (arith, gt) in
         subst P is here
 
-module _ (s : Setup) (h : Shared) (roots : List Reference) where
-  sound-cells : (w : Walk) (r : Reference) → Found s h roots r → IsSound s h roots w → (place : ℕ) → place < length (order_with w.met w.order r.cell) → IsFound s h roots (slice_index (order_with w.met w.order r.cell) place)
+module _ (s : Setup) (h : Shared) (roots : List WordValue) where
+  sound-cells : (w : Walk) (r : WordValue) → Found s h roots r → IsSound s h roots w → (place : ℕ) → place < length (order_with w.met w.order r.cell) → IsFound s h roots (slice_index (order_with w.met w.order r.cell) place)
   sound-cells w r found sound = go (slice_index_or w.met r.cell true)
     where
       last : (place : ℕ) → (b : Bool) → (place == length w.order) ≡ b → place < length (w.order ++ r.cell ∷ []) → IsFound s h roots (slice_index (w.order ++ r.cell ∷ []) place)
@@ -119,7 +119,7 @@ module _ (s : Setup) (h : Shared) (roots : List Reference) where
       go true place lt = sound.cells place lt
       go false place lt = last place (place == length w.order) refl lt
 
-  sound-meeting : (w : Walk) (r : Reference) → Found s h roots r → IsSound s h roots w → IsSound s h roots (meeting h w r)
+  sound-meeting : (w : Walk) (r : WordValue) → Found s h roots r → IsSound s h roots w → IsSound s h roots (meeting h w r)
   sound-meeting w r found sound = record {
     cells = sound-cells w r found sound;
     blue = blue (slice_index h.colours r.cell == 0) refl;
@@ -148,7 +148,7 @@ module _ (s : Setup) (h : Shared) (roots : List Reference) where
 
 -- ---- what was met is in the order, and is not free
 
-listed-meeting : (h : Shared) (w : Walk) (r : Reference) → IsListed w → IsListed (meeting h w r)
+listed-meeting : (h : Shared) (w : Walk) (r : WordValue) → IsListed w → IsListed (meeting h w r)
 listed-meeting h w r was = listed (slice_index_or w.met r.cell true) refl
   where
     listed : (b : Bool) → slice_index_or w.met r.cell true ≡ b → (cell : ℕ) → slice_index_or (if not b then slice_set w.met r.cell true else w.met) cell false ≡ true
@@ -161,7 +161,7 @@ listed-meeting h w r was = listed (slice_index_or w.met r.cell true) refl
           | inr same ↦ (length w.order, omega (arith, long), get_or-append_seam w.order r.cell [] 0 ∙ sym same)
         ]
 
-recorded-meeting : (h : Shared) (w : Walk) (r : Reference) → AreFreeRecorded h w → AreFreeRecorded h (meeting h w r)
+recorded-meeting : (h : Shared) (w : Walk) (r : WordValue) → AreFreeRecorded h w → AreFreeRecorded h (meeting h w r)
 recorded-meeting h w r was cell is free = go (slice_index_or w.met r.cell true) is
   where
     later : IsAtMost w.blue cell → IsAtMost (blue_with h w.blue r) cell
@@ -181,7 +181,7 @@ recorded-meeting h w r was cell is free = go (slice_index_or w.met r.cell true) 
       | inr same ↦ now same
     ]
 
-module _ (h : Shared) (P : Reference → Type 0) (w : Walk) where
+module _ (h : Shared) (P : WordValue → Type 0) (w : Walk) where
   pub listed-meets : IsListed w → (v : Walk) → Meets h P w v → IsListed v
   listed-meets was _ met-none = was
   listed-meets was _ (met-more v r meets is_such) = listed-meeting h v r (listed-meets was v meets)
@@ -206,25 +206,25 @@ none-met cells cell is = go (nat_lt cell cells) refl is
         let no : slice_index_or (replicate cells false) cell false ≡ false = get_or_past (replicate cells false) cell false (omega (arith, wide, ge)) in
         cc
 
-module _ (s : Setup) (h : Shared) (roots : List Reference) where
+module _ (s : Setup) (h : Shared) (roots : List WordValue) where
   -- ---- the roots
 
-  root-at : (each : List Reference) (place : ℕ) → place < length each → IsIn (slice_index_or each place null) each
+  root-at : (each : List WordValue) (place : ℕ) → place < length each → IsIn (slice_index_or each place null) each
   root-at [] place lt = absurd (omega (arith, lt))
   root-at (first ∷ each) zero lt = inl refl
   root-at (first ∷ each) (suc place) lt = inr (root-at each place (omega (arith, lt)))
 
-  place-of : (each : List Reference) (r : Reference) → IsIn r each → (place : ℕ) × (place < length each) × (slice_index_or each place null ≡ r)
+  place-of : (each : List WordValue) (r : WordValue) → IsIn r each → (place : ℕ) × (place < length each) × (slice_index_or each place null ≡ r)
   place-of [] r is_in = absurd is_in
   place-of (first ∷ each) r (inl is) = (0, omega arith, sym is)
   place-of (first ∷ each) r (inr later) = let rest = place-of each r later in (suc rest.0, omega (arith, rest.1), rest.2)
 
   -- each of them was met
-  pub roots-seen : (w : Walk) (r : Reference) → IsIn r roots → r.cell ≢ 0 → IsSeen h (following_first h roots w (length roots)) r
+  pub roots-seen : (w : Walk) (r : WordValue) → IsIn r roots → r.cell ≢ 0 → IsSeen h (following_first h roots w (length roots)) r
   roots-seen w r is_in n = go (place-of roots r is_in)
     where
       go : (place : ℕ) × (place < length roots) × (slice_index_or roots place null ≡ r) → IsSeen h (following_first h roots w (length roots)) r
-      go at = subst (λ (q : Reference). q.cell ≢ 0 → IsSeen h (following_first h roots w (length roots)) q) at.2 (seen-first h roots w (length roots) at.0 at.1) n
+      go at = subst (λ (q : WordValue). q.cell ≢ 0 → IsSeen h (following_first h roots w (length roots)) q) at.2 (seen-first h roots w (length roots) at.0 at.1) n
 
   -- the walk before it looks into cells
   abbrev pub rooted : (cells : ℕ) → Walk
@@ -291,7 +291,7 @@ module _ (s : Setup) (h : Shared) where
       seen-looking h (words_of_cell s cell) (slice_index_or h.words cell []) w (length (words_of_cell s cell)) word (word-within (words_of_cell s cell) word is) is n
 
   -- after references of this kind
-  meets-into : (P : Reference → Type 0) (w : Walk) (cell : ℕ) → ((word : ℕ) → IsTrue (is_reference_kind (kind_of s cell word)) → (word_at h.words cell word).cell ≢ 0 → P (word_at h.words cell word)) → Meets h P w (looked_into w cell)
+  meets-into : (P : WordValue → Type 0) (w : Walk) (cell : ℕ) → ((word : ℕ) → IsTrue (is_reference_kind (kind_of s cell word)) → (word_at h.words cell word).cell ≢ 0 → P (word_at h.words cell word)) → Meets h P w (looked_into w cell)
   unfolding kind_of
   meets-into P w cell are_such = meets-looking h P w (words_of_cell s cell) (slice_index_or h.words cell []) (length (words_of_cell s cell)) are_such
 
@@ -301,10 +301,10 @@ module _ (s : Setup) (h : Shared) where
   pub shaped-into : (cells : ℕ) (w : Walk) (cell : ℕ) → IsShaped cells w → IsShaped cells (looked_into w cell)
   shaped-into cells w cell shaped = shaped-meets cells h Any w shaped (looked_into w cell) (any-into w cell)
 
-  pub stays-into : (w : Walk) (cell : ℕ) (r : Reference) → IsSeen h w r → IsSeen h (looked_into w cell) r
+  pub stays-into : (w : Walk) (cell : ℕ) (r : WordValue) → IsSeen h w r → IsSeen h (looked_into w cell) r
   stays-into w cell r was = stays-meets h Any w r was (looked_into w cell) (any-into w cell)
 
-  pub sound-into : (roots : List Reference) (w : Walk) (looked cell : ℕ) → looked < length w.order → slice_index w.order looked ≡ cell → IsSound s h roots w → IsSound s h roots (looked_into w cell)
+  pub sound-into : (roots : List WordValue) (w : Walk) (looked cell : ℕ) → looked < length w.order → slice_index w.order looked ≡ cell → IsSound s h roots w → IsSound s h roots (looked_into w cell)
   sound-into roots w looked cell lt is sound = go (subst (λ c. IsFound s h roots c) is (sound.cells looked lt))
     where
       go : IsFound s h roots cell → IsSound s h roots (looked_into w cell)

@@ -4,7 +4,7 @@ use Rattle.pools.specs.Heap.{Setup, cells, kind_of}
 use Rattle.pools.specs.Layouts.{is_reference_kind}
 use Rattle.colours.specs.declared.place.Place.TheVariants.{Colour, Word}
 use Rattle.colours.specs.Runs.{word_after}
-use Rattle.runs.specs.Machine.{Reference, Machine}
+use Rattle.runs.specs.Machine.{WordValue, Machine}
 use Rattle.runs.specs.Moves.{Move, StoresAfterBarrier, StoresPlain, null}
 use Rattle.runs.specs.ModuleRuns.{Happening, heap_of, birth_of, birth_in}
 use Rattle.runs.specs.Broken.{IsRoot}
@@ -19,19 +19,19 @@ abbrev pub IsMet : (met : List Bool) → (cell : ℕ) → Type 0
 IsMet met cell = slice_index_or met cell false ≡ true
 
 -- the reference is to one of these cells, which was not claimed again since
-pub record IsKept (s : Setup) (run : List Happening) (met : List Bool) (r : Reference) : Type 0 where
+pub record IsKept (s : Setup) (run : List Happening) (met : List Bool) (r : WordValue) : Type 0 where
   pub is_met : IsMet met r.cell
   pub birth : birth_of s run r.cell ≡ r.birth
 
 -- what a word of a cell holds after a run
-abbrev pub held_in : Setup → List Happening → (cell word : ℕ) → Reference
+abbrev pub held_in : Setup → List Happening → (cell word : ℕ) → WordValue
 held_in s run cell word = record { cell = word_after s (heap_of run) (Word cell word); birth = birth_in run cell word }
 
 -- none of these cells is free, and the globals, the roots and the reference words of these cells lead to these cells alone
 pub record Covers (s : Setup) (m : Machine) (starts : ℕ → m.State) (run : List Happening) (met : List Bool) : Type 0 where
   pub claimed : (cell : ℕ) → IsMet met cell → word_after s (heap_of run) (Colour cell) ≢ 0
   pub globals : IsKept s run met null
-  pub roots : (r : Reference) → IsRoot s m starts run r → r.cell ≢ 0 → IsKept s run met r
+  pub roots : (r : WordValue) → IsRoot s m starts run r → r.cell ≢ 0 → IsKept s run met r
   pub words : (cell word : ℕ) → IsMet met cell → IsTrue (is_reference_kind (kind_of s cell word)) → (held_in s run cell word).cell ≢ 0 → IsKept s run met (held_in s run cell word)
 
 -- the walk is over, and met nothing that is gone
@@ -52,7 +52,7 @@ abbrev pub IsCovered : (s : Setup) (m : Machine) (starts : ℕ → m.State) → 
 IsCovered s m starts run cover = IfSome cover.walk (IsCoverAfter s m starts run)
 
 -- what a move stores in a reference word of the heap is this reference
-abbrev pub IsStored : Setup → Move → Reference → Type 0
+abbrev pub IsStored : Setup → Move → WordValue → Type 0
 IsStored s (StoresAfterBarrier base word value) stored = base.cell < cells s → IsTrue (is_reference_kind (kind_of s base.cell word)) → stored ≡ value
 IsStored s (StoresPlain base word value) stored = base.cell < cells s → IsTrue (is_reference_kind (kind_of s base.cell word)) → stored ≡ value
 IsStored s move stored = Unit {0}

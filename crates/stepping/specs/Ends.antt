@@ -3,18 +3,18 @@ use Rattle.std.specs.Prelude.{ℕ, ◌≡◌, ◌<◌, ◌≤◌, ◌^◌, Optio
 use Rattle.pools.specs.Heap.{Setup, IsSetup, cells}
 use Rattle.colours.specs.Runs.{turns_of}
 use Rattle.trace_sweep.specs.Collecting.{Collecting}
-use Rattle.runs.specs.Machine.{Reference, Machine}
+use Rattle.runs.specs.Machine.{WordValue, Machine}
 use Rattle.runs.specs.Moves as moves
 use Rattle.runs.specs.ModuleRuns.{OfThread, OfCollector, share_of, heap_of}
 use Rattle.runs.specs.ModuleRuns as runs
 use Rattle.runs.specs.Ends.{StandsAfter}
 use Rattle.moves.specs.declared.actor.Actor.{Actor}
 use Rattle.moves.specs.declared.shared.Shared.{Shared}
-use Rattle.moves.specs.declared.stand.Stand.{Stand}
+use Rattle.moves.specs.declared.thread_state.ThreadState.{ThreadState}
 use Rattle.moves.specs.Calls.{move_in}
 use Rattle.moves.specs.Causes.{IsStepCause}
 use Rattle.moves.specs.Runs.{collector_after, next_by, run_by, AreActors}
-use Rattle.moves.specs.Shared.{StandAfter}
+use Rattle.moves.specs.Shared.{ThreadStateAfter}
 use Rattle.moves.specs.Stands.{standing}
 use Rattle.stepping.specs.Reach.{IsSchemaOf, IsFirstGone, LosesNothing}
 use Rattle.stepping.specs.Loss.{IsTold}
@@ -26,19 +26,19 @@ use Rattle.stepping.specs.declared.happening.MadeStep.{MadeStep}
 use Rattle.stepping.specs.declared.loss.Loss.TheVariants.{Nothing}
 
 -- the threads, the shared words and the collector at the end of this run
-pub record IsEnd (s : Setup) (m : Machine) (Fits : m.State → Type 0) (starts : ℕ → m.State) (run : List runs.Happening) (threads : List (Stand m.State)) (shared : Shared) (collector : Collecting) : Type 0 where
+pub record IsEnd (s : Setup) (m : Machine) (Fits : m.State → Type 0) (starts : ℕ → m.State) (run : List runs.Happening) (threads : List (ThreadState m.State)) (shared : Shared) (collector : Collecting) : Type 0 where
   pub few_cells : cells s ≤ 2 ^ 32
   pub count : length threads ≡ s.threads
-  pub stands : (t : ℕ) (stand : Stand m.State) → slice_get threads t ≡ Some stand → StandsAfter s m starts run t (standing s m stand)
-  pub fits : (t : ℕ) (stand : Stand m.State) → slice_get threads t ≡ Some stand → Fits stand.state
+  pub stands : (t : ℕ) (thread_state : ThreadState m.State) → slice_get threads t ≡ Some thread_state → StandsAfter s m starts run t (standing s m thread_state)
+  pub fits : (t : ℕ) (thread_state : ThreadState m.State) → slice_get threads t ≡ Some thread_state → Fits thread_state.state
   -- what a write under way has read is a cell
-  pub replaced : (t : ℕ) (stand : Stand m.State) → slice_get threads t ≡ Some stand → stand.replaced.cell < cells s
+  pub replaced : (t : ℕ) (thread_state : ThreadState m.State) → slice_get threads t ≡ Some thread_state → thread_state.replaced.cell < cells s
   pub collects : collector ≡ collector_after s (turns_of (heap_of run))
   pub in_heap : IsInHeap s collector
-  pub words : StandAfter s run shared
+  pub words : ThreadStateAfter s run shared
 
 -- they are what these actors, the newest first, make of their starts
-pub record IsAfter (s : Setup) (m : Machine) (Fits : m.State → Type 0) (starts : ℕ → m.State) (actors : List Actor) (threads : List (Stand m.State)) (shared : Shared) (collector : Collecting) : Type 0 where
+pub record IsAfter (s : Setup) (m : Machine) (Fits : m.State → Type 0) (starts : ℕ → m.State) (actors : List Actor) (threads : List (ThreadState m.State)) (shared : Shared) (collector : Collecting) : Type 0 where
   pub are_actors : AreActors s.threads actors
   pub is_end : IsEnd s m Fits starts (run_by s m starts actors) threads shared collector
 
@@ -51,7 +51,7 @@ pub record AreAfterSteps (s : Setup) (m : Machine) (Fits : m.State → Type 0) (
 -- ---- one step
 
 -- what was made is this happening
-abbrev pub Tells : (roots : ℕ → List Reference) → Happening → runs.Happening → Type 0
+abbrev pub Tells : (roots : ℕ → List WordValue) → Happening → runs.Happening → Type 0
 Tells roots (Thread t made) happening = happening ≡ OfThread t (move_in (roots t) made)
 Tells roots (Collector turn) happening = happening ≡ OfCollector turn
 

@@ -4,7 +4,7 @@ use Rattle.lemmas.specs.Lists.{IsIn}
 use Rattle.pools.specs.Heap.{Setup, cells}
 use Rattle.colours.specs.declared.turn.Turn.{Turn}
 use Rattle.colours.specs.declared.turn.Turn.TheVariants.{Free}
-use Rattle.runs.specs.Machine.{Reference, Machine}
+use Rattle.runs.specs.Machine.{WordValue, Machine}
 use Rattle.runs.specs.Moves.{Move, StoresAfterBarrier, StoresPlain, ReadsPostedAgain, state_after}
 use Rattle.runs.specs.ModuleRuns.{Happening, OfThread, OfCollector, share_of}
 use Rattle.runs.specs.Broken.{IsRoot, IsReachable, IsGone, Shows, ReachBlue, ReachBirth}
@@ -19,14 +19,14 @@ pub record IsSchemaOf (s : Setup) (schema : HeapSchema) : Type 0 where
   pub globals : s.globals ≡ schema.globals.now
 
 -- these are the roots of the threads under way, and cells of the heap, perhaps with nulls between them
-pub record AreRoots (s : Setup) (m : Machine) (starts : ℕ → m.State) (run : List Happening) (roots : List Reference) : Type 0 where
-  pub are_roots : (r : Reference) → IsIn r roots → r.cell ≢ 0 → IsRoot s m starts run r
-  pub all : (r : Reference) → IsRoot s m starts run r → r.cell ≢ 0 → IsIn r roots
-  pub are_cells : (r : Reference) → IsIn r roots → r.cell < cells s
+pub record AreRoots (s : Setup) (m : Machine) (starts : ℕ → m.State) (run : List Happening) (roots : List WordValue) : Type 0 where
+  pub are_roots : (r : WordValue) → IsIn r roots → r.cell ≢ 0 → IsRoot s m starts run r
+  pub all : (r : WordValue) → IsRoot s m starts run r → r.cell ≢ 0 → IsIn r roots
+  pub are_cells : (r : WordValue) → IsIn r roots → r.cell < cells s
 
 -- the first thing that is gone and can be reached: the least cell that is free, or where there is none, the least that was claimed again
 abbrev pub IsFirstGone : (s : Setup) (m : Machine) (starts : ℕ → m.State) → List Happening → Option Gone → Type 0
-IsFirstGone s m starts run None = (r : Reference) → IsReachable s m starts run r → ¬ IsGone s run r
+IsFirstGone s m starts run None = (r : WordValue) → IsReachable s m starts run r → ¬ IsGone s run r
 IsFirstGone s m starts run (Some (Blue cell)) = Shows s m starts run (ReachBlue cell) × ((other : ℕ) → other < cell → ¬ Shows s m starts run (ReachBlue other))
 IsFirstGone s m starts run (Some (Reborn cell)) =
     ((other : ℕ) → ¬ Shows s m starts run (ReachBlue other)) × Shows s m starts run (ReachBirth cell) × ((other : ℕ) → other < cell → ¬ Shows s m starts run (ReachBirth other))

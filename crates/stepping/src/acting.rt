@@ -17,7 +17,7 @@ use crate::laws::loss_law;
 use crate::loss::{loss_of_move, loss_of_turn};
 use crate::roots::{new_roots, roots_under_way};
 use crate::walk::{Walk, walk_from};
-use moves::{Actor, Runner, Shared, Stand, broken_by, go_on, next_move};
+use moves::{Actor, Runner, Shared, ThreadState, broken_by, go_on, next_move};
 use run_law::growth_law;
 use std::alloc::{AllocError, Global};
 use trace_sweep::Collector;
@@ -26,7 +26,7 @@ use trace_sweep::Collector;
 #[derive(Drop)]
 pub struct Actors<'a, M> {
     schema: HeapSchema<'a>,
-    threads: Vec<Stand<M>>,
+    threads: Vec<ThreadState<M>>,
     shared: Shared,
     collector: Collector<'a>,
 }
@@ -65,7 +65,7 @@ impl<'a, M: Runner + Drop> Actors<'a, M> {
     }
 
     /// A thread.
-    pub fn thread(&self, thread: usize) -> Option<&Stand<M>>
+    pub fn thread(&self, thread: usize) -> Option<&ThreadState<M>>
         ensures { option_copied result ≡ slice_get self.now.threads.items thread }
     {
         self.threads.get(thread)
@@ -123,12 +123,12 @@ impl<'a, M: Runner + Drop> Actors<'a, M> {
         growth_law::<M>();
         loss_law::<M>();
         let index = thread as usize;
-        let stand = &self.threads[index];
-        let Some(made) = next_move(&self.shared, self.schema.pools, stand)? else {
+        let thread_state = &self.threads[index];
+        let Some(made) = next_move(&self.shared, self.schema.pools, thread_state)? else {
             return Ok(None);
         };
         let broke = broken_by(&self.shared, &made);
-        let stage = stand.stage;
+        let stage = thread_state.stage;
         let roots_after = go_on(self.schema.pools, &mut self.threads[index], &made)?;
         let loss = loss_of_move(&made, roots_after);
         self.shared.apply(index, stage, &made);
@@ -199,10 +199,10 @@ impl<'a, M: Runner + Drop> Actors<'a, M> {
         match &step.happening {
             Happening::Collector(turn) => Ok(after_turn(walk, *turn)),
             Happening::Thread(thread, made) => {
-                let Some(stand) = self.thread(*thread as usize) else {
+                let Some(thread_state) = self.thread(*thread as usize) else {
                     return Ok(None);
                 };
-                let roots = new_roots(alloc, stand, made)?;
+                let roots = new_roots(alloc, thread_state, made)?;
                 let stored = stored_by(self.schema, made);
                 walked_on(walk, self.schema, &self.shared, stored, roots.as_slice())
             }

@@ -1,14 +1,14 @@
 ghost use Rattle.std.specs.Prelude.{ℕ, ◌≡◌, ◌<◌, ◌≤◌, ◌^◌, [], length, map, slice_index, IfOk};
 ghost use Rattle.pools.specs.Heap.{Setup, IsSetup, cells_in, cells};
 ghost use Rattle.stepping.specs.Reach.{IsSchemaOf};
-ghost use Rattle.moves.specs.Shared.{StandAfter};
+ghost use Rattle.moves.specs.Shared.{ThreadStateAfter};
 ghost use Rattle.stepping.specs.Starts as starts;
 ghost use Rattle.stepping.specs.Starts.{IsRowAtStart, AreRowsAtStart};
 
 use crate::gone::HeapSchema;
 use colours::DONE;
 use items::Items;
-use moves::{CellWords, NULL, Reference, Shared, Stance, Stand};
+use moves::{CallPhase, CellWords, NULL, Shared, ThreadState, WordValue};
 use std::alloc::{AllocError, Global};
 
 /// A thread before the first step.
@@ -27,7 +27,7 @@ pub(crate) fn shared_at_start<M>(
     values: &[u64],
     threads: &[NewThread<M>],
 ) -> Result<Shared, AllocError>
-    ensures afterwards { (s : Setup) → IsSchemaOf s schema.entry → IsSetup s → s.late ≡ map (λ (thread : NewThread M). thread.is_late) threads.now → s.threads ≡ length threads.now → s.values ≡ values.now → IfOk result (StandAfter s []) }
+    ensures afterwards { (s : Setup) → IsSchemaOf s schema.entry → IsSetup s → s.late ≡ map (λ (thread : NewThread M). thread.is_late) threads.now → s.threads ≡ length threads.now → s.values ≡ values.now → IfOk result (ThreadStateAfter s []) }
     ensures limit { cells_in schema.entry.pools.now ≤ 2 ^ 20 }
 {
     let cells = schema.pools.cells();
@@ -86,13 +86,13 @@ fn row_at_start(
     schema: HeapSchema<'_>,
     values: &[u64],
     cell: u32,
-) -> Result<Items<Reference>, AllocError>
+) -> Result<Items<WordValue>, AllocError>
     requires { cell < cells_in schema.pools.now }
     ensures { (s : Setup) → IsSchemaOf s schema.entry → IsSetup s → s.values ≡ values.now → IfOk result (IsRowAtStart s cell) }
 {
     let mut row = Items::new(alloc);
     for word in 0..schema.words(cell).len() {
-        row.push(Reference {
+        row.push(WordValue {
             cell: value_at_start(values, cell, word),
             birth: 0,
         })?;
@@ -117,34 +117,34 @@ pub(crate) fn stands_at_start<M: Drop>(
     alloc: Global,
     layouts: usize,
     threads: Vec<NewThread<M>>,
-) -> Result<Vec<Stand<M>>, AllocError>
-    ensures { IfOk result (λ stands. stands.items ≡ map (starts.stand_at_start layouts) threads.items) }
+) -> Result<Vec<ThreadState<M>>, AllocError>
+    ensures { IfOk result (λ stands. stands.items ≡ map (starts.thread_state_at_start layouts) threads.items) }
 {
     let mut stands = Vec::new(alloc);
     for thread in threads {
-        let stand = stand_at_start(alloc, layouts, thread)?;
-        stands.push(stand)?;
+        let thread_state = thread_state_at_start(alloc, layouts, thread)?;
+        stands.push(thread_state)?;
     }
     Ok(stands)
 }
 
 /// A thread before its first move.
-fn stand_at_start<M: Drop>(
+fn thread_state_at_start<M: Drop>(
     alloc: Global,
     layouts: usize,
     thread: NewThread<M>,
-) -> Result<Stand<M>, AllocError>
-    ensures { IfOk result (λ stand. stand ≡ starts.stand_at_start layouts thread) }
+) -> Result<ThreadState<M>, AllocError>
+    ensures { IfOk result (λ thread_state. thread_state ≡ starts.thread_state_at_start layouts thread) }
 {
     let hints = vec![in alloc; 0_u32; layouts]?;
     let NewThread { machine, is_late } = thread;
-    Ok(Stand {
+    Ok(ThreadState {
         state: machine,
         stage: 0,
-        stance: if is_late {
-            Stance::Absent
+        call_phase: if is_late {
+            CallPhase::Absent
         } else {
-            Stance::Ready
+            CallPhase::Ready
         },
         replaced: NULL,
         hints: Items::from_vec(hints),

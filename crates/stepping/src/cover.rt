@@ -1,7 +1,7 @@
 ghost use Rattle.std.specs.Prelude.{◌≡◌, ◌<◌, List, None, IsTrue, IfOk, IfSome};
 ghost use Rattle.pools.specs.Heap.{Setup, cells_in, cells, kind_of};
 ghost use Rattle.pools.specs.Layouts.{is_reference_kind};
-ghost use Rattle.runs.specs.Machine.{Reference as AReference};
+ghost use Rattle.runs.specs.Machine.{WordValue as AWordValue};
 ghost use Rattle.moves.specs.Calls.{move_in};
 ghost use Rattle.stepping.specs.Reach.{IsSchemaOf};
 ghost use Rattle.stepping.specs.Covers.{IsOver, IsStored, FreesNoneOf};
@@ -10,7 +10,7 @@ ghost use Rattle.stepping.specs.Walks.{IsClosed, IsNearlyClosed};
 use crate::gone::HeapSchema;
 use crate::walk::Walk;
 use colours::Turn;
-use moves::{Move, NULL, Reference, Shared};
+use moves::{Move, NULL, Shared, WordValue};
 use pools::WordKind;
 use std::alloc::AllocError;
 
@@ -40,8 +40,8 @@ pub(crate) fn after_turn(walk: Walk, turn: Turn) -> Option<Walk>
 }
 
 /// What a move stores in a reference word of the heap; null where it stores none.
-pub(crate) fn stored_by(schema: HeapSchema<'_>, made: &Move) -> Reference
-    ensures { (s : Setup) (roots : List AReference) → IsSchemaOf s schema.entry → IsStored s (move_in roots made.now) result }
+pub(crate) fn stored_by(schema: HeapSchema<'_>, made: &Move) -> WordValue
+    ensures { (s : Setup) (roots : List AWordValue) → IsSchemaOf s schema.entry → IsStored s (move_in roots made.now) result }
 {
     match made {
         Move::StoresAfterBarrier { base, word, value } => stored_in(schema, *base, *word, *value),
@@ -51,7 +51,7 @@ pub(crate) fn stored_by(schema: HeapSchema<'_>, made: &Move) -> Reference
 }
 
 /// This reference, if the word that it is stored in holds references.
-fn stored_in(schema: HeapSchema<'_>, base: Reference, word: u32, value: Reference) -> Reference
+fn stored_in(schema: HeapSchema<'_>, base: WordValue, word: u32, value: WordValue) -> WordValue
     ensures { (s : Setup) → IsSchemaOf s schema.entry → base.cell < cells s → IsTrue (is_reference_kind (kind_of s base.cell word)) → result ≡ value }
 {
     match schema.kind(base.cell, word) {
@@ -66,11 +66,11 @@ pub(crate) fn walked_on(
     walk: Walk,
     schema: HeapSchema<'_>,
     shared: &Shared,
-    stored: Reference,
-    roots: &[Reference],
+    stored: WordValue,
+    roots: &[WordValue],
 ) -> Result<Option<Walk>, AllocError>
     requires { IsOver (cells_in schema.pools.now) walk }
-    ensures { (s : Setup) (all : List AReference) → IsSchemaOf s schema.entry → IsNearlyClosed s shared.now all roots.now stored walk
+    ensures { (s : Setup) (all : List AWordValue) → IsSchemaOf s schema.entry → IsNearlyClosed s shared.now all roots.now stored walk
         → IfOk result (λ o. IfSome o (λ kept. IsOver (cells s) kept × IsClosed s shared.now all kept)) }
 {
     let mut walk = walk;

@@ -1,5 +1,5 @@
 ghost use Rattle.std.specs.Prelude.{◌≡◌, List, true, false};
-ghost use Rattle.runs.specs.Machine.{Reference as AReference};
+ghost use Rattle.runs.specs.Machine.{WordValue as AWordValue};
 ghost use Rattle.moves.specs.Calls.{move_in};
 ghost use Rattle.moves.specs.RootsAfter.{IsToldOfRoots};
 ghost use Rattle.stepping.specs.Loss.{IsTold};
@@ -29,7 +29,7 @@ pub(crate) fn loss_of_turn(turn: Turn) -> Loss
 
 /// Whether a move may lose something, after which this is known of its thread's roots.
 pub(crate) fn loss_of_move(made: &Move, roots_after: RootsAfter) -> Loss
-    ensures { (before after : List AReference) → IsToldOfRoots roots_after before after → IsTold result (AddsNothing (move_in before made.now) × (after ≡ before)) }
+    ensures { (before after : List AWordValue) → IsToldOfRoots roots_after before after → IsTold result (AddsNothing (move_in before made.now) × (after ≡ before)) }
 {
     if adds(made) {
         return Loss::Possible;
@@ -42,8 +42,8 @@ pub(crate) fn loss_of_move(made: &Move, roots_after: RootsAfter) -> Loss
 
 /// Whether a move puts a reference, or a number other than 0, into a word, or may be the one after which a late thread has begun.
 fn adds(made: &Move) -> bool
-    ensures adds { (roots : List AReference) → result ≡ true → AddsNothing (move_in roots made.now) → ⊥ }
-    ensures adds_nothing { (roots : List AReference) → result ≡ false → AddsNothing (move_in roots made.now) }
+    ensures adds { (roots : List AWordValue) → result ≡ true → AddsNothing (move_in roots made.now) → ⊥ }
+    ensures adds_nothing { (roots : List AWordValue) → result ≡ false → AddsNothing (move_in roots made.now) }
 {
     match made {
         Move::StoresAfterBarrier { value, .. } | Move::StoresPlain { value, .. } => value.cell != 0,

@@ -3,12 +3,12 @@ ghost use Rattle.pools.specs.Heap.{Setup, cells_in, cells, words_of_cell};
 ghost use Rattle.runs.specs.Moves.{null};
 ghost use Rattle.stepping.specs.Reach.{IsSchemaOf};
 ghost use Rattle.stepping.specs.Walks as walks;
-ghost use Rattle.runs.specs.Machine.{Reference as AReference};
+ghost use Rattle.runs.specs.Machine.{WordValue as AWordValue};
 ghost use Rattle.stepping.specs.Walks.{meeting, following, following_first, looking_at, looking, IsSeen, IsSound, IsLooked, IsClosed, IsNearlyClosed, IsWhole, IsShaped};
 
 use crate::gone::HeapSchema;
 use items::Items;
-use moves::{NULL, Reference, Shared};
+use moves::{NULL, Shared, WordValue};
 use pools::WordKind;
 use std::alloc::{AllocError, Global};
 
@@ -47,7 +47,7 @@ impl Walk {
     }
 
     /// A reference can be reached.
-    fn meet(&mut self, shared: &Shared, found: Reference) -> Result<(), AllocError>
+    fn meet(&mut self, shared: &Shared, found: WordValue) -> Result<(), AllocError>
         requires { length self.old.met ≤ 2 ^ 20 }
         ensures { OnOk result (self.new ≡ meeting shared.now self.old found) }
     {
@@ -77,7 +77,7 @@ impl Walk {
     }
 
     /// What a word or a root holds can be reached; null points to nothing.
-    fn follow(&mut self, shared: &Shared, held: Reference) -> Result<(), AllocError>
+    fn follow(&mut self, shared: &Shared, held: WordValue) -> Result<(), AllocError>
         requires { length self.old.met ≤ 2 ^ 20 }
         ensures { OnOk result (self.new ≡ following shared.now self.old held) }
     {
@@ -92,7 +92,7 @@ impl Walk {
         &mut self,
         shared: &Shared,
         kind: WordKind,
-        held: Reference,
+        held: WordValue,
     ) -> Result<(), AllocError>
         requires { length self.old.met ≤ 2 ^ 20 }
         ensures { OnOk result (self.new ≡ looking_at shared.now self.old (Some kind) held) }
@@ -123,7 +123,7 @@ impl Walk {
     }
 
     /// What each of these roots holds can be reached.
-    fn follow_all(&mut self, shared: &Shared, roots: &[Reference]) -> Result<(), AllocError>
+    fn follow_all(&mut self, shared: &Shared, roots: &[WordValue]) -> Result<(), AllocError>
         requires { length self.old.met ≤ 2 ^ 20 }
         ensures { OnOk result (self.new ≡ following_first shared.now roots.now self.old (length roots.now)) }
     {
@@ -145,8 +145,8 @@ impl Walk {
         requires place { place ≤ length self.old.order }
         ensures shaped { OnOk result (IsShaped (cells_in schema.entry.pools.now) self.new) }
         ensures looked { (s : Setup) → IsSchemaOf s schema.entry → IsLooked s shared.now self.old place → OnOk result (IsLooked s shared.now self.new (length self.new.order)) }
-        ensures seen { (r : AReference) → IsSeen shared.now self.old r → OnOk result (IsSeen shared.now self.new r) }
-        ensures sound { (s : Setup) (roots : List AReference) → IsSchemaOf s schema.entry → IsSound s shared.now roots self.old → OnOk result (IsSound s shared.now roots self.new) }
+        ensures seen { (r : AWordValue) → IsSeen shared.now self.old r → OnOk result (IsSeen shared.now self.new r) }
+        ensures sound { (s : Setup) (roots : List AWordValue) → IsSchemaOf s schema.entry → IsSound s shared.now roots self.old → OnOk result (IsSound s shared.now roots self.new) }
     {
         let mut looked = place;
         while let Some(cell) = self.order.get(looked).copied() {
@@ -161,13 +161,13 @@ impl Walk {
         &mut self,
         schema: HeapSchema<'_>,
         shared: &Shared,
-        stored: Reference,
-        roots: &[Reference],
+        stored: WordValue,
+        roots: &[WordValue],
     ) -> Result<(), AllocError>
         requires shaped { IsShaped (cells_in schema.pools.now) self.old }
         requires few { length self.old.met ≤ 2 ^ 20 }
         ensures shaped { OnOk result (IsShaped (cells_in schema.entry.pools.now) self.new) }
-        ensures closed { (s : Setup) (all : List AReference) → IsSchemaOf s schema.entry → IsNearlyClosed s shared.now all roots.now stored self.old → OnOk result (IsClosed s shared.now all self.new) }
+        ensures closed { (s : Setup) (all : List AWordValue) → IsSchemaOf s schema.entry → IsNearlyClosed s shared.now all roots.now stored self.old → OnOk result (IsClosed s shared.now all self.new) }
     {
         let place = self.order.len();
         self.follow(shared, stored)?;
@@ -199,7 +199,7 @@ fn is_set(each: &[bool], at: usize) -> bool
 }
 
 /// The reference at this place; null outside the row.
-fn reference_at(row: &[Reference], at: usize) -> Reference
+fn reference_at(row: &[WordValue], at: usize) -> WordValue
     ensures { result ≡ slice_index_or row.now at null }
 {
     row.get(at).copied().unwrap_or(NULL)
@@ -210,7 +210,7 @@ pub(crate) fn walk_from(
     alloc: Global,
     schema: HeapSchema<'_>,
     shared: &Shared,
-    roots: &[Reference],
+    roots: &[WordValue],
 ) -> Result<Walk, AllocError>
     ensures whole { (s : Setup) → IsSchemaOf s schema.entry → IfOk result (λ walk. IsShaped (cells s) walk × IsWhole s shared.now roots.now walk) }
     ensures limit { cells_in schema.entry.pools.now ≤ 2 ^ 20 }

@@ -7,7 +7,7 @@ use Rattle.colours.specs.declared.turn.Turn.TheVariants.{PostStage, ReadStage}
 use Rattle.colours.specs.Colours.{done}
 use Rattle.colours.specs.Collector.{Collection, Posting, Collects}
 use Rattle.colours.specs.Runs.{turns_of, word_after, births_after}
-use Rattle.runs.specs.Machine.{Reference, Alloc}
+use Rattle.runs.specs.Machine.{WordValue, Alloc}
 use Rattle.runs.specs.Moves.{Claims, StoresStage, ReadsPostedFirst, EntersStage, ReadsPostedAgain, state_after}
 use Rattle.runs.specs.ModuleRuns.{Happening, OfThread, OfCollector, share_of, heap_of, IsModuleRun}
 use Rattle.worked_runs.proofs.Scripts.{Script, scripts}
@@ -18,7 +18,7 @@ heap = record { threads = 1; late = true ∷ []; layouts = (kind.Integer 64 ∷ 
 abbrev starts : ℕ → Script
 starts t = record { code = (λ v. Alloc 0) ∷ []; values = [] }
 
-abbrev cell : Reference
+abbrev cell : WordValue
 cell = record { cell = 1; birth = 1 }
 
 abbrev at0 : (c : Collection) × Collects heap [] c

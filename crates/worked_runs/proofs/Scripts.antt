@@ -1,23 +1,23 @@
 -- A small machine: its code gives each call from the references that earlier calls brought.
 use Rattle.std.proofs.Common.{List, [], ◌∷◌}
-use Rattle.runs.specs.Machine.{Reference, Action, End, Answer, Done, Got, Answered, Machine}
+use Rattle.runs.specs.Machine.{WordValue, Action, End, Answer, Done, Got, Answered, Machine}
 use Rattle.runs.specs.Moves.{null}
 
 -- the calls that are left, and the references brought so far, the last one first
 pub record Script : Type 0 where
-  pub code : List (List Reference → Action)
-  pub values : List Reference
+  pub code : List (List WordValue → Action)
+  pub values : List WordValue
 
 -- the first of these references
-abbrev pub first : List Reference → Reference
+abbrev pub first : List WordValue → WordValue
 first [] = null
 first (r ∷ rs) = r
 
-abbrev pub next_call : List (List Reference → Action) → List Reference → Action
+abbrev pub next_call : List (List WordValue → Action) → List WordValue → Action
 next_call [] values = End
 next_call (call ∷ code) values = call values
 
-abbrev pub afterwards_call : List (List Reference → Action) → List (List Reference → Action)
+abbrev pub afterwards_call : List (List WordValue → Action) → List (List WordValue → Action)
 afterwards_call [] = []
 afterwards_call (call ∷ code) = code
 

@@ -7,7 +7,7 @@ use Rattle.colours.specs.declared.turn.Turn.TheVariants.{PostStage, ReadStage}
 use Rattle.colours.specs.Colours.{done}
 use Rattle.colours.specs.Collector.{Collection, Posting, Collects}
 use Rattle.colours.specs.Runs.{turns_of, word_after, births_after}
-use Rattle.runs.specs.Machine.{Reference, Alloc, Write, Safepoint}
+use Rattle.runs.specs.Machine.{WordValue, Alloc, Write, Safepoint}
 use Rattle.runs.specs.Moves.{Works, ReadsOldValue, Marks, StoresAfterBarrier, Claims, ReadsPosted, StoresStage, null}
 use Rattle.runs.specs.ModuleRuns.{Happening, OfThread, OfCollector, heap_of, IsModuleRun}
 use Rattle.worked_runs.proofs.Scripts.{Script, first, scripts}
@@ -21,7 +21,7 @@ starts t = record {
   values = [];
 }
 
-abbrev cell : Reference
+abbrev cell : WordValue
 cell = record { cell = 1; birth = 1 }
 
 abbrev at0 : (c : Collection) × Collects heap [] c

@@ -2,7 +2,7 @@
 use Rattle.std.proofs.Common.{◌≡◌, ◌⊎◌, inl, inr, ℕ, true, false, List, [], ◌∷◌, refl, sym, subst}
 use Rattle.lemmas.specs.Lists.{IsIn}
 use Rattle.pools.specs.Heap.{Setup, IsSetup}
-use Rattle.runs.specs.Machine.{Reference, Action, Alloc, Safepoint, End}
+use Rattle.runs.specs.Machine.{WordValue, Action, Alloc, Safepoint, End}
 use Rattle.runs.specs.Moves.{Move, Works, Claims, ReadsPosted, StoresStage, null, answer_of}
 use Rattle.runs.specs.Discipline.{Holds, MayName, MayCall}
 use Rattle.runs.specs.Soundness.{EndsCall, IsSound}
@@ -12,20 +12,20 @@ use Rattle.runs.specs.Theorems.{safe}
 use Rattle.worked_runs.proofs.Scripts.{Script, scripts, next_call, after_call, afterwards_call}
 
 -- each call allocates or is a safepoint
-abbrev IsTame : List (List Reference → Action) → Type 0
+abbrev IsTame : List (List WordValue → Action) → Type 0
 IsTame [] = Unit {0}
-IsTame (call ∷ code) = ((v : List Reference) → (call v ≡ Alloc 0) ⊎ (call v ≡ Safepoint)) × IsTame code
+IsTame (call ∷ code) = ((v : List WordValue) → (call v ≡ Alloc 0) ⊎ (call v ≡ Safepoint)) × IsTame code
 
 -- each reference that was brought may be named
 record Sound (s : Setup) (share : List Move) (script : Script) : Type 0 where
   tame : IsTame script.code
-  named : (r : Reference) → IsIn r script.values → MayName s share r
+  named : (r : WordValue) → IsIn r script.values → MayName s share r
 
-tame_rest : (code : List (List Reference → Action)) → IsTame code → IsTame (afterwards_call code)
+tame_rest : (code : List (List WordValue → Action)) → IsTame code → IsTame (afterwards_call code)
 tame_rest [] t = tt
 tame_rest (call ∷ code) t = t.1
 
-kinds : (code : List (List Reference → Action)) (v : List Reference) → IsTame code → (next_call code v ≡ Alloc 0) ⊎ (next_call code v ≡ Safepoint) ⊎ (next_call code v ≡ End)
+kinds : (code : List (List WordValue → Action)) (v : List WordValue) → IsTame code → (next_call code v ≡ Alloc 0) ⊎ (next_call code v ≡ Safepoint) ⊎ (next_call code v ≡ End)
 kinds [] v t = inr (inr refl)
 kinds (call ∷ code) v t = go (t.0 v)
   where
@@ -33,7 +33,7 @@ kinds (call ∷ code) v t = go (t.0 v)
     go (inl e) = inl e
     go (inr e) = inr (inl e)
 
-stays : (s : Setup) (share more : List Move) (r : Reference) → (Holds s share r → Holds s more r) → MayName s share r → MayName s more r
+stays : (s : Setup) (share more : List Move) (r : WordValue) → (Holds s share r → Holds s more r) → MayName s share r → MayName s more r
 stays s share more r h (inl z) = inl z
 stays s share more r h (inr x) = inr (h x)
 
@@ -44,11 +44,11 @@ goes_on s share script move h e = go (next_call script.code script.values) (kind
     code_next : IsTame (afterwards_call script.code)
     code_next = tame_rest script.code h.tame
 
-    keep : (move : Move) → ((r : Reference) → Holds s share r → Holds s (move ∷ share) r) → (r : Reference) → IsIn r script.values → MayName s (move ∷ share) r
+    keep : (move : Move) → ((r : WordValue) → Holds s share r → Holds s (move ∷ share) r) → (r : WordValue) → IsIn r script.values → MayName s (move ∷ share) r
     keep move k r x = stays s share (move ∷ share) r (k r) (h.named r x)
 
-    got : (move : Move) (q : Reference) → ((r : Reference) → Holds s share r → Holds s (move ∷ share) r) → MayName s (move ∷ share) q → (r : Reference) → IsIn r (q ∷ script.values) → MayName s (move ∷ share) r
-    got move q k n r (inl same) = subst (λ (x : Reference). MayName s (move ∷ share) x) (sym same) n
+    got : (move : Move) (q : WordValue) → ((r : WordValue) → Holds s share r → Holds s (move ∷ share) r) → MayName s (move ∷ share) q → (r : WordValue) → IsIn r (q ∷ script.values) → MayName s (move ∷ share) r
+    got move q k n r (inl same) = subst (λ (x : WordValue). MayName s (move ∷ share) x) (sym same) n
     got move q k n r (inr x) = keep move k r x
 
     go : (action : Action) → ((action ≡ Alloc 0) ⊎ (action ≡ Safepoint) ⊎ (action ≡ End)) → (move : Move) → EndsCall s script.values action move → Sound s (move ∷ share) (after_call script (answer_of action move))
@@ -58,9 +58,9 @@ goes_on s share script move h e = go (next_call script.code script.values) (kind
     go Safepoint k (ReadsPosted stage) e = record { tame = code_next; named = keep (ReadsPosted stage) (λ r x. inr (tt, x)) }
     go Safepoint k (StoresStage stage rs) e = record { tame = code_next; named = λ r x. answered r x (h.named r x) }
       where
-        answered : (r : Reference) → IsIn r script.values → MayName s share r → MayName s (StoresStage stage rs ∷ share) r
+        answered : (r : WordValue) → IsIn r script.values → MayName s share r → MayName s (StoresStage stage rs ∷ share) r
         answered r x (inl z) = inl z
-        answered r x (inr y) = inr (inr (subst (λ (qs : List Reference). IsIn r qs) (sym e) x, y))
+        answered r x (inr y) = inr (inr (subst (λ (qs : List WordValue). IsIn r qs) (sym e) x, y))
     go (Alloc layout) k move e = absurd e
     go Safepoint k move e = absurd e
     go End k move e = absurd e
@@ -85,11 +85,11 @@ sound s = record {
 }
 
 -- a script before its first call
-abbrev begun : List (List Reference → Action) → Script
+abbrev begun : List (List WordValue → Action) → Script
 begun code = record { code = code; values = [] }
 
 -- so any number of tame scripts make safe runs, over a heap that satisfies its law
-pub tame_safe : (s : Setup) (codes : ℕ → List (List Reference → Action)) → IsSetup s → HeapLaw s → ((t : ℕ) → IsTame (codes t)) → IsSafe s scripts (λ t. begun (codes t))
+pub tame_safe : (s : Setup) (codes : ℕ → List (List WordValue → Action)) → IsSetup s → HeapLaw s → ((t : ℕ) → IsTame (codes t)) → IsSafe s scripts (λ t. begun (codes t))
 tame_safe s codes setup law tame =
     safe s scripts (λ t. begun (codes t)) setup law
     (all_careful s scripts (Sound s) (λ t. begun (codes t)) (record { sound = sound s; begun = λ t lt. record { tame = tame t; named = λ r x. absurd x } }))

@@ -4,6 +4,6 @@ use Rattle.machine.proofs.calls.arguments_pass.Given as goal
 
 abbrev pub invariant-loop-parameter : goal.invariant-loop-parameter
 invariant-loop-parameter l =
-    (arguments_pass l.scene.program.now.of_module l.scene.function.now l.scene.slots.now l.scene.registers.now l.parameter-iterator.a.rest.now l.parameter-iterator.b.rest.now
-    ≡ arguments_pass l.scene.program.now.of_module l.scene.function.now l.scene.slots.now l.scene.registers.now l.fn.parameters l.fn.arguments)
+    (arguments_pass l.context.program.now.of_module l.context.function.now l.context.slots.now l.context.registers.now l.parameter-iterator.a.rest.now l.parameter-iterator.b.rest.now
+    ≡ arguments_pass l.context.program.now.of_module l.context.function.now l.context.slots.now l.context.registers.now l.fn.parameters l.fn.arguments)
     × (length l.parameter-iterator.a.rest.now ≡ length l.parameter-iterator.b.rest.now)

@@ -5,5 +5,5 @@ use Rattle.moves.specs.Sights.{next_in_words}
 use Rattle.moves.proofs.laws.sight_law.Goals as goal
 
 pub returns : goal.returns
-returns g c s starts run t stand shared afterwards stands =
-    next_in_words s (machine_of g.M.Machine.action g.M.Machine.after_answer g.M.Machine.roots) starts run t (standing s (machine_of g.M.Machine.action g.M.Machine.after_answer g.M.Machine.roots) stand) shared afterwards stands
+returns g c s starts run t thread_state shared afterwards stands =
+    next_in_words s (machine_of g.M.Machine.action g.M.Machine.after_answer g.M.Machine.roots) starts run t (standing s (machine_of g.M.Machine.action g.M.Machine.after_answer g.M.Machine.roots) thread_state) shared afterwards stands

@@ -2,7 +2,7 @@
 use Rattle.std.proofs.Common.{◌≡◌, ◌+◌, ◌-◌, ◌++◌, ℕ, List, map, take, drop, sym, ap, ◌∙◌, arith}
 use Rattle.std.proofs.lemmas.List.{append_assoc}
 use Rattle.machine.specs.declared.value.Value.{Value}
-use Rattle.runs.specs.Machine.{Reference}
+use Rattle.runs.specs.Machine.{WordValue}
 use Rattle.program_safety.specs.Threads.{reference_in}
 use Rattle.program_runner.specs.Newest.{names_of}
 use Rattle.program_runner.proofs.FrameNames.{there_first, names_from}
@@ -19,6 +19,6 @@ loop-frame-preserved c =
     let at = there_first now.state.frames c.args.count n c.requires (omega (arith, next, c.loop-frame.auto.frame)) in
     let own = c.frame_roots.ensures at.0 at.1 in
     c.in_ok-add_names.ensures
-    ∙ ap (λ (l : List Reference). l ++ map reference_in c.frame_roots.result) (c.loop-frame.invariant ∙ ap (λ (k : ℕ). before ++ names_of m (drop k first)) (sym next))
+    ∙ ap (λ (l : List WordValue). l ++ map reference_in c.frame_roots.result) (c.loop-frame.invariant ∙ ap (λ (k : ℕ). before ++ names_of m (drop k first)) (sym next))
     ∙ append_assoc before (names_of m (drop (n + 1) first)) (map reference_in c.frame_roots.result)
-    ∙ ap (λ (l : List Reference). before ++ l) (ap (λ (l : List Value). names_of m (drop (n + 1) first) ++ map reference_in l) own ∙ sym (names_from m first n at.0 at.2))
+    ∙ ap (λ (l : List WordValue). before ++ l) (ap (λ (l : List Value). names_of m (drop (n + 1) first) ++ map reference_in l) own ∙ sym (names_from m first n at.0 at.2))

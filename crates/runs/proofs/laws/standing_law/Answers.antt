@@ -7,4 +7,4 @@ pub returns-clause-begun : goal.returns-clause-begun
 returns-clause-begun g c s starts t = begins s (machine_of g.M.Machine.action g.M.Machine.after_answer g.M.Machine.roots) starts t
 
 pub returns-clause-goes_on : goal.returns-clause-goes_on
-returns-clause-goes_on g c s starts run t stand x = goes_on s (machine_of g.M.Machine.action g.M.Machine.after_answer g.M.Machine.roots) starts run t stand x
+returns-clause-goes_on g c s starts run t thread_state x = goes_on s (machine_of g.M.Machine.action g.M.Machine.after_answer g.M.Machine.roots) starts run t thread_state x

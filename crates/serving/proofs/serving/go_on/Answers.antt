@@ -4,7 +4,7 @@ use Rattle.serving.proofs.Results.{on_err}
 use Rattle.serving.proofs.serving.go_on.Goals as goal
 
 pub answer-requires : goal.answer-requires
-answer-requires g c = (c.args.me.now.setup, may_answer (machine_of g.R.Machine.action g.R.Machine.after_answer g.R.Machine.roots) g.R.Runner.fits _ _ _ _ _ c.requires.may c.few_cells.ensures c.in_ok-answer.ensures.ok)
+answer-requires g c = (c.args.me.now.setup, may_answer (machine_of g.R.Machine.action g.R.Machine.after_answer g.R.Machine.roots) g.R.Runner.fits _ _ _ _ _ c.requires.may c.few_cells_law.ensures c.in_ok-answer.ensures.ok)
 
 pub returns-in_err-answer-clause-err : goal.returns-in_err-answer-clause-err
 returns-in_err-answer-clause-err g c = on_err c.from_residual.result (stays_before (machine_of g.R.Machine.action g.R.Machine.after_answer g.R.Machine.roots) g.R.Runner.fits _ _ _ _ c.requires.may c.in_err-answer.ensures.err)

@@ -3,7 +3,7 @@ use Rattle.std.proofs.Common.{◌≡◌, ◌-◌, ◌++◌, List, length, take, 
 use Rattle.layout.specs.Layouts.{LaidOut}
 use Rattle.machine.specs.Machine.{Run, after_answer}
 use Rattle.moves.specs.RootsAfter.{IsToldOfRoots}
-use Rattle.runs.specs.Machine.{Reference}
+use Rattle.runs.specs.Machine.{WordValue}
 use Rattle.program_safety.specs.Threads.{ProgramThread, names}
 use Rattle.program_runner.specs.Newest.{names_of, AreKept}
 use Rattle.program_runner.proofs.Kept.{kept_there, told_of_all}
@@ -29,11 +29,11 @@ returns-clause-roots c =
     let before : c.as_slice.result.now ≡ names_of m (take (length thread.state.frames - kept) thread.state.frames) =
     c.as_slice.ensures.value
     ∙ c.in_ok-add_newest.ensures
-    ∙ ap (λ (l : List Reference). l ++ names_of m (take (c.frames.result - kept) thread.state.frames)) c.clear.ensures.items
+    ∙ ap (λ (l : List WordValue). l ++ names_of m (take (c.frames.result - kept) thread.state.frames)) c.clear.ensures.items
     ∙ ap (λ n. names_of m (take (n - kept) thread.state.frames)) c.frames.ensures in
     let after = subst (λ (p : LaidOut). IsToldOfRoots told c.as_slice.result.now (names_of p.of_module (take (length new.state.frames - kept) new.state.frames))) (ap (λ (t : Run). t.program) c.in_ok-resume.ensures.ok) c.compared.ensures in
     let all =
     told_of_all m kept thread.state.frames new.state.frames told same
-    (subst (λ (l : List Reference). IsToldOfRoots told l (names_of m (take (length new.state.frames - kept) new.state.frames))) before after) in
+    (subst (λ (l : List WordValue). IsToldOfRoots told l (names_of m (take (length new.state.frames - kept) new.state.frames))) before after) in
     subst (λ (t : ProgramThread). IsToldOfRoots told (names t) (names_of c.self.inside.program.now.of_module new.state.frames)) c.self.view_is
-    (subst (λ (p : LaidOut). IsToldOfRoots told (names_of p.of_module thread.state.frames) (names_of p.of_module new.state.frames)) c.self.invariant all)
+    (subst (λ (p : LaidOut). IsToldOfRoots told (names_of p.of_module thread.state.frames) (names_of p.of_module new.state.frames)) c.self.invariant.0 all)

@@ -1,6 +1,6 @@
 -- The walk after the step that was made.
 use Rattle.std.proofs.Common.{◌≡◌, Some, List, slice_get, sym, subst, ◌∙◌}
-use Rattle.runs.specs.Machine.{Reference, machine_of}
+use Rattle.runs.specs.Machine.{WordValue, machine_of}
 use Rattle.stepping.specs.Roots.{new_roots, roots_of}
 use Rattle.stepping.specs.Walks.{IsNearlyClosed}
 use Rattle.stepping.proofs.CoverSteps.{turn-kept, move-near, move-kept-ok}
@@ -16,10 +16,10 @@ returns-in_ok-roots-in-Thread g c s starts before actor b is known =
     let m = machine_of g.M.Machine.action g.M.Machine.after_answer g.M.Machine.roots in
     let a = c.args.self.now in
     let t = c.in-Thread.thread in
-    let stand = c.in-Some.stand.now in
-    let at : slice_get a.threads.items t ≡ Some stand = sym c.in-Some.ensures in
-    let own : c.as_slice.result.now ≡ new_roots m.roots g.M.Runner.newest stand c.in-Thread.made = c.as_slice.ensures.value ∙ c.in_ok-roots-in-Thread.ensures in
-    let near = move-near s m (g.M.Runner.fits s) starts before actor a b c.args.step.now is t c.in-Thread.made c.in-Thread.is stand at (g.met.M.Runner.keeps_kinds s) g.M.Runner.newest g.met.M.Runner.keeps_roots c.args.walk known c.stored_by-stored.result (c.stored_by-stored.ensures s _ b.schema) in
-    move-kept-ok s m (g.M.Runner.fits s) starts before actor a b c.args.step.now is t c.in-Thread.made c.in-Thread.is stand at (g.met.M.Runner.keeps_kinds s) g.M.Runner.newest g.met.M.Runner.keeps_roots c.walked_on.result
+    let thread_state = c.in-Some.thread_state.now in
+    let at : slice_get a.threads.items t ≡ Some thread_state = sym c.in-Some.ensures in
+    let own : c.as_slice.result.now ≡ new_roots m.roots g.M.Runner.newest thread_state c.in-Thread.made = c.as_slice.ensures.value ∙ c.in_ok-roots-in-Thread.ensures in
+    let near = move-near s m (g.M.Runner.fits s) starts before actor a b c.args.step.now is t c.in-Thread.made c.in-Thread.is thread_state at (g.met.M.Runner.keeps_kinds s) g.M.Runner.newest g.met.M.Runner.keeps_roots c.args.walk known c.stored_by-stored.result (c.stored_by-stored.ensures s _ b.schema) in
+    move-kept-ok s m (g.M.Runner.fits s) starts before actor a b c.args.step.now is t c.in-Thread.made c.in-Thread.is thread_state at (g.met.M.Runner.keeps_kinds s) g.M.Runner.newest g.met.M.Runner.keeps_roots c.walked_on.result
     (c.walked_on.ensures s (roots_of m.roots a.threads.items) b.schema
-    (subst (λ (rs : List Reference). IsNearlyClosed s a.shared (roots_of m.roots a.threads.items) rs c.stored_by-stored.result c.args.walk) (sym own) near))
+    (subst (λ (rs : List WordValue). IsNearlyClosed s a.shared (roots_of m.roots a.threads.items) rs c.stored_by-stored.result c.args.walk) (sym own) near))

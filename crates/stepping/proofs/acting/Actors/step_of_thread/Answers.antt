@@ -8,7 +8,7 @@ use Rattle.runs.specs.Moves.{answer_of}
 use Rattle.runs.specs.Ends.{moved}
 use Rattle.moves.specs.declared.moves.Move.{Move}
 use Rattle.moves.specs.declared.shared.Shared.{Shared}
-use Rattle.moves.specs.declared.stand.Stand.{Stand}
+use Rattle.moves.specs.declared.thread_state.ThreadState.{ThreadState}
 use Rattle.moves.specs.declared.actor.Actor.TheVariants as actor
 use Rattle.moves.specs.Calls.{move_in, made_by}
 use Rattle.moves.specs.Kinds.{MayAnswer}
@@ -31,104 +31,104 @@ pub next_move-requires-clause-births : goal.next_move-requires-clause-births
 next_move-requires-clause-births g c =
     let m = machine_of g.M.Machine.action g.M.Machine.after_answer g.M.Machine.roots in
     let r = c.requires in
-    let is : slice_get c.args.self.now.threads.items c.args.thread ≡ Some c.index-stand.result.now = slice_get_read _ _ _ _ (sym r.3.is_after.is_end.count) r.4 c.index-stand.ensures in
-    (c.growth_law.ensures.threads r.0 r.1 (run_by r.0 m r.1 r.2) c.args.thread c.index-stand.result.now c.args.self.now.shared
-    (thread_is_after r.0 m (g.M.Runner.fits r.0) r.1 r.2 c.args.self.now r.3 c.args.thread r.4 c.index-stand.result.now is)).births
+    let is : slice_get c.args.self.now.threads.items c.args.thread ≡ Some c.index-thread_state.result.now = slice_get_read _ _ _ _ (sym r.3.is_after.is_end.count) r.4 c.index-thread_state.ensures in
+    (c.growth_law.ensures.threads r.0 r.1 (run_by r.0 m r.1 r.2) c.args.thread c.index-thread_state.result.now c.args.self.now.shared
+    (thread_is_after r.0 m (g.M.Runner.fits r.0) r.1 r.2 c.args.self.now r.3 c.args.thread r.4 c.index-thread_state.result.now is)).births
 
 pub next_move-requires-clause-room : goal.next_move-requires-clause-room
 next_move-requires-clause-room g c =
     let m = machine_of g.M.Machine.action g.M.Machine.after_answer g.M.Machine.roots in
     let r = c.requires in
-    let is : slice_get c.args.self.now.threads.items c.args.thread ≡ Some c.index-stand.result.now = slice_get_read _ _ _ _ (sym r.3.is_after.is_end.count) r.4 c.index-stand.ensures in
-    subst (λ (pools : List ℕ). HasTryLeft pools (g.M.Machine.action c.index-stand.result.now.state) c.index-stand.result.now.stance) r.3.schema.pools
-    (c.growth_law.ensures.threads r.0 r.1 (run_by r.0 m r.1 r.2) c.args.thread c.index-stand.result.now c.args.self.now.shared
-    (thread_is_after r.0 m (g.M.Runner.fits r.0) r.1 r.2 c.args.self.now r.3 c.args.thread r.4 c.index-stand.result.now is)).try_left
+    let is : slice_get c.args.self.now.threads.items c.args.thread ≡ Some c.index-thread_state.result.now = slice_get_read _ _ _ _ (sym r.3.is_after.is_end.count) r.4 c.index-thread_state.ensures in
+    subst (λ (pools : List ℕ). HasTryLeft pools (g.M.Machine.action c.index-thread_state.result.now.state) c.index-thread_state.result.now.call_phase) r.3.schema.pools
+    (c.growth_law.ensures.threads r.0 r.1 (run_by r.0 m r.1 r.2) c.args.thread c.index-thread_state.result.now c.args.self.now.shared
+    (thread_is_after r.0 m (g.M.Runner.fits r.0) r.1 r.2 c.args.self.now r.3 c.args.thread r.4 c.index-thread_state.result.now is)).try_left
 
 pub returns-in_default-clause-ok : goal.returns-in_default-clause-ok
 returns-in_default-clause-ok g c s starts before b lt =
     let m = machine_of g.M.Machine.action g.M.Machine.after_answer g.M.Machine.roots in
-    let stand = c.index-stand.result.now in
-    let is : slice_get c.args.self.now.threads.items c.args.thread ≡ Some stand = slice_get_read _ _ _ _ (sym b.is_after.is_end.count) lt c.index-stand.ensures in
-    moved-none s m (g.M.Runner.fits s) starts before c.args.self.now b c.args.thread lt stand is (c.in_ok-made.ensures.next s b.schema.pools ∙ ap (λ (o : Option Move). made_by (m.roots stand.state) o) c.in_default.is)
+    let thread_state = c.index-thread_state.result.now in
+    let is : slice_get c.args.self.now.threads.items c.args.thread ≡ Some thread_state = slice_get_read _ _ _ _ (sym b.is_after.is_end.count) lt c.index-thread_state.ensures in
+    moved-none s m (g.M.Runner.fits s) starts before c.args.self.now b c.args.thread lt thread_state is (c.in_ok-made.ensures.next s b.schema.pools ∙ ap (λ (o : Option Move). made_by (m.roots thread_state.state) o) c.in_default.is)
 
 pub go_on-requires-clause-room : goal.go_on-requires-clause-room
 go_on-requires-clause-room g c =
     let r = c.requires in
-    let stand = c.index-stand.result.now in
-    let is : slice_get c.args.self.now.threads.items c.args.thread ≡ Some stand = slice_get_read _ _ _ _ (sym r.3.is_after.is_end.count) r.4 c.index-stand.ensures in
+    let thread_state = c.index-thread_state.result.now in
+    let is : slice_get c.args.self.now.threads.items c.args.thread ≡ Some thread_state = slice_get_read _ _ _ _ (sym r.3.is_after.is_end.count) r.4 c.index-thread_state.ensures in
     let at : slice_get c.args.self.now.threads.items c.args.thread ≡ Some c.index_mut.result.now = slice_get_read _ _ _ _ (sym r.3.is_after.is_end.count) r.4 c.index_mut.ensures.value in
-    subst (λ (v : Stand g.row.M.Denot). HasRoom v.stance c.in-Some.made) (one-element stand c.index_mut.result.now (sym is ∙ at))
-    (subst (λ (o : Option Move). HasRoomForNext stand.stance o) c.in-Some.is c.in_ok-made.ensures.room)
+    subst (λ (v : ThreadState g.row.M.Denot). HasRoom v.call_phase c.in-Some.made) (one-element thread_state c.index_mut.result.now (sym is ∙ at))
+    (subst (λ (o : Option Move). HasRoomForNext thread_state.call_phase o) c.in-Some.is c.in_ok-made.ensures.room)
 
 pub go_on-requires-clause-hint : goal.go_on-requires-clause-hint
 go_on-requires-clause-hint g c =
     let m = machine_of g.M.Machine.action g.M.Machine.after_answer g.M.Machine.roots in
     let r = c.requires in
-    let stand = c.index-stand.result.now in
+    let thread_state = c.index-thread_state.result.now in
     let move = c.in-Some.made in
-    let is : slice_get c.args.self.now.threads.items c.args.thread ≡ Some stand = slice_get_read _ _ _ _ (sym r.3.is_after.is_end.count) r.4 c.index-stand.ensures in
+    let is : slice_get c.args.self.now.threads.items c.args.thread ≡ Some thread_state = slice_get_read _ _ _ _ (sym r.3.is_after.is_end.count) r.4 c.index-thread_state.ensures in
     let at : slice_get c.args.self.now.threads.items c.args.thread ≡ Some c.index_mut.result.now = slice_get_read _ _ _ _ (sym r.3.is_after.is_end.count) r.4 c.index_mut.ensures.value in
-    let grows = c.growth_law.ensures.threads r.0 r.1 (run_by r.0 m r.1 r.2) c.args.thread stand c.args.self.now.shared
-    (thread_is_after r.0 m (g.M.Runner.fits r.0) r.1 r.2 c.args.self.now r.3 c.args.thread r.4 stand is) in
-    let moves = grows.move move (c.in_ok-made.ensures.next r.0 r.3.schema.pools ∙ ap (λ (o : Option Move). made_by (m.roots stand.state) o) c.in-Some.is) in
-    subst (λ (v : Stand g.row.M.Denot). HasHint c.args.self.now.schema.pools.now v.hints move (m.action v.state)) (one-element stand c.index_mut.result.now (sym is ∙ at))
-    (subst (λ (pools : List ℕ). HasHint pools stand.hints move (m.action stand.state)) r.3.schema.pools moves.hint)
+    let grows = c.growth_law.ensures.threads r.0 r.1 (run_by r.0 m r.1 r.2) c.args.thread thread_state c.args.self.now.shared
+    (thread_is_after r.0 m (g.M.Runner.fits r.0) r.1 r.2 c.args.self.now r.3 c.args.thread r.4 thread_state is) in
+    let moves = grows.move move (c.in_ok-made.ensures.next r.0 r.3.schema.pools ∙ ap (λ (o : Option Move). made_by (m.roots thread_state.state) o) c.in-Some.is) in
+    subst (λ (v : ThreadState g.row.M.Denot). HasHint c.args.self.now.schema.pools.now v.hints move (m.action v.state)) (one-element thread_state c.index_mut.result.now (sym is ∙ at))
+    (subst (λ (pools : List ℕ). HasHint pools thread_state.hints move (m.action thread_state.state)) r.3.schema.pools moves.hint)
 
 pub go_on-requires-clause-answer : goal.go_on-requires-clause-answer
 go_on-requires-clause-answer g c =
     let m = machine_of g.M.Machine.action g.M.Machine.after_answer g.M.Machine.roots in
     let r = c.requires in
-    let stand = c.index-stand.result.now in
+    let thread_state = c.index-thread_state.result.now in
     let move = c.in-Some.made in
-    let is : slice_get c.args.self.now.threads.items c.args.thread ≡ Some stand = slice_get_read _ _ _ _ (sym r.3.is_after.is_end.count) r.4 c.index-stand.ensures in
+    let is : slice_get c.args.self.now.threads.items c.args.thread ≡ Some thread_state = slice_get_read _ _ _ _ (sym r.3.is_after.is_end.count) r.4 c.index-thread_state.ensures in
     let at : slice_get c.args.self.now.threads.items c.args.thread ≡ Some c.index_mut.result.now = slice_get_read _ _ _ _ (sym r.3.is_after.is_end.count) r.4 c.index_mut.ensures.value in
-    let grows = c.growth_law.ensures.threads r.0 r.1 (run_by r.0 m r.1 r.2) c.args.thread stand c.args.self.now.shared
-    (thread_is_after r.0 m (g.M.Runner.fits r.0) r.1 r.2 c.args.self.now r.3 c.args.thread r.4 stand is) in
-    let moves = grows.move move (c.in_ok-made.ensures.next r.0 r.3.schema.pools ∙ ap (λ (o : Option Move). made_by (m.roots stand.state) o) c.in-Some.is) in
-    let may : MayAnswer r.0 (g.M.Runner.fits r.0) m.action stand.state (answer_of (m.action stand.state) (move_in (m.roots stand.state) move)) = record {
+    let grows = c.growth_law.ensures.threads r.0 r.1 (run_by r.0 m r.1 r.2) c.args.thread thread_state c.args.self.now.shared
+    (thread_is_after r.0 m (g.M.Runner.fits r.0) r.1 r.2 c.args.self.now r.3 c.args.thread r.4 thread_state is) in
+    let moves = grows.move move (c.in_ok-made.ensures.next r.0 r.3.schema.pools ∙ ap (λ (o : Option Move). made_by (m.roots thread_state.state) o) c.in-Some.is) in
+    let may : MayAnswer r.0 (g.M.Runner.fits r.0) m.action thread_state.state (answer_of (m.action thread_state.state) (move_in (m.roots thread_state.state) move)) = record {
       few_cells = r.3.is_after.is_end.few_cells;
-      fits = r.3.is_after.is_end.fits c.args.thread stand is;
+      fits = r.3.is_after.is_end.fits c.args.thread thread_state is;
       by_kind = moves.answers;
     } in
-    (r.0, subst (λ (v : Stand g.row.M.Denot). MayAnswer r.0 (g.M.Runner.fits r.0) m.action v.state (answer_of (m.action v.state) (move_in (m.roots v.state) move))) (one-element stand c.index_mut.result.now (sym is ∙ at)) may)
+    (r.0, subst (λ (v : ThreadState g.row.M.Denot). MayAnswer r.0 (g.M.Runner.fits r.0) m.action v.state (answer_of (m.action v.state) (move_in (m.roots v.state) move))) (one-element thread_state c.index_mut.result.now (sym is ∙ at)) may)
 
 pub returns-in_err-roots_after-clause-err : goal.returns-in_err-roots_after-clause-err
 returns-in_err-roots_after-clause-err g c =
     let a = c.args.self.now in
-    let stays : slice_set a.threads.items c.args.thread c.go_on.new.stand ≡ a.threads.items =
+    let stays : slice_set a.threads.items c.args.thread c.go_on.new.thread_state ≡ a.threads.items =
     ap (slice_set a.threads.items c.args.thread) (c.in_err-roots_after.ensures.err ∙ c.index_mut.ensures.value) ∙ set-get_or a.threads.items c.args.thread c.index_mut.result.now in
-    on-err _ (same-actors a c.args.thread c.go_on.new.stand stays)
+    on-err _ (same-actors a c.args.thread c.go_on.new.thread_state stays)
 
 pub apply-requires : goal.apply-requires
 apply-requires g c =
     let m = machine_of g.M.Machine.action g.M.Machine.after_answer g.M.Machine.roots in
     let r = c.requires in
-    let stand = c.index-stand.result.now in
-    let is : slice_get c.args.self.now.threads.items c.args.thread ≡ Some stand = slice_get_read _ _ _ _ (sym r.3.is_after.is_end.count) r.4 c.index-stand.ensures in
-    let grows = c.growth_law.ensures.threads r.0 r.1 (run_by r.0 m r.1 r.2) c.args.thread stand c.args.self.now.shared
-    (thread_is_after r.0 m (g.M.Runner.fits r.0) r.1 r.2 c.args.self.now r.3 c.args.thread r.4 stand is) in
-    (grows.move c.in-Some.made (c.in_ok-made.ensures.next r.0 r.3.schema.pools ∙ ap (λ (o : Option Move). made_by (m.roots stand.state) o) c.in-Some.is)).can_take
+    let thread_state = c.index-thread_state.result.now in
+    let is : slice_get c.args.self.now.threads.items c.args.thread ≡ Some thread_state = slice_get_read _ _ _ _ (sym r.3.is_after.is_end.count) r.4 c.index-thread_state.ensures in
+    let grows = c.growth_law.ensures.threads r.0 r.1 (run_by r.0 m r.1 r.2) c.args.thread thread_state c.args.self.now.shared
+    (thread_is_after r.0 m (g.M.Runner.fits r.0) r.1 r.2 c.args.self.now r.3 c.args.thread r.4 thread_state is) in
+    (grows.move c.in-Some.made (c.in_ok-made.ensures.next r.0 r.3.schema.pools ∙ ap (λ (o : Option Move). made_by (m.roots thread_state.state) o) c.in-Some.is)).can_take
 
 pub returns-clause-ok : goal.returns-clause-ok
 returns-clause-ok g c s starts before b lt =
     let m = machine_of g.M.Machine.action g.M.Machine.after_answer g.M.Machine.roots in
     let a = c.args.self.now in
-    let stand = c.index-stand.result.now in
+    let thread_state = c.index-thread_state.result.now in
     let move = c.in-Some.made in
-    let is : slice_get a.threads.items c.args.thread ≡ Some stand = slice_get_read _ _ _ _ (sym b.is_after.is_end.count) lt c.index-stand.ensures in
+    let is : slice_get a.threads.items c.args.thread ≡ Some thread_state = slice_get_read _ _ _ _ (sym b.is_after.is_end.count) lt c.index-thread_state.ensures in
     let at : slice_get a.threads.items c.args.thread ≡ Some c.index_mut.result.now = slice_get_read _ _ _ _ (sym b.is_after.is_end.count) lt c.index_mut.ensures.value in
-    let same : stand ≡ c.index_mut.result.now = one-element stand c.index_mut.result.now (sym is ∙ at) in
-    let grows = c.growth_law.ensures.threads s starts (run_by s m starts before) c.args.thread stand a.shared (thread_is_after s m (g.M.Runner.fits s) starts before a b c.args.thread lt stand is) in
-    let asked = c.in_ok-made.ensures.next s b.schema.pools ∙ ap (λ (o : Option Move). made_by (m.roots stand.state) o) c.in-Some.is in
+    let same : thread_state ≡ c.index_mut.result.now = one-element thread_state c.index_mut.result.now (sym is ∙ at) in
+    let grows = c.growth_law.ensures.threads s starts (run_by s m starts before) c.args.thread thread_state a.shared (thread_is_after s m (g.M.Runner.fits s) starts before a b c.args.thread lt thread_state is) in
+    let asked = c.in_ok-made.ensures.next s b.schema.pools ∙ ap (λ (o : Option Move). made_by (m.roots thread_state.state) o) c.in-Some.is in
     let moves = grows.move move asked in
-    let afterwards : standing s m c.go_on.new.stand ≡ moved s m (standing s m stand) (move_in (m.roots stand.state) move) =
-    subst (λ (v : Stand g.row.M.Denot). standing s m c.go_on.new.stand ≡ moved s m (standing s m v) (move_in (m.roots v.state) move)) (sym same)
+    let afterwards : standing s m c.go_on.new.thread_state ≡ moved s m (standing s m thread_state) (move_in (m.roots thread_state.state) move) =
+    subst (λ (v : ThreadState g.row.M.Denot). standing s m c.go_on.new.thread_state ≡ moved s m (standing s m v) (move_in (m.roots v.state) move)) (sym same)
     (c.in_ok-roots_after.ensures.ok s (call_of (m.action c.index_mut.result.now.state)) b.schema.pools (action_of-call_of (m.action c.index_mut.result.now.state))
-    (subst (λ (v : Stand g.row.M.Denot). MayMake s v.hints (m.roots v.state) (call_of (m.action v.state)) v.stance move) same (moves.may_make (call_of (m.action stand.state)) (action_of-call_of (m.action stand.state))))) in
-    let told = c.loss_of_move-loss.ensures (m.roots stand.state) (m.roots c.go_on.new.stand.state)
-    (subst (λ (v : Stand g.row.M.Denot). IsToldOfRoots c.in_ok-roots_after.roots_after (m.roots v.state) (m.roots c.go_on.new.stand.state)) (sym same) c.in_ok-roots_after.ensures.roots) in
-    let done = moved-on s m (g.M.Runner.fits s) starts before a b c.args.thread lt stand is move asked moves c.go_on.new.stand afterwards c.broken_by-broke.result c.broken_by-broke.ensures
+    (subst (λ (v : ThreadState g.row.M.Denot). MayMake s v.hints (m.roots v.state) (call_of (m.action v.state)) v.call_phase move) same (moves.may_make (call_of (m.action thread_state.state)) (action_of-call_of (m.action thread_state.state))))) in
+    let told = c.loss_of_move-loss.ensures (m.roots thread_state.state) (m.roots c.go_on.new.thread_state.state)
+    (subst (λ (v : ThreadState g.row.M.Denot). IsToldOfRoots c.in_ok-roots_after.roots_after (m.roots v.state) (m.roots c.go_on.new.thread_state.state)) (sym same) c.in_ok-roots_after.ensures.roots) in
+    let done = moved-on s m (g.M.Runner.fits s) starts before a b c.args.thread lt thread_state is move asked moves c.go_on.new.thread_state afterwards c.broken_by-broke.result c.broken_by-broke.ensures
     (c.loss_law.ensures s starts) c.loss_of_move-loss.result told in
     subst (λ (h : Shared). IsOneStep s m (g.M.Runner.fits s) starts before (actor.Thread c.args.thread)
     (Some (record { happening = happening.Thread c.args.thread move; broke = c.broken_by-broke.result; loss = c.loss_of_move-loss.result }))
-    (record { schema = a.schema; threads = with_item a.threads c.args.thread c.go_on.new.stand; shared = h; collector = a.collector })) (sym c.apply.ensures) done
+    (record { schema = a.schema; threads = with_item a.threads c.args.thread c.go_on.new.thread_state; shared = h; collector = a.collector })) (sym c.apply.ensures) done

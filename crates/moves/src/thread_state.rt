@@ -1,9 +1,9 @@
-use crate::reference::Reference;
+use crate::word_value::WordValue;
 use items::Items;
 
 /// Where a thread is in the call that it asks for.
 #[derive(Clone, Copy)]
-pub enum Stance {
+pub enum CallPhase {
     /// Between two calls.
     Ready,
     /// In a barriered store, with the old value to mark.
@@ -49,11 +49,11 @@ pub enum Stance {
 
 /// A thread: the state of its machine, the stage that it stored last, where it is, and what a write under way has read.
 #[derive(Drop)]
-pub struct Stand<M> {
+pub struct ThreadState<M> {
     pub state: M,
     pub stage: u64,
-    pub stance: Stance,
-    pub replaced: Reference,
+    pub call_phase: CallPhase,
+    pub replaced: WordValue,
     /// For each layout, the place in its pool after the cell that the thread won last; at first 0. Tries begin there.
     pub hints: Items<u32>,
 }

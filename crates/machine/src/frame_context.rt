@@ -7,14 +7,14 @@ use shadow_stack::Slots;
 
 /// What an instruction looks at: its program and function, and the registers of its frame.
 #[derive(Clone, Copy)]
-pub struct FrameScene<'a> {
+pub struct FrameContext<'a> {
     pub program: &'a Program,
     pub function: &'a Function,
     pub slots: &'a Slots,
     pub registers: &'a [Value],
 }
 
-impl<'a> FrameScene<'a> {
+impl<'a> FrameContext<'a> {
     /// The module of the program.
     pub fn of_module(&self) -> &Module
         ensures { result.now ≡ self.now.program.now.of_module }
