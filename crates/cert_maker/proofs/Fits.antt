@@ -8,8 +8,8 @@ use Rattle.ir_ast.specs.declared.block.Block.{Block}
 use Rattle.ir_ast.specs.declared.function.Function.{Function}
 use Rattle.ir_ast.specs.declared.function.Parameter.{Parameter}
 use Rattle.ir_ast.specs.declared.module.Module.{Module}
-use Rattle.certs.specs.Fits.{blocks_fit, entry_is_empty, fits, lines_fit, parameter_fits, parameters_fit, section_fits}
-use Rattle.certs.specs.declared.section.Line.{Line}
+use Rattle.certs.specs.Fits.{blocks_fit, entry_is_empty, fits, claims_fit, parameter_fits, parameters_fit, section_fits}
+use Rattle.certs.specs.declared.section.Claim.{Claim}
 use Rattle.cert_maker.specs.Plain.{plain, plain_section}
 
 -- a list that is made of another one is as long
@@ -20,7 +20,7 @@ promises_fit : (m : Module) (f : Function) (parameters : List Parameter) → lis
 promises_fit m f [] = refl
 promises_fit m f (p ∷ parameters) = promises_fit m f parameters
 
-each_block_fits : (m : Module) (f : Function) (blocks : List Block) → list_all (lines_fit m f) (map (λ _. []) blocks) ≡ true
+each_block_fits : (m : Module) (f : Function) (blocks : List Block) → list_all (claims_fit m f) (map (λ _. []) blocks) ≡ true
 each_block_fits m f [] = refl
 each_block_fits m f (b ∷ blocks) = each_block_fits m f blocks
 
@@ -33,9 +33,9 @@ parameters_fit_plain m f = ap₂ (λ a b. a && b) (as_long (λ _. None) f.parame
 
 blocks_fit_plain : (m : Module) (f : Function) → blocks_fit m f (map (λ _. []) f.blocks) ≡ true
 blocks_fit_plain m f =
-    let blocks : List (List Line) = map (λ _. []) f.blocks in
-    ap (λ a. a && entry_is_empty blocks && list_all (lines_fit m f) blocks) (as_long (λ _. []) f.blocks)
-    ∙ ap (λ a. true && a && list_all (lines_fit m f) blocks) (entry_fits f.blocks)
+    let blocks : List (List Claim) = map (λ _. []) f.blocks in
+    ap (λ a. a && entry_is_empty blocks && list_all (claims_fit m f) blocks) (as_long (λ _. []) f.blocks)
+    ∙ ap (λ a. true && a && list_all (claims_fit m f) blocks) (entry_fits f.blocks)
     ∙ ap (λ a. true && true && a) (each_block_fits m f f.blocks)
 
 plain_section_fits : (m : Module) (f : Function) → section_fits m f (plain_section f) ≡ true

@@ -1,22 +1,24 @@
 -- When certificates are made, and why none are.
-use Rattle.std.specs.Prelude.{◌≡◌, List, length, true}
+use Rattle.std.specs.Prelude.{◌≡◌, List, length, true, Result, IfOk, IfErr, IfSome}
 use Rattle.ir_ast.specs.declared.module.Module.{Module}
-use Rattle.layout.specs.Layouts.{LaidOut}
+use Rattle.layout.specs.Layouts.{AreLayouts, IsLayoutFault, LaidOut}
 use Rattle.layout.specs.declared.fault.LayoutFault.{LayoutFault}
 use Rattle.layout.specs.declared.fault.LayoutFault.TheVariants as layout
 use Rattle.certs.specs.declared.certs.Certs.{Certs}
 use Rattle.certs.specs.Fits.{fits}
 use Rattle.certs.specs.declared.section.Section.{Section}
 use Rattle.block_rules.specs.declared.block_fault.Refusal.{Refusal}
-use Rattle.module_check.specs.Accepted.{IsFirstInModule, IsFirstRefusal, IsModuleCertified}
+use Rattle.module_check.specs.Accepted.{CertifiedProgram, IsAccepted, IsFirstInModule, IsFirstRefusal, IsModuleCertified}
+use Rattle.pools.specs.declared.word_kind.WordKind.{WordKind}
 use Rattle.cert_maker.specs.Plain.{plain}
 use Rattle.cert_maker.specs.declared.made.MakeFault.{MakeFault}
 use Rattle.cert_maker.specs.declared.made.MakeFault.TheVariants.{Layout, NoAnswer, Memory}
+use Rattle.cert_maker.specs.declared.made.NotMade.{NotMade}
 use Rattle.cert_maker.specs.declared.made.Refused.{Refused}
-use Rattle.cert_maker.specs.declared.tried.Tried.{Tried}
-use Rattle.cert_maker.specs.declared.tried.Tried.TheVariants as tried
-use Rattle.cert_maker.specs.declared.tried.Lack.{Lack}
-use Rattle.cert_maker.specs.declared.tried.Lack.TheVariants as lack
+use Rattle.cert_maker.specs.declared.tried.Rejection.{Rejection}
+use Rattle.cert_maker.specs.declared.tried.Rejection.TheVariants as tried
+use Rattle.cert_maker.specs.declared.tried.MakeFailure.{MakeFailure}
+use Rattle.cert_maker.specs.declared.tried.MakeFailure.TheVariants as make_failure
 
 -- this holds of the layouts' fault, if it is one
 abbrev pub IfLayout : MakeFault → (LayoutFault → Type 0) → Type 0
@@ -47,14 +49,14 @@ pub record AreTried (program : LaidOut) (refused : Refused) : Type 0 where
   pub first : IsFirstIn program refused.certs.sections refused.refusal
 
 -- where an instruction is refused with proposed certificates, they are certificates of the module and it is the first one
-abbrev pub IsTried : LaidOut → Tried → Type 0
+abbrev pub IsTried : LaidOut → Rejection → Type 0
 IsTried program (tried.Refused refused) = AreTried program refused
 IsTried program _ = Unit {0}
 
 -- the fault of a module that has layouts
-abbrev pub fault_of_lack : Lack → MakeFault
-fault_of_lack lack.NoAnswer = NoAnswer
-fault_of_lack lack.Memory = Memory
+abbrev pub fault_of_make_failure : MakeFailure → MakeFault
+fault_of_make_failure make_failure.NoAnswer = NoAnswer
+fault_of_make_failure make_failure.Memory = Memory
 
 -- these are certificates of a module, and its first instruction that is refused with them
 pub record IsRefusedWith (m : Module) (refused : Refused) : Type 0 where
@@ -64,3 +66,19 @@ pub record IsRefusedWith (m : Module) (refused : Refused) : Type 0 where
 -- a module has layouts, and with its plain certificates some instruction is refused
 abbrev pub IsPlainlyRefused : Module → Type 0
 IsPlainlyRefused m = (refusal : Refusal) × IsFirstRefusal m (plain m) refusal
+
+-- what is made of a module with its shapes
+pub record IsMade (m : Module) (made : Result CertifiedProgram NotMade) : Type 0 where
+  -- certificates of the module, with its shapes, with which it is accepted
+  pub kept : IfOk made (λ accepted. accepted.program.of_module ≡ m)
+  pub fits : IfOk made (λ accepted. fits m accepted.certs.sections ≡ true)
+  pub shapes : IfOk made (λ accepted. accepted.certs.shapes ≡ m.shapes)
+  pub certified : IfOk made (λ accepted. IsAccepted m accepted.certs.sections)
+  -- there is no answer only where the module is not accepted with the plain certificates
+  pub none : IfErr made (λ unmade. unmade.fault ≡ NoAnswer → IsAccepted m (plain m) → ⊥)
+  pub plain : IfErr made (λ unmade. unmade.fault ≡ NoAnswer → IsPlainlyRefused m)
+  -- a layout's fault is the first one of the module, and one that has layouts has none
+  pub layout : IfErr made (λ unmade. IfLayout unmade.fault (IsLayoutFault m))
+  pub only_so : (words : List (List WordKind)) → AreLayouts m words → IfErr made (λ unmade. IfLayout unmade.fault (λ _. ⊥))
+  pub refused : IfErr made (λ unmade. IfSome unmade.refused (IsRefusedWith m))
+  pub given_back : IfErr made (λ unmade. unmade.of_module ≡ m)

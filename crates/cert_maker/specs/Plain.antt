@@ -5,7 +5,7 @@ use Rattle.ir_ast.specs.declared.module.Module.{Module}
 use Rattle.certs.specs.declared.section.Mark.TheVariants.{May}
 use Rattle.certs.specs.declared.section.Section.{Section}
 
--- it may reach a safepoint, nothing is promised, and no line stands at any block
+-- it may reach a safepoint, nothing is promised, and no claim stands at any block
 abbrev pub plain_section : Function → Section
 plain_section f = record { mark = May; parameters = map (λ _. None) f.parameters; result = None; blocks = map (λ _. []) f.blocks }
 

@@ -1,4 +1,4 @@
-use crate::tried::Lack;
+use crate::tried::MakeFailure;
 use block_rules::Refusal;
 use certs::Certs;
 use ir_ast::Module;
@@ -45,16 +45,16 @@ impl From<LayoutFault> for MakeFault {
     }
 }
 
-impl From<Lack> for MakeFault {
+impl From<MakeFailure> for MakeFault {
     ghost use Rattle.std.specs.Prelude.{◌≡◌};
-    ghost use Rattle.cert_maker.specs.Made.{fault_of_lack};
+    ghost use Rattle.cert_maker.specs.Made.{fault_of_make_failure};
 
-    ghost from_gives = { λ lack made. made ≡ fault_of_lack lack };
+    ghost from_gives = { λ make_failure made. made ≡ fault_of_make_failure make_failure };
 
-    fn from(lack: Lack) -> MakeFault {
-        match lack {
-            Lack::NoAnswer => MakeFault::NoAnswer,
-            Lack::Memory => MakeFault::Memory,
+    fn from(make_failure: MakeFailure) -> MakeFault {
+        match make_failure {
+            MakeFailure::NoAnswer => MakeFault::NoAnswer,
+            MakeFailure::Memory => MakeFault::Memory,
         }
     }
 }

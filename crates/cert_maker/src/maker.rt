@@ -1,17 +1,14 @@
-ghost use Rattle.std.specs.Prelude.{◌≡◌, ◌⊎◌, List, Some, true, IfOk, IfErr, IfSome};
-ghost use Rattle.pools.specs.declared.word_kind.WordKind.{WordKind as AWord};
-ghost use Rattle.layout.specs.Layouts.{AreLayouts, IsLayoutFault};
-ghost use Rattle.certs.specs.Fits.{fits};
-ghost use Rattle.module_check.specs.Accepted.{IsAccepted};
-ghost use Rattle.cert_maker.specs.Made.{AreGood, AreRefused, AreTried, IfLayout, IsPlainlyRefused, IsRefusedWith};
+ghost use Rattle.std.specs.Prelude.{◌≡◌, ◌⊎◌, Some, IfOk, IfErr, IfSome};
+ghost use Rattle.layout.specs.Functions.{with_shapes};
+ghost use Rattle.cert_maker.specs.Made.{AreGood, AreRefused, AreTried, IsMade};
 ghost use Rattle.cert_maker.specs.Plain.{plain};
-ghost use Rattle.cert_maker.specs.declared.made.MakeFault.TheVariants as fault;
-ghost use Rattle.cert_maker.specs.declared.tried.Lack.TheVariants.{NoAnswer};
+ghost use Rattle.cert_maker.specs.declared.tried.MakeFailure.TheVariants.{NoAnswer};
 
 use crate::made::{MakeFault, NotMade, Refused};
-use crate::tried::{Lack, Tried, plain_certs, proposed};
+use crate::tried::{MakeFailure, Rejection, plain_certs, proposed};
 use certs::Certs;
-use ir_ast::Module;
+use copies::copy_shapes;
+use ir_ast::{Module, Shapes};
 use layout::Program;
 use module_check::Accepted;
 use proposals::Boldness;
@@ -20,23 +17,15 @@ use std::alloc::Global;
 /// Why there are no certificates of a program.
 #[derive(Drop)]
 struct NoCerts {
-    lack: Lack,
+    make_failure: MakeFailure,
     /// The boldest of the proposed certificates that were refused.
     refused: Option<Refused>,
 }
 
 /// Certificates with which a module is accepted. Proposals are tried, the boldest first, and then the plain certificates;
-/// where none is taken the module is given back.
+/// where none is accepted the module is given back. The certificates have the shapes of the module, which has none as it is read.
 pub fn make(alloc: Global, of_module: Module) -> Result<Accepted, NotMade>
-    ensures kept { IfOk result (λ accepted. accepted.program.of_module ≡ of_module) }
-    ensures fits { IfOk result (λ accepted. fits of_module accepted.certs.sections ≡ true) }
-    ensures certified { IfOk result (λ accepted. IsAccepted of_module accepted.certs.sections) }
-    ensures none { IfErr result (λ unmade. unmade.fault ≡ fault.NoAnswer → IsAccepted of_module (plain of_module) → ⊥) }
-    ensures plain { IfErr result (λ unmade. unmade.fault ≡ fault.NoAnswer → IsPlainlyRefused of_module) }
-    ensures layout { IfErr result (λ unmade. IfLayout unmade.fault (IsLayoutFault of_module)) }
-    ensures only_so { (words : List (List AWord)) → AreLayouts of_module words → IfErr result (λ unmade. IfLayout unmade.fault (λ _. ⊥)) }
-    ensures refused { IfErr result (λ unmade. IfSome unmade.refused (IsRefusedWith of_module)) }
-    ensures given_back { IfErr result (λ unmade. unmade.of_module ≡ of_module) }
+    ensures { IsMade of_module result }
 {
     let program = match Program::new(alloc, of_module) {
         Ok(program) => program,
@@ -48,12 +37,45 @@ pub fn make(alloc: Global, of_module: Module) -> Result<Accepted, NotMade>
             });
         }
     };
-    match certs_for(alloc, &program) {
+    match shaped_certs_for(alloc, &program) {
         Ok(certs) => Ok(Accepted::of(program, certs)),
         Err(none) => Err(NotMade {
-            fault: MakeFault::from(none.lack),
+            fault: MakeFault::from(none.make_failure),
             of_module: program.into_module(),
             refused: none.refused,
+        }),
+    }
+}
+
+/// Certificates with which a module of these shapes is accepted. They have the shapes. Where none is accepted the module is given
+/// back with them.
+pub fn make_with(alloc: Global, of_module: Module, shapes: Shapes) -> Result<Accepted, NotMade>
+    ensures { IsMade (with_shapes of_module (Some shapes)) result }
+{
+    let mut of_module = of_module;
+    of_module.shapes = Some(shapes);
+    make(alloc, of_module)
+}
+
+/// Certificates with which a program is accepted, with the shapes of its module.
+fn shaped_certs_for(alloc: Global, program: &Program) -> Result<Certs, NoCerts>
+    ensures good { IfOk result (AreGood program.now) }
+    ensures shapes { IfOk result (λ certs. certs.shapes ≡ program.now.of_module.shapes) }
+    ensures make_failure { IfErr result (λ none. none.make_failure ≡ NoAnswer → AreRefused program.now (plain program.now.of_module)) }
+    ensures refused { IfErr result (λ none. IfSome none.refused (AreTried program.now)) }
+{
+    let certs = match certs_for(alloc, program) {
+        Ok(certs) => certs,
+        Err(none) => return Err(none),
+    };
+    match copy_shapes(alloc, &program.module().shapes) {
+        Ok(shapes) => Ok(Certs {
+            sections: certs.sections,
+            shapes,
+        }),
+        Err(_) => Err(NoCerts {
+            make_failure: MakeFailure::Memory,
+            refused: None,
         }),
     }
 }
@@ -61,18 +83,18 @@ pub fn make(alloc: Global, of_module: Module) -> Result<Accepted, NotMade>
 /// Certificates with which a program is accepted.
 fn certs_for(alloc: Global, program: &Program) -> Result<Certs, NoCerts>
     ensures good { IfOk result (AreGood program.now) }
-    ensures lack { IfErr result (λ none. none.lack ≡ NoAnswer → AreRefused program.now (plain program.now.of_module)) }
+    ensures make_failure { IfErr result (λ none. none.make_failure ≡ NoAnswer → AreRefused program.now (plain program.now.of_module)) }
     ensures refused { IfErr result (λ none. IfSome none.refused (AreTried program.now)) }
 {
     let mut boldest = None;
     for boldness in [Boldness::Bold, Boldness::Bounded, Boldness::Timid] {
         match proposed(alloc, program, boldness) {
             Ok(certs) => return Ok(certs),
-            Err(Tried::Refused(refused)) => boldest = Some(bolder(boldest, refused)),
-            Err(Tried::Misfit) => {}
-            Err(Tried::Memory) => {
+            Err(Rejection::Refused(refused)) => boldest = Some(bolder(boldest, refused)),
+            Err(Rejection::Misfit) => {}
+            Err(Rejection::Memory) => {
                 return Err(NoCerts {
-                    lack: Lack::Memory,
+                    make_failure: MakeFailure::Memory,
                     refused: boldest,
                 });
             }
@@ -80,8 +102,8 @@ fn certs_for(alloc: Global, program: &Program) -> Result<Certs, NoCerts>
     }
     match plain_certs(alloc, program) {
         Ok(certs) => Ok(certs),
-        Err(lack) => Err(NoCerts {
-            lack,
+        Err(make_failure) => Err(NoCerts {
+            make_failure,
             refused: boldest,
         }),
     }

@@ -3,7 +3,7 @@ ghost use Rattle.std.specs.Prelude.{◌≡◌, [], None, map, true, IfOk};
 ghost use Rattle.certs.specs.Fits.{fits};
 ghost use Rattle.cert_maker.specs.Plain.{plain, plain_section};
 
-use certs::{Certs, Line, Mark, Promise, Section};
+use certs::{Certs, Claim, Mark, Promise, Section};
 use ir_ast::{Block, Function, Module, Parameter};
 use items::Items;
 use std::alloc::{AllocError, Global};
@@ -14,7 +14,10 @@ pub fn plain(alloc: Global, of_module: &Module) -> Result<Certs, AllocError>
     ensures fits { fits of_module.now (plain of_module.now) ≡ true }
 {
     let sections = plain_sections(alloc, of_module.functions.as_slice())?;
-    Ok(Certs { sections })
+    Ok(Certs {
+        sections,
+        shapes: None,
+    })
 }
 
 fn plain_sections(alloc: Global, functions: &[Function]) -> Result<Items<Section>, AllocError>
@@ -32,7 +35,7 @@ fn plain_section(alloc: Global, function: &Function) -> Result<Section, AllocErr
     ensures { IfOk result (λ section. section ≡ plain_section function.now) }
 {
     let parameters = no_promises(alloc, function.parameters.as_slice())?;
-    let blocks = no_lines(alloc, function.blocks.as_slice())?;
+    let blocks = no_claims(alloc, function.blocks.as_slice())?;
     Ok(Section {
         mark: Mark::May,
         parameters,
@@ -65,12 +68,12 @@ fn one_for_each<T: Copy + Drop>(
     Ok(elements)
 }
 
-fn no_lines(alloc: Global, blocks: &[Block]) -> Result<Items<Items<Line>>, AllocError>
-    ensures { IfOk result (λ lines. lines ≡ map (λ _. []) blocks.now) }
+fn no_claims(alloc: Global, blocks: &[Block]) -> Result<Items<Items<Claim>>, AllocError>
+    ensures { IfOk result (λ claims. claims ≡ map (λ _. []) blocks.now) }
 {
-    let mut lines = Items::new(alloc);
+    let mut claims = Items::new(alloc);
     for _block in blocks {
-        lines.push(Items::new(alloc))?;
+        claims.push(Items::new(alloc))?;
     }
-    Ok(lines)
+    Ok(claims)
 }

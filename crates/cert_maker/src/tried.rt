@@ -2,7 +2,7 @@
 ghost use Rattle.std.specs.Prelude.{◌≡◌, IfOk, IfErr};
 ghost use Rattle.cert_maker.specs.Made.{AreGood, AreRefused, IsTried};
 ghost use Rattle.cert_maker.specs.Plain.{plain};
-ghost use Rattle.cert_maker.specs.declared.tried.Lack.TheVariants.{NoAnswer};
+ghost use Rattle.cert_maker.specs.declared.tried.MakeFailure.TheVariants.{NoAnswer};
 
 use crate::made::Refused;
 use crate::plain::plain;
@@ -13,9 +13,9 @@ use module_check::fault_in_module;
 use proposals::{Boldness, propose};
 use std::alloc::{AllocError, Global};
 
-/// Why proposed certificates are not taken.
+/// Why proposed certificates are not accepted.
 #[derive(Drop)]
-pub enum Tried {
+pub enum Rejection {
     /// An instruction is refused with them.
     Refused(Refused),
     /// They are no certificates of the module.
@@ -26,34 +26,34 @@ pub enum Tried {
 
 /// Why there are no certificates of a module that has layouts.
 #[derive(Clone, Copy)]
-pub enum Lack {
+pub enum MakeFailure {
     NoAnswer,
     /// Memory was refused.
     Memory,
 }
 
-impl From<AllocError> for Tried {
-    ghost use Rattle.cert_maker.specs.declared.tried.Tried.TheVariants.{Memory};
+impl From<AllocError> for Rejection {
+    ghost use Rattle.cert_maker.specs.declared.tried.Rejection.TheVariants.{Memory};
 
     ghost from_gives = { λ _ tried. tried ≡ Memory };
 
-    fn from(_refused: AllocError) -> Tried {
-        Tried::Memory
+    fn from(_refused: AllocError) -> Rejection {
+        Rejection::Memory
     }
 }
 
-impl From<AllocError> for Lack {
-    ghost use Rattle.cert_maker.specs.declared.tried.Lack.TheVariants.{Memory};
+impl From<AllocError> for MakeFailure {
+    ghost use Rattle.cert_maker.specs.declared.tried.MakeFailure.TheVariants.{Memory};
 
-    ghost from_gives = { λ _ lack. lack ≡ Memory };
+    ghost from_gives = { λ _ make_failure. make_failure ≡ Memory };
 
-    fn from(_refused: AllocError) -> Lack {
-        Lack::Memory
+    fn from(_refused: AllocError) -> MakeFailure {
+        MakeFailure::Memory
     }
 }
 
 /// Proposed certificates, if the module is accepted with them.
-pub fn proposed(alloc: Global, program: &Program, boldness: Boldness) -> Result<Certs, Tried>
+pub fn proposed(alloc: Global, program: &Program, boldness: Boldness) -> Result<Certs, Rejection>
     ensures good { IfOk result (AreGood program.now) }
     ensures tried { IfErr result (IsTried program.now) }
 {
@@ -62,29 +62,29 @@ pub fn proposed(alloc: Global, program: &Program, boldness: Boldness) -> Result<
 }
 
 /// Certificates, if the module is accepted with them.
-fn accepted(alloc: Global, program: &Program, certs: Certs) -> Result<Certs, Tried>
+fn accepted(alloc: Global, program: &Program, certs: Certs) -> Result<Certs, Rejection>
     ensures good { IfOk result (AreGood program.now) }
     ensures tried { IfErr result (IsTried program.now) }
 {
-    if !certs.fits(program.module()) {
-        return Err(Tried::Misfit);
+    if !certs.sections_fit(program.module()) {
+        return Err(Rejection::Misfit);
     }
     match fault_in_module(alloc, program, &certs) {
         None => Ok(certs),
-        Some(BlockFault::Refused(refusal)) => Err(Tried::Refused(Refused { certs, refusal })),
-        Some(BlockFault::Memory) => Err(Tried::Memory),
+        Some(BlockFault::Refused(refusal)) => Err(Rejection::Refused(Refused { certs, refusal })),
+        Some(BlockFault::Memory) => Err(Rejection::Memory),
     }
 }
 
 /// The plain certificates, if the module is accepted with them.
-pub fn plain_certs(alloc: Global, program: &Program) -> Result<Certs, Lack>
+pub fn plain_certs(alloc: Global, program: &Program) -> Result<Certs, MakeFailure>
     ensures good { IfOk result (AreGood program.now) }
-    ensures lack { IfErr result (λ lack. lack ≡ NoAnswer → AreRefused program.now (plain program.now.of_module)) }
+    ensures make_failure { IfErr result (λ make_failure. make_failure ≡ NoAnswer → AreRefused program.now (plain program.now.of_module)) }
 {
     let certs = plain(alloc, program.module())?;
     match fault_in_module(alloc, program, &certs) {
         None => Ok(certs),
-        Some(BlockFault::Refused(_)) => Err(Lack::NoAnswer),
-        Some(BlockFault::Memory) => Err(Lack::Memory),
+        Some(BlockFault::Refused(_)) => Err(MakeFailure::NoAnswer),
+        Some(BlockFault::Memory) => Err(MakeFailure::Memory),
     }
 }

@@ -3,6 +3,7 @@ use Rattle.std.proofs.Common.{◌≡◌, sym, subst}
 use Rattle.std.specs.Prelude.{◌<◌, ℕ, List, Option, length}
 use Rattle.ir_ast.specs.declared.module.Module.{Module}
 use Rattle.pools.specs.declared.word_kind.WordKind.{WordKind}
+use Rattle.layout.specs.Functions.{with_shapes}
 use Rattle.layout.specs.Layouts.{AreLayouts, AreSizes, IsLayoutFault, LaidOut}
 use Rattle.layout.specs.declared.fault.LayoutFault.{LayoutFault}
 use Rattle.layout.specs.declared.fault.LayoutFault.TheVariants as layout
@@ -13,13 +14,17 @@ use Rattle.block_rules.specs.Functions.{IsFirstInFunction, IsFunctionCertified, 
 use Rattle.block_rules.specs.declared.block_fault.Refusal.{Refusal}
 use Rattle.block_rules.specs.declared.block_fault.BlockFault.{BlockFault}
 use Rattle.block_rules.specs.declared.block_fault.BlockFault.TheVariants as block
-use Rattle.module_check.specs.declared.verdict.Verdict.{Verdict}
-use Rattle.module_check.specs.declared.verdict.Verdict.TheVariants.{Refused, Layout, Memory}
+use Rattle.module_check.specs.declared.verdict.Reason.{Reason}
+use Rattle.module_check.specs.declared.verdict.Reason.TheVariants.{Refused, Layout, Memory}
 
 -- a program with certificates
 pub record CertifiedProgram : Type 0 where
   pub program : LaidOut
   pub certs : Certs
+
+-- the module that is checked with certificates: it has their shapes in place of its own
+abbrev pub shaped : Module → Certs → Module
+shaped m certs = with_shapes m certs.shapes
 
 -- the first `count` functions of a module are certified
 abbrev pub IsModuleCertified : LaidOut → List Section → (count : ℕ) → Type 0
@@ -52,14 +57,14 @@ abbrev pub IsModuleFault : LaidOut → List Section → (count : ℕ) → BlockF
 IsModuleFault program certs count fault = IfRefused fault (IsFirstInModule program certs count)
 
 -- the verdict of a fault of a block
-abbrev pub verdict_of_block : BlockFault → Verdict
-verdict_of_block (block.Refused refusal) = Refused refusal
-verdict_of_block block.Memory = Memory
+abbrev pub reason_of_block : BlockFault → Reason
+reason_of_block (block.Refused refusal) = Refused refusal
+reason_of_block block.Memory = Memory
 
 -- the verdict of a fault of the layouts
-abbrev pub verdict_of_layout : LayoutFault → Verdict
-verdict_of_layout layout.Memory = Memory
-verdict_of_layout fault = Layout fault
+abbrev pub reason_of_layout : LayoutFault → Reason
+reason_of_layout layout.Memory = Memory
+reason_of_layout fault = Layout fault
 
 -- the module has layouts, and with them and these certificates each of its functions is certified
 pub record IsAccepted (of_module : Module) (certs : List Section) : Type 0 where
@@ -68,6 +73,18 @@ pub record IsAccepted (of_module : Module) (certs : List Section) : Type 0 where
   pub laid_out : AreLayouts of_module layouts
   pub sized : AreSizes of_module sizes
   pub certified : IsModuleCertified (record { of_module = of_module; layouts = layouts; sizes = sizes }) certs (length of_module.functions)
+
+-- so is the module of a certified program
+pub accepted_program : (program : LaidOut) (m : Module) (certs : List Section) → program.of_module ≡ m → AreLayouts m program.layouts → AreSizes m program.sizes
+    → IsModuleCertified program certs (length program.of_module.functions) → IsAccepted m certs
+accepted_program program m certs same laid_out sized certified =
+    subst (λ q. IsAccepted q certs) same (record {
+      layouts = program.layouts;
+      sizes = program.sizes;
+      laid_out = subst (λ q. AreLayouts q program.layouts) (sym same) laid_out;
+      sized = subst (λ q. AreSizes q program.sizes) (sym same) sized;
+      certified = certified;
+    })
 
 -- the module has layouts, and with them and these certificates this is its first refused instruction
 pub record IsFirstRefusal (of_module : Module) (certs : List Section) (refusal : Refusal) : Type 0 where
@@ -78,7 +95,7 @@ pub record IsFirstRefusal (of_module : Module) (certs : List Section) (refusal :
   pub first : IsFirstInModule (record { of_module = of_module; layouts = layouts; sizes = sizes }) certs (length of_module.functions) refusal
 
 -- why a module is not accepted
-abbrev pub IsVerdictOf : Module → List Section → Verdict → Type 0
+abbrev pub IsVerdictOf : Module → List Section → Reason → Type 0
 IsVerdictOf of_module certs (Refused refusal) = IsFirstRefusal of_module certs refusal
 IsVerdictOf of_module certs (Layout fault) = IsLayoutFault of_module fault
 IsVerdictOf of_module certs Memory = Unit

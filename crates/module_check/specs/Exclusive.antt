@@ -6,8 +6,8 @@ use Rattle.layout.specs.Layouts.{LaidOut, AreLayouts, AreSizes}
 use Rattle.block_rules.specs.declared.block_fault.BlockFault.{BlockFault}
 use Rattle.block_rules.specs.declared.block_fault.BlockFault.TheVariants as block
 use Rattle.block_check.specs.Exact.{certified_only}
-use Rattle.module_check.specs.declared.verdict.Verdict.TheVariants.{Memory}
-use Rattle.module_check.specs.Accepted.{IsAccepted, IsModuleCertified, IsModuleFault, verdict_of_block}
+use Rattle.module_check.specs.declared.verdict.Reason.TheVariants.{Memory}
+use Rattle.module_check.specs.Accepted.{IsAccepted, IsModuleCertified, IsModuleFault, reason_of_block}
 use Rattle.module_check.specs.OneLayout.{one_layouts, one_sizes}
 
 -- the program of an accepted module is the one with which it is certified
@@ -22,7 +22,7 @@ certified_with program certs laid_out sized accepted =
 
 -- the only fault in the functions of a program that goes with acceptance is out of memory
 pub only_memory : (program : LaidOut) (m : Module) (certs : List Section) (fault : BlockFault) → program.of_module ≡ m → AreLayouts m program.layouts → AreSizes m program.sizes
-    → IsModuleFault program certs (length program.of_module.functions) fault → IsAccepted m certs → verdict_of_block fault ≡ Memory
+    → IsModuleFault program certs (length program.of_module.functions) fault → IsAccepted m certs → reason_of_block fault ≡ Memory
 only_memory program m certs (block.Refused refusal) same laid_out sized first other =
     let all = certified_with program certs (subst (λ x. AreLayouts x program.layouts) (sym same) laid_out) (subst (λ x. AreSizes x program.sizes) (sym same) sized) (subst (λ x. IsAccepted x certs) (sym same) other) in
     let certified = all refusal.func first.within refusal.block first.refused.within in

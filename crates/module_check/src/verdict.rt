@@ -1,9 +1,10 @@
 ghost use Rattle.std.specs.Prelude.{◌≡◌, ◌<◌, ◌≤◌, length, IfOk, IfErr, MatchOption, OnOk};
-ghost use Rattle.module_check.specs.Accepted.{IsAccepted, IsModuleCertified, IsModuleFault, IsProgramCertified, IsVerdictOf};
+ghost use Rattle.module_check.specs.Accepted.{IsAccepted, IsModuleCertified, IsModuleFault, IsProgramCertified, IsVerdictOf, shaped};
 ghost use Rattle.module_check.specs.Discipline.{AreDisciplined};
 ghost use Rattle.program_safety.specs.Safety.{IsCarefulProgram, IsSafeProgram};
 
 use crate::accepted::Accepted;
+use crate::under_check::UnderCheck;
 use block_check::check_function;
 use block_rules::{BlockFault, Refusal};
 use certs::Certs;
@@ -13,7 +14,7 @@ use std::alloc::Global;
 
 /// Why a module is not accepted.
 #[derive(Clone, Copy)]
-pub enum Verdict {
+pub enum Reason {
     /// An instruction is refused, the first one in text order.
     Refused(Refusal),
     /// The module has no layouts.
@@ -25,33 +26,33 @@ pub enum Verdict {
 /// A module that is not accepted, given back with its certificates.
 #[derive(Drop)]
 pub struct NotAccepted {
-    pub verdict: Verdict,
+    pub verdict: Reason,
     pub of_module: Module,
     pub certs: Certs,
 }
 
-impl From<BlockFault> for Verdict {
-    ghost use Rattle.module_check.specs.Accepted.{verdict_of_block};
+impl From<BlockFault> for Reason {
+    ghost use Rattle.module_check.specs.Accepted.{reason_of_block};
 
-    ghost from_gives = { λ fault verdict. verdict ≡ verdict_of_block fault };
+    ghost from_gives = { λ fault verdict. verdict ≡ reason_of_block fault };
 
-    fn from(fault: BlockFault) -> Verdict {
+    fn from(fault: BlockFault) -> Reason {
         match fault {
-            BlockFault::Refused(refusal) => Verdict::Refused(refusal),
-            BlockFault::Memory => Verdict::Memory,
+            BlockFault::Refused(refusal) => Reason::Refused(refusal),
+            BlockFault::Memory => Reason::Memory,
         }
     }
 }
 
-impl From<LayoutFault> for Verdict {
-    ghost use Rattle.module_check.specs.Accepted.{verdict_of_layout};
+impl From<LayoutFault> for Reason {
+    ghost use Rattle.module_check.specs.Accepted.{reason_of_layout};
 
-    ghost from_gives = { λ fault verdict. verdict ≡ verdict_of_layout fault };
+    ghost from_gives = { λ fault verdict. verdict ≡ reason_of_layout fault };
 
-    fn from(fault: LayoutFault) -> Verdict {
+    fn from(fault: LayoutFault) -> Reason {
         match fault {
-            LayoutFault::Memory => Verdict::Memory,
-            fault => Verdict::Layout(fault),
+            LayoutFault::Memory => Reason::Memory,
+            fault => Reason::Layout(fault),
         }
     }
 }
@@ -85,39 +86,40 @@ pub fn fault_in_module(alloc: Global, program: &Program, certs: &Certs) -> Optio
     }
 }
 
-/// Checks a module against its certificates. Where it is not accepted, the verdict is the first refusal in the order of
-/// functions, blocks, instructions and targets, or the fault of its layouts; module and certificates are given back.
+/// Checks a module against its certificates. It has their shapes then in place of its own. Where it is not accepted, the verdict is
+/// the first refusal in the order of functions, blocks, instructions and targets, or the fault of its layouts; module and
+/// certificates are given back as they were.
 /// Take a thread that begins at a function of an accepted module, with integer arguments that fit their types and meet what is
 /// promised of the parameters. It is never wrong, its roots are null or held, and its steps on the heap obey the discipline,
 /// whatever possible answers it gets, in whole calls and at each atomic step of a call. So for every number of such threads and
 /// every list of atomic steps of theirs and the collector's: no cell that is reachable from a global or a root slot is freed, no instruction
 /// touches a freed cell, and none is wrong.
 pub fn check(alloc: Global, of_module: Module, certs: Certs) -> Result<Accepted, NotAccepted>
-    ensures kept { IfOk result (λ accepted. (accepted.program.of_module ≡ of_module) × (accepted.certs ≡ certs)) }
-    ensures accepted { OnOk result (IsAccepted of_module certs.sections) }
+    ensures kept { IfOk result (λ accepted. (accepted.program.of_module ≡ shaped of_module certs) × (accepted.certs ≡ certs)) }
+    ensures accepted { OnOk result (IsAccepted (shaped of_module certs) certs.sections) }
     ensures certified { IfOk result (λ accepted. IsProgramCertified accepted.program accepted.certs.sections) }
     ensures disciplined { IfOk result (λ accepted. AreDisciplined accepted.program accepted.certs.sections) }
     ensures careful { IfOk result (λ accepted. IsCarefulProgram accepted.program accepted.certs.sections) }
     ensures safe { IfOk result (λ accepted. IsSafeProgram accepted.program accepted.certs.sections) }
-    ensures verdict { IfErr result (λ refused. IsVerdictOf of_module certs.sections refused.verdict) }
-    ensures only { IsAccepted of_module certs.sections → IfErr result (λ refused. refused.verdict ≡ Verdict.Memory) }
+    ensures verdict { IfErr result (λ refused. IsVerdictOf (shaped of_module certs) certs.sections refused.verdict) }
+    ensures only { IsAccepted (shaped of_module certs) certs.sections → IfErr result (λ refused. refused.verdict ≡ Reason.Memory) }
     ensures given_back { IfErr result (λ refused. (refused.of_module ≡ of_module) × (refused.certs ≡ certs)) }
 {
-    let program = match Program::new(alloc, of_module) {
-        Ok(program) => program,
+    let under = match UnderCheck::new(alloc, of_module, &certs) {
+        Ok(under) => under,
         Err(refused) => {
             return Err(NotAccepted {
-                verdict: Verdict::from(refused.fault),
+                verdict: Reason::from(refused.fault),
                 of_module: refused.of_module,
                 certs,
             });
         }
     };
-    match fault_in_module(alloc, &program, &certs) {
-        None => Ok(Accepted::of(program, certs)),
+    match fault_in_module(alloc, under.program(), &certs) {
+        None => Ok(Accepted::of(under.into_program(), certs)),
         Some(fault) => Err(NotAccepted {
-            verdict: Verdict::from(fault),
-            of_module: program.into_module(),
+            verdict: Reason::from(fault),
+            of_module: under.into_module(),
             certs,
         }),
     }

@@ -1,6 +1,6 @@
 //! The check by workers.
 ghost use Rattle.std.specs.Prelude.{◌≡◌, ◌<◌, ◌≤◌, length, IfErr, IfOk, MatchOption, OnOk};
-ghost use Rattle.module_check.specs.Accepted.{IsAccepted, IsModuleCertified, IsModuleFault, IsProgramCertified, IsVerdictOf};
+ghost use Rattle.module_check.specs.Accepted.{IsAccepted, IsModuleCertified, IsModuleFault, IsProgramCertified, IsVerdictOf, shaped};
 ghost use Rattle.module_check.specs.Discipline.{AreDisciplined};
 ghost use Rattle.program_safety.specs.Safety.{IsCarefulProgram, IsSafeProgram};
 ghost use Rattle.parallel_check.specs.Shares.{IsFirstFault, IsOf};
@@ -12,7 +12,7 @@ use certs::Certs;
 use gate::Gate;
 use ir_ast::Module;
 use layout::Program;
-use module_check::{Accepted, NotAccepted, Verdict};
+use module_check::{Accepted, NotAccepted, Reason, UnderCheck};
 use std::alloc::Global;
 use std::thread::{Threads, map_indices};
 
@@ -82,31 +82,31 @@ pub fn check_with<R: Threads + Sync, G: Gate + Sync>(
 ) -> Result<Accepted, NotAccepted>
     requires some { 1 ≤ workers }
     requires few { workers ≤ 64 }
-    ensures kept { IfOk result (λ accepted. (accepted.program.of_module ≡ of_module) × (accepted.certs ≡ certs)) }
-    ensures accepted { OnOk result (IsAccepted of_module certs.sections) }
+    ensures kept { IfOk result (λ accepted. (accepted.program.of_module ≡ shaped of_module certs) × (accepted.certs ≡ certs)) }
+    ensures accepted { OnOk result (IsAccepted (shaped of_module certs) certs.sections) }
     ensures certified { IfOk result (λ accepted. IsProgramCertified accepted.program accepted.certs.sections) }
     ensures disciplined { IfOk result (λ accepted. AreDisciplined accepted.program accepted.certs.sections) }
     ensures careful { IfOk result (λ accepted. IsCarefulProgram accepted.program accepted.certs.sections) }
     ensures safe { IfOk result (λ accepted. IsSafeProgram accepted.program accepted.certs.sections) }
-    ensures verdict { IfErr result (λ refused. IsVerdictOf of_module certs.sections refused.verdict) }
-    ensures only { IsAccepted of_module certs.sections → IfErr result (λ refused. refused.verdict ≡ Verdict.Memory) }
+    ensures verdict { IfErr result (λ refused. IsVerdictOf (shaped of_module certs) certs.sections refused.verdict) }
+    ensures only { IsAccepted (shaped of_module certs) certs.sections → IfErr result (λ refused. refused.verdict ≡ Reason.Memory) }
     ensures given_back { IfErr result (λ refused. (refused.of_module ≡ of_module) × (refused.certs ≡ certs)) }
 {
-    let program = match Program::new(alloc, of_module) {
-        Ok(program) => program,
+    let under = match UnderCheck::new(alloc, of_module, &certs) {
+        Ok(under) => under,
         Err(refused) => {
             return Err(NotAccepted {
-                verdict: Verdict::from(refused.fault),
+                verdict: Reason::from(refused.fault),
                 of_module: refused.of_module,
                 certs,
             });
         }
     };
-    match fault_in_module(rt, alloc, workers, gate, &program, &certs) {
-        None => Ok(Accepted::of(program, certs)),
+    match fault_in_module(rt, alloc, workers, gate, under.program(), &certs) {
+        None => Ok(Accepted::of(under.into_program(), certs)),
         Some(fault) => Err(NotAccepted {
-            verdict: Verdict::from(fault),
-            of_module: program.into_module(),
+            verdict: Reason::from(fault),
+            of_module: under.into_module(),
             certs,
         }),
     }

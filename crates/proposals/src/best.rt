@@ -1,34 +1,38 @@
-//! The lines of a block that no way enters: all that it needs, since it never runs.
-use crate::draft_lines::BlockLines;
-use crate::ground::Ground;
+//! The claims of a block that no edge enters: all that it needs, since it never runs.
+use crate::draft_claims::BlockClaims;
 use crate::rows::row_or;
-use block_rules::Scene;
-use certs::{Age, Fact, Family, Line, family_of_value};
+use crate::summary::FunctionSummary;
+use block_rules::RuleContext;
+use certs::{Age, Claim, Fact, Family, family_of_value};
 use ir_ast::{BlockId, ValueId};
 use std::alloc::{AllocError, Global};
 
 /// The most that can be said of each value that is wanted at a block.
-pub fn best_lines(
+pub fn best_claims(
     alloc: Global,
-    scene: &Scene,
-    ground: &Ground,
+    rule_context: &RuleContext,
+    summary: &FunctionSummary,
     block: BlockId,
-) -> Result<BlockLines, AllocError> {
-    let values = scene.function.locals.count();
-    let mut listed = BlockLines::new(alloc);
-    for number in ground.reading.wanted.group(block.number() as usize) {
+) -> Result<BlockClaims, AllocError> {
+    let values = rule_context.function.locals.count();
+    let mut listed = BlockClaims::new(alloc);
+    for number in summary.reading.wanted.group(block.number() as usize) {
         let value = ValueId::new(*number);
         if (*number as usize) < values {
-            if let Some(fact) = best_fact(scene, ground, value) {
-                listed.add(Line::Value { value, fact }, 0)?;
+            if let Some(fact) = best_fact(rule_context, summary, value) {
+                listed.add(Claim::Value { value, fact }, 0)?;
             }
         }
     }
     Ok(listed)
 }
 
-fn best_fact(scene: &Scene, ground: &Ground, value: ValueId) -> Option<Fact> {
-    let layout = match family_of_value(scene.module(), scene.function, value) {
+fn best_fact(
+    rule_context: &RuleContext,
+    summary: &FunctionSummary,
+    value: ValueId,
+) -> Option<Fact> {
+    let layout = match family_of_value(rule_context.module(), rule_context.function, value) {
         Family::Number(bits) => {
             return Some(Fact::Number {
                 bits,
@@ -36,8 +40,8 @@ fn best_fact(scene: &Scene, ground: &Ground, value: ValueId) -> Option<Fact> {
             });
         }
         Family::Reference(layout) => layout,
-        Family::AnyReference => row_or(
-            &ground.reading.guesses.layouts,
+        Family::AnyReference | Family::Opaque => row_or(
+            &summary.reading.guesses.layouts,
             value.number() as usize,
             None,
         )?,

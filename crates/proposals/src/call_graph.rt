@@ -29,7 +29,7 @@ impl CallGraph {
             upward: Vec::new(alloc),
             safepoints: Vec::new(alloc),
         };
-        let graph = match calls.note_functions(module) {
+        let graph = match calls.record_functions(module) {
             Ok(()) => calls.graph(alloc, module.functions.len()),
             Err(refused) => Err(refused),
         };
@@ -39,18 +39,18 @@ impl CallGraph {
 }
 
 impl Calls {
-    fn note_functions(&mut self, module: &Module) -> Result<(), AllocError> {
+    fn record_functions(&mut self, module: &Module) -> Result<(), AllocError> {
         let mut number = 0u32;
         for function in module.functions.as_slice() {
             for block in function.blocks.as_slice() {
-                self.note_block(module, number, block)?;
+                self.record_block(module, number, block)?;
             }
             number = number.saturating_add(1);
         }
         Ok(())
     }
 
-    fn note_block(
+    fn record_block(
         &mut self,
         module: &Module,
         caller: u32,
@@ -58,13 +58,13 @@ impl Calls {
     ) -> Result<(), AllocError> {
         for instr in block.body.as_slice() {
             if let Op::Call(call) = &instr.op {
-                self.note_call(module, caller, call)?;
+                self.record_call(module, caller, call)?;
             }
         }
         Ok(())
     }
 
-    fn note_call(&mut self, module: &Module, caller: u32, call: &Call) -> Result<(), AllocError> {
+    fn record_call(&mut self, module: &Module, caller: u32, call: &Call) -> Result<(), AllocError> {
         if let Some(callee) = defined(module, call.callee) {
             self.downward.push((caller as usize, callee.number()))?;
             self.upward.push((callee.number() as usize, caller))?;

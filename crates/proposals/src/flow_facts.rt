@@ -1,32 +1,33 @@
 //! What is known at a place of a function, and how it goes on, by the rules.
 use crate::call_graph::defined;
-use crate::claim::Shown;
-use crate::ground::Ground;
+use crate::inferred::Shown;
 use crate::summaries::Summaries;
-use block_rules::{Scene, TypeKind, advance, below_next, given_by, known_of};
-use certs::{Line, Mark};
-use facts::{Entry, Facts, Known};
+use crate::summary::FunctionSummary;
+use block_rules::{RuleContext, TypeKind, advance, below_next, given_by, known_of};
+use certs::{Claim, Mark};
+use facts::{Entry, Facts, Known, SpareRows};
 use ir_ast::{BlockId, Call, Constant, Instr, Op, Operand, ValueId};
 use items::Items;
 use std::alloc::{AllocError, Global};
 
-/// Which facts are those of the way that was entered.
+/// Which facts are those of the edge that was entered.
 #[derive(Clone, Copy)]
-enum WayFacts {
-    /// Those where it begins, since the way changes nothing.
+enum EdgeFacts {
+    /// Those where it begins, since the edge changes nothing.
     Unchanged,
     /// Those in `changed`.
     Changed,
 }
 
-/// What is known at a place of a block, on a way out of it, and where the block to which the way leads begins.
+/// What is known at a place of a block, on an edge out of it, and where the block to which the edge leads begins.
 #[derive(Drop)]
 pub struct FlowFacts {
     pub here: Facts,
     pub there: Facts,
-    way_facts: WayFacts,
+    edge_facts: EdgeFacts,
     changed: Facts,
     entries: Items<Entry>,
+    spare: SpareRows,
 }
 
 impl FlowFacts {
@@ -44,9 +45,10 @@ impl FlowFacts {
         Ok(FlowFacts {
             here,
             there,
-            way_facts: WayFacts::Unchanged,
+            edge_facts: EdgeFacts::Unchanged,
             changed,
             entries: Items::new(alloc),
+            spare: SpareRows::none(),
         })
     }
 
@@ -54,58 +56,76 @@ impl FlowFacts {
     pub fn begin_entry(
         &mut self,
         alloc: Global,
-        scene: &Scene,
-        ground: &Ground,
+        rule_context: &RuleContext,
+        summary: &FunctionSummary,
         summaries: &Summaries,
     ) -> Result<(), AllocError> {
-        self.here.reset(alloc, ground.values, ground.slots.count())?;
+        self.here
+            .reset(alloc, summary.values, summary.slots.count())?;
         let mut place = 0usize;
-        for parameter in scene.function.parameters.as_slice() {
-            let given = given_by(TypeKind::of(scene.module(), parameter.written));
-            let promise = summaries.parameter(ground.func, place).promise();
+        for parameter in rule_context.function.parameters.as_slice() {
+            let given = given_by(TypeKind::of(rule_context.module(), parameter.written));
+            let promise = summaries.parameter(summary.func, place).promise();
             self.here.receive(parameter.value, given, promise)?;
             place = place.saturating_add(1);
         }
         Ok(())
     }
 
-    /// Goes to where a block with these lines begins.
+    /// Goes to where a block with these claims begins.
     pub fn begin(
         &mut self,
         alloc: Global,
-        ground: &Ground,
-        lines: &[Line],
+        summary: &FunctionSummary,
+        claims: &[Claim],
     ) -> Result<(), AllocError> {
-        self.here.begin(alloc, ground.values, &ground.slots, lines)
+        self.here.begin(
+            alloc,
+            &mut self.spare,
+            summary.values,
+            &summary.slots,
+            claims,
+        )
     }
 
-    /// What a target with these lines begins with.
+    /// What a target with these claims begins with.
     pub fn begin_there(
         &mut self,
         alloc: Global,
-        ground: &Ground,
-        lines: &[Line],
+        summary: &FunctionSummary,
+        claims: &[Claim],
     ) -> Result<(), AllocError> {
-        self.there.begin(alloc, ground.values, &ground.slots, lines)
+        self.there.begin(
+            alloc,
+            &mut self.spare,
+            summary.values,
+            &summary.slots,
+            claims,
+        )
     }
 
     /// Goes past an instruction.
     pub fn step(
         &mut self,
-        scene: &Scene,
+        rule_context: &RuleContext,
         summaries: &Summaries,
         instr: &Instr,
     ) -> Result<(), AllocError> {
         if let Op::Call(call) = &instr.op {
-            if let Some(callee) = defined(scene.module(), call.callee) {
+            if let Some(callee) = defined(rule_context.module(), call.callee) {
                 self.drop_arguments(call)?;
                 if summaries.mark(callee) == Mark::May {
                     self.here.make_stale()?;
                 }
-                return self.receive_result(scene, instr.result, call, summaries.promised(callee));
+                return self.receive_result(
+                    rule_context,
+                    instr.result,
+                    call,
+                    summaries.promised(callee),
+                );
             }
         }
-        advance(scene, &mut self.here, instr)
+        advance(rule_context, &mut self.here, instr)
     }
 
     fn drop_arguments(&mut self, call: &Call) -> Result<(), AllocError> {
@@ -118,21 +138,21 @@ impl FlowFacts {
 
     fn receive_result(
         &mut self,
-        scene: &Scene,
+        rule_context: &RuleContext,
         defined: Option<ValueId>,
         call: &Call,
         promise: Option<certs::Promise>,
     ) -> Result<(), AllocError> {
         match defined {
             Some(value) => {
-                let given = given_by(TypeKind::of(scene.module(), call.returned));
+                let given = given_by(TypeKind::of(rule_context.module(), call.returned));
                 self.here.receive(value, given, promise)
             }
             None => Ok(()),
         }
     }
 
-    /// What is shown of an operand here, where its type is of this kind.
+    /// What is known of an operand here, where its type is of this kind.
     pub fn shown(&self, operand: &Operand, kind: TypeKind) -> Shown {
         match operand {
             Operand::Constant(Constant::Number(number)) => Shown::Number(below_next(*number)),
@@ -158,53 +178,54 @@ impl FlowFacts {
         }
     }
 
-    /// Goes on the way to a block, past its phis; `decided` is the value that decides the way, and what it is.
+    /// Goes on the edge to a block, past its phis; `decided` is the value that decides the edge, and what it is.
     pub fn enter(
         &mut self,
         alloc: Global,
-        scene: &Scene,
-        ground: &Ground,
+        rule_context: &RuleContext,
+        summary: &FunctionSummary,
         from: BlockId,
         to: BlockId,
         decided: Option<(ValueId, bool)>,
     ) -> Result<(), AllocError> {
-        if decided.is_none() && !has_phis(scene, to) {
-            self.way_facts = WayFacts::Unchanged;
+        if decided.is_none() && !has_phis(rule_context, to) {
+            self.edge_facts = EdgeFacts::Unchanged;
             return Ok(());
         }
-        self.way_facts = WayFacts::Changed;
+        self.edge_facts = EdgeFacts::Changed;
         self.changed.set_from(alloc, &self.here)?;
         if let Some((value, taken)) = decided {
             let test = self.changed.test(value);
             self.changed.learn(test, taken)?;
         }
-        self.note_entries(scene, ground, from, to)?;
-        self.changed.after_phis(self.entries.as_slice())
+        self.record_entries(rule_context, summary, from, to)?;
+        self.changed
+            .after_phis(alloc, &mut self.spare, self.entries.as_slice())
     }
 
-    /// What is known on the way that was entered.
-    pub fn way(&self) -> &Facts {
-        match self.way_facts {
-            WayFacts::Unchanged => &self.here,
-            WayFacts::Changed => &self.changed,
+    /// What is known on the edge that was entered.
+    pub fn edge(&self) -> &Facts {
+        match self.edge_facts {
+            EdgeFacts::Unchanged => &self.here,
+            EdgeFacts::Changed => &self.changed,
         }
     }
 
-    fn note_entries(
+    fn record_entries(
         &mut self,
-        scene: &Scene,
-        ground: &Ground,
+        rule_context: &RuleContext,
+        summary: &FunctionSummary,
         from: BlockId,
         to: BlockId,
     ) -> Result<(), AllocError> {
         self.entries.clear();
-        let Some(block) = scene.function.blocks.get(to.number() as usize) else {
+        let Some(block) = rule_context.function.blocks.get(to.number() as usize) else {
             return Ok(());
         };
         let mut place = 0usize;
         for phi in block.phis.as_slice() {
-            let kind = TypeKind::of(scene.module(), phi.written);
-            let operand = ground.reading.incoming.operand(to, place, from);
+            let kind = TypeKind::of(rule_context.module(), phi.written);
+            let operand = summary.reading.incoming.operand(to, place, from);
             let known = comes_in(&self.changed, kind, &operand);
             self.entries.push(Entry {
                 phi: phi.value,
@@ -217,8 +238,8 @@ impl FlowFacts {
 }
 
 /// Whether a block begins with phis.
-fn has_phis(scene: &Scene, block: BlockId) -> bool {
-    match scene.function.blocks.get(block.number() as usize) {
+fn has_phis(rule_context: &RuleContext, block: BlockId) -> bool {
+    match rule_context.function.blocks.get(block.number() as usize) {
         Some(block) => !block.phis.is_empty(),
         None => false,
     }

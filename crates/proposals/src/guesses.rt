@@ -1,5 +1,6 @@
 //! What the text of a function tells of its values before they are known.
 use crate::call_graph::defined;
+use crate::opaque_guesses::{record_opaque, record_others};
 use crate::rows::{put, row_or};
 use crate::summaries::Summaries;
 use block_rules::TypeKind;
@@ -17,7 +18,7 @@ use types::runtime_called;
 pub struct Guesses {
     /// The reference on which an address is.
     pub bases: Vec<Option<ValueId>>,
-    /// The layout of an `i8*`.
+    /// The layout of an `i8*` or a `ptr`.
     pub layouts: Vec<Option<LayoutId>>,
     /// The name of the alloca of each slot.
     pub slots: Vec<Option<ValueId>>,
@@ -34,18 +35,19 @@ impl Guesses {
         let mut guesses = Guesses::before(alloc, module, function, slots.count())?;
         for block in function.blocks.as_slice() {
             for instr in block.body.as_slice() {
-                guesses.note(module, slots, summaries, instr);
+                guesses.record_one(module, slots, summaries, instr);
             }
         }
         for block in function.blocks.as_slice() {
             for phi in block.phis.as_slice() {
-                note_phi_layout(&mut guesses.layouts, phi);
+                record_phi_layout(&mut guesses.layouts, phi);
             }
         }
+        record_others(module, &mut guesses.layouts);
         Ok(guesses)
     }
 
-    /// What is told before the instructions are looked at.
+    /// What is known before the instructions are looked at.
     fn before(
         alloc: Global,
         module: &Module,
@@ -69,7 +71,7 @@ impl Guesses {
         })
     }
 
-    fn note(&mut self, module: &Module, slots: &Slots, summaries: &Summaries, instr: &Instr) {
+    fn record_one(&mut self, module: &Module, slots: &Slots, summaries: &Summaries, instr: &Instr) {
         let Some(value) = instr.result else {
             return;
         };
@@ -81,18 +83,18 @@ impl Guesses {
             return;
         }
         match &instr.op {
-            Op::Element(element) => self.note_element(at, &element.base),
-            Op::Cast(cast) => self.note_cast(at, cast),
+            Op::Element(element) => self.record_element(at, &element.base),
+            Op::Cast(cast) => self.record_cast(at, cast),
             Op::Call(call) => {
                 let layout = layout_called(module, summaries, call);
-                note_layout(&mut self.layouts, value, layout);
+                record_layout(&mut self.layouts, value, layout);
             }
             Op::Number(_) | Op::Memory(_) | Op::Choice(_) => {}
         }
     }
 
     /// An element is on the base of its own base, if that is an address, or on its own base.
-    fn note_element(&mut self, at: usize, base: &Operand) {
+    fn record_element(&mut self, at: usize, base: &Operand) {
         if let Operand::Local(base) = base {
             let found = row_or(&self.bases, base.number() as usize, None);
             let base = match found {
@@ -103,7 +105,7 @@ impl Guesses {
         }
     }
 
-    fn note_cast(&mut self, at: usize, cast: &Cast) {
+    fn record_cast(&mut self, at: usize, cast: &Cast) {
         let Operand::Local(from) = &cast.operand else {
             return;
         };
@@ -147,7 +149,7 @@ fn layout_numbered(number: u64) -> Option<LayoutId> {
     }
 }
 
-/// The layouts of the `i8*` of a function that are made of references, or made into some.
+/// The layouts of the `i8*` of a function that are made of references, or made into some, and those of its `ptr` that their uses tell.
 pub fn cast_layouts(
     alloc: Global,
     module: &Module,
@@ -156,41 +158,42 @@ pub fn cast_layouts(
     let mut layouts = vec![in alloc; only_layout(module); function.locals.count()]?;
     for block in function.blocks.as_slice() {
         for instr in block.body.as_slice() {
-            note_layouts(module, &mut layouts, instr);
+            record_layouts(module, &mut layouts, instr);
         }
     }
+    record_opaque(module, function, &mut layouts);
     for block in function.blocks.as_slice() {
         for phi in block.phis.as_slice() {
-            note_phi_layout(&mut layouts, phi);
+            record_phi_layout(&mut layouts, phi);
         }
     }
     Ok(layouts)
 }
 
-fn note_layouts(module: &Module, layouts: &mut [Option<LayoutId>], instr: &Instr) {
+fn record_layouts(module: &Module, layouts: &mut [Option<LayoutId>], instr: &Instr) {
     let Some(value) = instr.result else {
         return;
     };
     if let Op::Cast(cast) = &instr.op {
-        note_layout(layouts, value, TypeKind::of(module, cast.from).layout());
+        record_layout(layouts, value, TypeKind::of(module, cast.from).layout());
         if let Operand::Local(from) = &cast.operand {
-            note_layout(layouts, *from, TypeKind::of(module, cast.to).layout());
+            record_layout(layouts, *from, TypeKind::of(module, cast.to).layout());
         }
     }
 }
 
 /// A value has this layout, if there is one.
-fn note_layout(layouts: &mut [Option<LayoutId>], value: ValueId, layout: Option<LayoutId>) {
+fn record_layout(layouts: &mut [Option<LayoutId>], value: ValueId, layout: Option<LayoutId>) {
     if layout.is_some() {
         put(layouts, value.number() as usize, layout);
     }
 }
 
 /// A phi has the layout of the last entry that has one, if it has none.
-fn note_phi_layout(layouts: &mut [Option<LayoutId>], phi: &Phi) {
+fn record_phi_layout(layouts: &mut [Option<LayoutId>], phi: &Phi) {
     for entry in phi.incoming.as_slice() {
         let layout = layout_of(layouts, &entry.operand);
-        note_layout(layouts, phi.value, layout);
+        record_layout(layouts, phi.value, layout);
     }
 }
 

@@ -22,7 +22,7 @@ impl IncomingOperands {
         let mut operands = IncomingOperands {
             each: IndexMap::new(alloc),
         };
-        match operands.note_blocks(function) {
+        match operands.record_blocks(function) {
             Ok(()) => Ok(operands),
             Err(refused) => {
                 drop(operands);
@@ -31,10 +31,10 @@ impl IncomingOperands {
         }
     }
 
-    fn note_blocks(&mut self, function: &Function) -> Result<(), AllocError> {
+    fn record_blocks(&mut self, function: &Function) -> Result<(), AllocError> {
         let mut to = 0u32;
         for block in function.blocks.as_slice() {
-            self.note_block(function, to, block)?;
+            self.record_block(function, to, block)?;
             to = to.saturating_add(1);
         }
         Ok(())
@@ -50,7 +50,7 @@ impl IncomingOperands {
         self.each.get(&edge).copied()
     }
 
-    fn note_block(
+    fn record_block(
         &mut self,
         function: &Function,
         to: u32,
@@ -58,13 +58,13 @@ impl IncomingOperands {
     ) -> Result<(), AllocError> {
         let mut place = 0usize;
         for phi in block.phis.as_slice() {
-            self.note_phi(function, to, place, phi)?;
+            self.record_phi(function, to, place, phi)?;
             place = place.saturating_add(1);
         }
         Ok(())
     }
 
-    fn note_phi(
+    fn record_phi(
         &mut self,
         function: &Function,
         to: u32,
@@ -72,13 +72,13 @@ impl IncomingOperands {
         phi: &Phi,
     ) -> Result<(), AllocError> {
         for entry in phi.incoming.as_slice() {
-            self.note_entry(function, to, place, *entry)?;
+            self.record_entry(function, to, place, *entry)?;
         }
         Ok(())
     }
 
-    /// Notes an operand, unless one is noted for this place and this block.
-    fn note_entry(
+    /// Records an operand, unless one is recorded for this place and this block.
+    fn record_entry(
         &mut self,
         function: &Function,
         to: u32,

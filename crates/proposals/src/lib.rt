@@ -1,25 +1,26 @@
-//! Certificates that are proposed for a module: what the rules show at each block of each function, carried on until nothing
+//! Certificates that are proposed for a module: what the rules imply at each block of each function, carried on until nothing
 //! changes. Nothing is promised of them but that they are found: the check decides.
 #![tactic(auto)]
 
 mod best;
 mod buckets;
 mod call_graph;
-mod claim;
-mod draft_lines;
-mod first_lines;
+mod draft_claims;
+mod first_claims;
 mod flow_facts;
-mod ground;
 mod guesses;
 mod incoming_operands;
+mod inferred;
 mod marks;
 mod needs;
 mod numbers;
+mod opaque_guesses;
 mod order;
 mod proposal;
 mod rows;
 mod scan;
 mod summaries;
+mod summary;
 mod walk;
 mod wanted;
 mod weaken;

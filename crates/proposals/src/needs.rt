@@ -1,6 +1,6 @@
 //! What integers have to be below, for the indices that they are.
 use crate::call_graph::defined;
-use crate::claim::smaller;
+use crate::inferred::smaller;
 use crate::numbers::bounded_operand;
 use crate::rows::{put, row_or};
 use crate::summaries::Summaries;
@@ -29,28 +29,28 @@ pub fn needs_of(
         each: vec![in alloc; None; function.locals.count()]?,
     };
     for block in function.blocks.as_slice().iter().rev() {
-        needs.note_block(block);
+        needs.record_block(block);
     }
     Ok(needs.each)
 }
 
 impl<'a> Needs<'a> {
-    fn note_block(&mut self, block: &Block) {
+    fn record_block(&mut self, block: &Block) {
         for instr in block.body.as_slice().iter().rev() {
-            self.note(instr);
+            self.record_one(instr);
         }
         for phi in block.phis.as_slice() {
-            self.note_phi(phi);
+            self.record_phi(phi);
         }
     }
 
-    fn note(&mut self, instr: &Instr) {
+    fn record_one(&mut self, instr: &Instr) {
         let need = match instr.result {
             Some(value) => row_or(&self.each, value.number() as usize, None),
             None => None,
         };
         match &instr.op {
-            Op::Element(element) => self.note_element(element),
+            Op::Element(element) => self.record_element(element),
             Op::Number(op) => {
                 if let Some(operand) = bounded_operand(op) {
                     self.need(&operand, need);
@@ -61,13 +61,13 @@ impl<'a> Needs<'a> {
                 self.need(&choice.chosen, need);
                 self.need(&choice.other, need);
             }
-            Op::Call(call) => self.note_call(call),
+            Op::Call(call) => self.record_call(call),
             Op::Memory(_) => {}
         }
     }
 
     /// Each index of an array has to be below its length.
-    fn note_element(&mut self, element: &Element) {
+    fn record_element(&mut self, element: &Element) {
         let mut part = element.source;
         for index in element.indices.as_slice().iter().skip(1) {
             let Some(step) = self.program.step(part, *index) else {
@@ -78,7 +78,7 @@ impl<'a> Needs<'a> {
         }
     }
 
-    fn note_call(&mut self, call: &Call) {
+    fn record_call(&mut self, call: &Call) {
         let Some(callee) = defined(self.program.module(), call.callee) else {
             return;
         };
@@ -90,7 +90,7 @@ impl<'a> Needs<'a> {
         }
     }
 
-    fn note_phi(&mut self, phi: &Phi) {
+    fn record_phi(&mut self, phi: &Phi) {
         let need = row_or(&self.each, phi.value.number() as usize, None);
         for entry in phi.incoming.as_slice() {
             self.need(&entry.operand, need);

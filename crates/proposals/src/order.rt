@@ -3,10 +3,10 @@ use crate::call_graph::CallGraph;
 use crate::rows::{put, row_or};
 use std::alloc::{AllocError, Global};
 
-/// Functions on the way down the calls.
+/// Functions on the path down the calls.
 #[derive(Drop)]
 struct Descent {
-    /// Each function on the way, and how many of its calls were followed.
+    /// Each function on the path, and how many of its calls were followed.
     path: Vec<(u32, usize)>,
     entered: Vec<bool>,
     order: Vec<u32>,
@@ -45,7 +45,7 @@ impl Descent {
         Ok(())
     }
 
-    /// Goes down the calls until no function is on the way.
+    /// Goes down the calls until no function is on the path.
     fn descend(&mut self, graph: &CallGraph) -> Result<(), AllocError> {
         for _ in 0..usize::MAX {
             let Some((func, followed)) = self.path.pop() else {

@@ -1,11 +1,11 @@
 //! Certificates that are proposed for a whole module.
 use crate::call_graph::CallGraph;
-use crate::draft_lines::DraftLines;
-use crate::ground::Ground;
+use crate::draft_claims::DraftClaims;
 pub use crate::summaries::Boldness;
 use crate::summaries::Summaries;
-use crate::walk::{FunctionContext, Room};
-use block_rules::Scene;
+use crate::summary::FunctionSummary;
+use crate::walk::{FlowAnalysis, FunctionContext};
+use block_rules::RuleContext;
 use certs::{Certs, Promise, Section};
 use ir_ast::{FuncId, IrType, Module, TypeId};
 use items::Items;
@@ -23,7 +23,7 @@ struct ModuleContext<'a> {
     lengths: &'a [u64],
 }
 
-/// Certificates for a module, which may be refused. Each is to say what the rules show of its functions, or less.
+/// Certificates for a module, which may be refused. Each is to say what the rules imply of its functions, or less.
 pub fn propose(alloc: Global, program: &Program, boldness: Boldness) -> Result<Certs, AllocError> {
     let graph = CallGraph::of(alloc, program.module())?;
     let certs = propose_over(alloc, program, &graph, boldness);
@@ -58,10 +58,10 @@ fn propose_from(
     certs
 }
 
-fn drafts_of(alloc: Global, module: &Module) -> Result<Vec<DraftLines>, AllocError> {
+fn drafts_of(alloc: Global, module: &Module) -> Result<Vec<DraftClaims>, AllocError> {
     let mut drafts = Vec::new(alloc);
     for function in module.functions.as_slice() {
-        let draft = DraftLines::new(alloc, function.blocks.len())?;
+        let draft = DraftClaims::new(alloc, function.blocks.len())?;
         drafts.push(draft)?;
     }
     Ok(drafts)
@@ -73,11 +73,12 @@ fn walk_all(
     program: &Program,
     graph: &CallGraph,
     summaries: &mut Summaries,
-    drafts: &mut [DraftLines],
+    drafts: &mut [DraftClaims],
 ) -> Result<(), AllocError> {
     let lengths = lengths_of(alloc, program.module())?;
     let none = Certs {
         sections: Items::new(alloc),
+        shapes: None,
     };
     let context = ModuleContext {
         program,
@@ -95,27 +96,27 @@ fn walk_with(
     alloc: Global,
     context: &ModuleContext,
     summaries: &mut Summaries,
-    drafts: &mut [DraftLines],
+    drafts: &mut [DraftClaims],
 ) -> Result<(), AllocError> {
-    let mut room = Room::new(alloc)?;
-    let walked = walk_each(alloc, context, &mut room, summaries, drafts);
-    drop(room);
+    let mut analysis = FlowAnalysis::new(alloc)?;
+    let walked = walk_each(alloc, context, &mut analysis, summaries, drafts);
+    drop(analysis);
     walked
 }
 
 fn walk_each(
     alloc: Global,
     context: &ModuleContext,
-    room: &mut Room,
+    analysis: &mut FlowAnalysis,
     summaries: &mut Summaries,
-    drafts: &mut [DraftLines],
+    drafts: &mut [DraftClaims],
 ) -> Result<(), AllocError> {
     for at in 0..usize::MAX {
         let Some(func) = summaries.next(at) else {
             break;
         };
         if summaries.may_walk(func) {
-            walk_one(alloc, context, room, summaries, drafts, func)?;
+            walk_one(alloc, context, analysis, summaries, drafts, func)?;
         }
     }
     Ok(())
@@ -124,9 +125,9 @@ fn walk_each(
 fn walk_one(
     alloc: Global,
     context: &ModuleContext,
-    room: &mut Room,
+    analysis: &mut FlowAnalysis,
     summaries: &mut Summaries,
-    drafts: &mut [DraftLines],
+    drafts: &mut [DraftClaims],
     func: FuncId,
 ) -> Result<(), AllocError> {
     let number = func.number() as usize;
@@ -137,20 +138,20 @@ fn walk_one(
     if number >= drafts.len() {
         return Ok(());
     }
-    let ground = Ground::of(alloc, module, func, function, summaries)?;
+    let summary = FunctionSummary::of(alloc, module, func, function, summaries)?;
     let function_context = FunctionContext {
-        scene: Scene {
+        rule_context: RuleContext {
             program: context.program,
             certs: context.none,
             function,
-            slots: &ground.slots,
+            slots: &summary.slots,
         },
-        ground: &ground,
+        summary: &summary,
         graph: context.graph,
         lengths: context.lengths,
     };
-    let walked = room.walk(alloc, &function_context, summaries, &mut drafts[number]);
-    drop(ground);
+    let walked = analysis.walk(alloc, &function_context, summaries, &mut drafts[number]);
+    drop(summary);
     walked
 }
 
@@ -182,7 +183,7 @@ fn certs_of(
     alloc: Global,
     module: &Module,
     summaries: &Summaries,
-    drafts: &[DraftLines],
+    drafts: &[DraftClaims],
 ) -> Result<Certs, AllocError> {
     let mut sections = Items::new(alloc);
     let mut number = 0u32;
@@ -191,7 +192,10 @@ fn certs_of(
         sections.push(section)?;
         number = number.saturating_add(1);
     }
-    Ok(Certs { sections })
+    Ok(Certs {
+        sections,
+        shapes: None,
+    })
 }
 
 fn section_of(
@@ -199,9 +203,9 @@ fn section_of(
     module: &Module,
     summaries: &Summaries,
     func: FuncId,
-    draft: &DraftLines,
+    draft: &DraftClaims,
 ) -> Result<Section, AllocError> {
-    let blocks = draft.each_lines(alloc)?;
+    let blocks = draft.each_claims(alloc)?;
     let Ok(parameters) = promises_of(alloc, module, summaries, func) else {
         drop(blocks);
         return Err(AllocError);

@@ -1,8 +1,9 @@
 use crate::call_graph::CallGraph;
-use crate::claim::{Claim, Shown};
 use crate::guesses::{cast_layouts, returned_layout};
+use crate::inferred::{InferredPromise, Shown};
 use crate::marks::marks_of;
 use crate::needs::needs_of;
+use crate::opaque_guesses::record_others;
 use crate::order::callees_first;
 use crate::rows::{put, row_or};
 use certs::{Mark, Promise, family_of_type, family_of_value};
@@ -31,8 +32,8 @@ pub struct Summaries {
     marks: Vec<Mark>,
     /// Where the parameters of each function begin.
     firsts: Vec<usize>,
-    parameters: Vec<Claim>,
-    results: Vec<Claim>,
+    parameters: Vec<InferredPromise>,
+    results: Vec<InferredPromise>,
     /// The functions that are to be walked over, in this order; those from the front were.
     queue: Vec<u32>,
     waiting: Vec<bool>,
@@ -93,18 +94,22 @@ impl Summaries {
     }
 
     /// What is promised of a parameter of a function.
-    pub fn parameter(&self, func: FuncId, place: usize) -> Claim {
+    pub fn parameter(&self, func: FuncId, place: usize) -> InferredPromise {
         let first = row_or(&self.firsts, func.number() as usize, usize::MAX);
         row_or(
             &self.parameters,
             first.saturating_add(place),
-            Claim::Nothing,
+            InferredPromise::Nothing,
         )
     }
 
     /// What is promised of the result of a function.
-    pub fn result(&self, func: FuncId) -> Claim {
-        row_or(&self.results, func.number() as usize, Claim::Nothing)
+    pub fn result(&self, func: FuncId) -> InferredPromise {
+        row_or(
+            &self.results,
+            func.number() as usize,
+            InferredPromise::Nothing,
+        )
     }
 
     /// What is promised of the result of a function, as a certificate writes it.
@@ -126,33 +131,33 @@ impl Summaries {
         row_or(&self.walks, func.number() as usize, 0) <= WALK_LIMIT
     }
 
-    /// A call shows this of its argument at a place.
-    pub fn note_argument(
+    /// This is known of the argument of a call at a place.
+    pub fn record_argument(
         &mut self,
         func: FuncId,
         place: usize,
         shown: Shown,
     ) -> Result<(), AllocError> {
         let first = row_or(&self.firsts, func.number() as usize, usize::MAX);
-        let claim = self.parameter(func, place);
-        let weakened = claim.weakened(shown);
-        if weakened != claim {
+        let inferred = self.parameter(func, place);
+        let weakened = inferred.weakened(shown);
+        if weakened != inferred {
             put(&mut self.parameters, first.saturating_add(place), weakened);
             self.wake(func.number())?;
         }
         Ok(())
     }
 
-    /// A return shows this of its operand.
-    pub fn note_result(
+    /// This is known of the operand of a return.
+    pub fn record_result(
         &mut self,
         graph: &CallGraph,
         func: FuncId,
         shown: Shown,
     ) -> Result<(), AllocError> {
-        let claim = self.result(func);
-        let weakened = claim.weakened(shown);
-        if weakened != claim {
+        let inferred = self.result(func);
+        let weakened = inferred.weakened(shown);
+        if weakened != inferred {
             put(&mut self.results, func.number() as usize, weakened);
             for caller in graph.callers.group(func.number() as usize) {
                 self.wake(*caller)?;
@@ -176,7 +181,8 @@ impl Summaries {
         function: &Function,
         boldness: Boldness,
     ) -> Result<(), AllocError> {
-        let layouts = cast_layouts(alloc, module, function)?;
+        let mut layouts = cast_layouts(alloc, module, function)?;
+        record_others(module, &mut layouts);
         let added = self.add_promises(module, function, &layouts, boldness);
         drop(layouts);
         added
@@ -195,13 +201,13 @@ impl Summaries {
         for parameter in function.parameters.as_slice() {
             let family = family_of_value(module, function, parameter.value);
             let layout = row_or(layouts, parameter.value.number() as usize, None);
-            let claim = Claim::of(family, nonnull, None, layout);
-            self.parameters.push(claim)?;
+            let inferred = InferredPromise::of(family, nonnull, None, layout);
+            self.parameters.push(inferred)?;
         }
         let family = family_of_type(module, function.returned);
         let layout = returned_layout(module, function, layouts);
-        let claim = Claim::of(family, true, Some(1), layout);
-        self.results.push(claim)?;
+        let inferred = InferredPromise::of(family, true, Some(1), layout);
+        self.results.push(inferred)?;
         Ok(())
     }
 
@@ -237,7 +243,7 @@ impl Summaries {
             let at = first.saturating_add(place);
             if self.parameter(func, place).is_number() {
                 let need = row_or(needs, parameter.value.number() as usize, None);
-                put(&mut self.parameters, at, Claim::Number(need));
+                put(&mut self.parameters, at, InferredPromise::Number(need));
             }
             place = place.saturating_add(1);
         }

@@ -1,14 +1,14 @@
-//! The walk over one function, until the lines of its blocks do not change.
-use crate::best::best_lines;
+//! The walk over one function, until the claims of its blocks do not change.
+use crate::best::best_claims;
 use crate::call_graph::{CallGraph, defined};
-use crate::draft_lines::{BlockLines, DraftLines};
-use crate::first_lines::first_lines;
+use crate::draft_claims::{BlockClaims, DraftClaims};
+use crate::first_claims::first_claims;
 use crate::flow_facts::FlowFacts;
-use crate::ground::Ground;
 use crate::summaries::Summaries;
+use crate::summary::FunctionSummary;
 use crate::weaken::weakened;
-use block_rules::{Scene, TypeKind};
-use certs::Line;
+use block_rules::{RuleContext, TypeKind};
+use certs::Claim;
 use indexmap::IndexSet;
 use ir_ast::{Argument, Block, BlockId, Case, End, Instr, Op, Operand, ValueId};
 use std::alloc::{AllocError, Global};
@@ -17,8 +17,8 @@ use types::target_of;
 /// What a walk looks at.
 #[derive(Clone, Copy)]
 pub struct FunctionContext<'a> {
-    pub scene: Scene<'a>,
-    pub ground: &'a Ground,
+    pub rule_context: RuleContext<'a>,
+    pub summary: &'a FunctionSummary,
     pub graph: &'a CallGraph,
     /// The lengths of the module's arrays, in order.
     pub lengths: &'a [u64],
@@ -26,24 +26,24 @@ pub struct FunctionContext<'a> {
 
 /// What a walk changes.
 #[derive(Drop)]
-pub struct Room {
+pub struct FlowAnalysis {
     pub flow: FlowFacts,
     /// All values of which something may be known in the block that is walked over.
     pub names: Vec<ValueId>,
 }
 
-/// A way out of a block: the label that it leads to, the value that decides it, and what it is.
+/// An edge out of a block: the label that it leads to, the value that decides it, and what it is.
 #[derive(Clone, Copy)]
-struct Way {
+struct Edge {
     from: BlockId,
     label: ValueId,
     decided: Option<(ValueId, bool)>,
 }
 
-impl Room {
-    pub fn new(alloc: Global) -> Result<Room, AllocError> {
+impl FlowAnalysis {
+    pub fn new(alloc: Global) -> Result<FlowAnalysis, AllocError> {
         let flow = FlowFacts::new(alloc)?;
-        Ok(Room {
+        Ok(FlowAnalysis {
             flow,
             names: Vec::new(alloc),
         })
@@ -55,10 +55,10 @@ impl Room {
         alloc: Global,
         context: &FunctionContext,
         summaries: &mut Summaries,
-        draft: &mut DraftLines,
+        draft: &mut DraftClaims,
     ) -> Result<(), AllocError> {
         draft.wake_all()?;
-        let blocks = context.scene.function.blocks.len();
+        let blocks = context.rule_context.function.blocks.len();
         let limit = blocks.saturating_mul(64).saturating_add(64);
         let mut unseen = 0u32;
         let mut walked = 0usize;
@@ -80,16 +80,16 @@ impl Room {
         Ok(())
     }
 
-    /// A block that no way enters begins with all that it needs.
+    /// A block that no edge enters begins with all that it needs.
     fn seed(
         &mut self,
         alloc: Global,
         context: &FunctionContext,
-        draft: &mut DraftLines,
+        draft: &mut DraftClaims,
         block: BlockId,
     ) -> Result<(), AllocError> {
-        if draft.lines(block).is_none() {
-            let listed = best_lines(alloc, &context.scene, context.ground, block)?;
+        if draft.claims(block).is_none() {
+            let listed = best_claims(alloc, &context.rule_context, context.summary, block)?;
             draft.set(block, listed);
             draft.wake(block)?;
         }
@@ -101,13 +101,18 @@ impl Room {
         alloc: Global,
         context: &FunctionContext,
         summaries: &mut Summaries,
-        draft: &mut DraftLines,
+        draft: &mut DraftClaims,
         number: BlockId,
     ) -> Result<(), AllocError> {
-        let Some(block) = context.scene.function.blocks.get(number.number() as usize) else {
+        let Some(block) = context
+            .rule_context
+            .function
+            .blocks
+            .get(number.number() as usize)
+        else {
             return Ok(());
         };
-        let Some(listed) = draft.lines(number) else {
+        let Some(listed) = draft.claims(number) else {
             return Ok(());
         };
         self.begin(alloc, context, summaries, number, listed)?;
@@ -123,23 +128,23 @@ impl Room {
         context: &FunctionContext,
         summaries: &Summaries,
         number: BlockId,
-        listed: &BlockLines,
+        listed: &BlockClaims,
     ) -> Result<(), AllocError> {
         self.names.clear();
         if number.number() == 0 {
-            for parameter in context.scene.function.parameters.as_slice() {
+            for parameter in context.rule_context.function.parameters.as_slice() {
                 self.names.push(parameter.value)?;
             }
             self.flow
-                .begin_entry(alloc, &context.scene, context.ground, summaries)
+                .begin_entry(alloc, &context.rule_context, context.summary, summaries)
         } else {
-            for line in listed.lines.as_slice() {
-                if let Line::Value { value, .. } = *line {
+            for claim in listed.claims.as_slice() {
+                if let Claim::Value { value, .. } = *claim {
                     self.names.push(value)?;
                 }
             }
             self.flow
-                .begin(alloc, context.ground, listed.lines.as_slice())
+                .begin(alloc, context.summary, listed.claims.as_slice())
         }
     }
 
@@ -150,24 +155,24 @@ impl Room {
         instr: &Instr,
     ) -> Result<(), AllocError> {
         if let Op::Call(call) = &instr.op {
-            if let Some(callee) = defined(context.scene.module(), call.callee) {
+            if let Some(callee) = defined(context.rule_context.module(), call.callee) {
                 let mut place = 0usize;
                 for argument in call.arguments.as_slice() {
                     let shown = self.shown(context, argument);
-                    summaries.note_argument(callee, place, shown)?;
+                    summaries.record_argument(callee, place, shown)?;
                     place = place.saturating_add(1);
                 }
             }
         }
-        self.flow.step(&context.scene, summaries, instr)?;
+        self.flow.step(&context.rule_context, summaries, instr)?;
         if let Some(value) = instr.result {
             self.names.push(value)?;
         }
         Ok(())
     }
 
-    fn shown(&self, context: &FunctionContext, argument: &Argument) -> crate::claim::Shown {
-        let kind = TypeKind::of(context.scene.module(), argument.written);
+    fn shown(&self, context: &FunctionContext, argument: &Argument) -> crate::inferred::Shown {
+        let kind = TypeKind::of(context.rule_context.module(), argument.written);
         self.flow.shown(&argument.operand, kind)
     }
 
@@ -176,154 +181,160 @@ impl Room {
         alloc: Global,
         context: &FunctionContext,
         summaries: &mut Summaries,
-        draft: &mut DraftLines,
+        draft: &mut DraftClaims,
         from: BlockId,
         block: &Block,
     ) -> Result<(), AllocError> {
         match &block.end {
-            End::Jump(label) => self.open_way(alloc, context, draft, from, *label),
+            End::Jump(label) => self.open_edge(alloc, context, draft, from, *label),
             End::Branch {
                 condition,
                 taken,
                 other,
                 ..
             } => {
-                let on = Way {
+                let on = Edge {
                     from,
                     label: *taken,
                     decided: decided_by(condition, true),
                 };
-                self.way(alloc, context, draft, on)?;
-                let off = Way {
+                self.edge(alloc, context, draft, on)?;
+                let off = Edge {
                     from,
                     label: *other,
                     decided: decided_by(condition, false),
                 };
-                self.way(alloc, context, draft, off)
+                self.edge(alloc, context, draft, off)
             }
             End::Switch {
                 otherwise,
                 cases,
                 ..
             } => {
-                self.open_way(alloc, context, draft, from, *otherwise)?;
+                self.open_edge(alloc, context, draft, from, *otherwise)?;
                 self.cases(alloc, context, draft, from, cases.as_slice())
             }
             End::Return(argument) => {
                 let shown = self.shown(context, argument);
-                summaries.note_result(context.graph, context.ground.func, shown)
+                summaries.record_result(context.graph, context.summary.func, shown)
             }
             End::Unreachable | End::ReturnVoid => Ok(()),
         }
     }
 
-    /// The ways of cases: one to each target, since a further one says the same.
+    /// The edges of cases: one to each target, since a further one says the same.
     fn cases(
         &mut self,
         alloc: Global,
         context: &FunctionContext,
-        draft: &mut DraftLines,
+        draft: &mut DraftClaims,
         from: BlockId,
         cases: &[Case],
     ) -> Result<(), AllocError> {
         let mut gone = IndexSet::new(alloc);
-        let went = self.new_ways(alloc, context, draft, from, cases, &mut gone);
+        let went = self.new_edges(alloc, context, draft, from, cases, &mut gone);
         drop(gone);
         went
     }
 
-    /// The ways to targets to which none went; `gone` are the others.
-    fn new_ways(
+    /// The edges to targets that were not seen; `gone` are those that were.
+    fn new_edges(
         &mut self,
         alloc: Global,
         context: &FunctionContext,
-        draft: &mut DraftLines,
+        draft: &mut DraftClaims,
         from: BlockId,
         cases: &[Case],
         gone: &mut IndexSet<u32>,
     ) -> Result<(), AllocError> {
         for case in cases {
             if gone.insert(case.target.number())? {
-                self.open_way(alloc, context, draft, from, case.target)?;
+                self.open_edge(alloc, context, draft, from, case.target)?;
             }
         }
         Ok(())
     }
 
-    /// A way that nothing decides of which something is known.
-    fn open_way(
+    /// An edge that nothing decides of which something is known.
+    fn open_edge(
         &mut self,
         alloc: Global,
         context: &FunctionContext,
-        draft: &mut DraftLines,
+        draft: &mut DraftClaims,
         from: BlockId,
         label: ValueId,
     ) -> Result<(), AllocError> {
-        let way = Way {
+        let edge = Edge {
             from,
             label,
             decided: None,
         };
-        self.way(alloc, context, draft, way)
+        self.edge(alloc, context, draft, edge)
     }
 
-    fn way(
+    fn edge(
         &mut self,
         alloc: Global,
         context: &FunctionContext,
-        draft: &mut DraftLines,
-        way: Way,
+        draft: &mut DraftClaims,
+        edge: Edge,
     ) -> Result<(), AllocError> {
-        let Some(to) = target_of(context.scene.function, way.label) else {
+        let Some(to) = target_of(context.rule_context.function, edge.label) else {
             return Ok(());
         };
         if to.number() == 0 {
             return Ok(());
         }
-        let scene = &context.scene;
-        self.flow
-            .enter(alloc, scene, context.ground, way.from, to, way.decided)?;
-        if let Some(listed) = self.lines_after(alloc, context, draft, to)? {
+        let rule_context = &context.rule_context;
+        self.flow.enter(
+            alloc,
+            rule_context,
+            context.summary,
+            edge.from,
+            to,
+            edge.decided,
+        )?;
+        if let Some(listed) = self.claims_after(alloc, context, draft, to)? {
             draft.set(to, listed);
             draft.wake(to)?;
         }
         Ok(())
     }
 
-    /// The lines of a block after one more way to it, if they change.
-    fn lines_after(
+    /// The claims of a block after one more edge to it, if they change.
+    fn claims_after(
         &mut self,
         alloc: Global,
         context: &FunctionContext,
-        draft: &DraftLines,
+        draft: &DraftClaims,
         to: BlockId,
-    ) -> Result<Option<BlockLines>, AllocError> {
-        match draft.lines(to) {
+    ) -> Result<Option<BlockClaims>, AllocError> {
+        match draft.claims(to) {
             Some(listed) => weakened(
                 alloc,
-                context.ground,
+                context.summary,
                 &mut self.flow,
                 context.lengths,
                 listed,
             ),
             None => {
-                let lines = self.first_lines_at(alloc, context, to)?;
-                Ok(Some(lines))
+                let claims = self.first_claims_at(alloc, context, to)?;
+                Ok(Some(claims))
             }
         }
     }
 
-    fn first_lines_at(
+    fn first_claims_at(
         &mut self,
         alloc: Global,
         context: &FunctionContext,
         to: BlockId,
-    ) -> Result<BlockLines, AllocError> {
-        first_lines(
+    ) -> Result<BlockClaims, AllocError> {
+        first_claims(
             alloc,
-            context.scene,
-            context.ground,
-            self.flow.way(),
+            context.rule_context,
+            context.summary,
+            self.flow.edge(),
             to,
             &self.names,
         )

@@ -6,7 +6,7 @@ use ir_ast::{Block, End, Function, ValueId};
 use std::alloc::{AllocError, Global};
 use types::target_of;
 
-/// The blocks that read and write each value and slot, and the ways between blocks.
+/// The blocks that read and write each value and slot, and the edges between blocks.
 #[derive(Drop)]
 struct BlockUses {
     /// The blocks from which each block is entered.
@@ -150,32 +150,32 @@ fn edges_of(alloc: Global, function: &Function) -> Result<Vec<(usize, u32)>, All
     let mut pairs = Vec::new(alloc);
     let mut from = 0u32;
     for block in function.blocks.as_slice() {
-        note_edges(&mut pairs, function, from, block)?;
+        record_edges(&mut pairs, function, from, block)?;
         from = from.saturating_add(1);
     }
     Ok(pairs)
 }
 
-fn note_edges(
+fn record_edges(
     pairs: &mut Vec<(usize, u32)>,
     function: &Function,
     from: u32,
     block: &Block,
 ) -> Result<(), AllocError> {
     match &block.end {
-        End::Jump(target) => note_edge(pairs, function, from, *target),
+        End::Jump(target) => record_edge(pairs, function, from, *target),
         End::Branch { taken, other, .. } => {
-            note_edge(pairs, function, from, *taken)?;
-            note_edge(pairs, function, from, *other)
+            record_edge(pairs, function, from, *taken)?;
+            record_edge(pairs, function, from, *other)
         }
         End::Switch {
             otherwise,
             cases,
             ..
         } => {
-            note_edge(pairs, function, from, *otherwise)?;
+            record_edge(pairs, function, from, *otherwise)?;
             for case in cases.as_slice() {
-                note_edge(pairs, function, from, case.target)?;
+                record_edge(pairs, function, from, case.target)?;
             }
             Ok(())
         }
@@ -183,7 +183,7 @@ fn note_edges(
     }
 }
 
-fn note_edge(
+fn record_edge(
     pairs: &mut Vec<(usize, u32)>,
     function: &Function,
     from: u32,

@@ -1,9 +1,9 @@
-//! What is left of the lines of a block where another way leads to it.
-use crate::draft_lines::BlockLines;
+//! What is left of the claims of a block where another edge leads to it.
+use crate::draft_claims::BlockClaims;
 use crate::flow_facts::FlowFacts;
-use crate::ground::Ground;
 use crate::rows::row_or;
-use certs::{Age, Fact, Line};
+use crate::summary::FunctionSummary;
+use certs::{Age, Claim, Fact};
 use facts::{Class, ClassId, Facts, Known};
 use indexmap::IndexSet;
 use ir_ast::{SymbolId, ValueId};
@@ -11,45 +11,45 @@ use pools::{LayoutId, WordSet};
 use shadow_stack::SlotId;
 use std::alloc::{AllocError, Global};
 
-/// How often a bound may grow to what a way shows.
+/// How often a bound may grow to what an edge implies.
 const GROWTH_LIMIT: u8 = 3;
 
 /// How often it may grow at all.
 const RAISE_LIMIT: u8 = 8;
 
-/// What a line says of a reference.
+/// What a claim says of a reference.
 #[derive(Clone, Copy)]
-struct ReferenceLine {
+struct ReferenceClaim {
     layout: LayoutId,
     nonnull: bool,
     age: Age,
     same: Option<ValueId>,
 }
 
-/// A line, and how often its bound has grown.
+/// A claim, and how often its bound has grown.
 #[derive(Clone, Copy)]
 struct Left {
-    line: Line,
+    claim: Claim,
     grown: u8,
 }
 
-/// The lines without what the way does not show; None where it shows them all. `lengths` are those of the module's arrays, in order.
+/// The claims without what the edge does not imply; None where it implies them all. `lengths` are those of the module's arrays, in order.
 pub fn weakened(
     alloc: Global,
-    ground: &Ground,
+    summary: &FunctionSummary,
     flow: &mut FlowFacts,
     lengths: &[u64],
-    listed: &BlockLines,
-) -> Result<Option<BlockLines>, AllocError> {
-    flow.begin_there(alloc, ground, listed.lines.as_slice())?;
-    if shows_all(alloc, ground, flow, listed.lines.as_slice()) {
+    listed: &BlockClaims,
+) -> Result<Option<BlockClaims>, AllocError> {
+    flow.begin_there(alloc, summary, listed.claims.as_slice())?;
+    if shows_all(alloc, summary, flow, listed.claims.as_slice()) {
         return Ok(None);
     }
-    let met = met(alloc, ground, flow.way(), lengths, listed)?;
+    let met = met(alloc, summary, flow.edge(), lengths, listed)?;
     let kept = without_unlisted(alloc, &met);
     drop(met);
     let kept = kept?;
-    let left = without_lost_fresh(alloc, ground, flow, &kept);
+    let left = without_lost_fresh(alloc, summary, flow, &kept);
     drop(kept);
     match left {
         Ok(left) => Ok(Some(left)),
@@ -57,45 +57,51 @@ pub fn weakened(
     }
 }
 
-fn shows_all(alloc: Global, ground: &Ground, flow: &FlowFacts, lines: &[Line]) -> bool {
-    flow.way()
-        .first_unshown(alloc, &ground.slots, &flow.there, lines)
+fn shows_all(alloc: Global, summary: &FunctionSummary, flow: &FlowFacts, claims: &[Claim]) -> bool {
+    flow.edge()
+        .first_unmet(alloc, &summary.slots, &flow.there, claims)
         .is_none()
 }
 
-/// What both the lines and the way say, line by line.
+/// What both the claims and the edge say, claim by claim.
 fn met(
     alloc: Global,
-    ground: &Ground,
-    way: &Facts,
+    summary: &FunctionSummary,
+    edge: &Facts,
     lengths: &[u64],
-    listed: &BlockLines,
-) -> Result<BlockLines, AllocError> {
-    let mut met = BlockLines::new(alloc);
-    for (line, grown) in listed.lines.as_slice().iter().zip(listed.grown.iter()) {
-        if let Some(left) = met_line(ground, way, lengths, *line, *grown) {
-            met.add(left.line, left.grown)?;
+    listed: &BlockClaims,
+) -> Result<BlockClaims, AllocError> {
+    let mut met = BlockClaims::new(alloc);
+    for (claim, grown) in listed.claims.as_slice().iter().zip(listed.grown.iter()) {
+        if let Some(left) = met_claim(summary, edge, lengths, *claim, *grown) {
+            met.add(left.claim, left.grown)?;
         }
     }
     Ok(met)
 }
 
-fn met_line(ground: &Ground, way: &Facts, lengths: &[u64], line: Line, grown: u8) -> Option<Left> {
-    match line {
-        Line::Value { value, fact } => met_value(way, lengths, value, fact, grown),
-        Line::Slot {
+fn met_claim(
+    summary: &FunctionSummary,
+    edge: &Facts,
+    lengths: &[u64],
+    claim: Claim,
+    grown: u8,
+) -> Option<Left> {
+    match claim {
+        Claim::Value { value, fact } => met_value(edge, lengths, value, fact, grown),
+        Claim::Slot {
             slot,
             nonnull,
             holds,
         } => {
-            let line = met_slot(ground, way, slot, nonnull, holds)?;
-            Some(Left { line, grown })
+            let claim = met_slot(summary, edge, slot, nonnull, holds)?;
+            Some(Left { claim, grown })
         }
     }
 }
 
-fn met_value(way: &Facts, lengths: &[u64], value: ValueId, fact: Fact, grown: u8) -> Option<Left> {
-    let known = way.known(value);
+fn met_value(edge: &Facts, lengths: &[u64], value: ValueId, fact: Fact, grown: u8) -> Option<Left> {
+    let known = edge.known(value);
     match fact {
         Fact::Number { bits, below } => met_number(lengths, value, bits, below, grown, known),
         Fact::Reference {
@@ -104,13 +110,13 @@ fn met_value(way: &Facts, lengths: &[u64], value: ValueId, fact: Fact, grown: u8
             age,
             same,
         } => {
-            let line = ReferenceLine {
+            let claim = ReferenceClaim {
                 layout,
                 nonnull,
                 age,
                 same,
             };
-            let fact = met_reference(way, &line, known)?;
+            let fact = met_reference(edge, &claim, known)?;
             Some(unchanged(value, fact))
         }
         Fact::Address { base, words } => {
@@ -126,7 +132,7 @@ fn met_value(way: &Facts, lengths: &[u64], value: ValueId, fact: Fact, grown: u8
 
 fn unchanged(value: ValueId, fact: Fact) -> Left {
     Left {
-        line: Line::Value { value, fact },
+        claim: Claim::Value { value, fact },
         grown: 0,
     }
 }
@@ -161,7 +167,7 @@ fn met_number(
         grown
     };
     Some(Left {
-        line: Line::Value {
+        claim: Claim::Value {
             value,
             fact: Fact::Number { bits, below },
         },
@@ -177,7 +183,7 @@ fn is_within(shown: Option<u64>, below: Option<u64>) -> bool {
     }
 }
 
-/// The bound of a way, then the next length of an array, and then none.
+/// The bound of an edge, then the next length of an array, and then none.
 fn grown_bound(lengths: &[u64], shown: Option<u64>, grown: u8) -> Option<u64> {
     let shown = shown?;
     if grown < GROWTH_LIMIT {
@@ -202,21 +208,21 @@ fn met_global(global: SymbolId, known: Known) -> Option<Fact> {
     }
 }
 
-fn met_reference(way: &Facts, line: &ReferenceLine, known: Known) -> Option<Fact> {
+fn met_reference(edge: &Facts, claim: &ReferenceClaim, known: Known) -> Option<Fact> {
     match known {
         Known::Cell {
             class,
             layout,
             stale,
         } => {
-            if stale || layout != line.layout {
+            if stale || layout != claim.layout {
                 None
             } else {
-                Some(met_cell(way, line, class))
+                Some(met_cell(edge, claim, class))
             }
         }
         Known::Null => Some(Fact::Reference {
-            layout: line.layout,
+            layout: claim.layout,
             nonnull: false,
             age: Age::Held,
             same: None,
@@ -225,21 +231,21 @@ fn met_reference(way: &Facts, line: &ReferenceLine, known: Known) -> Option<Fact
     }
 }
 
-fn met_cell(way: &Facts, line: &ReferenceLine, class: ClassId) -> Fact {
-    let Class { nonnull, fresh } = way.class(class);
+fn met_cell(edge: &Facts, claim: &ReferenceClaim, class: ClassId) -> Fact {
+    let Class { nonnull, fresh } = edge.class(class);
     Fact::Reference {
-        layout: line.layout,
-        nonnull: line.nonnull && nonnull,
-        age: if fresh { line.age } else { Age::Held },
-        same: same_in(way, class, line.same),
+        layout: claim.layout,
+        nonnull: claim.nonnull && nonnull,
+        age: if fresh { claim.age } else { Age::Held },
+        same: same_in(edge, class, claim.same),
     }
 }
 
 /// A value, if it is of this class.
-fn same_in(way: &Facts, class: ClassId, same: Option<ValueId>) -> Option<ValueId> {
+fn same_in(edge: &Facts, class: ClassId, same: Option<ValueId>) -> Option<ValueId> {
     match same {
         Some(value) => {
-            if is_of(way.known(value), class) {
+            if is_of(edge.known(value), class) {
                 same
             } else {
                 None
@@ -286,78 +292,78 @@ fn union(one: &WordSet, other: &WordSet) -> WordSet {
 }
 
 fn met_slot(
-    ground: &Ground,
-    way: &Facts,
+    summary: &FunctionSummary,
+    edge: &Facts,
     slot: ValueId,
     nonnull: bool,
     holds: Option<ValueId>,
-) -> Option<Line> {
-    let place = ground.slots.slot_of(slot)?;
-    let nonnull = nonnull && is_slot_nonnull(way, place);
-    let holds = match way.slot(place).holds {
-        Some(class) => same_in(way, class, holds),
+) -> Option<Claim> {
+    let place = summary.slots.slot_of(slot)?;
+    let nonnull = nonnull && is_slot_nonnull(edge, place);
+    let holds = match edge.slot(place).holds {
+        Some(class) => same_in(edge, class, holds),
         None => None,
     };
-    slot_line(slot, nonnull, holds)
+    slot_claim(slot, nonnull, holds)
 }
 
-fn is_slot_nonnull(way: &Facts, slot: SlotId) -> bool {
-    let fact = way.slot(slot);
-    way.slot_nonnull(fact)
+fn is_slot_nonnull(edge: &Facts, slot: SlotId) -> bool {
+    let fact = edge.slot(slot);
+    edge.slot_nonnull(fact)
 }
 
-/// The lines that are left where a value that they name is not listed.
-fn without_unlisted(alloc: Global, met: &BlockLines) -> Result<BlockLines, AllocError> {
+/// The claims that are left where a value that they name is not listed.
+fn without_unlisted(alloc: Global, met: &BlockClaims) -> Result<BlockClaims, AllocError> {
     let mut references = IndexSet::new(alloc);
-    for line in met.lines.as_slice() {
-        if let Some(value) = reference_listed(line) {
+    for claim in met.claims.as_slice() {
+        if let Some(value) = reference_listed(claim) {
             references.insert(value.number())?;
         }
     }
-    let mut kept = BlockLines::new(alloc);
-    for (line, grown) in met.lines.as_slice().iter().zip(met.grown.iter()) {
-        if let Some(line) = on_listed(&references, *line) {
-            kept.add(line, *grown)?;
+    let mut kept = BlockClaims::new(alloc);
+    for (claim, grown) in met.claims.as_slice().iter().zip(met.grown.iter()) {
+        if let Some(claim) = on_listed(&references, *claim) {
+            kept.add(claim, *grown)?;
         }
     }
     Ok(kept)
 }
 
-/// The value of a line, if it is a reference.
-fn reference_listed(line: &Line) -> Option<ValueId> {
-    match line {
-        Line::Value { value, fact } => {
+/// The value of a claim, if it is a reference.
+fn reference_listed(claim: &Claim) -> Option<ValueId> {
+    match claim {
+        Claim::Value { value, fact } => {
             if matches!(fact, Fact::Reference { .. }) {
                 Some(*value)
             } else {
                 None
             }
         }
-        Line::Slot { .. } => None,
+        Claim::Slot { .. } => None,
     }
 }
 
-fn on_listed(references: &IndexSet<u32>, line: Line) -> Option<Line> {
-    match line {
-        Line::Value { value, fact } => {
+fn on_listed(references: &IndexSet<u32>, claim: Claim) -> Option<Claim> {
+    match claim {
+        Claim::Value { value, fact } => {
             let fact = fact_on_listed(references, fact)?;
-            Some(Line::Value { value, fact })
+            Some(Claim::Value { value, fact })
         }
-        Line::Slot {
+        Claim::Slot {
             slot,
             nonnull,
             holds,
         } => {
             let holds = if_listed(references, holds);
-            slot_line(slot, nonnull, holds)
+            slot_claim(slot, nonnull, holds)
         }
     }
 }
 
-/// A line of a slot, if it says something.
-fn slot_line(slot: ValueId, nonnull: bool, holds: Option<ValueId>) -> Option<Line> {
+/// A claim of a slot, if it says something.
+fn slot_claim(slot: ValueId, nonnull: bool, holds: Option<ValueId>) -> Option<Claim> {
     if nonnull || holds.is_some() {
-        Some(Line::Slot {
+        Some(Claim::Slot {
             slot,
             nonnull,
             holds,
@@ -404,31 +410,31 @@ fn if_listed(references: &IndexSet<u32>, value: Option<ValueId>) -> Option<Value
     }
 }
 
-/// The lines, with each that is fresh no more where the way does not show it so.
+/// Drops `fresh` from each claim whose freshness the edge does not imply.
 fn without_lost_fresh(
     alloc: Global,
-    ground: &Ground,
+    summary: &FunctionSummary,
     flow: &mut FlowFacts,
-    kept: &BlockLines,
-) -> Result<BlockLines, AllocError> {
-    flow.begin_there(alloc, ground, kept.lines.as_slice())?;
-    let mut left = BlockLines::new(alloc);
-    for (line, grown) in kept.lines.as_slice().iter().zip(kept.grown.iter()) {
-        let shown = flow.way().implies(&ground.slots, &flow.there, *line);
-        let line = if shown { *line } else { held(*line) };
-        left.add(line, *grown)?;
+    kept: &BlockClaims,
+) -> Result<BlockClaims, AllocError> {
+    flow.begin_there(alloc, summary, kept.claims.as_slice())?;
+    let mut left = BlockClaims::new(alloc);
+    for (claim, grown) in kept.claims.as_slice().iter().zip(kept.grown.iter()) {
+        let shown = flow.edge().implies(&summary.slots, &flow.there, *claim);
+        let claim = if shown { *claim } else { held(*claim) };
+        left.add(claim, *grown)?;
     }
     Ok(left)
 }
 
-/// A line whose reference is not fresh.
-fn held(line: Line) -> Line {
-    match line {
-        Line::Value { value, fact } => Line::Value {
+/// A claim whose reference is not fresh.
+fn held(claim: Claim) -> Claim {
+    match claim {
+        Claim::Value { value, fact } => Claim::Value {
             value,
             fact: held_fact(fact),
         },
-        Line::Slot { .. } => line,
+        Claim::Slot { .. } => claim,
     }
 }
 

@@ -3,6 +3,7 @@ use Rattle.std.proofs.Common.{◌≡◌, ◌≢◌, ◌⊎◌, inl, inr, ℕ, tr
 use Rattle.std.specs.Prelude.{slice_set, IfOk, IfErr, OnOk, OnErr, IfSome}
 use Rattle.ir_ast.specs.declared.function.Function.{Function}
 use Rattle.ir_ast.specs.declared.module.Module.{Module}
+use Rattle.ir_ast.specs.declared.shapes.Shapes.{Shapes}
 use Rattle.ir_tokens.specs.Bytes.{Text}
 use Rattle.ir_text.specs.Read.{Gives}
 use Rattle.function_text.specs.Replaced.{IsReplaced, IsReplaceFault, put_function}
@@ -11,7 +12,6 @@ use Rattle.ir_text.specs.declared.read_fault.ReadFault.{ReadFault}
 use Rattle.ir_text.specs.declared.read_fault.ReadFault.TheVariants as read
 use Rattle.certs.specs.declared.certs.Certs.{Certs}
 use Rattle.certs.specs.declared.section.Section.{Section}
-use Rattle.certificate.specs.Anew.{IsSection}
 use Rattle.layout.specs.Functions.{laid_with}
 use Rattle.layout.specs.Grown.{LayoutsStay}
 use Rattle.layout.specs.Layouts.{LaidOut, AreLayouts, AreSizes, wants_shapes}
@@ -20,11 +20,11 @@ use Rattle.answers.specs.Answers.{AreAnswers}
 use Rattle.answers.specs.KeptRows.{AreKept}
 use Rattle.edit_text.specs.declared.edit.Edit.{Edit}
 use Rattle.edit_text.specs.declared.edit.Edit.TheVariants as edit
-use Rattle.recheck.specs.Edits.{AreRead, IsCode, HasTextFault, IsReadAt, IsRead, IsEditedAt, IsEdited, HasSectionFault, HasCodeFault, IsFaultAt, IsEditFault, IsTaken, IsRefusedBy, code_fault, name_in, no_function, text_with}
+use Rattle.recheck.specs.Edits.{AreRead, IsShapedSection, IsCode, HasTextFault, IsReadAt, IsRead, IsEditedAt, IsEdited, HasSectionFault, HasCodeFault, IsFaultAt, IsEditFault, IsEditAccepted, IsRefusedBy, code_fault, name_in, no_function, text_with}
 use Rattle.recheck.specs.Named.{function_named}
 use Rattle.recheck.specs.Put.{state, with_function, IsTextPut, IsBothPut, AreReady, IsKept}
 use Rattle.recheck.specs.Session.{IsAnswered}
-use Rattle.recheck.specs.Told.{rechecked_by}
+use Rattle.recheck.specs.Interface.{rechecked_by}
 use Rattle.recheck.specs.declared.edit_fault.EditFault.{EditFault}
 use Rattle.recheck.specs.declared.edit_fault.EditFault.TheVariants.{Memory, ShapesWanted}
 use Rattle.recheck.specs.declared.kept.KeptWork.{KeptWork}
@@ -53,8 +53,8 @@ module _ (m : Module) (func : ℕ) (code : Text) where
   -- the text is refused
   module _ (f : ReadFault) (e : EditFault) (is : e ≡ code_fault f) where
     -- what is refused is no code
-    pub text_taken : ((n : Module) → IsReplaced m func code n → Gives (Err f) (Ok n)) → (n : Module) → IsReplaced m func code n → e ≢ Memory → ⊥
-    text_taken only n h differs = ok_or_err n f (only n h (code_differs f e is differs))
+    pub text_accepted : ((n : Module) → IsReplaced m func code n → Gives (Err f) (Ok n)) → (n : Module) → IsReplaced m func code n → e ≢ Memory → ⊥
+    text_accepted only n h differs = ok_or_err n f (only n h (code_differs f e is differs))
 
     -- it has the fault
     pub text_refused : (f ≢ read.Memory → IsReplaceFault m func code f) → e ≢ Memory → HasTextFault m func code e
@@ -66,7 +66,7 @@ module _ (m : Module) (func : ℕ) (code : Text) where
     text_same only fails x (inl h) differs =
         let one : h.0 ≡ f = same_err {X = Module} h.0 f (fails h.0 h.1 (code_differs f e is differs)) in
         is ∙ ap code_fault (sym one) ∙ h.2
-    text_same only fails x (inr h) differs = absurd (text_taken only h.0 h.1 differs)
+    text_same only fails x (inr h) differs = absurd (text_accepted only h.0 h.1 differs)
 
   -- the text is read as this module
   module _ (o : Module) (only : (n : Module) → IsReplaced m func code n → Gives (Ok o) (Ok n)) (fails : (f : ReadFault) → IsReplaceFault m func code f → Gives (Ok o) (Err f)) where
@@ -75,8 +75,8 @@ module _ (m : Module) (func : ℕ) (code : Text) where
     text_one n h = same_ok {E = ReadFault} n o (only n h)
 
     -- where shapes are wanted for it, there is no code
-    pub wanted_taken : wants_shapes o ≡ true → (n : Module) → IsCode m func code n → ⊥
-    wanted_taken wanted n h = let no : wants_shapes o ≡ false = subst (λ (x : Module). wants_shapes x ≡ false) (text_one n h.0) h.1 in absurd (true_or_false (sym wanted ∙ no))
+    pub wanted_accepted : wants_shapes o ≡ true → (n : Module) → IsCode m func code n → ⊥
+    wanted_accepted wanted n h = let no : wants_shapes o ≡ false = subst (λ (x : Module). wants_shapes x ≡ false) (text_one n h.0) h.1 in absurd (true_or_false (sym wanted ∙ no))
 
     -- and that is the fault
     pub wanted_same : wants_shapes o ≡ true → (x : EditFault) → HasTextFault m func code x → ShapesWanted ≡ x
@@ -102,8 +102,8 @@ module _ (m same_m : Module) (same : same_m ≡ m) (func : ℕ) (code : Text) wh
   to_fault e h = subst (λ (x : Module). HasTextFault x func code e) (sym same) h
 
   -- what is refused is no code
-  pub code_taken : (e : EditFault) → ((n : Module) → IsCode same_m func code n → e ≢ Memory → ⊥) → (n : Module) → IsCode m func code n → e ≢ Memory → ⊥
-  code_taken e only n h = only n (to_code n h)
+  pub code_accepted : (e : EditFault) → ((n : Module) → IsCode same_m func code n → e ≢ Memory → ⊥) → (n : Module) → IsCode m func code n → e ≢ Memory → ⊥
+  code_accepted e only n h = only n (to_code n h)
 
   -- it has the fault
   pub code_refused : (e : EditFault) → (text : Text) → (e ≢ Memory → HasTextFault same_m func code e) → e ≢ Memory → HasCodeFault m func code text e
@@ -142,19 +142,19 @@ module _ (m : Module) (func : ℕ) (code text : Text) (n : Module) (is : IsTheCo
   section_of_code e h = inr (n, is.is_read, h)
 
   -- a section with the code is one with the module that was read
-  pub with_code : (o : Module) (section : Section) → AreRead m func code text o section → IsSection text n func section
-  with_code o section h = subst (λ (x : Module). IsSection text x func section) (is.one o h.0) h.1
+  pub with_code : (o : Module) (section : Section) → AreRead m func code text o section → IsShapedSection text n func section
+  with_code o section h = subst (λ (x : Module). IsShapedSection text x func section) (is.one o h.0) h.1
 
 -- a program made anew, with the function and the section that were read
 pub both_anew : (p q : LaidOut) (certs others : List Section) (func : ℕ) (old : Function) (past section : Section) (n : Module) (code text : Text) (count : ℕ)
-    → IsReplaced p.of_module func code n → IsSection text n func section → (q.of_module ≡ n) × AreLayouts n q.layouts × AreSizes n q.sizes
+    → IsReplaced p.of_module func code n → IsShapedSection text n func section → (q.of_module ≡ n) × AreLayouts n q.layouts × AreSizes n q.sizes
     → others ≡ slice_set certs func section → slice_get p.of_module.functions func ≡ Some old → slice_get certs func ≡ Some past
     → count ≡ rechecked_by q.of_module others func (Some old) (Some past) → IsBothPut p certs func code text q others count
 both_anew p q certs others func old past section n code text count is_read is laid e at past_at counted = record {
   of_code = subst (λ (m : Module). IsReplaced p.of_module func code m) (sym laid.0) is_read;
   laid_out = subst (λ (m : Module). AreLayouts m q.layouts) (sym laid.0) laid.1;
   sized = subst (λ (m : Module). AreSizes m q.sizes) (sym laid.0) laid.2;
-  of_text = put_so p certs q others func old past section text count (subst (λ (m : Module). IsSection text m func section) (sym laid.0) is) e at past_at counted;
+  of_text = put_so p certs q others func old past section text count (subst (λ (m : Module). IsShapedSection text m func section) (sym laid.0) is) e at past_at counted;
 }
 
 -- ---- the function in the place of the old one
@@ -213,7 +213,7 @@ both_in_place stay p q certs others func f code text count e is_read laid sized 
   of_text = of_text;
 }
 
--- the program with the function in the place of the old one, if it is taken
+-- the program with the function in the place of the old one, if it is accepted
 pub place_put : LayoutsStay → (p q : LaidOut) (certs others : List Section) (func : ℕ) (f : Function) (code text : Text) (r : Result ℕ EditFault)
     → OnOk r (q ≡ laid_with p (slice_set p.of_module.functions func f)) → IsReplaced p.of_module func code (with_function p.of_module func f) → AreLayouts p.of_module p.layouts → AreSizes p.of_module p.sizes
     → IfOk r (λ count. IsTextPut p certs func text q others count) → IfOk r (λ count. IsBothPut p certs func code text q others count)
@@ -304,75 +304,75 @@ code_kept p q certs others func code text before after (Err x) kept put are read
   ready = ready;
 }
 
-module _ (p : LaidOut) (certs : List Section) (func : ℕ) (e : Edit) where
+module _ (p : LaidOut) (shapes : Option Shapes) (certs : List Section) (func : ℕ) (e : Edit) where
   -- ---- of a section
 
   module _ (name text : Text) (is : e ≡ edit.Cert name text) where
     pub section_edited : (before : KeptWork) → IsKept p certs before → (others : List Section) (r : Result ℕ EditFault) → IfOk r (λ count. IsTextPut p certs func text p others count)
-        → (n : ℕ) → IfOk r (λ count. IsEditedAt (state p certs n) func e (state p others count))
+        → (n : ℕ) → IfOk r (λ count. IsEditedAt (state p shapes certs n) func e (state p shapes others count))
     section_edited before kept others (Ok count) h n =
-        subst (λ (x : Edit). IsEditedAt (state p certs n) func x (state p others count)) (sym is)
-        (p.of_module, h.0, (refl, h.1), record { of_module = refl; laid_out = kept.answered.laid_out; sized = kept.answered.sized; certs = h.2.certs_are; rechecked = h.2.rechecked })
+        subst (λ (x : Edit). IsEditedAt (state p shapes certs n) func x (state p shapes others count)) (sym is)
+        (p.of_module, h.0, (refl, h.1), record { of_module = refl; shapes = refl; laid_out = kept.answered.laid_out; sized = kept.answered.sized; certs = h.2.certs_are; rechecked = h.2.rechecked })
     section_edited before kept others (Err x) h n = tt
 
-    pub section_fault_at : (r : Result ℕ EditFault) → IfErr r (λ f. f ≢ Memory → HasSectionFault p.of_module func text f) → (n : ℕ) → IfErr r (λ f. f ≢ Memory → IsFaultAt (state p certs n) func e f)
+    pub section_fault_at : (r : Result ℕ EditFault) → IfErr r (λ f. f ≢ Memory → HasSectionFault p.of_module func text f) → (n : ℕ) → IfErr r (λ f. f ≢ Memory → IsFaultAt (state p shapes certs n) func e f)
     section_fault_at (Ok count) h n = tt
-    section_fault_at (Err f) h n = λ differs. subst (λ (x : Edit). IsFaultAt (state p certs n) func x f) (sym is) (h differs)
+    section_fault_at (Err f) h n = λ differs. subst (λ (x : Edit). IsFaultAt (state p shapes certs n) func x f) (sym is) (h differs)
 
-    pub section_taken_at : (r : Result ℕ EditFault) → ((section : Section) → IsSection text p.of_module func section → IsTaken r) → (n : ℕ) (m : Module) (section : Section) → IsReadAt (state p certs n) func e m section → IsTaken r
-    section_taken_at r only n m section h =
-        let at : (p.of_module ≡ m) × IsSection text m func section = subst (λ (x : Edit). IsReadAt (state p certs n) func x m section) is h in
-        only section (subst (λ (x : Module). IsSection text x func section) (sym at.0) at.1)
+    pub section_accepted_at : (r : Result ℕ EditFault) → ((section : Section) → IsShapedSection text p.of_module func section → IsEditAccepted r) → (n : ℕ) (m : Module) (section : Section) → IsReadAt (state p shapes certs n) func e m section → IsEditAccepted r
+    section_accepted_at r only n m section h =
+        let at : (p.of_module ≡ m) × IsShapedSection text m func section = subst (λ (x : Edit). IsReadAt (state p shapes certs n) func x m section) is h in
+        only section (subst (λ (x : Module). IsShapedSection text x func section) (sym at.0) at.1)
 
-    pub section_refused_at : (r : Result ℕ EditFault) → ((f : EditFault) → HasSectionFault p.of_module func text f → IsRefusedBy r f) → (n : ℕ) (f : EditFault) → IsFaultAt (state p certs n) func e f → IsRefusedBy r f
-    section_refused_at r only n f h = only f (subst (λ (x : Edit). IsFaultAt (state p certs n) func x f) is h)
+    pub section_refused_at : (r : Result ℕ EditFault) → ((f : EditFault) → HasSectionFault p.of_module func text f → IsRefusedBy r f) → (n : ℕ) (f : EditFault) → IsFaultAt (state p shapes certs n) func e f → IsRefusedBy r f
+    section_refused_at r only n f h = only f (subst (λ (x : Edit). IsFaultAt (state p shapes certs n) func x f) is h)
 
   -- ---- of code
 
   module _ (code text : Text) (is : IsOfCode p certs func e code text) where
-    to_read : (n : ℕ) (m : Module) (section : Section) → IsReadAt (state p certs n) func e m section → AreRead p.of_module func code text m section
+    to_read : (n : ℕ) (m : Module) (section : Section) → IsReadAt (state p shapes certs n) func e m section → AreRead p.of_module func code text m section
     to_read n m section h = elim is [
-      | inl x ↦ subst (λ (y : Text). AreRead p.of_module func code y m section) (sym x.2) (subst (λ (y : Edit). IsReadAt (state p certs n) func y m section) x.1 h)
-      | inr x ↦ subst (λ (y : Edit). IsReadAt (state p certs n) func y m section) x.1 h
+      | inl x ↦ subst (λ (y : Text). AreRead p.of_module func code y m section) (sym x.2) (subst (λ (y : Edit). IsReadAt (state p shapes certs n) func y m section) x.1 h)
+      | inr x ↦ subst (λ (y : Edit). IsReadAt (state p shapes certs n) func y m section) x.1 h
     ]
 
-    of_read : (n : ℕ) (m : Module) (section : Section) → AreRead p.of_module func code text m section → IsReadAt (state p certs n) func e m section
+    of_read : (n : ℕ) (m : Module) (section : Section) → AreRead p.of_module func code text m section → IsReadAt (state p shapes certs n) func e m section
     of_read n m section h = elim is [
-      | inl x ↦ subst (λ (y : Edit). IsReadAt (state p certs n) func y m section) (sym x.1) (subst (λ (y : Text). AreRead p.of_module func code y m section) x.2 h)
-      | inr x ↦ subst (λ (y : Edit). IsReadAt (state p certs n) func y m section) (sym x.1) h
+      | inl x ↦ subst (λ (y : Edit). IsReadAt (state p shapes certs n) func y m section) (sym x.1) (subst (λ (y : Text). AreRead p.of_module func code y m section) x.2 h)
+      | inr x ↦ subst (λ (y : Edit). IsReadAt (state p shapes certs n) func y m section) (sym x.1) h
     ]
 
-    to_fault_put : (n : ℕ) (f : EditFault) → IsFaultAt (state p certs n) func e f → HasCodeFault p.of_module func code text f
+    to_fault_put : (n : ℕ) (f : EditFault) → IsFaultAt (state p shapes certs n) func e f → HasCodeFault p.of_module func code text f
     to_fault_put n f h = elim is [
-      | inl x ↦ subst (λ (y : Text). HasCodeFault p.of_module func code y f) (sym x.2) (subst (λ (y : Edit). IsFaultAt (state p certs n) func y f) x.1 h)
-      | inr x ↦ subst (λ (y : Edit). IsFaultAt (state p certs n) func y f) x.1 h
+      | inl x ↦ subst (λ (y : Text). HasCodeFault p.of_module func code y f) (sym x.2) (subst (λ (y : Edit). IsFaultAt (state p shapes certs n) func y f) x.1 h)
+      | inr x ↦ subst (λ (y : Edit). IsFaultAt (state p shapes certs n) func y f) x.1 h
     ]
 
-    of_fault_put : (n : ℕ) (f : EditFault) → HasCodeFault p.of_module func code text f → IsFaultAt (state p certs n) func e f
+    of_fault_put : (n : ℕ) (f : EditFault) → HasCodeFault p.of_module func code text f → IsFaultAt (state p shapes certs n) func e f
     of_fault_put n f h = elim is [
-      | inl x ↦ subst (λ (y : Edit). IsFaultAt (state p certs n) func y f) (sym x.1) (subst (λ (y : Text). HasCodeFault p.of_module func code y f) x.2 h)
-      | inr x ↦ subst (λ (y : Edit). IsFaultAt (state p certs n) func y f) (sym x.1) h
+      | inl x ↦ subst (λ (y : Edit). IsFaultAt (state p shapes certs n) func y f) (sym x.1) (subst (λ (y : Text). HasCodeFault p.of_module func code y f) x.2 h)
+      | inr x ↦ subst (λ (y : Edit). IsFaultAt (state p shapes certs n) func y f) (sym x.1) h
     ]
 
     pub code_edited : (q : LaidOut) (others : List Section) (r : Result ℕ EditFault) → IfOk r (λ count. IsBothPut p certs func code text q others count)
-        → (n : ℕ) → IfOk r (λ count. IsEditedAt (state p certs n) func e (state q others count))
+        → (n : ℕ) → IfOk r (λ count. IsEditedAt (state p shapes certs n) func e (state q shapes others count))
     code_edited q others (Ok count) h n = (
       q.of_module,
       h.of_text.0,
       of_read n q.of_module h.of_text.0 ((h.of_code, h.laid_out.1), h.of_text.1),
-      record { of_module = refl; laid_out = h.laid_out; sized = h.sized; certs = h.of_text.2.certs_are; rechecked = h.of_text.2.rechecked },
+      record { of_module = refl; shapes = refl; laid_out = h.laid_out; sized = h.sized; certs = h.of_text.2.certs_are; rechecked = h.of_text.2.rechecked },
     )
     code_edited q others (Err x) h n = tt
 
-    pub code_fault_at : (r : Result ℕ EditFault) → IfErr r (λ f. f ≢ Memory → HasCodeFault p.of_module func code text f) → (n : ℕ) → IfErr r (λ f. f ≢ Memory → IsFaultAt (state p certs n) func e f)
+    pub code_fault_at : (r : Result ℕ EditFault) → IfErr r (λ f. f ≢ Memory → HasCodeFault p.of_module func code text f) → (n : ℕ) → IfErr r (λ f. f ≢ Memory → IsFaultAt (state p shapes certs n) func e f)
     code_fault_at (Ok count) h n = tt
     code_fault_at (Err f) h n = λ differs. of_fault_put n f (h differs)
 
-    pub code_taken_at : (r : Result ℕ EditFault) → ((m : Module) (section : Section) → AreRead p.of_module func code text m section → IsTaken r)
-        → (n : ℕ) (m : Module) (section : Section) → IsReadAt (state p certs n) func e m section → IsTaken r
-    code_taken_at r only n m section h = only m section (to_read n m section h)
+    pub code_accepted_at : (r : Result ℕ EditFault) → ((m : Module) (section : Section) → AreRead p.of_module func code text m section → IsEditAccepted r)
+        → (n : ℕ) (m : Module) (section : Section) → IsReadAt (state p shapes certs n) func e m section → IsEditAccepted r
+    code_accepted_at r only n m section h = only m section (to_read n m section h)
 
-    pub code_refused_at : (r : Result ℕ EditFault) → ((f : EditFault) → HasCodeFault p.of_module func code text f → IsRefusedBy r f) → (n : ℕ) (f : EditFault) → IsFaultAt (state p certs n) func e f → IsRefusedBy r f
+    pub code_refused_at : (r : Result ℕ EditFault) → ((f : EditFault) → HasCodeFault p.of_module func code text f → IsRefusedBy r f) → (n : ℕ) (f : EditFault) → IsFaultAt (state p shapes certs n) func e f → IsRefusedBy r f
     code_refused_at r only n f h = only f (to_fault_put n f h)
 
 -- ---- the function that is named
@@ -382,40 +382,40 @@ pub named_here : (m same_m : Module) → same_m ≡ m → (e : Edit) (name : Tex
 named_here m same_m same e name is found named number there =
     ap (λ (x : Module). function_named x (name_in e)) (sym same) ∙ ap (function_named same_m) (sym is) ∙ sym number ∙ there
 
-module _ (p : LaidOut) (certs : List Section) (func : ℕ) (e : Edit) (named : function_named p.of_module (name_in e) ≡ Some func) where
-  pub named_edited : (q : LaidOut) (others : List Section) (r : Result ℕ EditFault) → ((n : ℕ) → IfOk r (λ count. IsEditedAt (state p certs n) func e (state q others count)))
-      → (n : ℕ) → IfOk r (λ count. IsEdited (state p certs n) e (state q others count))
+module _ (p : LaidOut) (shapes : Option Shapes) (certs : List Section) (func : ℕ) (e : Edit) (named : function_named p.of_module (name_in e) ≡ Some func) where
+  pub named_edited : (q : LaidOut) (others : List Section) (r : Result ℕ EditFault) → ((n : ℕ) → IfOk r (λ count. IsEditedAt (state p shapes certs n) func e (state q shapes others count)))
+      → (n : ℕ) → IfOk r (λ count. IsEdited (state p shapes certs n) e (state q shapes others count))
   named_edited q others (Ok count) h n = (func, named, h n)
   named_edited q others (Err x) h n = tt
 
-  pub named_fault : (r : Result ℕ EditFault) → ((n : ℕ) → IfErr r (λ f. f ≢ Memory → IsFaultAt (state p certs n) func e f)) → (n : ℕ) → IfErr r (λ f. f ≢ Memory → IsEditFault (state p certs n) e f)
+  pub named_fault : (r : Result ℕ EditFault) → ((n : ℕ) → IfErr r (λ f. f ≢ Memory → IsFaultAt (state p shapes certs n) func e f)) → (n : ℕ) → IfErr r (λ f. f ≢ Memory → IsEditFault (state p shapes certs n) e f)
   named_fault (Ok count) h n = tt
   named_fault (Err f) h n = λ differs. inr (func, named, h n differs)
 
   one_name : (other : ℕ) → function_named p.of_module (name_in e) ≡ Some other → other ≡ func
   one_name other is = let same : Some other ≡ Some func = sym is ∙ named in cc
 
-  pub named_taken : (r : Result ℕ EditFault) → ((n : ℕ) (m : Module) (section : Section) → IsReadAt (state p certs n) func e m section → IsTaken r) → (n : ℕ) (m : Module) (section : Section) → IsRead (state p certs n) e m section → IsTaken r
-  named_taken r only n m section h = only n m section (subst (λ (f : ℕ). IsReadAt (state p certs n) f e m section) (one_name h.0 h.1) h.2)
+  pub named_accepted : (r : Result ℕ EditFault) → ((n : ℕ) (m : Module) (section : Section) → IsReadAt (state p shapes certs n) func e m section → IsEditAccepted r) → (n : ℕ) (m : Module) (section : Section) → IsRead (state p shapes certs n) e m section → IsEditAccepted r
+  named_accepted r only n m section h = only n m section (subst (λ (f : ℕ). IsReadAt (state p shapes certs n) f e m section) (one_name h.0 h.1) h.2)
 
-  pub named_refused : (r : Result ℕ EditFault) → ((n : ℕ) (f : EditFault) → IsFaultAt (state p certs n) func e f → IsRefusedBy r f) → (n : ℕ) (f : EditFault) → IsEditFault (state p certs n) e f → IsRefusedBy r f
+  pub named_refused : (r : Result ℕ EditFault) → ((n : ℕ) (f : EditFault) → IsFaultAt (state p shapes certs n) func e f → IsRefusedBy r f) → (n : ℕ) (f : EditFault) → IsEditFault (state p shapes certs n) e f → IsRefusedBy r f
   named_refused r only n f (inl h) = absurd (neither (sym h.0 ∙ named)) where
     neither : ◌≡◌ {A = Option ℕ} None (Some func) → ⊥
     neither h = absurd cc
-  named_refused r only n f (inr h) = only n f (subst (λ (g : ℕ). IsFaultAt (state p certs n) g e f) (one_name h.0 h.1) h.2)
+  named_refused r only n f (inr h) = only n f (subst (λ (g : ℕ). IsFaultAt (state p shapes certs n) g e f) (one_name h.0 h.1) h.2)
 
 -- ---- where no function is named
 
-module _ (p : LaidOut) (certs : List Section) (e : Edit) (none : function_named p.of_module (name_in e) ≡ None) (f : EditFault) (is : f ≡ no_function e) where
-  pub none_fault : (n : ℕ) → f ≢ Memory → IsEditFault (state p certs n) e f
+module _ (p : LaidOut) (shapes : Option Shapes) (certs : List Section) (e : Edit) (none : function_named p.of_module (name_in e) ≡ None) (f : EditFault) (is : f ≡ no_function e) where
+  pub none_fault : (n : ℕ) → f ≢ Memory → IsEditFault (state p shapes certs n) e f
   none_fault n differs = inl (none, sym is)
 
   some_named : (func : ℕ) → function_named p.of_module (name_in e) ≡ Some func → ⊥
   some_named func h = absurd (let both : ◌≡◌ {A = Option ℕ} None (Some func) = sym none ∙ h in cc)
 
-  pub none_taken : (n : ℕ) (m : Module) (section : Section) → IsRead (state p certs n) e m section → f ≢ Memory → ⊥
-  none_taken n m section h differs = some_named h.0 h.1
+  pub none_accepted : (n : ℕ) (m : Module) (section : Section) → IsRead (state p shapes certs n) e m section → f ≢ Memory → ⊥
+  none_accepted n m section h differs = some_named h.0 h.1
 
-  pub none_refused : (n : ℕ) (g : EditFault) → IsEditFault (state p certs n) e g → f ≢ Memory → f ≡ g
+  pub none_refused : (n : ℕ) (g : EditFault) → IsEditFault (state p shapes certs n) e g → f ≢ Memory → f ≡ g
   none_refused n g (inl h) differs = is ∙ h.1
   none_refused n g (inr h) differs = absurd (some_named h.0 h.1)

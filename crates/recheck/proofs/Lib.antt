@@ -11,3 +11,5 @@ pub mod Within
 pub mod Sizes
 pub mod Grown
 pub mod Edited
+pub mod FittingShapes
+pub mod Fitting

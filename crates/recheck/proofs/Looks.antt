@@ -5,7 +5,7 @@ use Rattle.ir_ast.specs.declared.function.Function.{Function}
 use Rattle.ir_ast.specs.declared.function.Parameter.{Parameter}
 use Rattle.certs.specs.declared.section.Section.{Section}
 use Rattle.locality.specs.Local.{types_of, interface_of}
-use Rattle.recheck.specs.Told.{same_types, all_written}
+use Rattle.recheck.specs.Interface.{same_types, all_written}
 
 -- the types of parameters, by which they are compared
 each_written : (one other : List Parameter) → length one ≡ length other → all_written one other ≡ true → map (λ (p : Parameter). p.written) one ≡ map (λ (p : Parameter). p.written) other

@@ -3,18 +3,19 @@ use Rattle.std.proofs.Common.{◌≡◌, ℕ, List, length, slice_get, Option, S
 use Rattle.std.specs.Prelude.{slice_set}
 use Rattle.ir_ast.specs.declared.function.Function.{Function}
 use Rattle.ir_ast.specs.declared.module.Module.{Module}
+use Rattle.ir_ast.specs.declared.shapes.Shapes.{Shapes}
 use Rattle.ir_tokens.specs.Bytes.{Text}
 use Rattle.certs.specs.declared.certs.Certs.{Certs}
 use Rattle.certs.specs.declared.section.Section.{Section}
-use Rattle.certificate.specs.Anew.{IsSection}
 use Rattle.layout.specs.Functions.{laid_with}
 use Rattle.layout.specs.Layouts.{LaidOut}
 use Rattle.locality.specs.Local.{interface_of, LooksSame}
 use Rattle.answers.specs.Edited.{IfUnseen, IsEdited}
 use Rattle.answers.specs.declared.callers.Callers.{Callers}
 use Rattle.answers.specs.declared.callers.Callers.TheVariants.{SeeChange, SeeNone}
+use Rattle.recheck.specs.Edits.{IsShapedSection}
 use Rattle.recheck.specs.Put.{IsWithCode, IsWithSection, IsTextPut}
-use Rattle.recheck.specs.Told.{rechecked_by}
+use Rattle.recheck.specs.Interface.{rechecked_by}
 use Rattle.std.proofs.lemmas.List.{length-set}
 use Rattle.lemmas.specs.Lists.{set_other}
 use Rattle.recheck.proofs.Lists.{set_back}
@@ -75,13 +76,16 @@ program_back p q r func old f e at back =
     back ∙ ap (λ (x : LaidOut). laid_with x (slice_set x.of_module.functions func old)) e ∙ ap (laid_with p) (set_back p.of_module.functions func old f at)
 
 -- where the old section is put back, the certificates are as they were
-pub certs_back : (certs others again : Certs) (func : ℕ) (past section : Section) → others.sections ≡ slice_set certs.sections func section → slice_get certs.sections func ≡ Some past → again.sections ≡ slice_set others.sections func past → again ≡ certs
-certs_back certs others again func past section e at back =
-    ap (λ (l : List Section). record { sections = l }) (back ∙ ap (λ (l : List Section). slice_set l func past) e ∙ set_back certs.sections func past section at)
+pub certs_back : (certs others again : Certs) (func : ℕ) (past section : Section) → others.sections ≡ slice_set certs.sections func section → slice_get certs.sections func ≡ Some past → again.sections ≡ slice_set others.sections func past
+    → others.shapes ≡ certs.shapes → again.shapes ≡ others.shapes → again ≡ certs
+certs_back certs others again func past section e at back kept kept_again =
+    let same : again.shapes ≡ certs.shapes = kept_again ∙ kept in
+    let sections : again.sections ≡ certs.sections = (back ∙ ap (λ (l : List Section). slice_set l func past) e ∙ set_back certs.sections func past section at) in
+    ap (λ (l : List Section). record { sections = l; shapes = again.shapes }) sections ∙ ap (λ (x : Option Shapes). record { sections = certs.sections; shapes = x }) same
 
 -- the section that was read stands in its place, with the count
 pub put_so : (p : LaidOut) (certs : List Section) (q : LaidOut) (others : List Section) (func : ℕ) (old : Function) (past section : Section) (text : Text) (count : ℕ)
-    → IsSection text q.of_module func section → others ≡ slice_set certs func section → slice_get p.of_module.functions func ≡ Some old → slice_get certs func ≡ Some past
+    → IsShapedSection text q.of_module func section → others ≡ slice_set certs func section → slice_get p.of_module.functions func ≡ Some old → slice_get certs func ≡ Some past
     → count ≡ rechecked_by q.of_module others func (Some old) (Some past) → IsTextPut p certs func text q others count
 put_so p certs q others func old past section text count is e code at counted = (
   section,

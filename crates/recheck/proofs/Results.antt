@@ -1,5 +1,5 @@
 -- Results that are equal.
-use Rattle.std.proofs.Common.{◌≡◌, Result, Ok, Err}
+use Rattle.std.proofs.Common.{◌≡◌, Option, Some, None, Result, Ok, Err}
 
 abbrev ok : {E X : Type 0} → X → Result X E
 ok x = Ok x
@@ -18,3 +18,15 @@ ok_or_err x e same = absurd cc
 
 pub err_or_ok : {E X : Type 0} (x : X) (e : E) → err e ≡ ok x → ⊥
 err_or_ok x e same = absurd cc
+
+abbrev some : {X : Type 0} → X → Option X
+some x = Some x
+
+abbrev none : {X : Type 0} → Option X
+none = None
+
+pub none_or_some : {X : Type 0} (x : X) → none ≡ some x → ⊥
+none_or_some x same = absurd cc
+
+pub same_some : {X : Type 0} (x y : X) → some x ≡ some y → x ≡ y
+same_some x y same = cc

@@ -39,10 +39,10 @@ others_with_code stay p q certs func f places e =
 pub none_kept : (p : LaidOut) (certs : List Section) (places : List (Option (List FactSet))) → AreEmpty places → AreKept p certs places
 none_kept p certs places empty func rows at = let both : None ≡ Some rows = sym (empty func) ∙ at in absurd cc
 
--- what is kept is right, where it is so after code that is taken, and all is as before after code that is refused
+-- what is kept is right, where it is so after code that is accepted, and all is as before after code that is refused
 pub rows_anew : (p q : LaidOut) (certs others : Certs) (before after : KeptWork) (r : Result ℕ EditFault) → AreKept p certs.sections before.functions.rows → OnOk r (AreKept q others.sections after.functions.rows)
     → OnErr r ((q ≡ p) × (others ≡ certs) × (after ≡ before)) → AreKept q others.sections after.functions.rows
-rows_anew p q certs others before after (Ok count) h taken same = taken
-rows_anew p q certs others before after (Err x) h taken same =
+rows_anew p q certs others before after (Ok count) h accepted same = accepted
+rows_anew p q certs others before after (Err x) h accepted same =
     subst (λ (r : LaidOut). AreKept r others.sections after.functions.rows) (sym same.0)
     (subst (λ (c : Certs). AreKept p c.sections after.functions.rows) (sym same.1) (subst (λ (k : KeptWork). AreKept p certs.sections k.functions.rows) (sym same.2) h))

@@ -14,7 +14,7 @@ use Rattle.certs.specs.declared.section.Section.{Section}
 use Rattle.answers.specs.Edited.{is_caller, callers_below, touched, IfUnseen}
 use Rattle.answers.specs.declared.callers.Callers.{Callers}
 use Rattle.answers.specs.declared.callers.Callers.TheVariants.{SeeChange, SeeNone}
-use Rattle.recheck.specs.Told.{same_truth, same_mark, same_types, same_promise, told, says_same, all_said, tells_same, is_told_same, callers_before}
+use Rattle.recheck.specs.Interface.{same_truth, same_mark, same_types, same_promise, interface, says_same, all_said, tells_same, is_interface_same, callers_before}
 
 -- ---- what is the same passes
 
@@ -39,7 +39,7 @@ one_promise p = and_true (option_eq nat_eq p.layout p.layout && same_truth p.non
 all_one : (m : Module) (parameters : List Parameter) (promises : List (Option Promise)) → all_said m parameters promises promises ≡ true
 all_one m [] promises = refl
 all_one m (p ∷ parameters) [] = refl
-all_one m (p ∷ parameters) (x ∷ promises) = and_true (says_same m p.written x x) (all_said m parameters promises promises) (one_promise (told m p.written x)) (all_one m parameters promises)
+all_one m (p ∷ parameters) (x ∷ promises) = and_true (says_same m p.written x x) (all_said m parameters promises promises) (one_promise (interface m p.written x)) (all_one m parameters promises)
 
 -- two functions of the same types, whose sections say the same word by word, tell their callers the same
 pub tells_by_words : (m : Module) (old new : Function) (past next : Section) → same_types old new ≡ true → next.mark ≡ past.mark → next.parameters ≡ past.parameters → next.result ≡ past.result → tells_same m old new past next ≡ true
@@ -47,14 +47,14 @@ tells_by_words m old new past next types marks parameters result =
     let of_mark : same_mark past.mark next.mark ≡ true = subst (λ (x : Mark). same_mark past.mark x ≡ true) (sym marks) (one_mark past.mark) in
     let of_parameters : all_said m new.parameters past.parameters next.parameters ≡ true =
     subst (λ (x : List (Option Promise)). all_said m new.parameters past.parameters x ≡ true) (sym parameters) (all_one m new.parameters past.parameters) in
-    let of_result : says_same m new.returned past.result next.result ≡ true = subst (λ (x : Option Promise). says_same m new.returned past.result x ≡ true) (sym result) (one_promise (told m new.returned past.result)) in
+    let of_result : says_same m new.returned past.result next.result ≡ true = subst (λ (x : Option Promise). says_same m new.returned past.result x ≡ true) (sym result) (one_promise (interface m new.returned past.result)) in
     and_true (same_types old new && same_mark past.mark next.mark && all_said m new.parameters past.parameters next.parameters) (says_same m new.returned past.result next.result)
     (and_true (same_types old new && same_mark past.mark next.mark) (all_said m new.parameters past.parameters next.parameters) (and_true (same_types old new) (same_mark past.mark next.mark) types of_mark) of_parameters) of_result
 
 -- so it is where they are looked up among others
-pub told_by_words : (m : Module) (f : Option Function) (s : Option Section) (old new : Function) (past next : Section) → f ≡ Some new → s ≡ Some next → tells_same m old new past next ≡ true
-    → is_told_same m (Some old) f (Some past) s ≡ true
-told_by_words m f s old new past next is_new is_next e = ap (λ (x : Option Function). is_told_same m (Some old) x (Some past) s) is_new ∙ ap (is_told_same m (Some old) (Some new) (Some past)) is_next ∙ e
+pub interface_by_words : (m : Module) (f : Option Function) (s : Option Section) (old new : Function) (past next : Section) → f ≡ Some new → s ≡ Some next → tells_same m old new past next ≡ true
+    → is_interface_same m (Some old) f (Some past) s ≡ true
+interface_by_words m f s old new past next is_new is_next e = ap (λ (x : Option Function). is_interface_same m (Some old) x (Some past) s) is_new ∙ ap (is_interface_same m (Some old) (Some new) (Some past)) is_next ∙ e
 
 -- ---- how many are checked
 
@@ -68,16 +68,16 @@ callers_counted m func (suc count) = by (is_caller m func count) (callers_counte
     by false same = omega (arith, same)
 
 -- where the callers are told something else, the function and all callers are checked
-counted : (m : Module) (func : ℕ) (callers : Callers) (told_same : Bool) (checked : ℕ) → checked ≡ length (touched m func callers) → IfUnseen callers (told_same ≡ true) → told_same ≡ false
+counted : (m : Module) (func : ℕ) (callers : Callers) (interface_same : Bool) (checked : ℕ) → checked ≡ length (touched m func callers) → IfUnseen callers (interface_same ≡ true) → interface_same ≡ false
     → checked ≡ 1 + callers_before m func (length m.functions)
-counted m func SeeNone told_same checked is unseen e = absurd (let both : true ≡ false = sym unseen ∙ e in cc)
-counted m func SeeChange told_same checked is unseen e =
+counted m func SeeNone interface_same checked is unseen e = absurd (let both : true ≡ false = sym unseen ∙ e in cc)
+counted m func SeeChange interface_same checked is unseen e =
     let all : checked ≡ suc (length (callers_below m func (length m.functions))) = is in
     omega (arith, all, callers_counted m func (length m.functions))
 
 -- so it is of the module as it is looked at twice
-pub all_checked : (m one two : Module) → one ≡ m → two ≡ m → (func : ℕ) (callers : Callers) (told_same : Module → Bool) (checked : ℕ) → checked ≡ length (touched m func callers) → IfUnseen callers (told_same one ≡ true)
-    → told_same two ≡ false → checked ≡ 1 + callers_before two func (length two.functions)
-all_checked m one two is_one is_two func callers told_same checked is unseen e =
+pub all_checked : (m one two : Module) → one ≡ m → two ≡ m → (func : ℕ) (callers : Callers) (interface_same : Module → Bool) (checked : ℕ) → checked ≡ length (touched m func callers) → IfUnseen callers (interface_same one ≡ true)
+    → interface_same two ≡ false → checked ≡ 1 + callers_before two func (length two.functions)
+all_checked m one two is_one is_two func callers interface_same checked is unseen e =
     subst (λ (x : Module). checked ≡ 1 + callers_before x func (length x.functions)) (sym is_two)
-    (counted m func callers (told_same m) checked is (subst (λ (x : Module). IfUnseen callers (told_same x ≡ true)) is_one unseen) (ap told_same (sym is_two) ∙ e))
+    (counted m func callers (interface_same m) checked is (subst (λ (x : Module). IfUnseen callers (interface_same x ≡ true)) is_one unseen) (ap interface_same (sym is_two) ∙ e))

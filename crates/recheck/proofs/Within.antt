@@ -94,8 +94,8 @@ module _ (m : Module) (func : ℕ) (bytes : Text) (tables : Tables) (name : Text
 
   -- ---- what is refused
 
-  pub within_taken : (f : ReadFault) (e : EditFault) → e ≡ code_fault f → ((b : Replacement) → IsTextAnew tables func name bytes b → Gives (Err f) (Ok b)) → (n : Module) → IsReplaced m func bytes n → e ≢ Memory → ⊥
-  within_taken f e is reads n h differs = ok_or_err h.0 f (reads h.0 (to_tables h.0 h.1) (code_differs f e is differs))
+  pub within_accepted : (f : ReadFault) (e : EditFault) → e ≡ code_fault f → ((b : Replacement) → IsTextAnew tables func name bytes b → Gives (Err f) (Ok b)) → (n : Module) → IsReplaced m func bytes n → e ≢ Memory → ⊥
+  within_accepted f e is reads n h differs = ok_or_err h.0 f (reads h.0 (to_tables h.0 h.1) (code_differs f e is differs))
 
   pub within_refused : (f : ReadFault) (e : EditFault) → e ≡ code_fault f → (f ≢ read.Memory → IsFaultAnew tables func name bytes f) → e ≢ Memory → (g : ReadFault) × IsReplaceFault m func bytes g × (code_fault g ≡ e)
   within_refused f e is fault differs = (f, of_fault f (fault (code_differs f e is differs)), sym is)

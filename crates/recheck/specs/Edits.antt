@@ -1,5 +1,5 @@
 -- What an edit makes of a session, and which fault it has first.
-use Rattle.std.specs.Prelude.{◌≡◌, ◌≢◌, ◌⊎◌, ℕ, true, false, [], slice_get, slice_set, Option, Some, None, Result, Ok, Err}
+use Rattle.std.specs.Prelude.{◌≡◌, ◌≢◌, ◌⊎◌, ℕ, Bool, true, false, if◌then◌else◌, [], slice_get, slice_set, Option, Some, None, Result, Ok, Err}
 use Rattle.ir_ast.specs.declared.function.Function.{Function}
 use Rattle.ir_ast.specs.declared.module.Module.{Module}
 use Rattle.ir_tokens.specs.Bytes.{Text}
@@ -15,8 +15,9 @@ use Rattle.layout.specs.Layouts.{AreLayouts, AreSizes, wants_shapes}
 use Rattle.edit_text.specs.declared.edit.Edit.{Edit}
 use Rattle.edit_text.specs.declared.edit.Edit.TheVariants as edit
 use Rattle.recheck.specs.Named.{function_named}
+use Rattle.recheck.specs.RootShapes.{missing_root}
 use Rattle.recheck.specs.Session.{State}
-use Rattle.recheck.specs.Told.{rechecked_by}
+use Rattle.recheck.specs.Interface.{rechecked_by}
 use Rattle.recheck.specs.declared.edit_fault.EditFault.{EditFault}
 use Rattle.recheck.specs.declared.edit_fault.EditFault.TheVariants as fault
 
@@ -43,28 +44,33 @@ text_with m _ _ = []
 abbrev pub kept_text : State → (func : ℕ) → Text
 kept_text s func = text_with (module_in s) (code_in s func) (section_in s func)
 
--- ---- what is taken
+-- ---- what is accepted
 
--- The session after an edit of one function. Its module is `m`, with the layouts and sizes of `m`. `section` is in the place of the function's section. Its count is the number of functions that were checked again.
+-- The session after an edit of one function. Its module is `m`, with the layouts and sizes of `m`. `section` is in the place of the function's section, and the shapes are as they were. Its count is the number of functions that were checked again.
 pub record IsPut (s : State) (func : ℕ) (m : Module) (section : Section) (t : State) : Type 0 where
   pub of_module : t.program.of_module ≡ m
   pub laid_out : AreLayouts t.program.of_module t.program.layouts
   pub sized : AreSizes t.program.of_module t.program.sizes
   pub certs : t.certs.sections ≡ slice_set s.certs.sections func section
+  pub shapes : t.certs.shapes ≡ s.certs.shapes
   pub rechecked : t.rechecked ≡ rechecked_by t.program.of_module t.certs.sections func (code_in s func) (section_in s func)
 
 -- a text of a function's code is read as this module, which wants no shapes
 abbrev pub IsCode : Module → (func : ℕ) → Text → (n : Module) → Type 0
 IsCode m func code n = IsReplaced m func code n × (wants_shapes n ≡ false)
 
+-- the text is one of this section of a function, and no root slot of the function lacks a shape
+abbrev pub IsShapedSection : Text → Module → (func : ℕ) → Section → Type 0
+IsShapedSection text m func section = IsSection text m func section × (missing_root m func ≡ None)
+
 -- a text of a function's code is read as this module, and with it a text of its section as this section
 abbrev pub AreRead : Module → (func : ℕ) → (code text : Text) → (n : Module) → Section → Type 0
-AreRead m func code text n section = IsCode m func code n × IsSection text n func section
+AreRead m func code text n section = IsCode m func code n × IsShapedSection text n func section
 
 -- The texts of an edit of one function are read as this module and this section. Where the edit gives no section, its text is that of the present section, printed with the present code.
 abbrev pub IsReadAt : State → (func : ℕ) → Edit → Module → Section → Type 0
 IsReadAt s func (edit.Code name code) m section = AreRead (module_in s) func code (kept_text s func) m section
-IsReadAt s func (edit.Cert name text) m section = (module_in s ≡ m) × IsSection text m func section
+IsReadAt s func (edit.Cert name text) m section = (module_in s ≡ m) × IsShapedSection text m func section
 IsReadAt s func (edit.Both name code text) m section = AreRead (module_in s) func code text m section
 
 -- the session after an edit of one function, whose texts are read
@@ -81,16 +87,16 @@ name_in (edit.Both name code section) = name
 abbrev pub IsRead : State → Edit → Module → Section → Type 0
 IsRead s e m section = (func : ℕ) × (function_named (module_in s) (name_in e) ≡ Some func) × IsReadAt s func e m section
 
--- The session after an edit that is taken: it names a function, whose code, section, or both are those of its texts.
+-- The session after an edit that is accepted: it names a function, whose code, section, or both are those of its texts.
 abbrev pub IsEdited : State → Edit → State → Type 0
 IsEdited s e t = (func : ℕ) × (function_named (module_in s) (name_in e) ≡ Some func) × IsEditedAt s func e t
 
 -- ---- what is refused
 
--- the edit is taken, unless memory runs out
-abbrev pub IsTaken : {X : Type 0} → Result X EditFault → Type 0
-IsTaken (Ok x) = Unit {0}
-IsTaken (Err e) = e ≢ fault.Memory → ⊥
+-- the edit is accepted, unless memory runs out
+abbrev pub IsEditAccepted : {X : Type 0} → Result X EditFault → Type 0
+IsEditAccepted (Ok x) = Unit {0}
+IsEditAccepted (Err e) = e ≢ fault.Memory → ⊥
 
 -- the edit is refused for this fault, unless memory runs out
 abbrev pub IsRefusedBy : {X : Type 0} → Result X EditFault → EditFault → Type 0
@@ -113,9 +119,26 @@ no_function (edit.Code name code) = fault.NoFunction
 no_function (edit.Cert name section) = fault.NoSection
 no_function (edit.Both name code section) = fault.NoFunction
 
--- the section of a function has this fault
+-- a fault that is looked for last: something is missing of what is read
+abbrev pub is_gap : CertFault → Bool
+is_gap (cert.Missing function) = true
+is_gap (cert.MissingBlock function block) = true
+is_gap _ = false
+
+-- the fault of an edit of a function in which this root slot has no shape
+abbrev pub no_shape : (func slot : ℕ) → EditFault
+no_shape func slot = fault.Cert (cert.MissingRoot func slot)
+
+-- The first fault of an edit whose section has this fault, where this root slot has no shape, if one has none: that goes before what is looked for last.
+abbrev pub first_fault : CertFault → (func : ℕ) → (slot : Option ℕ) → EditFault
+first_fault f func None = section_fault f
+first_fault f func (Some slot) = if is_gap f then no_shape func slot else section_fault f
+
+-- the section of a function has this fault first; or it has none, and a root slot has no shape
 abbrev pub HasSectionFault : Module → (func : ℕ) → Text → EditFault → Type 0
-HasSectionFault m func text e = (f : CertFault) × IsSectionFault text m func f × (section_fault f ≡ e)
+HasSectionFault m func text e =
+    ((f : CertFault) × IsSectionFault text m func f × (first_fault f func (missing_root m func) ≡ e))
+    ⊎ ((section : Section) × (slot : ℕ) × IsSection text m func section × (missing_root m func ≡ Some slot) × (no_shape func slot ≡ e))
 
 -- a text of a function's code has this fault; or it is read, and shapes are wanted for what is read
 abbrev pub HasTextFault : Module → (func : ℕ) → Text → EditFault → Type 0

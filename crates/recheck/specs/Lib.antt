@@ -1,5 +1,7 @@
 pub mod Named
-pub mod Told
+pub mod Interface
 pub mod Session
+pub mod RootShapes
 pub mod Edits
 pub mod Put
+pub mod Fitting

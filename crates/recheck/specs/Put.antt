@@ -2,22 +2,23 @@
 use Rattle.std.specs.Prelude.{◌≡◌, ◌≢◌, ℕ, List, slice_get, slice_set, Option, Some, None}
 use Rattle.ir_ast.specs.declared.function.Function.{Function}
 use Rattle.ir_ast.specs.declared.module.Module.{Module}
+use Rattle.ir_ast.specs.declared.shapes.Shapes.{Shapes}
 use Rattle.ir_tokens.specs.Bytes.{Text}
 use Rattle.copies.specs.Tables.{tables_of}
 use Rattle.function_text.specs.Replaced.{IsReplaced}
 use Rattle.copies.specs.declared.tables.Tables.{Tables}
 use Rattle.certs.specs.declared.section.Section.{Section}
-use Rattle.certificate.specs.Anew.{IsSection}
 use Rattle.layout.specs.Functions.{with_functions, laid_with}
 use Rattle.layout.specs.Layouts.{LaidOut, AreLayouts, AreSizes}
 use Rattle.answers.specs.KeptRows.{AreKept}
+use Rattle.recheck.specs.Edits.{IsShapedSection}
 use Rattle.recheck.specs.Session.{State, IsAnswered}
-use Rattle.recheck.specs.Told.{rechecked_by}
+use Rattle.recheck.specs.Interface.{rechecked_by}
 use Rattle.recheck.specs.declared.kept.KeptWork.{KeptWork}
 
 -- a session of these parts
-abbrev pub state : LaidOut → (sections : List Section) → (rechecked : ℕ) → State
-state program sections rechecked = record { program = program; certs = record { sections = sections }; rechecked = rechecked }
+abbrev pub state : LaidOut → Option Shapes → (sections : List Section) → (rechecked : ℕ) → State
+state program shapes sections rechecked = record { program = program; certs = record { sections = sections; shapes = shapes }; rechecked = rechecked }
 
 -- the module with this function in the place of the one with this number
 abbrev pub with_function : Module → (func : ℕ) → Function → Module
@@ -41,7 +42,7 @@ pub record IsPutWith (p : LaidOut) (certs : List Section) (func : ℕ) (section 
 
 -- the section of this text is in the place of the function's, and `count` functions were checked again
 abbrev pub IsTextPut : (p : LaidOut) (certs : List Section) (func : ℕ) → Text → (q : LaidOut) (others : List Section) → (count : ℕ) → Type 0
-IsTextPut p certs func text q others count = (section : Section) × IsSection text q.of_module func section × IsPutWith p certs func section q others count
+IsTextPut p certs func text q others count = (section : Section) × IsShapedSection text q.of_module func section × IsPutWith p certs func section q others count
 
 -- The function of this code and the section of this text are in the place of the function's, and `count` functions were checked again. The program is laid out.
 pub record IsBothPut (p : LaidOut) (certs : List Section) (func : ℕ) (code text : Text) (q : LaidOut) (others : List Section) (count : ℕ) : Type 0 where

@@ -6,8 +6,8 @@ use Rattle.ir_ast.specs.declared.module.Module.{Module}
 use Rattle.layout.specs.Layouts.{LaidOut, AreLayouts, AreSizes, IsLayoutFault}
 use Rattle.block_rules.specs.declared.block_fault.Refusal.{Refusal}
 use Rattle.answers.specs.Answers.{AreAnswers}
-use Rattle.module_check.specs.declared.verdict.Verdict.{Verdict}
-use Rattle.module_check.specs.declared.verdict.Verdict.TheVariants.{Refused, Layout, Memory}
+use Rattle.module_check.specs.declared.verdict.Reason.{Reason}
+use Rattle.module_check.specs.declared.verdict.Reason.TheVariants.{Refused, Layout, Memory}
 
 -- the present module with its layouts, its certificates, and how many functions the last edit concerns
 pub record State : Type 0 where
@@ -23,7 +23,7 @@ pub record IsAnswered (program : LaidOut) (certs : List Section) (answers : List
   pub are_answers : AreAnswers program certs answers
 
 -- why no session begins: the layouts have this fault, or memory was refused
-abbrev pub IsBeginFault : Module → Verdict → Type 0
+abbrev pub IsBeginFault : Module → Reason → Type 0
 IsBeginFault m (Refused refusal) = ⊥
 IsBeginFault m (Layout fault) = IsLayoutFault m fault
 IsBeginFault m Memory = Unit

@@ -8,7 +8,7 @@ ghost use Rattle.copies.specs.Tables.{tables_of};
 ghost use Rattle.function_text.specs.Replaced.{IsReplaced, IsReplaceFault};
 ghost use Rattle.ir_text.specs.declared.read_fault.ReadFault.{ReadFault as AReadFault};
 ghost use Rattle.layout.specs.declared.fault.LayoutFault.TheVariants as layout_fault;
-ghost use Rattle.recheck.specs.Edits.{AreRead, HasCodeFault, HasTextFault, IsCode, IsTaken, IsRefusedBy, code_fault};
+ghost use Rattle.recheck.specs.Edits.{AreRead, HasCodeFault, HasTextFault, IsCode, IsEditAccepted, IsRefusedBy, code_fault};
 ghost use Rattle.recheck.specs.Put.{AreReady, IsBothPut, IsKept, with_function};
 ghost use Rattle.recheck.specs.declared.edit_fault.EditFault.{EditFault as AFault};
 ghost use Rattle.recheck.specs.declared.edit_fault.EditFault.TheVariants.{Memory};
@@ -52,7 +52,7 @@ fn read_within(
     requires { AreReady of_module.now ready.old }
     ensures found { IfOk result (λ read. IfSome read (λ f. IsReplaced of_module.now func code.now (with_function of_module.now func f))) }
     ensures one { (n : AModule) → IsReplaced of_module.now func code.now n → IfOk result (λ read. IfSome read (λ f. n ≡ with_function of_module.now func f)) }
-    ensures only { (n : AModule) → IsReplaced of_module.now func code.now n → IsTaken result }
+    ensures only { (n : AModule) → IsReplaced of_module.now func code.now n → IsEditAccepted result }
     ensures fault { IfErr result (λ e. e ≢ Memory → (f : AReadFault) × IsReplaceFault of_module.now func code.now f × (code_fault f ≡ e)) }
     ensures only_fault { (f : AReadFault) → IsReplaceFault of_module.now func code.now f → IsRefusedBy result (code_fault f) }
     ensures ready { AreReady of_module.now ready.new }
@@ -84,7 +84,7 @@ fn read_code(
     requires { func < length of_module.now.functions }
     ensures found { IfOk result (IsCode of_module.now func code.now) }
     ensures one { (n : AModule) → IsCode of_module.now func code.now n → IfOk result (λ o. n ≡ o) }
-    ensures only { (n : AModule) → IsCode of_module.now func code.now n → IsTaken result }
+    ensures only { (n : AModule) → IsCode of_module.now func code.now n → IsEditAccepted result }
     ensures fault { IfErr result (λ e. e ≢ Memory → HasTextFault of_module.now func code.now e) }
     ensures only_fault { (e : AFault) → HasTextFault of_module.now func code.now e → IsRefusedBy result e }
 {
@@ -122,13 +122,14 @@ fn put_anew(
 ) -> Result<u64, EditFault>
     requires function { func < length program.old.of_module.functions }
     requires section { func < length certs.old.sections }
+    ensures shapes { certs.new.shapes ≡ certs.old.shapes }
     ensures put { IfOk result (λ count. IsBothPut program.old certs.old.sections func code.now text.now program.new certs.new.sections count) }
     ensures answers { OnOk result (AreAnswers program.new certs.new.sections kept.new.functions.answers) }
     ensures rows { OnOk result (AreKept program.new certs.new.sections kept.new.functions.rows) }
     ensures ready { OnOk result (kept.new.tables ≡ None) }
     ensures kept { OnErr result ((program.new ≡ program.old) × (certs.new ≡ certs.old) × (kept.new ≡ kept.old)) }
     ensures fault { IfErr result (λ e. e ≢ Memory → HasCodeFault program.old.of_module func code.now text.now e) }
-    ensures only { (n : AModule) (section : ASection) → AreRead program.old.of_module func code.now text.now n section → IsTaken result }
+    ensures only { (n : AModule) (section : ASection) → AreRead program.old.of_module func code.now text.now n section → IsEditAccepted result }
     ensures only_fault { (e : AFault) → HasCodeFault program.old.of_module func code.now text.now e → IsRefusedBy result e }
 {
     grown_law();
@@ -182,13 +183,14 @@ pub fn put_code(
     requires function { func < length program.old.of_module.functions }
     requires section { func < length certs.old.sections }
     requires kept { IsKept program.old certs.old.sections kept.old }
+    ensures shapes { certs.new.shapes ≡ certs.old.shapes }
     ensures put { IfOk result (λ count. IsBothPut program.old certs.old.sections func code.now text.now program.new certs.new.sections count) }
     ensures answers { OnOk result (AreAnswers program.new certs.new.sections kept.new.functions.answers) }
     ensures rows { AreKept program.new certs.new.sections kept.new.functions.rows }
     ensures ready { AreReady program.new.of_module kept.new.tables }
     ensures kept { OnErr result ((program.new ≡ program.old) × (certs.new ≡ certs.old) × (kept.new.functions.answers ≡ kept.old.functions.answers)) }
     ensures fault { IfErr result (λ e. e ≢ Memory → HasCodeFault program.old.of_module func code.now text.now e) }
-    ensures only { (n : AModule) (section : ASection) → AreRead program.old.of_module func code.now text.now n section → IsTaken result }
+    ensures only { (n : AModule) (section : ASection) → AreRead program.old.of_module func code.now text.now n section → IsEditAccepted result }
     ensures only_fault { (e : AFault) → HasCodeFault program.old.of_module func code.now text.now e → IsRefusedBy result e }
 {
     layouts_stay_law();

@@ -4,13 +4,16 @@
 mod code;
 mod edit_fault;
 mod edits;
+mod interface;
 mod kept;
+mod laws;
 mod named;
 mod put;
+mod roots;
 mod session;
 mod tables;
-mod told;
 
 pub use edit_fault::EditFault;
 pub use edit_text::{Edit, read_edits};
+pub use laws::fitting_law;
 pub use session::Session;

@@ -1,21 +1,22 @@
 //! One function with its section, put in the place of another.
 ghost use Rattle.std.specs.Prelude.{◌≡◌, ◌≢◌, ◌<◌, List, Some, length, slice_get, slice_set, IfOk, IfErr, OnOk, OnErr};
 ghost use Rattle.answers.specs.Answers.{AreAnswers};
-ghost use Rattle.answers.specs.KeptRows.{AreKept, AreOthersKept};
-ghost use Rattle.certificate.specs.Anew.{IsSection};
+ghost use Rattle.answers.specs.KeptRows.{AreKept, AreOthersKept, StayKept};
 ghost use Rattle.certs.specs.declared.section.Section.{Section as ASection};
 ghost use Rattle.layout.specs.Functions.{laid_with};
 ghost use Rattle.layout.specs.Layouts.{LaidOut};
-ghost use Rattle.recheck.specs.Edits.{HasSectionFault, IsTaken, IsRefusedBy};
+ghost use Rattle.recheck.specs.Edits as spec;
+ghost use Rattle.recheck.specs.Edits.{HasSectionFault, IsEditAccepted, IsRefusedBy, IsShapedSection};
 ghost use Rattle.recheck.specs.Put.{IsWithCode, IsWithSection, IsTextPut, with_function};
-ghost use Rattle.recheck.specs.Told.{rechecked_by};
+ghost use Rattle.recheck.specs.Interface.{rechecked_by};
 ghost use Rattle.recheck.specs.declared.edit_fault.EditFault.{EditFault as AFault};
 ghost use Rattle.recheck.specs.declared.edit_fault.EditFault.TheVariants.{Memory};
 
 use crate::edit_fault::EditFault;
-use crate::told::{count_checked, seen};
+use crate::interface::{count_checked, seen};
+use crate::roots::missing_root;
 use answers::{KeptFunctions, answers_again, answers_to, rows_law, touched_by};
-use certificate::read_section;
+use certificate::{CertFault, read_section};
 use certs::{Certs, Section};
 use ir_ast::{FuncId, Function, Module};
 use layout::Program;
@@ -47,6 +48,7 @@ fn answer_anew(
     ensures count { IfOk result (λ count. count ≡ rechecked_by program.now.of_module certs.now.sections func (Some old.now) (Some past.now)) }
     ensures kept { OnErr result (kept.new.answers ≡ kept.old.answers) }
     ensures rows { AreOthersKept program.now certs.now.sections func kept.new.rows }
+    ensures stay { StayKept func kept.old.rows kept.new.rows }
 {
     let callers = seen(program.module(), certs, func, old, past);
     let checked = answers_again(alloc, program, certs, func, callers, kept)?;
@@ -76,21 +78,61 @@ pub fn answer_all(
     Ok(count_checked(program.module(), certs, func, old, past, touched.len()))
 }
 
-/// The section of a text.
+/// Whether a fault is looked for last: something is missing of what is read.
+fn is_gap(fault: CertFault) -> bool
+    ensures { result ≡ spec.is_gap fault }
+{
+    match fault {
+        CertFault::Missing(_) | CertFault::MissingBlock(_, _) => true,
+        _ => false,
+    }
+}
+
+/// The fault of an edit of a function in which this root slot has no shape.
+fn no_shape(func: FuncId, slot: usize) -> EditFault
+    ensures { result ≡ spec.no_shape func slot }
+{
+    EditFault::Cert(CertFault::MissingRoot(func.number() as usize, slot))
+}
+
+/// The first fault of an edit whose section has this fault, where this root slot has no shape, if one has none.
+fn first_fault(fault: CertFault, func: FuncId, missing: Option<usize>) -> EditFault
+    ensures { result ≡ spec.first_fault fault func missing }
+{
+    match missing {
+        None => EditFault::from(fault),
+        Some(slot) => {
+            if is_gap(fault) {
+                no_shape(func, slot)
+            } else {
+                EditFault::from(fault)
+            }
+        }
+    }
+}
+
+/// The section of a text, of a function in which no root slot lacks a shape.
 pub fn read_text(
     alloc: Global,
     module: &Module,
     func: FuncId,
     text: &[u8],
 ) -> Result<Section, EditFault>
-    ensures found { IfOk result (λ section. IsSection text.now «module».now func section) }
-    ensures only { (section : ASection) → IsSection text.now «module».now func section → IsTaken result }
+    ensures found { IfOk result (λ section. IsShapedSection text.now «module».now func section) }
+    ensures only { (section : ASection) → IsShapedSection text.now «module».now func section → IsEditAccepted result }
     ensures fault { IfErr result (λ e. e ≢ Memory → HasSectionFault «module».now func text.now e) }
     ensures only_fault { (e : AFault) → HasSectionFault «module».now func text.now e → IsRefusedBy result e }
 {
+    let missing = match missing_root(alloc, module, func) {
+        Ok(missing) => missing,
+        Err(_) => return Err(EditFault::Memory),
+    };
     match read_section(alloc, text, module, func) {
-        Ok(section) => Ok(section),
-        Err(fault) => Err(EditFault::from(fault)),
+        Ok(section) => match missing {
+            None => Ok(section),
+            Some(slot) => Err(no_shape(func, slot)),
+        },
+        Err(fault) => Err(first_fault(fault, func, missing)),
     }
 }
 
@@ -109,12 +151,14 @@ pub fn put_section(
     requires section { func < length certs.old.sections }
     requires answers { length kept.old.answers ≡ length program.now.of_module.functions }
     requires rows { AreOthersKept program.now certs.old.sections func kept.old.rows }
+    ensures shapes { certs.new.shapes ≡ certs.old.shapes }
     ensures put { (p : LaidOut) → IsWithCode p program.now func old.now → IfOk result (λ count. IsTextPut p certs.old.sections func text.now program.now certs.new.sections count) }
     ensures answers { (p : LaidOut) → AreAnswers p certs.old.sections kept.old.answers → IsWithCode p program.now func old.now → OnOk result (AreAnswers program.now certs.new.sections kept.new.answers) }
     ensures kept { OnErr result ((certs.new ≡ certs.old) × (kept.new.answers ≡ kept.old.answers)) }
     ensures rows { AreOthersKept program.now certs.new.sections func kept.new.rows }
+    ensures stay { StayKept func kept.old.rows kept.new.rows }
     ensures fault { IfErr result (λ e. e ≢ Memory → HasSectionFault program.now.of_module func text.now e) }
-    ensures only { (section : ASection) → IsSection text.now program.now.of_module func section → IsTaken result }
+    ensures only { (section : ASection) → IsShapedSection text.now program.now.of_module func section → IsEditAccepted result }
     ensures only_fault { (e : AFault) → HasSectionFault program.now.of_module func text.now e → IsRefusedBy result e }
 {
     rows_law();
@@ -147,12 +191,14 @@ pub fn put_in_place(
     requires answers { AreAnswers program.old certs.old.sections kept.old.answers }
     requires rows { AreKept program.old certs.old.sections kept.old.rows }
     ensures program { OnOk result (program.new ≡ laid_with program.old (slice_set program.old.of_module.functions func function)) }
+    ensures shapes { certs.new.shapes ≡ certs.old.shapes }
     ensures put { IfOk result (λ count. IsTextPut program.old certs.old.sections func text.now program.new certs.new.sections count) }
     ensures answers { OnOk result (AreAnswers program.new certs.new.sections kept.new.answers) }
     ensures kept { OnErr result ((program.new ≡ program.old) × (certs.new ≡ certs.old) × (kept.new.answers ≡ kept.old.answers)) }
     ensures rows { AreKept program.new certs.new.sections kept.new.rows }
+    ensures stay { StayKept func kept.old.rows kept.new.rows }
     ensures fault { IfErr result (λ e. e ≢ Memory → HasSectionFault (with_function program.old.of_module func function) func text.now e) }
-    ensures only { (section : ASection) → IsSection text.now (with_function program.old.of_module func function) func section → IsTaken result }
+    ensures only { (section : ASection) → IsShapedSection text.now (with_function program.old.of_module func function) func section → IsEditAccepted result }
     ensures only_fault { (e : AFault) → HasSectionFault (with_function program.old.of_module func function) func text.now e → IsRefusedBy result e }
 {
     rows_law();
@@ -180,12 +226,14 @@ pub fn put_section_of(
     requires section { func < length certs.old.sections }
     requires answers { AreAnswers program.now certs.old.sections kept.old.answers }
     requires rows { AreKept program.now certs.old.sections kept.old.rows }
+    ensures shapes { certs.new.shapes ≡ certs.old.shapes }
     ensures put { IfOk result (λ count. IsTextPut program.now certs.old.sections func text.now program.now certs.new.sections count) }
     ensures answers { OnOk result (AreAnswers program.now certs.new.sections kept.new.answers) }
     ensures kept { OnErr result ((certs.new ≡ certs.old) × (kept.new.answers ≡ kept.old.answers)) }
     ensures rows { AreKept program.now certs.new.sections kept.new.rows }
+    ensures stay { StayKept func kept.old.rows kept.new.rows }
     ensures fault { IfErr result (λ e. e ≢ Memory → HasSectionFault program.now.of_module func text.now e) }
-    ensures only { (section : ASection) → IsSection text.now program.now.of_module func section → IsTaken result }
+    ensures only { (section : ASection) → IsShapedSection text.now program.now.of_module func section → IsEditAccepted result }
     ensures only_fault { (e : AFault) → HasSectionFault program.now.of_module func text.now e → IsRefusedBy result e }
 {
     kept.rows.forget(func);

@@ -2,10 +2,11 @@ ghost use Rattle.std.specs.Prelude.{◌≡◌, ◌≢◌, List, length, IfOk, If
 ghost use Rattle.certs.specs.declared.section.Section.{Section as ASection};
 ghost use Rattle.ir_ast.specs.declared.module.Module.{Module as AModule};
 ghost use Rattle.layout.specs.Layouts.{AreLayouts};
-ghost use Rattle.module_check.specs.Accepted.{IsAccepted, IsFirstRefusal};
-ghost use Rattle.module_check.specs.declared.verdict.Verdict.TheVariants as verdict;
+ghost use Rattle.module_check.specs.Accepted.{IsAccepted, IsFirstRefusal, shaped};
+ghost use Rattle.module_check.specs.declared.verdict.Reason.TheVariants as verdict;
 ghost use Rattle.pools.specs.declared.word_kind.WordKind.{WordKind as AWord};
-ghost use Rattle.recheck.specs.Edits.{IsRead, IsEdited, IsEditFault, IsTaken, IsRefusedBy};
+ghost use Rattle.recheck.specs.Edits.{IsRead, IsEdited, IsEditFault, IsEditAccepted, IsRefusedBy};
+ghost use Rattle.recheck.specs.Fitting.{HaveSameTables, IsFitting};
 ghost use Rattle.recheck.specs.Session.{IsBeginFault};
 ghost use Rattle.recheck.specs.declared.edit_fault.EditFault.{EditFault as AFault};
 ghost use Rattle.recheck.specs.declared.edit_fault.EditFault.TheVariants as fault;
@@ -13,13 +14,14 @@ ghost use Rattle.recheck.specs.declared.edit_fault.EditFault.TheVariants as faul
 use crate::edit_fault::EditFault;
 use crate::edits::put_edit;
 use crate::kept::KeptWork;
+use crate::laws::fitting_law;
 use answers::{KeptFunctions, KeptRows, answers_to, first_refusal};
 use block_rules::Refusal;
 use certs::Certs;
 use edit_text::Edit;
 use ir_ast::Module;
 use layout::Program;
-use module_check::{NotAccepted, Verdict};
+use module_check::{NotAccepted, Reason, UnderCheck};
 use std::alloc::Global;
 use std::marker::Model;
 
@@ -44,33 +46,33 @@ impl Model for Session {
 }
 
 impl Session {
-    /// Checks a module with its certificates. It is refused only where the module has no layouts, or for memory; both are given
+    /// Checks a module with its certificates, whose shapes it has from then on. It is refused only where the module has no layouts, or for memory; both are given
     /// back then.
     #[tactic(auto, using(crate::proofs::Rows::none_kept))]
     pub fn new(alloc: Global, of_module: Module, certs: Certs) -> Result<Self, NotAccepted>
         requires { length certs.sections ≡ length of_module.functions }
-        ensures of_module { IfOk result (λ session. session.program.of_module ≡ of_module) }
+        ensures of_module { IfOk result (λ session. session.program.of_module ≡ shaped of_module certs) }
         ensures certs { IfOk result (λ session. session.certs ≡ certs) }
         ensures rechecked { IfOk result (λ session. session.rechecked ≡ 0) }
-        ensures fault { IfErr result (λ refused. IsBeginFault of_module refused.verdict) }
-        ensures only { (layouts : List (List AWord)) → AreLayouts of_module layouts → IfErr result (λ refused. refused.verdict ≡ verdict.Memory) }
+        ensures fault { IfErr result (λ refused. IsBeginFault (shaped of_module certs) refused.verdict) }
+        ensures only { (layouts : List (List AWord)) → AreLayouts (shaped of_module certs) layouts → IfErr result (λ refused. refused.verdict ≡ verdict.Memory) }
         ensures given_back { IfErr result (λ refused. (refused.of_module ≡ of_module) × (refused.certs ≡ certs)) }
     {
-        let program = match Program::new(alloc, of_module) {
-            Ok(program) => program,
+        let under = match UnderCheck::new(alloc, of_module, &certs) {
+            Ok(under) => under,
             Err(refused) => {
                 return Err(NotAccepted {
-                    verdict: Verdict::from(refused.fault),
+                    verdict: Reason::from(refused.fault),
                     of_module: refused.of_module,
                     certs,
                 });
             }
         };
-        match answers_to(alloc, &program, &certs) {
+        match answers_to(alloc, under.program(), &certs) {
             Ok(answers) => {
                 let rows = KeptRows::new(alloc, answers.len());
                 Ok(Session {
-                    program,
+                    program: under.into_program(),
                     certs,
                     kept: KeptWork {
                         functions: KeptFunctions { answers, rows },
@@ -80,8 +82,8 @@ impl Session {
                 })
             }
             Err(_) => Err(NotAccepted {
-                verdict: Verdict::Memory,
-                of_module: program.into_module(),
+                verdict: Reason::Memory,
+                of_module: under.into_module(),
                 certs,
             }),
         }
@@ -92,15 +94,18 @@ impl Session {
     /// leaves the session as it was.
     pub fn apply(&mut self, alloc: Global, edit: &Edit) -> Result<(), EditFault>
         // The session is the one that comes of the edit.
-        ensures taken { OnOk result (IsEdited self.old edit.now self.new) }
+        ensures accepted { OnOk result (IsEdited self.old edit.now self.new) }
         ensures kept { OnErr result (self.new ≡ self.old) }
-        // An edit that is read as a module and a section is taken, unless memory runs out.
-        ensures only { (m : AModule) (section : ASection) → IsRead self.old edit.now m section → IsTaken result }
+        // An edit that is read as a module and a section is accepted, unless memory runs out.
+        ensures only { (m : AModule) (section : ASection) → IsRead self.old edit.now m section → IsEditAccepted result }
         // What is refused is refused for its first fault.
         ensures fault { IfErr result (λ e. e ≢ fault.Memory → IsEditFault self.old edit.now e) }
         // What has a first fault is refused for it, unless memory runs out.
         ensures only_fault { (e : AFault) → IsEditFault self.old edit.now e → IsRefusedBy result e }
+        // Certificates that fit the module fit it after an edit that adds nothing to its tables.
+        ensures fitting { IsFitting self.old → HaveSameTables self.old self.new → OnOk result (IsFitting self.new) }
     {
+        fitting_law();
         let rechecked = match put_edit(
             alloc,
             &mut self.program,
@@ -122,8 +127,8 @@ impl Session {
         first_refusal(self.kept.functions.answers.as_slice())
     }
 
-    /// How many functions the last edit concerns: the one that it replaced, and its callers where they are told something else of
-    /// it. 0 before the first edit that was taken. Where a type is new, all functions are checked, and the number stays this one.
+    /// How many functions the last edit concerns: the one that it replaced, and its callers where they see something else of
+    /// it. 0 before the first edit that was accepted. Where a type is new, all functions are checked, and the number stays this one.
     pub fn rechecked(&self) -> u64
         ensures { result ≡ self.now.rechecked }
     {

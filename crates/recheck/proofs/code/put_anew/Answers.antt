@@ -2,7 +2,7 @@ use Rattle.std.proofs.Common.{◌≡◌, ◌<◌, ℕ, Some, inl, slice_get, ref
 use Rattle.ir_ast.specs.declared.module.Module.{Module}
 use Rattle.answers.specs.declared.kept_functions.KeptFunctions.{KeptFunctions}
 use Rattle.layout.specs.Layouts.{AreLayouts}
-use Rattle.recheck.proofs.Edited.{the_code, code_taken, code_refused, code_same, only_section, with_code, section_of_code, both_anew}
+use Rattle.recheck.proofs.Edited.{the_code, code_accepted, code_refused, code_same, only_section, with_code, section_of_code, both_anew}
 use Rattle.recheck.proofs.Grown.{layouts_of_replaced}
 use Rattle.recheck.proofs.Puts.{certs_back, as_many_sections}
 use Rattle.recheck.proofs.code.put_anew.Goals as goal
@@ -13,7 +13,7 @@ pub returns-in-Err-clause-fault : goal.returns-in-Err-clause-fault
 returns-in-Err-clause-fault c = λ differs. code_refused c.args.program.now.of_module c.module.result.now c.module.ensures.of_module c.args.func c.args.code.now c.in-Err.fault c.args.text.now c.in-Err.ensures.fault differs
 
 pub returns-in-Err-clause-only : goal.returns-in-Err-clause-only
-returns-in-Err-clause-only c = λ n section is. code_taken c.args.program.now.of_module c.module.result.now c.module.ensures.of_module c.args.func c.args.code.now c.in-Err.fault c.in-Err.ensures.only n is.0
+returns-in-Err-clause-only c = λ n section is. code_accepted c.args.program.now.of_module c.module.result.now c.module.ensures.of_module c.args.func c.args.code.now c.in-Err.fault c.in-Err.ensures.only n is.0
 
 pub returns-in-Err-clause-only_fault : goal.returns-in-Err-clause-only_fault
 returns-in-Err-clause-only_fault c = code_same c.args.program.now.of_module c.module.result.now c.module.ensures.of_module c.args.func c.args.code.now c.in-Err.fault c.in-Err.ensures.only c.in-Err.ensures.only_fault c.args.text.now
@@ -49,7 +49,7 @@ returns-in-Err-new-clause-only_fault c =
     let read = the_code c.args.program.now.of_module c.module.result.now c.module.ensures.of_module c.args.func c.args.code.now c.in-Ok.of_module c.in-Ok.ensures.found c.in-Ok.ensures.one c.in-Ok.ensures.only_fault in
     λ e h. absurd (c.in-Ok-read_text.ensures.only_fault e (only_section c.args.program.now.of_module c.args.func c.args.code.now c.args.text.now c.in-Ok.of_module read e h))
 
--- ---- it is taken, or memory runs out
+-- ---- it is accepted, or memory runs out
 
 pub returns-in-Ok-answer_all-clause-put : goal.returns-in-Ok-answer_all-clause-put
 returns-in-Ok-answer_all-clause-put c =
@@ -71,6 +71,6 @@ replace-requires c =
 pub returns-in-Err-answer_all-clause-kept : goal.returns-in-Err-answer_all-clause-kept
 returns-in-Err-answer_all-clause-kept c = (
   refl,
-  certs_back c.args.certs.now c.replace-past.new.self c.replace.new.self c.args.func c.replace-past.result c.in-Ok-read_text.section c.replace-past.ensures.new c.replace-past.ensures.given_back c.replace.ensures.new,
+  certs_back c.args.certs.now c.replace-past.new.self c.replace.new.self c.args.func c.replace-past.result c.in-Ok-read_text.section c.replace-past.ensures.new c.replace-past.ensures.given_back c.replace.ensures.new c.replace-past.ensures.shapes c.replace.ensures.shapes,
   ap (λ (functions : KeptFunctions). record c.args.kept.now { functions = functions }) c.in-Err-answer_all.ensures.kept,
 )

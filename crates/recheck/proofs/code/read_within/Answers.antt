@@ -2,14 +2,14 @@ use Rattle.std.proofs.Common.{List, slice_get, ap, ◌∙◌}
 use Rattle.ir_ast.specs.declared.function.Function.{Function}
 use Rattle.recheck.specs.Edits.{code_fault}
 use Rattle.recheck.proofs.Faults.{refused_for_memory}
-use Rattle.recheck.proofs.Within.{AreTables, tables_same, some_found, some_one, within_unread, within_taken, within_refused, within_same}
+use Rattle.recheck.proofs.Within.{AreTables, tables_same, some_found, some_one, within_unread, within_accepted, within_refused, within_same}
 use Rattle.recheck.proofs.code.read_within.Goals as goal
 
 pub returns-in_err-tables-clause-only_fault : goal.returns-in_err-tables-clause-only_fault
 returns-in_err-tables-clause-only_fault c = λ f _. refused_for_memory c.from_residual.result (code_fault f) c.from_residual.ensures.1
 
 pub returns-in-Err-clause-only : goal.returns-in-Err-clause-only
-returns-in-Err-clause-only c = within_taken c.args.of_module.now c.args.func c.args.code.now c.in_ok-tables.tables c.name_of.result.now c.in_ok-tables.ensures.tables c.name_of.ensures c.in-Err.fault c.from.result c.from.ensures c.in-Err.ensures.only
+returns-in-Err-clause-only c = within_accepted c.args.of_module.now c.args.func c.args.code.now c.in_ok-tables.tables c.name_of.result.now c.in_ok-tables.ensures.tables c.name_of.ensures c.in-Err.fault c.from.result c.from.ensures c.in-Err.ensures.only
 
 pub returns-in-Err-clause-fault : goal.returns-in-Err-clause-fault
 returns-in-Err-clause-fault c = within_refused c.args.of_module.now c.args.func c.args.code.now c.in_ok-tables.tables c.name_of.result.now c.in_ok-tables.ensures.tables c.name_of.ensures c.in-Err.fault c.from.result c.from.ensures c.in-Err.ensures.fault

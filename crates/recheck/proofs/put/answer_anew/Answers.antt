@@ -1,6 +1,6 @@
 use Rattle.std.proofs.Common.{Some, slice_get}
 use Rattle.ir_ast.specs.declared.module.Module.{Module}
-use Rattle.recheck.specs.Told.{is_told_same}
+use Rattle.recheck.specs.Interface.{is_interface_same}
 use Rattle.recheck.proofs.Puts.{edited}
 use Rattle.recheck.proofs.Tells.{all_checked}
 use Rattle.recheck.proofs.put.answer_anew.Goals as goal
@@ -8,7 +8,7 @@ use Rattle.recheck.proofs.put.answer_anew.Goals as goal
 pub count_checked-requires : goal.count_checked-requires
 count_checked-requires c =
     all_checked c.args.program.now.of_module c.module.result.now c.module-2.result.now c.module.ensures.of_module c.module-2.ensures.of_module c.args.func c.seen-callers.result
-    (λ (m : Module). is_told_same m (Some c.args.old.now) (slice_get m.functions c.args.func) (Some c.args.past.now) (slice_get c.args.certs.now.sections c.args.func)) c.in_ok-checked.checked c.in_ok-checked.ensures.checked c.seen-callers.ensures.told
+    (λ (m : Module). is_interface_same m (Some c.args.old.now) (slice_get m.functions c.args.func) (Some c.args.past.now) (slice_get c.args.certs.now.sections c.args.func)) c.in_ok-checked.checked c.in_ok-checked.ensures.checked c.seen-callers.ensures.interface
 
 pub returns-clause-answers : goal.returns-clause-answers
 returns-clause-answers c = λ p past are code section.

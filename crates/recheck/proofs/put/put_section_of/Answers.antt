@@ -16,7 +16,10 @@ returns-clause-answers c =
     (subst (λ (m : Module). slice_get m.functions c.args.func ≡ Some c.function_at-old.result.now) c.module.ensures.of_module c.function_at-old.ensures))
 
 pub put_section-requires-clause-rows : goal.put_section-requires-clause-rows
-put_section-requires-clause-rows c = c.forget.ensures c.args.program.now c.args.certs.now.sections c.requires.rows
+put_section-requires-clause-rows c = c.forget.ensures.rows c.args.program.now c.args.certs.now.sections c.requires.rows
 
 pub returns-clause-rows : goal.returns-clause-rows
 returns-clause-rows c = c.put_section.ensures.rows.1
+
+pub returns-clause-stay : goal.returns-clause-stay
+returns-clause-stay c = λ other rows differs at. c.put_section.ensures.stay other rows differs (c.forget.ensures.stay other rows differs at)

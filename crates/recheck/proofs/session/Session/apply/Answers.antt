@@ -1,11 +1,17 @@
-use Rattle.std.proofs.Common.{subst, sym}
+use Rattle.std.proofs.Common.{Option, subst, sym}
+use Rattle.ir_ast.specs.declared.shapes.Shapes.{Shapes}
 use Rattle.recheck.specs.Edits.{IsRead, IsEdited, IsEditFault}
 use Rattle.recheck.specs.Put.{state}
 use Rattle.recheck.specs.Session.{State}
 use Rattle.recheck.proofs.session.Session.apply.Goals as goal
 
-pub returns-clause-taken : goal.returns-clause-taken
-returns-clause-taken c = subst (λ (s : State). IsEdited s c.args.edit.now (state c.put_edit.new.program c.put_edit.new.certs.sections c.in-Ok.rechecked)) c.self.view_is (c.in-Ok.ensures.put c.self.inside.rechecked)
+pub returns-clause-accepted : goal.returns-clause-accepted
+returns-clause-accepted c =
+    let old = c.self.inside in
+    let put = subst
+    (λ (x : Option Shapes). IsEdited (state old.program old.certs.shapes old.certs.sections old.rechecked) c.args.edit.now (state c.put_edit.new.program x c.put_edit.new.certs.sections c.in-Ok.rechecked))
+    (sym c.put_edit.ensures.shapes) (c.in-Ok.ensures.put old.rechecked) in
+    subst (λ (s : State). IsEdited s c.args.edit.now (state c.put_edit.new.program c.put_edit.new.certs.shapes c.put_edit.new.certs.sections c.in-Ok.rechecked)) c.self.view_is put
 
 pub returns-in-Err-clause-only : goal.returns-in-Err-clause-only
 returns-in-Err-clause-only c = λ m section h. c.in-Err.ensures.only c.self.inside.rechecked m section (subst (λ (s : State). IsRead s c.args.edit.now m section) (sym c.self.view_is) h)
@@ -18,3 +24,6 @@ returns-in-Err-clause-only_fault c = λ e h. c.in-Err.ensures.only_fault c.self.
 
 pub returns-clause-only_fault : goal.returns-clause-only_fault
 returns-clause-only_fault c = λ e h. c.in-Ok.ensures.only_fault c.self.inside.rechecked e (subst (λ (s : State). IsEditFault s c.args.edit.now e) (sym c.self.view_is) h)
+
+pub returns-clause-fitting : goal.returns-clause-fitting
+returns-clause-fitting c = λ fit same. c.fitting_law.ensures _ c.args.edit.now _ fit (returns-clause-accepted c) same

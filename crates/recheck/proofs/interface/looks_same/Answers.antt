@@ -1,7 +1,7 @@
 use Rattle.std.proofs.Common.{sym, ◌∙◌}
 use Rattle.recheck.proofs.Looks.{one_interface}
 use Rattle.recheck.proofs.Tells.{tells_by_words}
-use Rattle.recheck.proofs.told.looks_same.Goals as goal
+use Rattle.recheck.proofs.interface.looks_same.Goals as goal
 
 pub returns-then-same_types-clause-looks : goal.returns-then-same_types-clause-looks
 returns-then-same_types-clause-looks c = λ e.

@@ -1,9 +1,9 @@
-//! The lines of a block by the first way to it.
-use crate::draft_lines::BlockLines;
-use crate::ground::Ground;
+//! The claims of a block by the first edge to it.
+use crate::draft_claims::BlockClaims;
 use crate::rows::row_or;
-use block_rules::Scene;
-use certs::{Age, Fact, Family, Line, family_of_value};
+use crate::summary::FunctionSummary;
+use block_rules::RuleContext;
+use certs::{Age, Claim, Fact, Family, family_of_value};
 use facts::{ClassId, Facts, Known};
 use indexmap::{IndexMap, IndexSet};
 use ir_ast::{BlockId, ValueId};
@@ -11,34 +11,34 @@ use pools::{LayoutId, WordSet};
 use shadow_stack::SlotId;
 use std::alloc::{AllocError, Global};
 
-/// What is listed of what is known on a way.
+/// What is listed of what is known on an edge.
 #[derive(Drop)]
 struct Lister<'a> {
-    scene: Scene<'a>,
-    ground: &'a Ground,
+    rule_context: RuleContext<'a>,
+    summary: &'a FunctionSummary,
     facts: &'a Facts,
     /// What is wanted, in its order.
     wanted: &'a [u32],
-    listed: BlockLines,
+    listed: BlockClaims,
     /// The first value that is listed of each class.
     firsts: IndexMap<usize, ValueId>,
 }
 
-/// The lines of a block by what is known on the first way to it; `names` are all values of which something may be known.
-pub fn first_lines(
+/// The claims of a block by what is known on the first edge to it; `names` are all values of which something may be known.
+pub fn first_claims(
     alloc: Global,
-    scene: Scene<'_>,
-    ground: &Ground,
+    rule_context: RuleContext<'_>,
+    summary: &FunctionSummary,
     facts: &Facts,
     to: BlockId,
     names: &[ValueId],
-) -> Result<BlockLines, AllocError> {
+) -> Result<BlockClaims, AllocError> {
     let mut lister = Lister {
-        scene,
-        ground,
+        rule_context,
+        summary,
         facts,
-        wanted: ground.reading.wanted.group(to.number() as usize),
-        listed: BlockLines::new(alloc),
+        wanted: summary.reading.wanted.group(to.number() as usize),
+        listed: BlockClaims::new(alloc),
         firsts: IndexMap::new(alloc),
     };
     match lister.list(alloc, names) {
@@ -58,7 +58,7 @@ impl<'a> Lister<'a> {
         self.slots()
     }
 
-    fn into_listed(self) -> BlockLines {
+    fn into_listed(self) -> BlockClaims {
         self.listed
     }
 
@@ -67,7 +67,7 @@ impl<'a> Lister<'a> {
     }
 
     fn is_slot_wanted(&self, slot: SlotId) -> bool {
-        let values = self.scene.function.locals.count();
+        let values = self.rule_context.function.locals.count();
         match u32::try_from(values.saturating_add(slot.number())) {
             Ok(number) => self.is_wanted(number),
             Err(_) => false,
@@ -75,7 +75,7 @@ impl<'a> Lister<'a> {
     }
 
     fn value(&mut self, value: ValueId, fact: Fact) -> Result<(), AllocError> {
-        self.listed.add(Line::Value { value, fact }, 0)
+        self.listed.add(Claim::Value { value, fact }, 0)
     }
 
     /// The numbers and references that are wanted.
@@ -154,10 +154,14 @@ impl<'a> Lister<'a> {
     }
 
     fn null_layout(&self, value: ValueId) -> Option<LayoutId> {
-        match family_of_value(self.scene.module(), self.scene.function, value) {
+        match family_of_value(
+            self.rule_context.module(),
+            self.rule_context.function,
+            value,
+        ) {
             Family::Reference(layout) => Some(layout),
             _ => row_or(
-                &self.ground.reading.guesses.layouts,
+                &self.summary.reading.guesses.layouts,
                 value.number() as usize,
                 None,
             ),
@@ -203,7 +207,7 @@ impl<'a> Lister<'a> {
         hidden: &mut IndexMap<usize, (ValueId, LayoutId)>,
         names: &[ValueId],
     ) -> Result<(), AllocError> {
-        for slot in self.ground.slots.root_slots() {
+        for slot in self.summary.slots.root_slots() {
             if let Some(class) = self.unlisted(*slot) {
                 if self.facts.class(class).fresh || once.contains(&class.number()) {
                     self.list_hidden(hidden, names, class)?;
@@ -246,14 +250,14 @@ impl<'a> Lister<'a> {
         names: &[ValueId],
     ) -> Result<(), AllocError> {
         for value in names {
-            note_hidden(hidden, *value, self.facts.known(*value))?;
+            record_hidden(hidden, *value, self.facts.known(*value))?;
         }
         Ok(())
     }
 
     /// The slots that are wanted, and those that hold what is listed as fresh.
     fn slots(&mut self) -> Result<(), AllocError> {
-        for slot in self.ground.slots.root_slots() {
+        for slot in self.summary.slots.root_slots() {
             self.slot(*slot)?;
         }
         Ok(())
@@ -265,13 +269,13 @@ impl<'a> Lister<'a> {
         let fresh = holds.is_some() && self.is_fresh(self.held_class(slot));
         let says = nonnull || holds.is_some();
         let listed = says && (fresh || self.is_slot_wanted(slot));
-        let name = row_or(&self.ground.reading.guesses.slots, slot.number(), None);
+        let name = row_or(&self.summary.reading.guesses.slots, slot.number(), None);
         if !listed {
             return Ok(());
         }
         match name {
             Some(name) => self.listed.add(
-                Line::Slot {
+                Claim::Slot {
                     slot: name,
                     nonnull,
                     holds,
@@ -312,7 +316,7 @@ fn is_current(known: Known) -> bool {
     }
 }
 
-fn note_hidden(
+fn record_hidden(
     hidden: &mut IndexMap<usize, (ValueId, LayoutId)>,
     value: ValueId,
     known: Known,

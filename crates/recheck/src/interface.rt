@@ -1,9 +1,9 @@
-//! What the callers of a function are told of it.
+//! What the callers of a function see of it.
 ghost use Rattle.std.specs.Prelude.{◌≡◌, ◌+◌, Some, true, false, length, slice_get};
 ghost use Rattle.answers.specs.Edited.{IfUnseen};
 ghost use Rattle.ir_ast.specs.declared.module.Module.{Module as AModule};
 ghost use Rattle.locality.specs.Local.{interface_of};
-ghost use Rattle.recheck.specs.Told as spec;
+ghost use Rattle.recheck.specs.Interface as spec;
 
 use answers::Callers;
 use block_rules::TypeKind;
@@ -48,7 +48,7 @@ fn looks_same(old: &Function, new: &Function, past: &Section, next: &Section) ->
 /// Whether the callers of a function see that it was replaced.
 pub fn seen(module: &Module, certs: &Certs, func: FuncId, old: &Function, past: &Section) -> Callers
     ensures unseen { IfUnseen result (interface_of (slice_get «module».now.functions func) (slice_get certs.now.sections func) ≡ interface_of (Some old.now) (Some past.now)) }
-    ensures told { IfUnseen result (spec.is_told_same «module».now (Some old.now) (slice_get «module».now.functions func) (Some past.now) (slice_get certs.now.sections func) ≡ true) }
+    ensures interface { IfUnseen result (spec.is_interface_same «module».now (Some old.now) (slice_get «module».now.functions func) (Some past.now) (slice_get certs.now.sections func) ≡ true) }
 {
     let Some(new) = module.functions.get(func.number() as usize) else {
         return Callers::SeeChange;
@@ -64,8 +64,8 @@ pub fn seen(module: &Module, certs: &Certs, func: FuncId, old: &Function, past: 
 }
 
 /// What is said of a value of a type with this promise.
-fn told(module: &Module, written: TypeId, promised: Option<Promise>) -> Promise
-    ensures { result ≡ spec.told «module».now written promised }
+fn interface(module: &Module, written: TypeId, promised: Option<Promise>) -> Promise
+    ensures { result ≡ spec.interface «module».now written promised }
 {
     let by_type = TypeKind::of(module, written).layout();
     match promised {
@@ -91,7 +91,10 @@ fn same_promise(one: Promise, other: Promise) -> bool
 fn says_same(module: &Module, written: TypeId, one: Option<Promise>, other: Option<Promise>) -> bool
     ensures { result ≡ spec.says_same «module».now written one other }
 {
-    same_promise(told(module, written, one), told(module, written, other))
+    same_promise(
+        interface(module, written, one),
+        interface(module, written, other),
+    )
 }
 
 fn all_said(
@@ -128,15 +131,15 @@ fn tells_same(
         && says_same(module, new.returned, past.result, next.result)
 }
 
-/// Whether the callers of a function are told the same of it as before.
-fn is_told_same(
+/// Whether the callers of a function see the same of it as before.
+fn is_interface_same(
     module: &Module,
     certs: &Certs,
     func: FuncId,
     old: &Function,
     past: &Section,
 ) -> bool
-    ensures { result ≡ spec.is_told_same «module».now (Some old.now) (slice_get «module».now.functions func) (Some past.now) (slice_get certs.now.sections func) }
+    ensures { result ≡ spec.is_interface_same «module».now (Some old.now) (slice_get «module».now.functions func) (Some past.now) (slice_get certs.now.sections func) }
 {
     let Some(new) = module.functions.get(func.number() as usize) else {
         return false;
@@ -157,10 +160,10 @@ pub fn count_checked(
     past: &Section,
     checked: usize,
 ) -> u64
-    requires { spec.is_told_same «module».now (Some old.now) (slice_get «module».now.functions func) (Some past.now) (slice_get certs.now.sections func) ≡ false → checked ≡ 1 + spec.callers_before «module».now func (length «module».now.functions) }
+    requires { spec.is_interface_same «module».now (Some old.now) (slice_get «module».now.functions func) (Some past.now) (slice_get certs.now.sections func) ≡ false → checked ≡ 1 + spec.callers_before «module».now func (length «module».now.functions) }
     ensures { result ≡ spec.rechecked_by «module».now certs.now.sections func (Some old.now) (Some past.now) }
 {
-    if is_told_same(module, certs, func, old, past) {
+    if is_interface_same(module, certs, func, old, past) {
         1
     } else {
         checked as u64

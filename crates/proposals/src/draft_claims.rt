@@ -1,44 +1,44 @@
 use crate::rows::{put, row_or};
-use certs::Line;
+use certs::Claim;
 use ir_ast::BlockId;
 use items::Items;
 use std::alloc::{AllocError, Global};
 
-/// The lines of a block, and how often the bound of each has grown.
+/// The claims of a block, and how often the bound of each has grown.
 #[derive(Drop)]
-pub struct BlockLines {
-    pub lines: Items<Line>,
+pub struct BlockClaims {
+    pub claims: Items<Claim>,
     pub grown: Vec<u8>,
 }
 
-/// The lines of a function's blocks, as far as they were found.
+/// The claims of a function's blocks, as far as they were found.
 #[derive(Drop)]
-pub struct DraftLines {
-    /// None where no way to the block was walked.
-    blocks: Vec<Option<BlockLines>>,
+pub struct DraftClaims {
+    /// None where no edge to the block was walked.
+    blocks: Vec<Option<BlockClaims>>,
     /// The blocks that are to be walked over, in this order; those from the front were.
     queue: Vec<u32>,
     waiting: Vec<bool>,
 }
 
-impl BlockLines {
-    pub fn new(alloc: Global) -> BlockLines {
-        BlockLines {
-            lines: Items::new(alloc),
+impl BlockClaims {
+    pub fn new(alloc: Global) -> BlockClaims {
+        BlockClaims {
+            claims: Items::new(alloc),
             grown: Vec::new(alloc),
         }
     }
 
-    /// A line more, whose bound has grown so often.
-    pub fn add(&mut self, line: Line, grown: u8) -> Result<(), AllocError> {
+    /// A claim more, whose bound has grown so often.
+    pub fn add(&mut self, claim: Claim, grown: u8) -> Result<(), AllocError> {
         self.grown.push(grown)?;
-        match line {
-            Line::Value { value, fact } => self.lines.push(Line::Value { value, fact }),
-            Line::Slot {
+        match claim {
+            Claim::Value { value, fact } => self.claims.push(Claim::Value { value, fact }),
+            Claim::Slot {
                 slot,
                 nonnull,
                 holds,
-            } => self.lines.push(Line::Slot {
+            } => self.claims.push(Claim::Slot {
                 slot,
                 nonnull,
                 holds,
@@ -47,40 +47,40 @@ impl BlockLines {
     }
 }
 
-impl DraftLines {
-    /// No way to any of `count` blocks was walked, but to the first one.
-    pub fn new(alloc: Global, count: usize) -> Result<DraftLines, AllocError> {
-        let blocks = no_lines(alloc, count)?;
+impl DraftClaims {
+    /// No edge to any of `count` blocks was walked, but to the first one.
+    pub fn new(alloc: Global, count: usize) -> Result<DraftClaims, AllocError> {
+        let blocks = no_claims(alloc, count)?;
         let Ok(waiting) = vec![in alloc; false; count] else {
             drop(blocks);
             return Err(AllocError);
         };
-        let mut draft = DraftLines {
+        let mut draft = DraftClaims {
             blocks,
             queue: Vec::new(alloc),
             waiting,
         };
-        draft.set(BlockId::new(0), BlockLines::new(alloc));
+        draft.set(BlockId::new(0), BlockClaims::new(alloc));
         Ok(draft)
     }
 
-    /// The lines of a block, if a way to it was walked.
-    pub fn lines(&self, block: BlockId) -> Option<&BlockLines> {
+    /// The claims of a block, if an edge to it was walked.
+    pub fn claims(&self, block: BlockId) -> Option<&BlockClaims> {
         match self.blocks.get(block.number() as usize) {
             Some(Some(listed)) => Some(listed),
             _ => None,
         }
     }
 
-    /// These are the lines of a block.
-    pub fn set(&mut self, block: BlockId, listed: BlockLines) {
+    /// These are the claims of a block.
+    pub fn set(&mut self, block: BlockId, listed: BlockClaims) {
         let at = block.number() as usize;
         if at < self.blocks.len() {
             self.blocks[at] = Some(listed);
         }
     }
 
-    /// All blocks to which a way was walked are to be walked over.
+    /// All blocks to which an edge was walked are to be walked over.
     pub fn wake_all(&mut self) -> Result<(), AllocError> {
         self.queue.clear();
         let Ok(count) = u32::try_from(self.blocks.len()) else {
@@ -109,26 +109,26 @@ impl DraftLines {
         Some(BlockId::new(block))
     }
 
-    /// The lines of each block.
-    pub fn each_lines(&self, alloc: Global) -> Result<Items<Items<Line>>, AllocError> {
+    /// The claims of each block.
+    pub fn each_claims(&self, alloc: Global) -> Result<Items<Items<Claim>>, AllocError> {
         let mut each = Items::new(alloc);
         for listed in self.blocks.as_slice() {
-            let lines = lines_in(alloc, listed)?;
-            each.push(lines)?;
+            let claims = claims_in(alloc, listed)?;
+            each.push(claims)?;
         }
         Ok(each)
     }
 }
 
-fn lines_in(alloc: Global, listed: &Option<BlockLines>) -> Result<Items<Line>, AllocError> {
+fn claims_in(alloc: Global, listed: &Option<BlockClaims>) -> Result<Items<Claim>, AllocError> {
     match listed {
-        Some(listed) => Items::from_slice(alloc, listed.lines.as_slice()),
+        Some(listed) => Items::from_slice(alloc, listed.claims.as_slice()),
         None => Ok(Items::new(alloc)),
     }
 }
 
-/// No lines are found of `count` blocks.
-fn no_lines(alloc: Global, count: usize) -> Result<Vec<Option<BlockLines>>, AllocError> {
+/// No claims are found of `count` blocks.
+fn no_claims(alloc: Global, count: usize) -> Result<Vec<Option<BlockClaims>>, AllocError> {
     let mut blocks = Vec::new(alloc);
     for _ in 0..count {
         blocks.push(None)?;

@@ -1,4 +1,4 @@
--- What the callers of a function are told of it, and which other functions call it.
+-- What the callers of a function see of it, and which other functions call it.
 use Rattle.std.specs.Prelude.{ℕ, zero, suc, ◌+◌, ◌==◌, ◌&&◌, Bool, true, false, not, if◌then◌else◌, List, length, slice_get, Option, Some, None, nat_eq}
 use Rattle.std.specs.List.{list_all, zip}
 use Rattle.std.specs.Option.{option_eq, option_or}
@@ -43,13 +43,13 @@ abbrev pub same_promise : (one other : Promise) → Bool
 same_promise one other = option_eq nat_eq one.layout other.layout && same_truth one.nonnull other.nonnull && option_eq nat_eq one.below other.below
 
 -- What is said of a value of a type: nothing is promised, so it is what the type says; or the promise, with the layout of the type where it has none.
-abbrev pub told : Module → (written : ℕ) → Option Promise → Promise
-told m written None = record { layout = layout_of_kind (kind_of m written); nonnull = false; below = None }
-told m written (Some promise) = record { layout = option_or promise.layout (layout_of_kind (kind_of m written)); nonnull = promise.nonnull; below = promise.below }
+abbrev pub interface : Module → (written : ℕ) → Option Promise → Promise
+interface m written None = record { layout = layout_of_kind (kind_of m written); nonnull = false; below = None }
+interface m written (Some promise) = record { layout = option_or promise.layout (layout_of_kind (kind_of m written)); nonnull = promise.nonnull; below = promise.below }
 
 -- two promises say the same of a value of a type
 abbrev pub says_same : Module → (written : ℕ) → (one other : Option Promise) → Bool
-says_same m written one other = same_promise (told m written one) (told m written other)
+says_same m written one other = same_promise (interface m written one) (interface m written other)
 
 -- two promises of one parameter say the same
 abbrev pub says_same_of : Module → Parameter × (Option Promise × Option Promise) → Bool
@@ -59,15 +59,15 @@ says_same_of m p = says_same m p.0.written p.1.0 p.1.1
 abbrev pub all_said : Module → List Parameter → (one other : List (Option Promise)) → Bool
 all_said m parameters one other = list_all (says_same_of m) (zip parameters (zip one other))
 
--- Two functions with their sections tell their callers the same: by their types, their marks, and what is promised of parameters and result.
+-- The callers of two functions with their sections see the same: by their types, their marks, and what is promised of parameters and result.
 abbrev pub tells_same : Module → (old new : Function) → (past next : Section) → Bool
 tells_same m old new past next =
     same_types old new && same_mark past.mark next.mark && all_said m new.parameters past.parameters next.parameters && says_same m new.returned past.result next.result
 
--- the callers of a function are told the same of it as before, if it was there and still is
-abbrev pub is_told_same : Module → (old new : Option Function) → (past next : Option Section) → Bool
-is_told_same m (Some old) (Some new) (Some past) (Some next) = tells_same m old new past next
-is_told_same m _ _ _ _ = false
+-- the callers of a function see the same of it as before, if it was there and still is
+abbrev pub is_interface_same : Module → (old new : Option Function) → (past next : Option Section) → Bool
+is_interface_same m (Some old) (Some new) (Some past) (Some next) = tells_same m old new past next
+is_interface_same m _ _ _ _ = false
 
 -- ---- callers
 
@@ -76,11 +76,11 @@ abbrev pub callers_before : Module → (func : ℕ) → (count : ℕ) → ℕ
 callers_before m func zero = 0
 callers_before m func (suc count) = callers_before m func count + (if is_caller m func count then 1 else 0)
 
--- how many functions an edit of this one concerns: it alone where its callers are told the same, and else it and all that call it
-abbrev pub checked_again : (told_same : Bool) → Module → (func : ℕ) → ℕ
+-- how many functions an edit of this one concerns: it alone where its callers see the same, and else it and all that call it
+abbrev pub checked_again : (interface_same : Bool) → Module → (func : ℕ) → ℕ
 checked_again true m func = 1
 checked_again false m func = 1 + callers_before m func (length m.functions)
 
 -- how many functions an edit of this one concerns, which had the old code and the past section before
 abbrev pub rechecked_by : Module → (certs : List Section) → (func : ℕ) → (old : Option Function) → (past : Option Section) → ℕ
-rechecked_by m certs func old past = checked_again (is_told_same m old (slice_get m.functions func) past (slice_get certs func)) m func
+rechecked_by m certs func old past = checked_again (is_interface_same m old (slice_get m.functions func) past (slice_get certs func)) m func

@@ -10,7 +10,7 @@ use std::alloc::{AllocError, Global};
 
 /// What is found of a function once, for a walk over its blocks.
 #[derive(Drop)]
-pub struct Ground {
+pub struct FunctionSummary {
     pub func: FuncId,
     pub slots: Slots,
     /// How many values it has.
@@ -27,20 +27,20 @@ pub struct Reading {
     pub wanted: Buckets,
 }
 
-impl Ground {
+impl FunctionSummary {
     pub fn of(
         alloc: Global,
         module: &Module,
         func: FuncId,
         function: &Function,
         summaries: &Summaries,
-    ) -> Result<Ground, AllocError> {
+    ) -> Result<FunctionSummary, AllocError> {
         let slots = slots_of(alloc, module, function)?;
         let Ok(reading) = Reading::of(alloc, module, function, &slots, summaries) else {
             drop(slots);
             return Err(AllocError);
         };
-        Ok(Ground {
+        Ok(FunctionSummary {
             func,
             slots,
             values: function.locals.count(),

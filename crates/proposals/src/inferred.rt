@@ -1,7 +1,7 @@
 use certs::{Family, Promise};
 use pools::LayoutId;
 
-/// What is shown of an operand.
+/// What is known of an operand.
 #[derive(Clone, Copy)]
 pub enum Shown {
     Nothing,
@@ -13,48 +13,51 @@ pub enum Shown {
 
 /// What is promised of a parameter or of a result, as far as it was found.
 #[derive(Clone, Copy, PartialEq, Eq)]
-pub enum Claim {
+pub enum InferredPromise {
     Nothing,
     /// An integer, and what it is below.
     Number(Option<u64>),
     /// A reference to the layout that its type says.
     Reference { nonnull: bool },
-    /// `i8*`: a reference to this layout.
+    /// `i8*` or `ptr`: a reference to this layout.
     AnyReference { layout: LayoutId, nonnull: bool },
 }
 
-impl Claim {
+impl InferredPromise {
     /// The most that can be promised of a value of this family; `below` and `layout` are those of a promise, if it has them.
     pub fn of(
         family: Family,
         nonnull: bool,
         below: Option<u64>,
         layout: Option<LayoutId>,
-    ) -> Claim {
+    ) -> InferredPromise {
         match family {
-            Family::Number(_) => Claim::Number(below),
-            Family::Reference(_) => Claim::Reference { nonnull },
-            Family::AnyReference => match layout {
-                Some(layout) => Claim::AnyReference { layout, nonnull },
-                None => Claim::Nothing,
+            Family::Number(_) => InferredPromise::Number(below),
+            Family::Reference(_) => InferredPromise::Reference { nonnull },
+            Family::AnyReference | Family::Opaque => match layout {
+                Some(layout) => InferredPromise::AnyReference { layout, nonnull },
+                None => InferredPromise::Nothing,
             },
-            Family::Address | Family::Nothing => Claim::Nothing,
+            Family::Address | Family::Nothing => InferredPromise::Nothing,
         }
     }
 
-    /// What is left of it where this is shown.
-    pub fn weakened(self, shown: Shown) -> Claim {
+    /// What is left of it where this is known.
+    pub fn weakened(self, shown: Shown) -> InferredPromise {
         match self {
-            Claim::Nothing => Claim::Nothing,
-            Claim::Number(below) => Claim::Number(larger(below, below_shown(shown))),
-            Claim::Reference { nonnull } => Claim::Reference {
+            InferredPromise::Nothing => InferredPromise::Nothing,
+            InferredPromise::Number(below) => InferredPromise::Number(weaker_bound(
+                below,
+                below_shown(shown),
+            )),
+            InferredPromise::Reference { nonnull } => InferredPromise::Reference {
                 nonnull: nonnull && is_nonnull(shown),
             },
-            Claim::AnyReference { layout, nonnull } => {
+            InferredPromise::AnyReference { layout, nonnull } => {
                 if is_other(layout, shown) {
-                    Claim::Nothing
+                    InferredPromise::Nothing
                 } else {
-                    Claim::AnyReference {
+                    InferredPromise::AnyReference {
                         layout,
                         nonnull: nonnull && is_nonnull(shown),
                     }
@@ -66,10 +69,10 @@ impl Claim {
     /// It as a certificate writes it.
     pub fn promise(self) -> Option<Promise> {
         match self {
-            Claim::Nothing => None,
-            Claim::Number(below) => number_promise(below),
-            Claim::Reference { nonnull } => reference_promise(nonnull),
-            Claim::AnyReference { layout, nonnull } => Some(Promise {
+            InferredPromise::Nothing => None,
+            InferredPromise::Number(below) => number_promise(below),
+            InferredPromise::Reference { nonnull } => reference_promise(nonnull),
+            InferredPromise::AnyReference { layout, nonnull } => Some(Promise {
                 layout: Some(layout),
                 nonnull,
                 below: None,
@@ -77,23 +80,23 @@ impl Claim {
         }
     }
 
-    /// The layout that is promised of an `i8*`.
+    /// The layout that is promised of an `i8*` or a `ptr`.
     pub fn layout(self) -> Option<LayoutId> {
         match self {
-            Claim::AnyReference { layout, .. } => Some(layout),
+            InferredPromise::AnyReference { layout, .. } => Some(layout),
             _ => None,
         }
     }
 
     /// Whether it is of an integer.
     pub fn is_number(self) -> bool {
-        matches!(self, Claim::Number(_))
+        matches!(self, InferredPromise::Number(_))
     }
 
     /// What an integer is promised to be below.
     pub fn below(self) -> Option<u64> {
         match self {
-            Claim::Number(below) => below,
+            InferredPromise::Number(below) => below,
             _ => None,
         }
     }
@@ -122,7 +125,7 @@ fn reference_promise(nonnull: bool) -> Option<Promise> {
 }
 
 /// The larger of two bounds; None is no bound.
-pub fn larger(one: Option<u64>, other: Option<u64>) -> Option<u64> {
+pub fn weaker_bound(one: Option<u64>, other: Option<u64>) -> Option<u64> {
     match (one, other) {
         (Some(one), Some(other)) => Some(one.max(other)),
         _ => None,
@@ -152,7 +155,7 @@ fn is_nonnull(shown: Shown) -> bool {
     }
 }
 
-/// Whether a cell of another layout is shown, or no reference.
+/// Whether a cell of another layout is known, or no reference.
 fn is_other(layout: LayoutId, shown: Shown) -> bool {
     match shown {
         Shown::Cell { layout: other, .. } => other != layout,

@@ -1,7 +1,7 @@
 use Rattle.std.proofs.Common.{rules, sym, ◌∙◌}
 use Rattle.certs.specs.declared.section.Promise.{Promise}
 use Rattle.recheck.proofs.Same.{same_list, same_option}
-use Rattle.recheck.proofs.told.same_words.Goals as goal
+use Rattle.recheck.proofs.interface.same_words.Goals as goal
 
 pub returns-then-eq-clause-parameters : goal.returns-then-eq-clause-parameters
 returns-then-eq-clause-parameters c = λ e.
