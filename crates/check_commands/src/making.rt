@@ -1,5 +1,5 @@
 //! The command `make`.
-ghost use Rattle.std.specs.Prelude.{◌≡◌, IfOk, IfSome, true};
+ghost use Rattle.std.specs.Prelude.{◌≡◌, IfOk, IfSome, true, option_map};
 ghost use Rattle.certs.specs.Fits.{fits};
 ghost use Rattle.module_check.specs.Accepted.{IsAccepted};
 ghost use Rattle.layout.specs.Layouts.{IsLayoutFault};
@@ -18,7 +18,7 @@ use command_line::{MakeLine, Why};
 use ir_ast::Module;
 use module_check::Accepted;
 use reports::{
-    STATUS_NO, STATUS_YES, line_of_refusal, memory, module_in, no_layouts, refused, unread,
+    STATUS_NO, STATUS_YES, line_of_refusal, memory, no_layouts, refused, shaped_in, unread,
 };
 use std::alloc::Global;
 use std::io;
@@ -33,6 +33,7 @@ fn print_made<O: Write, E: Write>(
     err: &mut E,
 ) -> io::Result<u8>
     requires fits { fits accepted.now.program.of_module accepted.now.certs.sections ≡ true }
+    requires shapes { accepted.now.certs.shapes ≡ accepted.now.program.of_module.shapes }
     requires certified { IsAccepted accepted.now.program.of_module accepted.now.certs.sections }
     ensures { IfOk result (Says (OfMade why accepted.now.program.of_module) (O.contents out.old) (O.contents out.new) (E.contents err.old) (E.contents err.new)) }
 {
@@ -146,7 +147,8 @@ fn make_of<O: Write, E: Write>(
     }
 }
 
-/// Makes certificates of the module of a line. The first fault counts: of the path, then of its text, then of its layouts.
+/// Makes certificates of the module of a line, with the shapes of the line where it writes `ptr`. The first fault counts: of the module, its
+/// path and then its text, then of the shapes, their path and then their text, then of the layouts.
 pub fn make_file<O: Write, E: Write>(
     alloc: Global,
     asked: MakeLine<'_>,
@@ -154,9 +156,9 @@ pub fn make_file<O: Write, E: Write>(
     out: &mut O,
     err: &mut E,
 ) -> io::Result<u8>
-    ensures { IfOk result (Says (OfMake asked.entry.why asked.entry.module_path.now (spec.file_at files.now 0)) (O.contents out.old) (O.contents out.new) (E.contents err.old) (E.contents err.new)) }
+    ensures { IfOk result (Says (OfMake asked.entry.why asked.entry.module_path.now (option_map (λ path. path.now) asked.entry.shapes_path) (spec.file_at files.now 0) (spec.file_at files.now 1)) (O.contents out.old) (O.contents out.new) (E.contents err.old) (E.contents err.new)) }
 {
-    match module_in(alloc, asked.module_path, files) {
+    match shaped_in(alloc, (asked.module_path, asked.shapes_path), files, 1) {
         Ok(of_module) => make_of(alloc, of_module, asked.why, out, err),
         Err(fault) => unread(err, fault),
     }

@@ -6,7 +6,7 @@ use Rattle.std.specs.Str.Parse.{digits_value, without_leading_plus}
 use Rattle.clap.specs.Words.{App, IsAmong, Row, Rule, Text, fault_of, first_of, kind_of, new_app, new_rule, one_of, subcommand_of, with_rule, with_subcommand}
 use Rattle.clap.specs.declared.builder.action.ArgAction.TheVariants.{SetTrue}
 use Rattle.clap.specs.declared.builder.value_parser.ValueParser.TheVariants.{Signed}
-use Rattle.command_line.specs.Asked.{Asked, check, make, recheck, replay, soak, run, explain}
+use Rattle.command_line.specs.Asked.{Asked, check, make, recheck, replay, soak, run, explain, migrate}
 use Rattle.command_line.specs.declared.asked.LineFault.{LineFault}
 use Rattle.command_line.specs.declared.asked.LineFault.TheVariants.{Memory, NoCommand, Words}
 use Rattle.command_line.specs.declared.asked.Why.{Why}
@@ -50,6 +50,13 @@ flag_rule name = record (new_rule name) {
   action = Some SetTrue;
 }
 
+-- an option whose value is the path of the shapes, and which may be left out
+abbrev pub shapes_rule : Rule
+shapes_rule = record (new_rule (codes "shapes")) {
+  long = Some (codes "shapes");
+  value_names = 1;
+}
+
 -- NAME MODULE: a command on a module
 abbrev pub module_app : (name : Text) → App
 module_app name = with_rule (new_app name) (file_rule (codes "MODULE"))
@@ -58,25 +65,29 @@ module_app name = with_rule (new_app name) (file_rule (codes "MODULE"))
 abbrev pub files_app : (name second : Text) → App
 files_app name second = with_rule (module_app name) (file_rule second)
 
+-- NAME MODULE TRACE [--shapes FILE]: a command on a module and a trace
+abbrev pub traced_app : (name : Text) → App
+traced_app name = with_rule (files_app name (codes "TRACE")) shapes_rule
+
 -- check MODULE CERT --workers N
 abbrev pub check_app : App
 check_app = with_rule (files_app (codes "check") (codes "CERT")) workers_rule
 
--- make MODULE [--why]
+-- make MODULE [--shapes FILE] [--why]
 abbrev pub make_app : App
-make_app = with_rule (module_app (codes "make")) (flag_rule (codes "why"))
+make_app = with_rule (with_rule (module_app (codes "make")) shapes_rule) (flag_rule (codes "why"))
 
 -- recheck MODULE CERT EDITS
 abbrev pub recheck_app : App
 recheck_app = with_rule (files_app (codes "recheck") (codes "CERT")) (file_rule (codes "EDITS"))
 
--- replay MODULE TRACE
+-- replay MODULE TRACE [--shapes FILE]
 abbrev pub replay_app : App
-replay_app = files_app (codes "replay") (codes "TRACE")
+replay_app = traced_app (codes "replay")
 
--- soak MODULE TRACE --seeds N --steps S
+-- soak MODULE TRACE [--shapes FILE] --seeds N --steps S
 abbrev pub soak_app : App
-soak_app = with_rule (with_rule (files_app (codes "soak") (codes "TRACE")) (number_rule (codes "seeds"))) (number_rule (codes "steps"))
+soak_app = with_rule (with_rule (traced_app (codes "soak")) (number_rule (codes "seeds"))) (number_rule (codes "steps"))
 
 -- run MODULE CERT TRACE [--turns N] [--steps S]
 abbrev pub run_app : App
@@ -86,6 +97,10 @@ run_app = with_rule (with_rule (with_rule (files_app (codes "run") (codes "CERT"
 abbrev pub explain_app : App
 explain_app = with_rule (new_app (codes "explain")) (new_rule (codes "CODE"))
 
+-- migrate MODULE [CERT]
+abbrev pub migrate_app : App
+migrate_app = with_rule (module_app (codes "migrate")) (new_rule (codes "CERT"))
+
 -- a command that has a version, and needs a subcommand
 abbrev pub with_version_and_commands : App → App
 with_version_and_commands app = record app { top = record app.top { has_version = true; subcommand_required = true } }
@@ -93,8 +108,8 @@ with_version_and_commands app = record app { top = record app.top { has_version 
 -- the whole grammar
 abbrev pub dgc_app : App
 dgc_app =
-    with_subcommand (with_subcommand (with_subcommand (with_subcommand (with_subcommand (with_subcommand (with_subcommand (with_version_and_commands (new_app (codes "dgc"))) check_app.top)
-    make_app.top) recheck_app.top) replay_app.top) soak_app.top) run_app.top) explain_app.top
+    with_subcommand (with_subcommand (with_subcommand (with_subcommand (with_subcommand (with_subcommand (with_subcommand (with_subcommand (with_version_and_commands (new_app (codes "dgc"))) check_app.top)
+    make_app.top) recheck_app.top) replay_app.top) soak_app.top) run_app.top) explain_app.top) migrate_app.top
 
 -- the number that a text of decimal digits writes, where it is below 2 to the 32; a plus may come first
 abbrev pub number_in : Text → Option ℕ
@@ -120,6 +135,10 @@ abbrev pub paths_in : (second : Text) → List Row → Option (Text × Text)
 paths_in second given =
     option_and_then (λ module_path. option_map (λ path. (module_path, path)) (first_of second given)) (first_of (codes "MODULE") given)
 
+-- the path of the shapes, if it was given
+abbrev pub shapes_in : List Row → Option Text
+shapes_in given = first_of (codes "shapes") given
+
 -- how many workers were given, from 1 to 64
 abbrev pub workers_of : List Row → Option ℕ
 workers_of given = option_and_then (λ workers. if nat_lt 0 workers && nat_lt workers 65 then Some workers else None) (number_of (codes "workers") given)
@@ -131,7 +150,7 @@ check_of given =
 
 -- `make` with what was given to it, if that is a module
 abbrev pub make_of : List Row → Option Asked
-make_of given = option_map (λ module_path. make module_path (why_of given)) (first_of (codes "MODULE") given)
+make_of given = option_map (λ module_path. make module_path (shapes_in given) (why_of given)) (first_of (codes "MODULE") given)
 
 -- `recheck` with what was given to it, if that is a module, a certificate and edits
 abbrev pub recheck_of : List Row → Option Asked
@@ -140,12 +159,12 @@ recheck_of given =
 
 -- `replay` with what was given to it, if that is a module and a trace
 abbrev pub replay_of : List Row → Option Asked
-replay_of given = option_map (λ paths. replay paths.0 paths.1) (paths_in (codes "TRACE") given)
+replay_of given = option_map (λ paths. replay paths.0 paths.1 (shapes_in given)) (paths_in (codes "TRACE") given)
 
 -- `soak` with what was given to it, if that is a module, a trace and both numbers
 abbrev pub soak_of : List Row → Option Asked
 soak_of given =
-    option_and_then (λ paths. option_and_then (λ seeds. option_map (λ steps. soak paths.0 paths.1 seeds steps)
+    option_and_then (λ paths. option_and_then (λ seeds. option_map (λ steps. soak paths.0 paths.1 (shapes_in given) seeds steps)
     (number_of (codes "steps") given)) (number_of (codes "seeds") given)) (paths_in (codes "TRACE") given)
 
 -- `run` with what was given to it, if that is a module, a certificate, a trace and both limits
@@ -158,6 +177,10 @@ run_of given =
 abbrev pub explain_of : List Row → Asked
 explain_of given = explain (first_of (codes "CODE") given)
 
+-- `migrate` with what was given to it: a module, or a module and a certificate
+abbrev pub migrate_of : List Row → Option Asked
+migrate_of given = option_map (λ module_path. migrate module_path (first_of (codes "CERT") given)) (first_of (codes "MODULE") given)
+
 -- what a command's name with what was given to it asks for
 abbrev pub asked_of : Option (Text × List Row) → Option Asked
 asked_of None = None
@@ -169,6 +192,7 @@ asked_of (Some found) =
     else if bytes_eq found.0 (codes "soak") then soak_of found.1
     else if bytes_eq found.0 (codes "run") then run_of found.1
     else if bytes_eq found.0 (codes "explain") then Some (explain_of found.1)
+    else if bytes_eq found.0 (codes "migrate") then migrate_of found.1
     else None
 
 -- what the words of a command line ask for, the program's own name first

@@ -1,6 +1,6 @@
 //! What a command line asks for, and why it may ask for nothing.
-ghost use Rattle.std.specs.Prelude.{◌≡◌, map, IfOk};
-ghost use Rattle.command_line.specs.Asked.{asked_by, fault_of_error, paths_of};
+ghost use Rattle.std.specs.Prelude.{◌≡◌, ◌∷◌, map, option_map, IfOk};
+ghost use Rattle.command_line.specs.Asked.{asked_by, fault_of_error, path_if, paths_of};
 ghost use Rattle.command_line.specs.declared.asked.LineFault.TheVariants.{Memory};
 
 use clap::Error;
@@ -22,10 +22,11 @@ pub enum Why {
     NotWanted,
 }
 
-/// Make a certificate of a module.
+/// Make a certificate of a module, whose shapes stand in a file where it writes `ptr`.
 #[derive(Clone, Copy)]
 pub struct MakeLine<'a> {
     pub module_path: &'a str,
+    pub shapes_path: Option<&'a str>,
     pub why: Why,
 }
 
@@ -42,6 +43,7 @@ pub struct RecheckLine<'a> {
 pub struct ReplayLine<'a> {
     pub module_path: &'a str,
     pub trace_path: &'a str,
+    pub shapes_path: Option<&'a str>,
 }
 
 /// From the start of a trace of a module, make `steps` steps by the schedule of each of `seeds` seeds.
@@ -49,6 +51,7 @@ pub struct ReplayLine<'a> {
 pub struct SoakLine<'a> {
     pub module_path: &'a str,
     pub trace_path: &'a str,
+    pub shapes_path: Option<&'a str>,
     pub seeds: u32,
     pub steps: u32,
 }
@@ -70,6 +73,13 @@ pub struct ExplainLine<'a> {
     pub code: Option<&'a str>,
 }
 
+/// Turn a module into opaque text, or a certificate of it into one of the opaque text.
+#[derive(Clone, Copy)]
+pub struct MigrateLine<'a> {
+    pub module_path: &'a str,
+    pub certificate_path: Option<&'a str>,
+}
+
 /// A command with the paths of its files and its options.
 #[derive(Clone, Copy)]
 pub enum Line<'a> {
@@ -80,6 +90,7 @@ pub enum Line<'a> {
     Soak(SoakLine<'a>),
     Run(RunLine<'a>),
     Explain(ExplainLine<'a>),
+    Migrate(MigrateLine<'a>),
 }
 
 /// Why a command line asks for nothing.
@@ -113,23 +124,69 @@ impl From<AllocError> for LineFault {
     }
 }
 
+/// The paths of a module and of another file, if the latter is given.
+fn paths_with<'a>(
+    alloc: Global,
+    module_path: &'a str,
+    second_path: Option<&'a str>,
+) -> Result<Vec<&'a str>, AllocError>
+    ensures { IfOk result (λ paths. map (λ path. path.now) paths.items ≡ module_path.now ∷ path_if (option_map (λ path. path.now) second_path.entry)) }
+{
+    let paths = match second_path {
+        Some(second_path) => vec![in alloc; module_path, second_path]?,
+        None => vec![in alloc; module_path]?,
+    };
+    Ok(paths)
+}
+
+/// The paths of a module, of a trace and of the module's shapes, if the last is given.
+fn traced_paths<'a>(
+    alloc: Global,
+    module_path: &'a str,
+    trace_path: &'a str,
+    shapes_path: Option<&'a str>,
+) -> Result<Vec<&'a str>, AllocError>
+    ensures { IfOk result (λ paths. map (λ path. path.now) paths.items ≡ module_path.now ∷ trace_path.now ∷ path_if (option_map (λ path. path.now) shapes_path.entry)) }
+{
+    let paths = match shapes_path {
+        Some(shapes_path) => vec![in alloc; module_path, trace_path, shapes_path]?,
+        None => vec![in alloc; module_path, trace_path]?,
+    };
+    Ok(paths)
+}
+
 impl<'a> Line<'a> {
-    /// The paths of the command's files, in the line's order.
+    /// The paths of the command's files, in the line's order, that of an option last.
     pub fn paths(&self, alloc: Global) -> Result<Vec<&'a str>, AllocError>
         ensures { IfOk result (λ paths. map (λ path. path.now) paths.items ≡ paths_of (asked_by self.now)) }
     {
         let paths = match *self {
             Line::Check(asked) => vec![in alloc; asked.module_path, asked.certificate_path]?,
-            Line::Make(asked) => vec![in alloc; asked.module_path]?,
+            Line::Make(asked) => paths_with(alloc, asked.module_path, asked.shapes_path)?,
             Line::Recheck(asked) => {
                 vec![in alloc; asked.module_path, asked.certificate_path, asked.edits_path]?
             }
-            Line::Replay(asked) => vec![in alloc; asked.module_path, asked.trace_path]?,
-            Line::Soak(asked) => vec![in alloc; asked.module_path, asked.trace_path]?,
+            Line::Replay(asked) => {
+                traced_paths(
+                    alloc,
+                    asked.module_path,
+                    asked.trace_path,
+                    asked.shapes_path,
+                )?
+            }
+            Line::Soak(asked) => {
+                traced_paths(
+                    alloc,
+                    asked.module_path,
+                    asked.trace_path,
+                    asked.shapes_path,
+                )?
+            }
             Line::Run(asked) => {
                 vec![in alloc; asked.module_path, asked.certificate_path, asked.trace_path]?
             }
             Line::Explain(_) => Vec::new(alloc),
+            Line::Migrate(asked) => paths_with(alloc, asked.module_path, asked.certificate_path)?,
         };
         Ok(paths)
     }

@@ -12,7 +12,10 @@ pub(crate) struct CommandHelp {
 }
 
 pub(crate) const MODULE: &str =
-    "A module: textual LLVM IR with typed pointers, gcroot and the shadow stack (docs/TEXT.md)";
+    "A module: textual LLVM IR with gcroot and the shadow stack (docs/TEXT.md)";
+
+pub(crate) const SHAPES: &str =
+    "The shapes of a module that writes `ptr`: what its pointers refer to (docs/CERTIFICATES.md)";
 
 pub(crate) const WORKERS: &str =
     "How many threads check functions, from 1 to 64; the answer is the same";
@@ -61,7 +64,8 @@ that were tried is accepted. With --why the line that `dgc check` prints for the
 them goes to standard error, as `no @f %b I Kn`.
 
 Of a text that is not read, one line goes to standard error, as `error L4 23:13` (a line
-and a column).
+and a column) or `error C6 @g`. A module that writes `ptr` needs its shapes: without --shapes
+that line is `error Y5`.
 
 Exit status:
   0  a certificate was made
@@ -101,7 +105,8 @@ which the run is broken, who made it, and why, as `broken 32 t 0 touch-blue 1`. 
 `sound 35`, a line for each thread, and a line with the counts. docs/TRACES.md has each line.
 
 Of a text that is not read, one line goes to standard error, as `error L4 23:13` (a line
-and a column).
+and a column) or `error C6 @g`. A module that writes `ptr` needs its shapes: without --shapes
+that line is `error Y5`.
 
 Exit status:
   0  sound
@@ -121,7 +126,8 @@ made that step, and why, as `broken seed 103 221 c reach-blue 3`. N and S are de
 numbers from 0 to 4294967295.
 
 Of a text that is not read, one line goes to standard error, as `error L4 23:13` (a line
-and a column).
+and a column) or `error C6 @g`. A module that writes `ptr` needs its shapes: without --shapes
+that line is `error Y5`.
 
 Exit status:
   0  sound
@@ -164,14 +170,35 @@ Exit status:
   0  the code was explained, or the codes were listed
   4  no code is named so, the command line is refused, or a write failed";
 
+pub(crate) const MIGRATED: &str = "A certificate of the module; without it the module is printed";
+
+pub(crate) const MIGRATE_ABOUT: &str =
+    "Turns a module with typed pointers, or its certificate, into opaque text";
+
+pub(crate) const MIGRATE_AFTER: &str = "\
+Without CERT prints the module with `ptr` for each typed pointer, and with the global for each
+bitcast of one. With CERT prints the certificate of that text: what the types said stands in
+it as shapes and as `ref L` of parameters and results. Files without a typed pointer are
+printed as they are. docs/MIGRATION.md says what is kept, and what may be lost.
+
+Of a text that is not read, one line goes to standard error, as `error L4 23:13` (a line
+and a column) or `error C5 @f`. So it does where a word or a root slot is a pointer to no
+named struct, as `error C6 Node 1`.
+
+Exit status:
+  0  the text is printed
+  2  a text is not read, or a pointer has no shape
+  3  memory was refused
+  4  the command line is refused, a file cannot be read, or a write failed";
+
 pub(crate) const DGC_ABOUT: &str = "\
 Checks code that compilers emit against a concurrent mark-and-sweep garbage collector.
 Also runs that code beside the collector, one atomic step at a time or on real threads.";
 
 pub(crate) const DGC_AFTER: &str = "\
 Exit status:
-  0  yes or sound, a certificate was made, the threads were run, a code was explained, or help
-     or the version was asked for
+  0  yes or sound, a certificate was made, the threads were run, a code was explained, a text
+     was migrated, or help or the version was asked for
   1  no, no answer, or broken
   2  a text is not read, the module has no layouts, or a thread may not begin
   3  memory was refused

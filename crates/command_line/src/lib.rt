@@ -6,7 +6,7 @@ mod help;
 mod reader;
 
 pub use asked::{
-    CheckLine, ExplainLine, Line, LineFault, MakeLine, RecheckLine, ReplayLine, RunLine, SoakLine,
-    Why,
+    CheckLine, ExplainLine, Line, LineFault, MakeLine, MigrateLine, RecheckLine, ReplayLine,
+    RunLine, SoakLine, Why,
 };
 pub use reader::line;

@@ -3,16 +3,16 @@ ghost use Rattle.std.specs.Prelude.{◌≡◌, IfOk, IfErr, IsOk, [], map, optio
 ghost use Rattle.clap.specs.Words.{app_of, fault_of, first_of, found_of, new_app, new_rule, rows_of, rule_of, with_rule};
 ghost use Rattle.clap.specs.declared.builder.command.Command.TheViews.{out-Command};
 ghost use Rattle.command_line.specs.Asked.{asked_by, HasWorkers};
-ghost use Rattle.command_line.specs.Grammar.{asked_in, asked_of, check_app, check_of, dgc_app, explain_app, explain_of, file_rule, files_app, flag_of, flag_rule, IsRefusalOf, limit_rule, make_app, make_of, module_app, number_of, number_rule, paths_in, recheck_app, recheck_of, replay_of, run_app, run_of, soak_app, soak_of, why_of, with_version_and_commands, workers_of, workers_rule};
+ghost use Rattle.command_line.specs.Grammar.{asked_in, asked_of, check_app, check_of, dgc_app, explain_app, explain_of, file_rule, files_app, flag_of, flag_rule, IsRefusalOf, limit_rule, make_app, make_of, migrate_app, migrate_of, module_app, number_of, number_rule, paths_in, recheck_app, recheck_of, replay_of, run_app, run_of, shapes_rule, soak_app, soak_of, traced_app, why_of, with_version_and_commands, workers_of, workers_rule};
 
 use crate::asked::{
-    CheckLine, ExplainLine, Line, LineFault, MakeLine, RecheckLine, ReplayLine, RunLine, SoakLine,
-    Why,
+    CheckLine, ExplainLine, Line, LineFault, MakeLine, MigrateLine, RecheckLine, ReplayLine,
+    RunLine, SoakLine, Why,
 };
 use crate::help::{
     CHECK, CODE, CommandHelp, DGC_ABOUT, DGC_AFTER, EDITS, EXPLAIN_ABOUT, EXPLAIN_AFTER,
-    MAKE_ABOUT, MAKE_AFTER, MODULE, RECHECK, REPLAY, RUN, RUN_STEPS, RUN_TRACE, SEEDS, SOAK, STEPS,
-    TURNS, WHY, WORKERS,
+    MAKE_ABOUT, MAKE_AFTER, MIGRATE_ABOUT, MIGRATE_AFTER, MIGRATED, MODULE, RECHECK, REPLAY, RUN,
+    RUN_STEPS, RUN_TRACE, SEEDS, SHAPES, SOAK, STEPS, TURNS, WHY, WORKERS,
 };
 use clap::{Arg, ArgAction, ArgMatches, Command, value_parser};
 use std::alloc::{AllocError, Global};
@@ -83,6 +83,17 @@ fn flag<'a>(alloc: Global, name: &'a str, help: &'a str) -> Arg<'a>
         .help(help)
 }
 
+/// The path of the shapes, which may be given.
+fn shapes<'a>(alloc: Global) -> Arg<'a>
+    ensures rule { rule_of result ≡ shapes_rule }
+    ensures own { result.global ≡ false }
+{
+    Arg::new(alloc, "shapes")
+        .long("shapes")
+        .value_name("FILE")
+        .help(SHAPES)
+}
+
 /// A command of this name, with the texts that its help begins and ends with.
 fn told_command<'a>(alloc: Global, name: &'a str, about: &'a str, after: &'a str) -> Command<'a>
     ensures app { app_of result ≡ new_app name.entry.now }
@@ -117,6 +128,18 @@ fn files_command<'a>(
     module_command(alloc, name, help.about, help.after)?.arg(file(alloc, second, help.second))
 }
 
+/// A command of this name on a module and a trace, and on shapes if they are given.
+fn traced_command<'a>(
+    alloc: Global,
+    name: &'a str,
+    help: CommandHelp,
+) -> Result<Command<'a>, AllocError>
+    ensures app { IfOk result (λ command. app_of command ≡ traced_app name.entry.now) }
+    ensures own { IfOk result (λ command. (out-Command command).has_globals ≡ false) }
+{
+    files_command(alloc, name, "TRACE", help)?.arg(shapes(alloc))
+}
+
 fn check_command<'a>(alloc: Global) -> Result<Command<'a>, AllocError>
     ensures app { IfOk result (λ command. app_of command ≡ check_app) }
     ensures own { IfOk result (λ command. (out-Command command).has_globals ≡ false) }
@@ -128,7 +151,9 @@ fn make_command<'a>(alloc: Global) -> Result<Command<'a>, AllocError>
     ensures app { IfOk result (λ command. app_of command ≡ make_app) }
     ensures own { IfOk result (λ command. (out-Command command).has_globals ≡ false) }
 {
-    module_command(alloc, "make", MAKE_ABOUT, MAKE_AFTER)?.arg(flag(alloc, "why", WHY))
+    module_command(alloc, "make", MAKE_ABOUT, MAKE_AFTER)?
+        .arg(shapes(alloc))?
+        .arg(flag(alloc, "why", WHY))
 }
 
 fn recheck_command<'a>(alloc: Global) -> Result<Command<'a>, AllocError>
@@ -142,7 +167,7 @@ fn soak_command<'a>(alloc: Global) -> Result<Command<'a>, AllocError>
     ensures app { IfOk result (λ command. app_of command ≡ soak_app) }
     ensures own { IfOk result (λ command. (out-Command command).has_globals ≡ false) }
 {
-    files_command(alloc, "soak", "TRACE", SOAK)?
+    traced_command(alloc, "soak", SOAK)?
         .arg(number(alloc, "seeds", "N", SEEDS))?
         .arg(number(alloc, "steps", "S", STEPS))
 }
@@ -173,6 +198,16 @@ fn explain_command<'a>(alloc: Global) -> Result<Command<'a>, AllocError>
     ))
 }
 
+/// `migrate` with its files, the second of which may be given.
+fn migrate_command<'a>(alloc: Global) -> Result<Command<'a>, AllocError>
+    ensures app { IfOk result (λ command. app_of command ≡ migrate_app) }
+    ensures own { IfOk result (λ command. (out-Command command).has_globals ≡ false) }
+{
+    module_command(alloc, "migrate", MIGRATE_ABOUT, MIGRATE_AFTER)?.arg(may_be_given(
+        alloc, "CERT", MIGRATED,
+    ))
+}
+
 /// The program's own line, without its commands.
 fn bare_command<'a>(alloc: Global) -> Command<'a>
     ensures app { app_of result ≡ with_version_and_commands (new_app (codes "dgc")) }
@@ -199,7 +234,7 @@ fn dgc_command<'a>(alloc: Global) -> Result<Command<'a>, AllocError>
         return Err(AllocError);
     };
     let command = command.subcommand(recheck)?;
-    let Ok(replay) = files_command(alloc, "replay", "TRACE", REPLAY) else {
+    let Ok(replay) = traced_command(alloc, "replay", REPLAY) else {
         drop(command);
         return Err(AllocError);
     };
@@ -218,7 +253,12 @@ fn dgc_command<'a>(alloc: Global) -> Result<Command<'a>, AllocError>
         drop(command);
         return Err(AllocError);
     };
-    command.subcommand(explain)
+    let command = command.subcommand(explain)?;
+    let Ok(migrate) = migrate_command(alloc) else {
+        drop(command);
+        return Err(AllocError);
+    };
+    command.subcommand(migrate)
 }
 
 /// The text that was given under this name.
@@ -299,8 +339,13 @@ fn make_line<'a>(given: &ArgMatches<'a>) -> Option<Line<'a>>
     ensures { option_map asked_by result ≡ make_of (rows_of (found_of given.now)) }
 {
     let module_path = text_given(given, "MODULE")?;
+    let shapes_path = text_given(given, "shapes");
     let why = why_given(given);
-    Some(Line::Make(MakeLine { module_path, why }))
+    Some(Line::Make(MakeLine {
+        module_path,
+        shapes_path,
+        why,
+    }))
 }
 
 /// The line of `recheck`, from what was given to it.
@@ -321,9 +366,11 @@ fn replay_line<'a>(given: &ArgMatches<'a>) -> Option<Line<'a>>
     ensures { option_map asked_by result ≡ replay_of (rows_of (found_of given.now)) }
 {
     let (module_path, trace_path) = paths_given(given, "TRACE")?;
+    let shapes_path = text_given(given, "shapes");
     Some(Line::Replay(ReplayLine {
         module_path,
         trace_path,
+        shapes_path,
     }))
 }
 
@@ -332,11 +379,13 @@ fn soak_line<'a>(given: &ArgMatches<'a>) -> Option<Line<'a>>
     ensures { option_map asked_by result ≡ soak_of (rows_of (found_of given.now)) }
 {
     let (module_path, trace_path) = paths_given(given, "TRACE")?;
+    let shapes_path = text_given(given, "shapes");
     let seeds = number_given(given, "seeds")?;
     let steps = number_given(given, "steps")?;
     Some(Line::Soak(SoakLine {
         module_path,
         trace_path,
+        shapes_path,
         seeds,
         steps,
     }))
@@ -368,6 +417,18 @@ fn explain_line<'a>(given: &ArgMatches<'a>) -> Line<'a>
     })
 }
 
+/// The line of `migrate`, from what was given to it.
+fn migrate_line<'a>(given: &ArgMatches<'a>) -> Option<Line<'a>>
+    ensures { option_map asked_by result ≡ migrate_of (rows_of (found_of given.now)) }
+{
+    let module_path = text_given(given, "MODULE")?;
+    let certificate_path = text_given(given, "CERT");
+    Some(Line::Migrate(MigrateLine {
+        module_path,
+        certificate_path,
+    }))
+}
+
 /// The line of a command with what was given to it.
 fn line_of<'a>(name: &str, given: &ArgMatches<'a>) -> Option<Line<'a>>
     ensures { option_map asked_by result ≡ asked_of (Some (name.now, rows_of (found_of given.now))) }
@@ -380,6 +441,7 @@ fn line_of<'a>(name: &str, given: &ArgMatches<'a>) -> Option<Line<'a>>
         "soak" => soak_line(given),
         "run" => run_line(given),
         "explain" => Some(explain_line(given)),
+        "migrate" => migrate_line(given),
         _ => None,
     }
 }

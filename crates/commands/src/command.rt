@@ -7,6 +7,7 @@ ghost use Rattle.reports.specs.Files as spec;
 
 use check_commands::{check_files, explain_code, make_file};
 use command_line::Line;
+use migrate_command::migrate_files;
 use recheck_command::recheck_files;
 use run_commands::{replay_files, run_files, soak_files};
 use std::alloc::Global;
@@ -35,5 +36,6 @@ pub fn work<O: Write, E: Write>(
         Line::Soak(asked) => soak_files(rt, alloc, asked, files, out, err),
         Line::Run(asked) => run_files(rt, alloc, asked, files, out, err),
         Line::Explain(asked) => explain_code(asked, out, err),
+        Line::Migrate(asked) => migrate_files(alloc, asked, files, out, err),
     }
 }

@@ -5,8 +5,8 @@ mod command;
 
 pub use command::work;
 pub use command_line::{
-    CheckLine, ExplainLine, Line, LineFault, MakeLine, RecheckLine, ReplayLine, RunLine, SoakLine,
-    Why, line,
+    CheckLine, ExplainLine, Line, LineFault, MakeLine, MigrateLine, RecheckLine, ReplayLine,
+    RunLine, SoakLine, Why, line,
 };
 pub use reports::{
     STATUS_MEMORY, STATUS_NO, STATUS_UNREADABLE, STATUS_USAGE, STATUS_YES, memory, no_layouts,

@@ -15,9 +15,9 @@ abbrev pub all_codes : List Code
 all_codes =
     code.K1 ∷ code.K2 ∷ code.K3 ∷ code.K4 ∷ code.K5 ∷ code.K6 ∷ code.K7 ∷ code.K8 ∷ code.K9 ∷ code.K10 ∷
     code.K11 ∷ code.K12 ∷ code.K13 ∷ code.K14 ∷ code.K15 ∷ code.K16 ∷ code.K17 ∷ code.K18 ∷ code.K19 ∷ code.K20 ∷
-    code.L1 ∷ code.L2 ∷ code.L3 ∷ code.L4 ∷ code.L5 ∷ code.L6 ∷ code.L7 ∷ code.L8 ∷ code.L9 ∷
-    code.C1 ∷ code.C2 ∷ code.C3 ∷ code.C4 ∷ code.C5 ∷
-    code.Y1 ∷ code.Y2 ∷ code.Y3 ∷ code.Y4 ∷
+    code.L1 ∷ code.L2 ∷ code.L3 ∷ code.L4 ∷ code.L5 ∷ code.L6 ∷ code.L7 ∷ code.L8 ∷ code.L9 ∷ code.L10 ∷
+    code.C1 ∷ code.C2 ∷ code.C3 ∷ code.C4 ∷ code.C5 ∷ code.C6 ∷
+    code.Y1 ∷ code.Y2 ∷ code.Y3 ∷ code.Y4 ∷ code.Y5 ∷
     code.P1 ∷ code.P2 ∷ code.P3 ∷
     []
 
@@ -52,15 +52,18 @@ name_of code.L6 = codes "L6"
 name_of code.L7 = codes "L7"
 name_of code.L8 = codes "L8"
 name_of code.L9 = codes "L9"
+name_of code.L10 = codes "L10"
 name_of code.C1 = codes "C1"
 name_of code.C2 = codes "C2"
 name_of code.C3 = codes "C3"
 name_of code.C4 = codes "C4"
 name_of code.C5 = codes "C5"
+name_of code.C6 = codes "C6"
 name_of code.Y1 = codes "Y1"
 name_of code.Y2 = codes "Y2"
 name_of code.Y3 = codes "Y3"
 name_of code.Y4 = codes "Y4"
+name_of code.Y5 = codes "Y5"
 name_of code.P1 = codes "P1"
 name_of code.P2 = codes "P2"
 name_of code.P3 = codes "P3"
@@ -96,15 +99,18 @@ text_of code.L6 = of_module.L6.now
 text_of code.L7 = of_module.L7.now
 text_of code.L8 = of_module.L8.now
 text_of code.L9 = of_module.L9.now
+text_of code.L10 = of_module.L10.now
 text_of code.C1 = of_certificate.C1.now
 text_of code.C2 = of_certificate.C2.now
 text_of code.C3 = of_certificate.C3.now
 text_of code.C4 = of_certificate.C4.now
 text_of code.C5 = of_certificate.C5.now
+text_of code.C6 = of_certificate.C6.now
 text_of code.Y1 = of_layout.Y1.now
 text_of code.Y2 = of_layout.Y2.now
 text_of code.Y3 = of_layout.Y3.now
 text_of code.Y4 = of_layout.Y4.now
+text_of code.Y5 = of_layout.Y5.now
 text_of code.P1 = of_trace.P1.now
 text_of code.P2 = of_trace.P2.now
 text_of code.P3 = of_trace.P3.now

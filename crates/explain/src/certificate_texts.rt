@@ -1,4 +1,4 @@
-//! What is told of the codes C1 to C5. Made by bench/rules.py from crates/explain/codes: do not edit it.
+//! What is told of the codes C1 to C6. Made by bench/rules.py from crates/explain/codes: do not edit it.
 
 pub(crate) const C1: &str = "\
 C1  A certificate has the form of docs/CERTIFICATES.md, and each fact fits the
@@ -11,19 +11,20 @@ tab parts no words. The one fault of a text of edits is C1 too.
 Why: A claim is taken as it stands. One that is misread would be checked for
 what its author did not claim.
 
-Refused: `dgc check` prints `error C1 4:19`.
+Refused: `dgc check` prints `error C1 5:19`.
 
-    %Node = type { i64, %Node* }
-    declare i8* @dg_alloc(i32)
+    %Node = type { i64, ptr }
+    declare ptr @dg_alloc(i32)
     define void @new() gc \"shadow-stack\" {
     entry:
-      %a = call i8* @dg_alloc(i32 0)
+      %a = call ptr @dg_alloc(i32 0)
       br label %next
     next:
       ret void
     }
 
-    cert 1
+    cert 2
+    layout Node 1 ref Node
     function @new none
     block %next
     %a ref Node fresh nonnull
@@ -31,7 +32,8 @@ Refused: `dgc check` prints `error C1 4:19`.
 
 Accepted, with the same module: `dgc check` prints `yes 1`.
 
-    cert 1
+    cert 2
+    layout Node 1 ref Node
     function @new none
     block %next
     %a ref Node fresh
@@ -41,9 +43,10 @@ See also: docs/CERTIFICATES.md, docs/EDITS.md
 ";
 
 pub(crate) const C2: &str = "\
-C2  The first line of a certificate says the version of its format.
+C2  A certificate begins with `cert 1` where the module has typed pointers, and
+    with `cert 2` where it has `ptr`.
 
-The place is that of the number.
+A module without pointers goes with either. The place is that of the number.
 
 Why: Another version may give the same words another meaning.
 
@@ -68,7 +71,7 @@ Accepted, with the same module: `dgc check` prints `yes 1`.
     block %out
     end
 
-See also: docs/CERTIFICATES.md
+See also: C6 (what `cert 2` has besides), docs/CERTIFICATES.md
 ";
 
 pub(crate) const C3: &str = "\
@@ -169,4 +172,42 @@ Accepted, with the same module: `dgc check` prints `yes 1`.
     end
 
 See also: K15 (claims on edges), docs/CERTIFICATES.md
+";
+
+pub(crate) const C6: &str = "\
+C6  The shapes name the layout of each `ptr` word, each `ptr` global and each
+    root slot.
+
+They stand behind the line `cert 2`, or in a file that begins with `shapes 1`.
+The struct with the number of the word is printed, or the global, or the
+function with the slot. The first that is missing is named: words first, then
+globals, then slots. It is looked for only in a text without a fault of C1 to
+C4. A module without shapes is Y5.
+
+Why: The collector follows each reference to a cell of one layout, and the type
+`ptr` tells none.
+
+Refused: `dgc check` prints `error C6 @g`.
+
+    %Node = type { i64, ptr }
+    @g = global ptr null
+    define void @idle() {
+    entry:
+      ret void
+    }
+
+    cert 2
+    layout Node 1 ref Node
+    function @idle none
+    end
+
+Accepted, with the same module: `dgc check` prints `yes 1`.
+
+    cert 2
+    layout Node 1 ref Node
+    global @g ref Node
+    function @idle none
+    end
+
+See also: C2 (which version), Y5 (no shapes at all), docs/CERTIFICATES.md
 ";

@@ -1,4 +1,4 @@
-//! What is told of the codes Y1 to Y4. Made by bench/rules.py from crates/explain/codes: do not edit it.
+//! What is told of the codes Y1 to Y5. Made by bench/rules.py from crates/explain/codes: do not edit it.
 
 pub(crate) const Y1: &str = "\
 Y1  No struct holds itself by value.
@@ -20,13 +20,18 @@ Refused: `dgc check` prints `error Y1 List`.
     function @idle none
     end
 
-Accepted, with the same certificate: `dgc check` prints `yes 1`.
+Accepted: `dgc check` prints `yes 1`.
 
-    %List = type { i64, %List* }
+    %List = type { i64, ptr }
     define void @idle() {
     entry:
       ret void
     }
+
+    cert 2
+    layout List 1 ref List
+    function @idle none
+    end
 
 See also: Y2 (how many words)
 ";
@@ -65,6 +70,8 @@ See also: Y1 (structs that hold themselves), docs/TEXT.md
 
 pub(crate) const Y3: &str = "\
 Y3  Each word of a struct is an integer, or points to a named struct.
+
+A word of type `ptr` refers to what the shapes name (C6).
 
 Why: The collector follows each reference to a cell of one layout. A pointer to
 an integer, or into the middle of a cell, tells it none.
@@ -128,4 +135,40 @@ Accepted, with the same module: `dgc replay` begins with `sound 1`.
     end
 
 See also: P3 (steps), docs/TRACES.md
+";
+
+pub(crate) const Y5: &str = "\
+Y5  A module whose pointers are `ptr` is laid out with shapes.
+
+`dgc make`, `replay` and `soak` have no certificate with shapes, so `--shapes
+FILE` names a file of them. It begins with `shapes 1`, and then has the lines of
+a certificate `cert 2` in front of its functions.
+
+Why: A word of a cell is an integer or a reference of one layout, and the type
+`ptr` does not tell which layout.
+
+Refused: `dgc replay` prints `error Y5`.
+
+    %Node = type { i64, ptr }
+    @g = global ptr null
+    define void @idle() {
+    entry:
+      ret void
+    }
+
+    trace 1
+    pool Node 4
+    start @idle
+    steps
+    t 0 1
+    end
+
+Accepted, with the same module and trace: `dgc replay --shapes` begins with
+`sound 1`.
+
+    shapes 1
+    layout Node 1 ref Node
+    global @g ref Node
+
+See also: C6 (a shape that is missing), docs/CERTIFICATES.md
 ";

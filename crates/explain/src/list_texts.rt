@@ -36,6 +36,7 @@ Faults of a module's text:
   L7   a form of LLVM that is not read; its word is printed
   L8   past a limit of the text
   L9   a number in place of a name that is not the next one
+  L10  a text has pointers of both kinds, `ptr` and `T*`
 
 Faults of a certificate's text:
   C1   the form of the text, or a fact that does not fit the value's type
@@ -43,12 +44,14 @@ Faults of a certificate's text:
   C3   a name that is not there, or a slot that is no root slot
   C4   listed twice
   C5   a function or a block without a section
+  C6   a word, a global or a root slot of type `ptr` without its layout
 
 Faults of layouts and pools:
   Y1   a struct holds itself by value
   Y2   a struct has more than 64 words
   Y3   a word of a struct points to no named struct
   Y4   a trace's cells are past the limit
+  Y5   a module with `ptr` without shapes
 
 Faults of a trace's text:
   P1   a word of a trace with which no form goes on

@@ -1,20 +1,20 @@
-//! What is told of the codes L1 to L9. Made by bench/rules.py from crates/explain/codes: do not edit it.
+//! What is told of the codes L1 to L10. Made by bench/rules.py from crates/explain/codes: do not edit it.
 
 pub(crate) const L1: &str = "\
 L1  Each byte of a module's text belongs to a token, or parts tokens.
 
 The place is the first byte of what is no token. A text in quotes that does not
-end is named at its beginning. In the example a debug record of LLVM 19 begins
-with `#`. Text without debug information has none of them.
+end is named at its beginning. In the example a comment begins with `#`. One of
+LLVM begins with `;`.
 
 Why: What is checked is the module that the whole text says. Bytes that were
 passed over could mean something to another reader.
 
-Refused: `dgc check` prints `error L1 3:5`.
+Refused: `dgc check` prints `error L1 3:3`.
 
     define i64 @same(i64 %n) {
     entry:
-        #dbg_value(i64 %n, !4, !DIExpression(), !9)
+      # the same number
       ret i64 %n
     }
 
@@ -63,8 +63,8 @@ pub(crate) const L3: &str = "\
 L3  Each token goes on with a form of the text.
 
 A type that is mentioned a second time has to be the same one: `load T, T* V`. A
-phi comes before the other instructions of its block. A flag of a newer LLVM, as
-in `trunc nuw`, is L3 too.
+phi comes before the other instructions of its block. A flag stands after the
+words that LLVM gives it to: `nneg` after `zext`, and not after `sext`.
 
 Why: A form that is guessed could have another meaning in LLVM, and then other
 code would run than was checked.
@@ -194,9 +194,7 @@ pub(crate) const L7: &str = "\
 L7  Only the forms of docs/TEXT.md are read.
 
 The word at which the form begins is printed after the place. docs/TEXT.md lists
-these forms. Clang 14 and older write typed pointers, and clang 15 does with
-`-Xclang -no-opaque-pointers`. In the example a shift by a constant is written
-as a product.
+these forms. In the example a shift by a constant is written as a product.
 
 Why: The rules and the safety theorem speak of the forms that are read. Of
 another one nothing is proved.
@@ -279,4 +277,40 @@ Accepted, with the same certificate: `dgc check` prints `yes 1`.
     }
 
 See also: docs/TEXT.md (\"Values and blocks without names\")
+";
+
+pub(crate) const L10: &str = "\
+L10  A module's text has `ptr` for all of its pointers, or for none.
+
+The place is the first token of the first pointer type of the second kind. The
+declarations of the runtime's functions count too: with `ptr` they have `ptr`
+for every pointer.
+
+Why: What a `ptr` refers to stands in the certificate, and what a `T*` refers to
+stands in the text itself. In a text with both, two places would have to be
+looked at.
+
+Refused: `dgc check` prints `error L10 2:9`.
+
+    %Node = type { i64, %Node* }
+    declare ptr @dg_alloc(i32)
+    define void @idle() {
+    entry:
+      ret void
+    }
+
+    cert 1
+    function @idle none
+    end
+
+Accepted, with the same certificate: `dgc check` prints `yes 1`.
+
+    %Node = type { i64, %Node* }
+    declare i8* @dg_alloc(i32)
+    define void @idle() {
+    entry:
+      ret void
+    }
+
+See also: Y5 and C6 (what a `ptr` refers to), docs/TEXT.md
 ";

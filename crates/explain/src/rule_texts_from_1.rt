@@ -6,7 +6,8 @@ K1  Each operand is available where it is used.
 A value is known to be a number, a reference, or the address of words of a cell
 to which an available reference leads. In a block that is entered from others it
 is known by the claims of the certificate at that block. Slots, globals and
-constants are available everywhere.
+constants are available everywhere. A parameter or a result of type `ptr` is a
+reference where the certificate says of which layout (`ref L`).
 
 Why: Otherwise a register could be used that was never set on the way taken, or
 that two edges into the block set to different kinds of values.
@@ -40,10 +41,10 @@ pub(crate) const K2: &str = "\
 K2  Each operand has its written type, and fits.
 
 A number is one of its bits. A reference goes where its layout fits. A load or a
-store has the type of each word at which it may be. An address is allowed only
-as the place of a load, a store, gcread or gcwrite, or as the operand of
-getelementptr or bitcast. A global is the address of its word, so its value has
-to be loaded.
+store has the type of each word at which it may be; under `ptr` these words are
+references of one layout. An address is allowed only as the place of a load, a
+store, gcread or gcwrite, or as the operand of getelementptr or bitcast. A
+global is the address of its word, so its value has to be loaded.
 
 Why: What the collector follows as a reference has to be one, and a cell's words
 have to be those of its layout. An address is no reference that could be kept:
@@ -51,26 +52,28 @@ neither a slot nor a word could hold it.
 
 Refused: `dgc check` prints `no @empty %entry 0 K2`.
 
-    %Node = type { i64, %Node* }
-    @g = global %Node* null
+    %Node = type { i64, ptr }
+    @g = global ptr null
     define i1 @empty() {
     entry:
-      %c = icmp eq %Node** @g, null
+      %c = icmp eq ptr @g, null
       ret i1 %c
     }
 
-    cert 1
+    cert 2
+    layout Node 1 ref Node
+    global @g ref Node
     function @empty none
     end
 
 Accepted, with the same certificate: `dgc check` prints `yes 1`.
 
-    %Node = type { i64, %Node* }
-    @g = global %Node* null
+    %Node = type { i64, ptr }
+    @g = global ptr null
     define i1 @empty() gc \"shadow-stack\" {
     entry:
-      %x = load %Node*, %Node** @g
-      %c = icmp eq %Node* %x, null
+      %x = load ptr, ptr @g
+      %c = icmp eq ptr %x, null
       ret i1 %c
     }
 
@@ -89,38 +92,45 @@ slots, and no register.
 
 Refused: `dgc check` prints `no @read %entry 1 K3`.
 
-    %Node = type { i64, %Node* }
+    %Node = type { i64, ptr }
     declare void @dg_safepoint()
-    define i64 @read(%Node* %n) gc \"shadow-stack\" {
+    define i64 @read(ptr %n) gc \"shadow-stack\" {
     entry:
       call void @dg_safepoint()
-      %p = getelementptr %Node, %Node* %n, i32 0, i32 0
-      %v = load i64, i64* %p
+      %p = getelementptr %Node, ptr %n, i32 0, i32 0
+      %v = load i64, ptr %p
       ret i64 %v
     }
 
-    cert 1
+    cert 2
+    layout Node 1 ref Node
     function @read may
-    param %n nonnull
+    param %n ref Node nonnull
     end
 
-Accepted, with the same certificate: `dgc check` prints `yes 1`.
+Accepted: `dgc check` prints `yes 1`.
 
-    %Node = type { i64, %Node* }
+    %Node = type { i64, ptr }
     declare void @dg_safepoint()
-    declare void @llvm.gcroot(i8**, i8*)
-    define i64 @read(%Node* %n) gc \"shadow-stack\" {
+    declare void @llvm.gcroot(ptr, ptr)
+    define i64 @read(ptr %n) gc \"shadow-stack\" {
     entry:
-      %s = alloca %Node*
-      %r = bitcast %Node** %s to i8**
-      call void @llvm.gcroot(i8** %r, i8* null)
-      store %Node* %n, %Node** %s
+      %s = alloca ptr
+      call void @llvm.gcroot(ptr %s, ptr null)
+      store ptr %n, ptr %s
       call void @dg_safepoint()
-      %m = load %Node*, %Node** %s
-      %p = getelementptr %Node, %Node* %m, i32 0, i32 0
-      %v = load i64, i64* %p
+      %m = load ptr, ptr %s
+      %p = getelementptr %Node, ptr %m, i32 0, i32 0
+      %v = load i64, ptr %p
       ret i64 %v
     }
+
+    cert 2
+    layout Node 1 ref Node
+    root @read %s ref Node
+    function @read may
+    param %n ref Node nonnull
+    end
 
 See also: K8 (root slots), K17 (which calls reach a safepoint),
 docs/WALKTHROUGH.md
@@ -137,35 +147,41 @@ each word of a new cell is null.
 
 Refused: `dgc check` prints `no @second %entry 1 K4`.
 
-    %Node = type { i64, %Node* }
-    define %Node* @second(%Node* %n) gc \"shadow-stack\" {
+    %Node = type { i64, ptr }
+    define ptr @second(ptr %n) gc \"shadow-stack\" {
     entry:
-      %f = getelementptr %Node, %Node* %n, i32 0, i32 1
-      %x = load %Node*, %Node** %f
-      ret %Node* %x
+      %f = getelementptr %Node, ptr %n, i32 0, i32 1
+      %x = load ptr, ptr %f
+      ret ptr %x
     }
 
-    cert 1
+    cert 2
+    layout Node 1 ref Node
     function @second none
+    param %n ref Node
+    result ref Node
     end
 
 Accepted: `dgc check` prints `yes 1`.
 
-    %Node = type { i64, %Node* }
-    define %Node* @second(%Node* %n) gc \"shadow-stack\" {
+    %Node = type { i64, ptr }
+    define ptr @second(ptr %n) gc \"shadow-stack\" {
     entry:
-      %c = icmp eq %Node* %n, null
+      %c = icmp eq ptr %n, null
       br i1 %c, label %none, label %some
     none:
-      ret %Node* null
+      ret ptr null
     some:
-      %f = getelementptr %Node, %Node* %n, i32 0, i32 1
-      %x = load %Node*, %Node** %f
-      ret %Node* %x
+      %f = getelementptr %Node, ptr %n, i32 0, i32 1
+      %x = load ptr, ptr %f
+      ret ptr %x
     }
 
-    cert 1
+    cert 2
+    layout Node 1 ref Node
     function @second none
+    param %n ref Node
+    result ref Node
     block %none
     block %some
     %n ref Node nonnull
@@ -181,32 +197,35 @@ The first index is the constant 0, and another one comes after it. An index into
 a struct is one of its fields. An index into an array is a constant below its
 length, or a register that is known to be below a number that is at most the
 length. A global has one word. The result of one on null may not be used (K1).
+An offset in bytes, `getelementptr i8, ptr %n, i64 8`, is refused: a field is
+named by its index.
 
 Why: A word outside the cell would be another cell's. What is put there by one
 type could be read by another, and the collector would follow it.
 
 Refused: `dgc check` prints `no @third %entry 0 K5`.
 
-    %Node = type { i64, %Node* }
-    define i64 @third(%Node* %n) gc \"shadow-stack\" {
+    %Node = type { i64, ptr }
+    define i64 @third(ptr %n) gc \"shadow-stack\" {
     entry:
-      %p = getelementptr %Node, %Node* %n, i32 0, i32 2
-      %v = load i64, i64* %p
+      %p = getelementptr %Node, ptr %n, i32 0, i32 2
+      %v = load i64, ptr %p
       ret i64 %v
     }
 
-    cert 1
+    cert 2
+    layout Node 1 ref Node
     function @third none
-    param %n nonnull
+    param %n ref Node nonnull
     end
 
 Accepted, with the same certificate: `dgc check` prints `yes 1`.
 
-    %Node = type { i64, %Node* }
-    define i64 @third(%Node* %n) gc \"shadow-stack\" {
+    %Node = type { i64, ptr }
+    define i64 @third(ptr %n) gc \"shadow-stack\" {
     entry:
-      %p = getelementptr %Node, %Node* %n, i32 0, i32 0
-      %v = load i64, i64* %p
+      %p = getelementptr %Node, ptr %n, i32 0, i32 0
+      %v = load i64, ptr %p
       ret i64 %v
     }
 
@@ -229,28 +248,28 @@ that it stores.
 
 Refused: `dgc check` prints `no @cut %entry 1 K6`.
 
-    %Node = type { i64, %Node* }
-    define void @cut(%Node* %n) gc \"shadow-stack\" {
+    %Node = type { i64, ptr }
+    define void @cut(ptr %n) gc \"shadow-stack\" {
     entry:
-      %f = getelementptr %Node, %Node* %n, i32 0, i32 1
-      store %Node* null, %Node** %f
+      %f = getelementptr %Node, ptr %n, i32 0, i32 1
+      store ptr null, ptr %f
       ret void
     }
 
-    cert 1
+    cert 2
+    layout Node 1 ref Node
     function @cut none
-    param %n nonnull
+    param %n ref Node nonnull
     end
 
 Accepted, with the same certificate: `dgc check` prints `yes 1`.
 
-    %Node = type { i64, %Node* }
-    declare void @llvm.gcwrite(i8*, i8*, i8**)
-    define void @cut(%Node* %n) gc \"shadow-stack\" {
+    %Node = type { i64, ptr }
+    declare void @llvm.gcwrite(ptr, ptr, ptr)
+    define void @cut(ptr %n) gc \"shadow-stack\" {
     entry:
-      %f = getelementptr %Node, %Node* %n, i32 0, i32 1
-      %p = bitcast %Node** %f to i8**
-      call void @llvm.gcwrite(i8* null, i8* null, i8** %p)
+      %f = getelementptr %Node, ptr %n, i32 0, i32 1
+      call void @llvm.gcwrite(ptr null, ptr null, ptr %f)
       ret void
     }
 
@@ -267,36 +286,34 @@ place. A global is in no object, so its object is null.
 Why: A barrier may look at the object in place of the word, so another object
 would mislead it.
 
-Refused: `dgc check` prints `no @next %entry 3 K7`.
+Refused: `dgc check` prints `no @next %entry 1 K7`.
 
-    %Node = type { i64, %Node* }
-    declare i8* @llvm.gcread(i8*, i8**)
-    define i8* @next(%Node* %n, %Node* %other) gc \"shadow-stack\" {
+    %Node = type { i64, ptr }
+    declare ptr @llvm.gcread(ptr, ptr)
+    define ptr @next(ptr %n, ptr %other) gc \"shadow-stack\" {
     entry:
-      %f = getelementptr %Node, %Node* %n, i32 0, i32 1
-      %q = bitcast %Node** %f to i8**
-      %o = bitcast %Node* %other to i8*
-      %r = call i8* @llvm.gcread(i8* %o, i8** %q)
-      ret i8* %r
+      %f = getelementptr %Node, ptr %n, i32 0, i32 1
+      %r = call ptr @llvm.gcread(ptr %other, ptr %f)
+      ret ptr %r
     }
 
-    cert 1
+    cert 2
+    layout Node 1 ref Node
     function @next none
-    param %n nonnull
+    param %n ref Node nonnull
+    param %other ref Node
     result ref Node
     end
 
 Accepted, with the same certificate: `dgc check` prints `yes 1`.
 
-    %Node = type { i64, %Node* }
-    declare i8* @llvm.gcread(i8*, i8**)
-    define i8* @next(%Node* %n, %Node* %other) gc \"shadow-stack\" {
+    %Node = type { i64, ptr }
+    declare ptr @llvm.gcread(ptr, ptr)
+    define ptr @next(ptr %n, ptr %other) gc \"shadow-stack\" {
     entry:
-      %f = getelementptr %Node, %Node* %n, i32 0, i32 1
-      %q = bitcast %Node** %f to i8**
-      %o = bitcast %Node* %n to i8*
-      %r = call i8* @llvm.gcread(i8* %o, i8** %q)
-      ret i8* %r
+      %f = getelementptr %Node, ptr %n, i32 0, i32 1
+      %r = call ptr @llvm.gcread(ptr %n, ptr %f)
+      ret ptr %r
     }
 
 See also: K6 (where a barrier is needed)
@@ -305,38 +322,47 @@ See also: K6 (where a barrier is needed)
 pub(crate) const K8: &str = "\
 K8  An alloca holds an integer, or is a root slot.
 
-Slots of `i8*` are refused too: the text does not say the layout of what they
-hold. A slot is refused at its alloca, also where a load before it names it.
+With typed pointers slots of `i8*` are refused too: the text does not say the
+layout of what they hold. A slot is refused at its alloca, also where a load
+before it names it.
 
 Why: A slot that no gcroot names is not seen by the collector. What it holds
 could be freed.
 
 Refused: `dgc check` prints `no @keep %entry 0 K8`.
 
-    %Node = type { i64, %Node* }
-    define void @keep(%Node* %n) gc \"shadow-stack\" {
+    %Node = type { i64, ptr }
+    define void @keep(ptr %n) gc \"shadow-stack\" {
     entry:
-      %s = alloca %Node*
-      store %Node* %n, %Node** %s
+      %s = alloca ptr
+      store ptr %n, ptr %s
       ret void
     }
 
-    cert 1
+    cert 2
+    layout Node 1 ref Node
     function @keep none
+    param %n ref Node
     end
 
-Accepted, with the same certificate: `dgc check` prints `yes 1`.
+Accepted: `dgc check` prints `yes 1`.
 
-    %Node = type { i64, %Node* }
-    declare void @llvm.gcroot(i8**, i8*)
-    define void @keep(%Node* %n) gc \"shadow-stack\" {
+    %Node = type { i64, ptr }
+    declare void @llvm.gcroot(ptr, ptr)
+    define void @keep(ptr %n) gc \"shadow-stack\" {
     entry:
-      %s = alloca %Node*
-      %r = bitcast %Node** %s to i8**
-      call void @llvm.gcroot(i8** %r, i8* null)
-      store %Node* %n, %Node** %s
+      %s = alloca ptr
+      call void @llvm.gcroot(ptr %s, ptr null)
+      store ptr %n, ptr %s
       ret void
     }
+
+    cert 2
+    layout Node 1 ref Node
+    root @keep %s ref Node
+    function @keep none
+    param %n ref Node
+    end
 
 See also: K9 (where a gcroot stands)
 ";
@@ -351,35 +377,35 @@ gcroots, and stores of constants and parameters into slots.
 Why: Each slot is a root before anything happens that the collector sees, and
 the roots of a frame are the same all along.
 
-Refused: `dgc check` prints `no @late %entry 3 K9`.
+Refused: `dgc check` prints `no @late %entry 2 K9`.
 
-    %Node = type { i64, %Node* }
-    declare i8* @dg_alloc(i32)
-    declare void @llvm.gcroot(i8**, i8*)
+    %Node = type { i64, ptr }
+    declare ptr @dg_alloc(i32)
+    declare void @llvm.gcroot(ptr, ptr)
     define void @late() gc \"shadow-stack\" {
     entry:
-      %s = alloca %Node*
-      %r = bitcast %Node** %s to i8**
-      %a = call i8* @dg_alloc(i32 0)
-      call void @llvm.gcroot(i8** %r, i8* null)
+      %s = alloca ptr
+      %a = call ptr @dg_alloc(i32 0)
+      call void @llvm.gcroot(ptr %s, ptr null)
       ret void
     }
 
-    cert 1
+    cert 2
+    layout Node 1 ref Node
+    root @late %s ref Node
     function @late none
     end
 
 Accepted, with the same certificate: `dgc check` prints `yes 1`.
 
-    %Node = type { i64, %Node* }
-    declare i8* @dg_alloc(i32)
-    declare void @llvm.gcroot(i8**, i8*)
+    %Node = type { i64, ptr }
+    declare ptr @dg_alloc(i32)
+    declare void @llvm.gcroot(ptr, ptr)
     define void @late() gc \"shadow-stack\" {
     entry:
-      %s = alloca %Node*
-      %r = bitcast %Node** %s to i8**
-      call void @llvm.gcroot(i8** %r, i8* null)
-      %a = call i8* @dg_alloc(i32 0)
+      %s = alloca ptr
+      call void @llvm.gcroot(ptr %s, ptr null)
+      %a = call ptr @dg_alloc(i32 0)
       ret void
     }
 
@@ -390,39 +416,41 @@ pub(crate) const K10: &str = "\
 K10  A slot is only the place of a load or a store, the argument of gcroot, and
      the operand of a bitcast.
 
+In the place of a value of type `ptr` it is refused by K2.
+
 Why: A slot is the thread's own, and no cell. The barriers are for cells, and
 the address of a slot may go nowhere.
 
-Refused: `dgc check` prints `no @top %entry 3 K10`.
+Refused: `dgc check` prints `no @top %entry 2 K10`.
 
-    %Node = type { i64, %Node* }
-    declare void @llvm.gcroot(i8**, i8*)
-    declare i8* @llvm.gcread(i8*, i8**)
-    define i8* @top() gc \"shadow-stack\" {
+    %Node = type { i64, ptr }
+    declare void @llvm.gcroot(ptr, ptr)
+    declare ptr @llvm.gcread(ptr, ptr)
+    define ptr @top() gc \"shadow-stack\" {
     entry:
-      %s = alloca %Node*
-      %r = bitcast %Node** %s to i8**
-      call void @llvm.gcroot(i8** %r, i8* null)
-      %x = call i8* @llvm.gcread(i8* null, i8** %r)
-      ret i8* %x
+      %s = alloca ptr
+      call void @llvm.gcroot(ptr %s, ptr null)
+      %x = call ptr @llvm.gcread(ptr null, ptr %s)
+      ret ptr %x
     }
 
-    cert 1
+    cert 2
+    layout Node 1 ref Node
+    root @top %s ref Node
     function @top none
     result ref Node
     end
 
 Accepted, with the same certificate: `dgc check` prints `yes 1`.
 
-    %Node = type { i64, %Node* }
-    declare void @llvm.gcroot(i8**, i8*)
-    define i8* @top() gc \"shadow-stack\" {
+    %Node = type { i64, ptr }
+    declare void @llvm.gcroot(ptr, ptr)
+    define ptr @top() gc \"shadow-stack\" {
     entry:
-      %s = alloca %Node*
-      %r = bitcast %Node** %s to i8**
-      call void @llvm.gcroot(i8** %r, i8* null)
-      %x = load i8*, i8** %r
-      ret i8* %x
+      %s = alloca ptr
+      call void @llvm.gcroot(ptr %s, ptr null)
+      %x = load ptr, ptr %s
+      ret ptr %x
     }
 
 See also: K6 (slots need no barrier)

@@ -45,20 +45,22 @@ Without one they would not be handed over.
 
 Refused: `dgc check` prints `no @one %entry 0 K12`.
 
-    %Node = type { i64, %Node* }
-    define void @one(%Node* %n) {
+    %Node = type { i64, ptr }
+    define void @one(ptr %n) {
     entry:
       ret void
     }
 
-    cert 1
+    cert 2
+    layout Node 1 ref Node
     function @one none
+    param %n ref Node
     end
 
 Accepted, with the same certificate: `dgc check` prints `yes 1`.
 
-    %Node = type { i64, %Node* }
-    define void @one(%Node* %n) gc \"shadow-stack\" {
+    %Node = type { i64, ptr }
+    define void @one(ptr %n) gc \"shadow-stack\" {
     entry:
       ret void
     }
@@ -77,34 +79,37 @@ to keep them.
 
 Refused: `dgc check` prints `no @of %entry 0 K13`.
 
-    %Node = type { i64, %Node* }
-    define i64 @value(%Node* %n) gc \"shadow-stack\" {
+    %Node = type { i64, ptr }
+    define i64 @value(ptr %n) gc \"shadow-stack\" {
     entry:
-      %p = getelementptr %Node, %Node* %n, i32 0, i32 0
-      %v = load i64, i64* %p
+      %p = getelementptr %Node, ptr %n, i32 0, i32 0
+      %v = load i64, ptr %p
       ret i64 %v
     }
-    define i64 @of(%Node* %n) gc \"shadow-stack\" {
+    define i64 @of(ptr %n) gc \"shadow-stack\" {
     entry:
-      %v = call i64 @value(%Node* %n)
+      %v = call i64 @value(ptr %n)
       ret i64 %v
     }
 
-    cert 1
+    cert 2
+    layout Node 1 ref Node
     function @value none
-    param %n nonnull
+    param %n ref Node nonnull
     end
     function @of none
+    param %n ref Node
     end
 
 Accepted, with the same module: `dgc check` prints `yes 2`.
 
-    cert 1
+    cert 2
+    layout Node 1 ref Node
     function @value none
-    param %n nonnull
+    param %n ref Node nonnull
     end
     function @of none
-    param %n nonnull
+    param %n ref Node nonnull
     end
 
 See also: K14 (promises of results), docs/CERTIFICATES.md
@@ -116,26 +121,28 @@ K14  What is promised of the result is known where the function returns.
 Why: Callers go on with the `result` line as a fact. Here dg_alloc gives null
 where each of its tries found no free cell.
 
-Refused: `dgc check` prints `no @make %entry 2 K14`.
+Refused: `dgc check` prints `no @make %entry 1 K14`.
 
-    %Node = type { i64, %Node* }
-    declare i8* @dg_alloc(i32)
-    define %Node* @make() gc \"shadow-stack\" {
+    %Node = type { i64, ptr }
+    declare ptr @dg_alloc(i32)
+    define ptr @make() gc \"shadow-stack\" {
     entry:
-      %a = call i8* @dg_alloc(i32 0)
-      %x = bitcast i8* %a to %Node*
-      ret %Node* %x
+      %a = call ptr @dg_alloc(i32 0)
+      ret ptr %a
     }
 
-    cert 1
+    cert 2
+    layout Node 1 ref Node
     function @make none
-    result nonnull
+    result ref Node nonnull
     end
 
 Accepted, with the same module: `dgc check` prints `yes 1`.
 
-    cert 1
+    cert 2
+    layout Node 1 ref Node
     function @make none
+    result ref Node
     end
 
 See also: K13 (promises of parameters), K4 (null)
@@ -155,23 +162,24 @@ imply them.
 
 Refused: `dgc check` prints `no @walk %loop 4 K15 %loop %p ref Node nonnull`.
 
-    %Node = type { i64, %Node* }
-    define i64 @walk(%Node* %n, i64 %k) gc \"shadow-stack\" {
+    %Node = type { i64, ptr }
+    define i64 @walk(ptr %n, i64 %k) gc \"shadow-stack\" {
     entry:
       br label %loop
     loop:
-      %p = phi %Node* [ %n, %entry ], [ %q, %loop ]
-      %f = getelementptr %Node, %Node* %p, i32 0, i32 1
-      %q = load %Node*, %Node** %f
+      %p = phi ptr [ %n, %entry ], [ %q, %loop ]
+      %f = getelementptr %Node, ptr %p, i32 0, i32 1
+      %q = load ptr, ptr %f
       %c = icmp eq i64 %k, 0
       br i1 %c, label %out, label %loop
     out:
       ret i64 0
     }
 
-    cert 1
+    cert 2
+    layout Node 1 ref Node
     function @walk none
-    param %n nonnull
+    param %n ref Node nonnull
     block %loop
     %p ref Node nonnull
     %k i64
@@ -180,15 +188,15 @@ Refused: `dgc check` prints `no @walk %loop 4 K15 %loop %p ref Node nonnull`.
 
 Accepted, with the same certificate: `dgc check` prints `yes 1`.
 
-    %Node = type { i64, %Node* }
-    define i64 @walk(%Node* %n, i64 %k) gc \"shadow-stack\" {
+    %Node = type { i64, ptr }
+    define i64 @walk(ptr %n, i64 %k) gc \"shadow-stack\" {
     entry:
       br label %loop
     loop:
-      %p = phi %Node* [ %n, %entry ], [ %q, %loop ]
-      %f = getelementptr %Node, %Node* %p, i32 0, i32 1
-      %q = load %Node*, %Node** %f
-      %c = icmp eq %Node* %q, null
+      %p = phi ptr [ %n, %entry ], [ %q, %loop ]
+      %f = getelementptr %Node, ptr %p, i32 0, i32 1
+      %q = load ptr, ptr %f
+      %c = icmp eq ptr %q, null
       br i1 %c, label %out, label %loop
     out:
       ret i64 0
@@ -321,9 +329,10 @@ See also: docs/FRONT_ENDS.md (the five declarations)
 pub(crate) const K19: &str = "\
 K19  A bitcast leads to the same type, or to one of the same layout.
 
-`%L*` and `i8*` are references to a cell of L, and `%L**` and `i8**` are places
-of such references. The same holds of a global that is used under another type,
-`bitcast (%Node** @g to i8**)`.
+A bitcast of `ptr` to `ptr` is the same value under another name. With typed
+pointers `%L*` and `i8*` are references to a cell of L, and `%L**` and `i8**`
+are places of such references. The same holds of a global that is used under
+another type, `bitcast (%Node** @g to i8**)`.
 
 Why: By another type a word would be taken for what it is not, and the collector
 would follow a number, or miss a reference.
@@ -371,10 +380,10 @@ check` never prints it.
 Why: A thread has no reference before it starts. One that it was given would be
 in no slot, so the collector would not see it.
 
-Refused: `dgc replay` prints `error K20 t 0`.
+Refused: `dgc replay --shapes` prints `error K20 t 0`.
 
-    %Node = type { i64, %Node* }
-    define void @begin(%Node* %n) gc \"shadow-stack\" {
+    %Node = type { i64, ptr }
+    define void @begin(ptr %n) gc \"shadow-stack\" {
     entry:
       ret void
     }
@@ -385,9 +394,12 @@ Refused: `dgc replay` prints `error K20 t 0`.
     t 0 1
     end
 
-Accepted: `dgc replay` begins with `sound 1`.
+    shapes 1
+    layout Node 1 ref Node
 
-    %Node = type { i64, %Node* }
+Accepted, with the same shapes: `dgc replay --shapes` begins with `sound 1`.
+
+    %Node = type { i64, ptr }
     define void @begin(i64 %n) gc \"shadow-stack\" {
     entry:
       ret void

@@ -6,12 +6,12 @@ use Rattle.ir_text.specs.declared.read_fault.ReadFault.{ReadFault}
 use Rattle.ir_text.specs.declared.read_fault.ReadFault.TheVariants as read
 use Rattle.certificate.specs.declared.fault.CertFault.{CertFault}
 use Rattle.certificate.specs.declared.fault.CertFault.TheVariants as cert
-use Rattle.certs.specs.declared.section.Section.{Section}
+use Rattle.certs.specs.declared.certs.Certs.{Certs}
 use Rattle.edit_text.specs.declared.edit.Edit.{Edit}
 use Rattle.block_rules.specs.declared.block_fault.Refusal.{Refusal}
-use Rattle.module_check.specs.Accepted.{IsAccepted, IsFirstRefusal}
-use Rattle.module_check.specs.declared.verdict.Verdict.{Verdict}
-use Rattle.module_check.specs.declared.verdict.Verdict.TheVariants.{Layout}
+use Rattle.module_check.specs.Accepted.{IsAccepted, IsFirstRefusal, shaped}
+use Rattle.module_check.specs.declared.verdict.Reason.{Reason}
+use Rattle.module_check.specs.declared.verdict.Reason.TheVariants.{Layout}
 use Rattle.recheck.specs.Edits.{IsEdited, IsEditFault, module_in}
 use Rattle.recheck.specs.Session.{State}
 use Rattle.recheck.specs.declared.edit_fault.EditFault.{EditFault}
@@ -21,7 +21,7 @@ use Rattle.reports.specs.Report.{Answer, line_of, no, no_memory, of_layout_fault
 -- ---- no session
 
 -- why no session of a module begins
-abbrev pub of_begin_fault : Module → Verdict → Answer
+abbrev pub of_begin_fault : Module → Reason → Answer
 of_begin_fault m (Layout fault) = of_layout_fault m fault
 of_begin_fault m _ = no_memory
 
@@ -38,6 +38,7 @@ read_code (read.OutOfRange at) = codes "L6"
 read_code (read.LeftOut at word) = codes "L7"
 read_code (read.Limit at) = codes "L8"
 read_code (read.WrongNumber at) = codes "L9"
+read_code (read.OtherPointer at) = codes "L10"
 read_code read.Memory = codes "memory"
 
 -- the code of a fault in the text of certificates
@@ -48,6 +49,9 @@ cert_code (cert.UnknownName at) = codes "C3"
 cert_code (cert.ListedTwice at) = codes "C4"
 cert_code (cert.Missing func) = codes "C5"
 cert_code (cert.MissingBlock func block) = codes "C5"
+cert_code (cert.MissingWord layout word) = codes "C6"
+cert_code (cert.MissingGlobal symbol) = codes "C6"
+cert_code (cert.MissingRoot func slot) = codes "C6"
 cert_code cert.Memory = codes "memory"
 
 -- the code of the fault for which an edit is refused
@@ -61,9 +65,9 @@ edit_code edit.Memory = codes "memory"
 
 -- ---- lines
 
--- the line of an edit that is taken: its number, how many functions it concerns, and the verdict after it
-abbrev pub taken_text : (number rechecked : ℕ) → (verdict : Answer) → List ℕ
-taken_text number rechecked verdict = decimal number ++ codes " rechecked " ++ decimal rechecked ++ 32 ∷ verdict.text
+-- the line of an edit that is accepted: its number, how many functions it concerns, and the verdict after it
+abbrev pub accepted_text : (number rechecked : ℕ) → (verdict : Answer) → List ℕ
+accepted_text number rechecked verdict = decimal number ++ codes " rechecked " ++ decimal rechecked ++ 32 ∷ verdict.text
 
 -- the line of an edit that is refused
 abbrev pub refused_text : (number : ℕ) → EditFault → List ℕ
@@ -71,10 +75,10 @@ refused_text number fault = decimal number ++ codes " refused " ++ edit_code fau
 
 -- ---- sessions
 
--- a session begins with this module and these certificates
-pub record IsBegun (m : Module) (certs : List Section) (s : State) : Type 0 where
-  pub of_module : module_in s ≡ m
-  pub of_certs : s.certs.sections ≡ certs
+-- a session begins with this module, which has the shapes of the certificates, and with these
+pub record IsBegun (m : Module) (certs : Certs) (s : State) : Type 0 where
+  pub of_module : module_in s ≡ shaped m certs
+  pub of_certs : s.certs ≡ certs
   pub none_checked : s.rechecked ≡ 0
 
 -- what is printed of the verdict on a session: that its module is accepted, or its first refusal
@@ -83,9 +87,9 @@ pub data OfSession (s : State) : Answer → Type 0 where
   session_refused : (refusal : Refusal) → IsFirstRefusal (module_in s) s.certs.sections refusal
       → OfSession s (no (module_in s) (line_of s.certs.sections (module_in s) refusal.func refusal.detail) refusal)
 
--- the session after the edit of this number, and the line that is printed of it: the edit is taken; or it is refused, and the session stays
+-- the session after the edit of this number, and the line that is printed of it: the edit is accepted; or it is refused, and the session stays
 pub data OfEdit (number : ℕ) (s : State) (e : Edit) : (t : State) → (line : List ℕ) → Type 0 where
-  edit_taken : (t : State) (verdict : Answer) → IsEdited s e t → OfSession t verdict → OfEdit number s e t (taken_text number t.rechecked verdict)
+  edit_accepted : (t : State) (verdict : Answer) → IsEdited s e t → OfSession t verdict → OfEdit number s e t (accepted_text number t.rechecked verdict)
   edit_refused : (fault : EditFault) → fault ≢ edit.Memory → IsEditFault s e fault → OfEdit number s e s (refused_text number fault)
 
 -- the session after edits, the first of which has this number, and the lines that are printed of them

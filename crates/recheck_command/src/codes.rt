@@ -20,6 +20,7 @@ fn code_of_module(fault: &ReadFault) -> &'static str
         ReadFault::LeftOut { .. } => "L7",
         ReadFault::Limit(_) => "L8",
         ReadFault::WrongNumber(_) => "L9",
+        ReadFault::OtherPointer(_) => "L10",
         ReadFault::Memory => "memory",
     }
 }
@@ -34,6 +35,8 @@ fn code_of_certificate(fault: CertFault) -> &'static str
         CertFault::UnknownName(_) => "C3",
         CertFault::ListedTwice(_) => "C4",
         CertFault::Missing(_) | CertFault::MissingBlock(_, _) => "C5",
+        CertFault::MissingWord(_, _) | CertFault::MissingGlobal(_) | CertFault::MissingRoot(_, _) =>
+            { "C6" }
         CertFault::Memory => "memory",
     }
 }

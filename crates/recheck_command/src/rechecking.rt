@@ -3,7 +3,7 @@ ghost use Rattle.std.specs.Prelude.{◌≡◌, ◌≢◌, ◌++◌, ℕ, List, t
 ghost use Rattle.std.specs.Io.KnownBytes.{Appends};
 ghost use Rattle.certs.specs.Fits.{fits};
 ghost use Rattle.reports.specs.Said.{OfCertified, Says};
-ghost use Rattle.recheck_command.specs.EditedFiles.{OfEditsFile, OfRechecked};
+ghost use Rattle.recheck_command.specs.EditedFiles.{OfEdited, OfEditsFile, OfRechecked};
 ghost use Rattle.reports.specs.Files.{file_at};
 ghost use Rattle.recheck_command.specs.Rechecks as spec;
 ghost use Rattle.recheck_command.specs.Rechecks.{OfEdit, OfEdits, OfSession};
@@ -12,7 +12,7 @@ ghost use Rattle.recheck.specs.declared.edit_fault.EditFault.TheVariants as edit
 
 use crate::codes::code_of_edit;
 use command_line::RecheckLine;
-use module_check::{NotAccepted, Verdict};
+use module_check::{NotAccepted, Reason};
 use recheck::{Edit, EditFault, Session};
 use reports::{
     Certified, STATUS_NO, STATUS_YES, accepted, edits_in, line_of_refusal, memory, no_layouts,
@@ -36,14 +36,14 @@ fn write_verdict<W: Write>(alloc: Global, session: &Session, lines: &mut W) -> i
     }
 }
 
-/// Writes the line of an edit that was taken: `1 rechecked 2 yes 2`.
-fn write_taken<W: Write>(
+/// Writes the line of an edit that was accepted: `1 rechecked 2 yes 2`.
+fn write_accepted<W: Write>(
     alloc: Global,
     number: usize,
     session: &Session,
     lines: &mut W,
 ) -> io::Result<()>
-    ensures { OnOk result ((verdict : Answer) × OfSession session.now verdict × Appends (W.contents lines.old) (W.contents lines.new) (spec.taken_text number session.now.rechecked verdict)) }
+    ensures { OnOk result ((verdict : Answer) × OfSession session.now verdict × Appends (W.contents lines.old) (W.contents lines.new) (spec.accepted_text number session.now.rechecked verdict)) }
 {
     write!(lines, "{number} rechecked {} ", session.rechecked())?;
     write_verdict(alloc, session, lines)?;
@@ -71,7 +71,7 @@ fn write_edit<W: Write>(
     ensures { OnOk result ((line : List ℕ) × OfEdit number session.old edit.now session.new line × Appends (W.contents lines.old) (W.contents lines.new) line) }
 {
     match session.apply(alloc, edit) {
-        Ok(()) => write_taken(alloc, number, session, lines),
+        Ok(()) => write_accepted(alloc, number, session, lines),
         Err(fault) => {
             let written = write_refused(number, &fault, lines);
             drop(fault);
@@ -124,8 +124,7 @@ fn edit_session<O: Write, E: Write>(
     out: &mut O,
     err: &mut E,
 ) -> io::Result<u8>
-    requires { session.old.rechecked ≡ 0 }
-    ensures { IfOk result (Says (OfRechecked session.old.program.of_module session.old.certs.sections edits.now) (O.contents out.old) (O.contents out.new) (E.contents err.old) (E.contents err.new)) }
+    ensures { IfOk result (Says (OfEdited session.old edits.now) (O.contents out.old) (O.contents out.new) (E.contents err.old) (E.contents err.new)) }
 {
     match lines_of(alloc, session, edits) {
         Ok(lines) => {
@@ -141,7 +140,7 @@ fn print_unbegun<E: Write>(answer: &NotAccepted, err: &mut E) -> io::Result<u8>
     ensures { IfOk result (λ status. IsTold (E.contents err.old) (E.contents err.new) status (spec.of_begin_fault answer.now.of_module answer.now.verdict)) }
 {
     match answer.verdict {
-        Verdict::Layout(fault) => no_layouts(err, &answer.of_module, fault),
+        Reason::Layout(fault) => no_layouts(err, &answer.of_module, fault),
         _ => memory(err),
     }
 }
@@ -155,7 +154,7 @@ fn recheck_certified<O: Write, E: Write>(
     err: &mut E,
 ) -> io::Result<u8>
     requires { fits certified.of_module certified.certs.sections ≡ true }
-    ensures { IfOk result (Says (OfRechecked certified.of_module certified.certs.sections edits.now) (O.contents out.old) (O.contents out.new) (E.contents err.old) (E.contents err.new)) }
+    ensures { IfOk result (Says (OfRechecked certified.of_module certified.certs edits.now) (O.contents out.old) (O.contents out.new) (E.contents err.old) (E.contents err.new)) }
 {
     match Session::new(alloc, certified.of_module, certified.certs) {
         Ok(mut session) => {
@@ -181,7 +180,7 @@ fn recheck_edits<O: Write, E: Write>(
     err: &mut E,
 ) -> io::Result<u8>
     requires { fits certified.of_module certified.certs.sections ≡ true }
-    ensures { IfOk result (Says (OfEditsFile path.now (file_at files.now 2) certified.of_module certified.certs.sections) (O.contents out.old) (O.contents out.new) (E.contents err.old) (E.contents err.new)) }
+    ensures { IfOk result (Says (OfEditsFile path.now (file_at files.now 2) certified.of_module certified.certs) (O.contents out.old) (O.contents out.new) (E.contents err.old) (E.contents err.new)) }
 {
     match edits_in(alloc, path, files, 2) {
         Ok(edits) => {

@@ -1,14 +1,17 @@
 -- The files of a line, and what is read from them.
-use Rattle.std.specs.Prelude.{◌≡◌, ◌≢◌, ◌⊎◌, ℕ, List, Option, None, Some, Vec, slice_get, option_and_then}
+use Rattle.std.specs.Prelude.{◌≡◌, ◌≢◌, ◌⊎◌, ℕ, List, Option, None, Some, Vec, slice_get, option_and_then, if◌then◌else◌}
 use Rattle.std.specs.Global.{Global}
 use Rattle.std.specs.Option.{option_map}
 use Rattle.ir_ast.specs.declared.module.Module.{Module}
+use Rattle.ir_ast.specs.declared.shapes.Shapes.{Shapes}
 use Rattle.ir_text.specs.Read as text
 use Rattle.ir_text.specs.declared.read_fault.ReadFault.TheVariants as read
-use Rattle.layout.specs.Layouts.{AreLayouts, AreSizes, IsLayoutFault, LaidOut}
+use Rattle.layout.specs.Functions.{with_shapes}
+use Rattle.layout.specs.Layouts.{AreLayouts, AreSizes, IsLayoutFault, LaidOut, wants_shapes}
 use Rattle.layout.specs.declared.fault.LayoutFault.TheVariants as layout
-use Rattle.certs.specs.declared.section.Section.{Section}
+use Rattle.certs.specs.declared.certs.Certs.{Certs}
 use Rattle.certificate.specs.Text as certificate
+use Rattle.certificate.specs.ShapeText as shape_text
 use Rattle.certificate.specs.declared.fault.CertFault.TheVariants as cert
 use Rattle.edit_text.specs.Text as edit_text
 use Rattle.edit_text.specs.declared.edit.Edit.{Edit}
@@ -36,16 +39,29 @@ abbrev pub HasModule : (file : Option (List ℕ)) → Module → Type 0
 HasModule file m = (bytes : List ℕ) × (file ≡ Some bytes) × text.IsText bytes m
 
 -- the file is a text of these certificates of the module
-abbrev pub HasCerts : (file : Option (List ℕ)) → Module → List Section → Type 0
+abbrev pub HasCerts : (file : Option (List ℕ)) → Module → Certs → Type 0
 HasCerts file m certs = (bytes : List ℕ) × (file ≡ Some bytes) × certificate.IsCert bytes m certs
 
 -- the file is a text of these edits
 abbrev pub HasEdits : (file : Option (List ℕ)) → List Edit → Type 0
 HasEdits file edits = (bytes : List ℕ) × (file ≡ Some bytes) × edit_text.IsEdits bytes edits
 
--- the file is a text of the module of this program, laid out
-abbrev pub HasProgram : (file : Option (List ℕ)) → LaidOut → Type 0
-HasProgram file p = HasModule file p.of_module × AreLayouts p.of_module p.layouts × AreSizes p.of_module p.sizes
+-- the module with shapes that were read for it: they count where it writes `ptr`
+abbrev pub with_read : Module → Shapes → Module
+with_read m shapes = if wants_shapes m then with_shapes m (Some shapes) else m
+
+-- the file is a text of shapes of the first module, and the second one is the first with them
+abbrev pub IsRead : (file : Option (List ℕ)) → (of_module shaped : Module) → Type 0
+IsRead file of_module shaped = (bytes : List ℕ) × (shapes : Shapes) × (file ≡ Some bytes) × shape_text.AreShapes bytes of_module shapes × (shaped ≡ with_read of_module shapes)
+
+-- the first file is a text of this module, with the shapes of the other file where their path is given
+abbrev pub HasShaped : (first : Option (List ℕ)) → (shapes_path : Option (List ℕ)) → (shapes_file : Option (List ℕ)) → Module → Type 0
+HasShaped first None shapes_file m = HasModule first m
+HasShaped first (Some path) shapes_file m = (of_module : Module) × HasModule first of_module × IsRead shapes_file of_module m
+
+-- the files are texts of the module of this program, laid out
+abbrev pub HasProgram : (first : Option (List ℕ)) → (shapes_path : Option (List ℕ)) → (shapes_file : Option (List ℕ)) → LaidOut → Type 0
+HasProgram first shapes_path shapes_file p = HasShaped first shapes_path shapes_file p.of_module × AreLayouts p.of_module p.layouts × AreSizes p.of_module p.sizes
 
 -- the file is a text of this trace of the program
 abbrev pub HasTrace : (file : Option (List ℕ)) → LaidOut → Trace → Type 0
@@ -66,20 +82,32 @@ IsNoCertificate path file m (unread.NoCertificate of_module fault) =
     (of_module ≡ m) × ((bytes : List ℕ) × (file ≡ Some bytes) × (fault ≢ cert.Memory → certificate.IsFault bytes m fault))
 IsNoCertificate path file m _ = ⊥
 
+-- the first fault in the file of shapes of this module, if its path is given
+abbrev pub IsNoShapes : (path : Option (List ℕ)) → (file : Option (List ℕ)) → Module → Unread → Type 0
+IsNoShapes (Some path) file m (unread.NoFile named) = (named.now ≡ path) × (file ≡ None)
+IsNoShapes (Some path) file m (unread.NoCertificate of_module fault) =
+    (of_module ≡ m) × ((bytes : List ℕ) × (file ≡ Some bytes) × (fault ≢ cert.Memory → shape_text.IsShapesFault bytes m fault))
+IsNoShapes _ file m _ = ⊥
+
+-- the first fault in the files of a module and its shapes
+abbrev pub IsNoShaped : (module_path : List ℕ) → (shapes_path : Option (List ℕ)) → (first shapes_file : Option (List ℕ)) → Unread → Type 0
+IsNoShaped module_path shapes_path first shapes_file u = IsNoModule module_path first u ⊎ ((m : Module) × HasModule first m × IsNoShapes shapes_path shapes_file m u)
+
 -- the first fault in the file of edits, which has this path
 abbrev pub IsNoEdits : (path : List ℕ) → (file : Option (List ℕ)) → Unread → Type 0
 IsNoEdits path file (unread.NoFile named) = (named.now ≡ path) × (file ≡ None)
 IsNoEdits path file (unread.NoEdits fault) = (bytes : List ℕ) × (file ≡ Some bytes) × (fault ≢ cert.Memory → edit_text.IsFault bytes fault)
 IsNoEdits path file _ = ⊥
 
--- the first fault in the layouts of the module in a file
-abbrev pub HasNoLayouts : (file : Option (List ℕ)) → Unread → Type 0
-HasNoLayouts file (unread.NoLayouts refused) = HasModule file refused.of_module × (refused.fault ≢ layout.Memory → IsLayoutFault refused.of_module refused.fault)
-HasNoLayouts file _ = ⊥
+-- the first fault in the layouts of the module in these files
+abbrev pub HasNoLayouts : (first : Option (List ℕ)) → (shapes_path : Option (List ℕ)) → (shapes_file : Option (List ℕ)) → Unread → Type 0
+HasNoLayouts first shapes_path shapes_file (unread.NoLayouts refused) =
+    HasShaped first shapes_path shapes_file refused.of_module × (refused.fault ≢ layout.Memory → IsLayoutFault refused.of_module refused.fault)
+HasNoLayouts first shapes_path shapes_file _ = ⊥
 
--- the first fault in the file of a program, which has this path
-abbrev pub IsNoProgram : (path : List ℕ) → (file : Option (List ℕ)) → Unread → Type 0
-IsNoProgram path file u = IsNoModule path file u ⊎ HasNoLayouts file u
+-- the first fault in the files of a program
+abbrev pub IsNoProgram : (module_path : List ℕ) → (shapes_path : Option (List ℕ)) → (first shapes_file : Option (List ℕ)) → Unread → Type 0
+IsNoProgram module_path shapes_path first shapes_file u = IsNoShaped module_path shapes_path first shapes_file u ⊎ HasNoLayouts first shapes_path shapes_file u
 
 -- the first fault in the file of a trace of this program, which has this path
 abbrev pub IsNoTrace : (path : List ℕ) → (file : Option (List ℕ)) → LaidOut → Unread → Type 0
@@ -91,9 +119,10 @@ IsNoTrace path file p _ = ⊥
 abbrev pub IsUncertified : (module_path cert_path : List ℕ) → (first second : Option (List ℕ)) → Unread → Type 0
 IsUncertified module_path cert_path first second u = IsNoModule module_path first u ⊎ ((m : Module) × HasModule first m × IsNoCertificate cert_path second m u)
 
--- the first fault in the files of a program and a trace
-abbrev pub IsUntraced : (module_path trace_path : List ℕ) → (first second : Option (List ℕ)) → Unread → Type 0
-IsUntraced module_path trace_path first second u = IsNoProgram module_path first u ⊎ ((p : LaidOut) × HasProgram first p × IsNoTrace trace_path second p u)
+-- the first fault in the files of a program and a trace; of the files the second is the trace's and the third the shapes'
+abbrev pub IsUntraced : (module_path trace_path : List ℕ) → (shapes_path : Option (List ℕ)) → (file : ℕ → Option (List ℕ)) → Unread → Type 0
+IsUntraced module_path trace_path shapes_path file u =
+    IsNoProgram module_path shapes_path (file 0) (file 2) u ⊎ ((p : LaidOut) × HasProgram (file 0) shapes_path (file 2) p × IsNoTrace trace_path (file 1) p u)
 
 -- what is printed of it
 abbrev pub of_unread : Unread → Answer

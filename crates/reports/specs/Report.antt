@@ -33,6 +33,10 @@ name_of_block m func block =
     option_and_then (λ function. option_and_then (λ block. slice_get function.locals block.label) (slice_get function.blocks block))
     (slice_get m.functions func)
 
+-- the key of a local name of a function of the module
+abbrev pub name_of_local : Module → (func local : ℕ) → Option (List ℕ)
+name_of_local m func local = option_and_then (λ function. slice_get function.locals local) (slice_get m.functions func)
+
 -- the name of a named struct of the module
 abbrev pub name_of_struct : Module → (number : ℕ) → Option (List ℕ)
 name_of_struct m number = option_and_then (λ named. slice_get m.struct_names named.name) (slice_get m.structs number)
@@ -86,6 +90,7 @@ of_read_fault (read.OutOfRange at) = fault_at (codes "L6") at
 of_read_fault (read.LeftOut at word) = unread (codes "L7 " ++ decimal at.line ++ 58 ∷ decimal at.column ++ 32 ∷ word)
 of_read_fault (read.Limit at) = fault_at (codes "L8") at
 of_read_fault (read.WrongNumber at) = fault_at (codes "L9") at
+of_read_fault (read.OtherPointer at) = fault_at (codes "L10") at
 
 -- a text that is no certificate of the module
 abbrev pub of_cert_fault : Module → CertFault → Answer
@@ -95,6 +100,9 @@ of_cert_fault m (cert.UnknownName at) = fault_at (codes "C3") at
 of_cert_fault m (cert.ListedTwice at) = fault_at (codes "C4") at
 of_cert_fault m (cert.Missing func) = unread (codes "C5 @" ++ found_name (name_of_function m func))
 of_cert_fault m (cert.MissingBlock func block) = unread (codes "C5 @" ++ found_name (name_of_function m func) ++ codes " %" ++ found_key (name_of_block m func block))
+of_cert_fault m (cert.MissingWord layout word) = unread (codes "C6 " ++ found_name (name_of_struct m layout) ++ 32 ∷ decimal word)
+of_cert_fault m (cert.MissingGlobal symbol) = unread (codes "C6 @" ++ found_name (slice_get m.symbols symbol))
+of_cert_fault m (cert.MissingRoot func slot) = unread (codes "C6 @" ++ found_name (name_of_function m func) ++ codes " %" ++ found_key (name_of_local m func slot))
 of_cert_fault m cert.Memory = no_memory
 
 -- a module that has no layouts
@@ -127,9 +135,9 @@ yes functions = record { text = codes "yes " ++ decimal functions ++ 10 ∷ []; 
 -- the line of a certificate that a refusal names, if it names one
 abbrev pub line_of : List Section → Module → (func : ℕ) → Option Detail → List ℕ
 line_of certs m func None = []
-line_of certs m func (Some detail) = line_shown certs m func detail.target detail.line
+line_of certs m func (Some detail) = line_shown certs m func detail.target detail.claim
 
--- the target of an edge and the line that is not shown on it, if there are any
+-- the target of an edge and the line of the claim that is not implied on it, if there are any
 abbrev pub detail_text : Module → (func : ℕ) → (line : List ℕ) → Option Detail → List ℕ
 detail_text m func line None = []
 detail_text m func line (Some detail) = codes " %" ++ found_key (name_of_block m func detail.target) ++ 32 ∷ line

@@ -4,9 +4,9 @@ use Rattle.std.specs.Io.KnownBytes.{Appends}
 use Rattle.ir_ast.specs.declared.module.Module.{Module}
 use Rattle.layout.specs.Layouts.{IsLayoutFault}
 use Rattle.layout.specs.declared.fault.LayoutFault.{LayoutFault}
-use Rattle.certs.specs.declared.section.Section.{Section}
+use Rattle.certs.specs.declared.certs.Certs.{Certs}
 use Rattle.block_rules.specs.declared.block_fault.Refusal.{Refusal}
-use Rattle.module_check.specs.Accepted.{IsFirstRefusal}
+use Rattle.module_check.specs.Accepted.{IsFirstRefusal, shaped}
 use Rattle.reports.specs.Report.{Answer, IsTold, line_of, no, no_memory, of_layout_fault}
 use Rattle.reports.specs.Files.{HasModule, HasCerts, IsUncertified, of_unread}
 use Rattle.reports.specs.declared.files.Unread.{Unread}
@@ -32,15 +32,16 @@ Says Meant old_output output old_error error status = (said : Said) × Meant sai
 
 -- ---- modules and certificates
 
--- what is said of a module and its certificates that are not accepted: the first refusal, the fault of the layouts, or that memory
--- was refused
-pub data OfVerdict (m : Module) (certs : List Section) : Said → Type 0 where
-  refused : (refusal : Refusal) → IsFirstRefusal m certs refusal → OfVerdict m certs (OnOutput (no m (line_of certs m refusal.func refusal.detail) refusal))
-  not_laid_out : (fault : LayoutFault) → IsLayoutFault m fault → OfVerdict m certs (OnError (of_layout_fault m fault))
+-- what is said of a module and its certificates that are not accepted: with the shapes of the certificates the first refusal, or the
+-- fault of the layouts; or that memory was refused
+pub data OfVerdict (m : Module) (certs : Certs) : Said → Type 0 where
+  refused : (refusal : Refusal) → IsFirstRefusal (shaped m certs) certs.sections refusal
+      → OfVerdict m certs (OnOutput (no m (line_of certs.sections m refusal.func refusal.detail) refusal))
+  not_laid_out : (fault : LayoutFault) → IsLayoutFault (shaped m certs) fault → OfVerdict m certs (OnError (of_layout_fault m fault))
   not_checked : OfVerdict m certs (OnError no_memory)
 
 -- what is said of the files of a module and its certificates, which have these paths, where this is said of them once they are read
-pub data OfCertified (Certs : Module → List Section → Said → Type 0) (module_path cert_path : List ℕ) (first second : Option (List ℕ)) : Said → Type 0 where
-  not_certified : (unread : Unread) → IsUncertified module_path cert_path first second unread → OfCertified Certs module_path cert_path first second (OnError (of_unread unread))
-  of_certified : (m : Module) (certs : List Section) (said : Said) → HasModule first m → HasCerts second m certs → Certs m certs said
-      → OfCertified Certs module_path cert_path first second said
+pub data OfCertified (OfCerts : Module → Certs → Said → Type 0) (module_path cert_path : List ℕ) (first second : Option (List ℕ)) : Said → Type 0 where
+  not_certified : (unread : Unread) → IsUncertified module_path cert_path first second unread → OfCertified OfCerts module_path cert_path first second (OnError (of_unread unread))
+  of_certified : (m : Module) (certs : Certs) (said : Said) → HasModule first m → HasCerts second m certs → OfCerts m certs said
+      → OfCertified OfCerts module_path cert_path first second said

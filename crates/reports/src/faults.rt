@@ -7,7 +7,8 @@ ghost use Rattle.reports.specs.Report as spec;
 ghost use Rattle.reports.specs.Report.{IsTold};
 
 use crate::found::{
-    name_of_block_at, name_of_function, name_of_struct, write_found_local, write_found_name,
+    name_of_block_at, name_of_function, name_of_local, name_of_struct, write_found_local,
+    write_found_name,
 };
 use crate::status::{STATUS_MEMORY, STATUS_UNREADABLE, STATUS_USAGE};
 use certificate::CertFault;
@@ -78,6 +79,7 @@ pub fn no_module<W: Write>(err: &mut W, fault: &ReadFault) -> io::Result<u8>
         ReadFault::LeftOut { place, word } => left_out(err, *place, word.as_slice()),
         ReadFault::Limit(place) => at_place(err, "L8", *place),
         ReadFault::WrongNumber(place) => at_place(err, "L9", *place),
+        ReadFault::OtherPointer(place) => at_place(err, "L10", *place),
         ReadFault::Memory => memory(err),
     }
 }
@@ -99,6 +101,38 @@ fn missing_block<W: Write>(
     Ok(STATUS_UNREADABLE)
 }
 
+/// A word without its shape: `error C6 Node 1`.
+fn missing_word<W: Write>(
+    err: &mut W,
+    of_module: &Module,
+    layout: usize,
+    word: usize,
+) -> io::Result<u8>
+    ensures { IfOk result (λ status. IsTold (W.contents err.old) (W.contents err.new) status (spec.of_cert_fault of_module.now (cert.MissingWord layout word))) }
+{
+    write!(err, "error C6 ")?;
+    write_found_name(err, name_of_struct(of_module, layout))?;
+    writeln!(err, " {word}")?;
+    Ok(STATUS_UNREADABLE)
+}
+
+/// A root slot without its shape: `error C6 @f %s`.
+fn missing_root<W: Write>(
+    err: &mut W,
+    of_module: &Module,
+    function: usize,
+    slot: usize,
+) -> io::Result<u8>
+    ensures { IfOk result (λ status. IsTold (W.contents err.old) (W.contents err.new) status (spec.of_cert_fault of_module.now (cert.MissingRoot function slot))) }
+{
+    write!(err, "error C6 @")?;
+    write_found_name(err, name_of_function(of_module, function))?;
+    write!(err, " %")?;
+    write_found_local(err, name_of_local(of_module, function, slot))?;
+    writeln!(err, "")?;
+    Ok(STATUS_UNREADABLE)
+}
+
 /// A text that is no certificate of the module.
 pub fn no_certificate<W: Write>(err: &mut W, of_module: &Module, fault: CertFault) -> io::Result<u8>
     ensures { IfOk result (λ status. IsTold (W.contents err.old) (W.contents err.new) status (spec.of_cert_fault of_module.now fault)) }
@@ -110,6 +144,9 @@ pub fn no_certificate<W: Write>(err: &mut W, of_module: &Module, fault: CertFaul
         CertFault::ListedTwice(position) => at_place(err, "C4", position),
         CertFault::Missing(number) => of_name(err, "C5 @", name_of_function(of_module, number)),
         CertFault::MissingBlock(function, block) => missing_block(err, of_module, function, block),
+        CertFault::MissingWord(layout, word) => missing_word(err, of_module, layout, word),
+        CertFault::MissingGlobal(symbol) => of_name(err, "C6 @", of_module.symbols.get(symbol)),
+        CertFault::MissingRoot(function, slot) => missing_root(err, of_module, function, slot),
         CertFault::Memory => memory(err),
     }
 }

@@ -1,18 +1,18 @@
-//! The files of a command, and what is read from them: a module with its certificates, and edits of them; or a module with its
-//! layouts and a trace.
-ghost use Rattle.std.specs.Prelude.{◌≡◌, true, IfOk, IfErr};
+//! The files of a command, and what is read from them: a module with its certificates, and edits of them; a module with its shapes; or
+//! a module with its layouts and a trace.
+ghost use Rattle.std.specs.Prelude.{◌≡◌, true, Some, option_map, IfOk, IfErr};
 ghost use Rattle.std.specs.Option.{option_copied};
 ghost use Rattle.certs.specs.Fits.{fits};
 ghost use Rattle.trace_text.specs.Traces.{IsTraceOf};
-ghost use Rattle.reports.specs.Files.{file_at, HasModule, HasCerts, HasEdits, HasProgram, HasTrace, IsNoModule, IsNoCertificate, IsNoEdits, IsNoProgram, IsNoTrace, IsUncertified, IsUntraced};
+ghost use Rattle.reports.specs.Files.{file_at, HasModule, HasCerts, HasEdits, HasProgram, HasShaped, HasTrace, IsNoModule, IsNoCertificate, IsNoEdits, IsNoProgram, IsNoShaped, IsNoShapes, IsNoTrace, IsRead, IsUncertified, IsUntraced, with_read};
 
-use certificate::{CertFault, read_cert};
+use certificate::{CertFault, read_cert, read_shapes};
 use certs::Certs;
 use edit_text::{Edit, read_edits};
-use ir_ast::Module;
+use ir_ast::{Module, Shapes};
 use ir_text::{ReadFault, read};
 use items::Items;
-use layout::{NotAProgram, Program};
+use layout::{NotAProgram, Program, wants_shapes};
 use std::alloc::Global;
 use trace_text::{Trace, TraceFault, read_trace};
 
@@ -46,7 +46,7 @@ pub enum Unread<'a> {
     NoFile(&'a str),
     NoModule(ReadFault),
     NoLayouts(NotAProgram),
-    /// The text is no certificate of this module.
+    /// The text is no certificate of this module, or no text of its shapes.
     NoCertificate(Module, CertFault),
     /// The text is no text of edits.
     NoEdits(CertFault),
@@ -79,7 +79,7 @@ fn certified_in<'a>(
     of_module: Module,
 ) -> Result<Certified, Unread<'a>>
     ensures of_module { IfOk result (λ certified. certified.of_module ≡ of_module) }
-    ensures ok { IfOk result (λ certified. HasCerts (file_at files.now 1) certified.of_module certified.certs.sections) }
+    ensures ok { IfOk result (λ certified. HasCerts (file_at files.now 1) certified.of_module certified.certs) }
     ensures fits { IfOk result (λ certified. fits certified.of_module certified.certs.sections ≡ true) }
     ensures err { IfErr result (IsNoCertificate path.now (file_at files.now 1) of_module) }
 {
@@ -101,7 +101,7 @@ pub fn read_certified<'a>(
     files: &[Option<Vec<u8>>],
 ) -> Result<Certified, Unread<'a>>
     ensures of_module { IfOk result (λ certified. HasModule (file_at files.now 0) certified.of_module) }
-    ensures certs { IfOk result (λ certified. HasCerts (file_at files.now 1) certified.of_module certified.certs.sections) }
+    ensures certs { IfOk result (λ certified. HasCerts (file_at files.now 1) certified.of_module certified.certs) }
     ensures fits { IfOk result (λ certified. fits certified.of_module certified.certs.sections ≡ true) }
     ensures err { IfErr result (IsUncertified paths.entry.0.now paths.entry.1.now (file_at files.now 0) (file_at files.now 1)) }
 {
@@ -128,16 +128,68 @@ pub fn edits_in<'a>(
     }
 }
 
-/// The program of the first file.
-fn program_in<'a>(
+/// A module with shapes that were read for it. They count where it writes `ptr`, and are left aside otherwise.
+fn with_read(of_module: Module, shapes: Shapes) -> Module
+    ensures { result ≡ with_read of_module shapes }
+{
+    let mut of_module = of_module;
+    if wants_shapes(&of_module) {
+        of_module.shapes = Some(shapes);
+    } else {
+        drop(shapes);
+    }
+    of_module
+}
+
+/// A module with its shapes, those of the file at this place of the line.
+fn with_shapes_in<'a>(
     alloc: Global,
     path: &'a str,
     files: &[Option<Vec<u8>>],
-) -> Result<Program, Unread<'a>>
-    ensures ok { IfOk result (HasProgram (file_at files.now 0)) }
-    ensures err { IfErr result (IsNoProgram path.now (file_at files.now 0)) }
+    place: usize,
+    of_module: Module,
+) -> Result<Module, Unread<'a>>
+    ensures ok { IfOk result (IsRead (file_at files.now place) of_module) }
+    ensures err { IfErr result (IsNoShapes (Some path.now) (file_at files.now place) of_module) }
 {
-    let of_module = module_in(alloc, path, files)?;
+    let Some(text) = file_at(files, place) else {
+        drop(of_module);
+        return Err(Unread::NoFile(path));
+    };
+    match read_shapes(alloc, text, &of_module) {
+        Ok(shapes) => Ok(with_read(of_module, shapes)),
+        Err(fault) => Err(Unread::NoCertificate(of_module, fault)),
+    }
+}
+
+/// The module of the first file, with the shapes of the file at this place of the line, if its path is given. The first fault counts: of the
+/// module, its path and then its text, then of the shapes, their path and then their text.
+pub fn shaped_in<'a>(
+    alloc: Global,
+    paths: (&'a str, Option<&'a str>),
+    files: &[Option<Vec<u8>>],
+    place: usize,
+) -> Result<Module, Unread<'a>>
+    ensures ok { IfOk result (HasShaped (file_at files.now 0) (option_map (λ path. path.now) paths.entry.1) (file_at files.now place)) }
+    ensures err { IfErr result (IsNoShaped paths.entry.0.now (option_map (λ path. path.now) paths.entry.1) (file_at files.now 0) (file_at files.now place)) }
+{
+    let of_module = module_in(alloc, paths.0, files)?;
+    match paths.1 {
+        Some(path) => with_shapes_in(alloc, path, files, place, of_module),
+        None => Ok(of_module),
+    }
+}
+
+/// The program of the first file, with the shapes of the third one, if its path is given.
+fn program_in<'a>(
+    alloc: Global,
+    paths: (&'a str, Option<&'a str>),
+    files: &[Option<Vec<u8>>],
+) -> Result<Program, Unread<'a>>
+    ensures ok { IfOk result (HasProgram (file_at files.now 0) (option_map (λ path. path.now) paths.entry.1) (file_at files.now 2)) }
+    ensures err { IfErr result (IsNoProgram paths.entry.0.now (option_map (λ path. path.now) paths.entry.1) (file_at files.now 0) (file_at files.now 2)) }
+{
+    let of_module = shaped_in(alloc, paths, files, 2)?;
     match Program::new(alloc, of_module) {
         Ok(program) => Ok(program),
         Err(refused) => Err(Unread::NoLayouts(refused)),
@@ -165,19 +217,20 @@ pub fn trace_in<'a>(
     }
 }
 
-/// Reads the module and the trace of these paths. The first fault counts: of the module, its path and then its text, then of
-/// its layouts, then of the trace, its path and then its text.
+/// Reads the module and the trace of these paths, the first two files, and the shapes of the last path, the third one, if it is given.
+/// The first fault counts: of the module, its path and then its text, then of the shapes, their path and then their text, then of the
+/// layouts, then of the trace, its path and then its text.
 pub fn read_traced<'a>(
     alloc: Global,
-    paths: (&'a str, &'a str),
+    paths: (&'a str, &'a str, Option<&'a str>),
     files: &[Option<Vec<u8>>],
 ) -> Result<Traced, Unread<'a>>
     ensures of_program { IfOk result (λ traced. IsTraceOf traced.program traced.trace) }
-    ensures program { IfOk result (λ traced. HasProgram (file_at files.now 0) traced.program) }
+    ensures program { IfOk result (λ traced. HasProgram (file_at files.now 0) (option_map (λ path. path.now) paths.entry.2) (file_at files.now 2) traced.program) }
     ensures trace { IfOk result (λ traced. HasTrace (file_at files.now 1) traced.program traced.trace) }
-    ensures err { IfErr result (IsUntraced paths.entry.0.now paths.entry.1.now (file_at files.now 0) (file_at files.now 1)) }
+    ensures err { IfErr result (IsUntraced paths.entry.0.now paths.entry.1.now (option_map (λ path. path.now) paths.entry.2) (file_at files.now)) }
 {
-    let program = program_in(alloc, paths.0, files)?;
+    let program = program_in(alloc, (paths.0, paths.2), files)?;
     match trace_in(alloc, paths.1, files, 1, &program) {
         Ok(trace) => Ok(Traced { program, trace }),
         Err(unread) => {

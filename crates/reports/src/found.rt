@@ -3,7 +3,7 @@ ghost use Rattle.std.specs.Prelude.{◌≡◌, OnOk};
 ghost use Rattle.std.specs.Io.KnownBytes.{Appends};
 ghost use Rattle.std.specs.Option.{option_copied};
 ghost use Rattle.reports.specs.Report as spec;
-ghost use Rattle.reports.specs.Report.{name_of_block, name_of_function, name_of_struct};
+ghost use Rattle.reports.specs.Report.{name_of_block, name_of_function, name_of_local, name_of_struct};
 
 use crate::name::{write_local, write_name};
 use ir_ast::{BlockId, FuncId, Module};
@@ -32,6 +32,14 @@ pub fn name_of_block_at(of_module: &Module, func: usize, block: usize) -> Option
     let function = of_module.functions.get(func)?;
     let block = function.blocks.get(block)?;
     function.locals.get(block.label.number() as usize)
+}
+
+/// The key of a local name of a function, if there is that name.
+pub fn name_of_local(of_module: &Module, func: usize, local: usize) -> Option<&[u8]>
+    ensures { option_copied result ≡ name_of_local of_module.now func local }
+{
+    let function = of_module.functions.get(func)?;
+    function.locals.get(local)
 }
 
 /// The name of a struct, if there is that struct.

@@ -9,9 +9,10 @@ mod status;
 mod unreadable;
 mod verdicts;
 
-pub use faults::{memory, no_layouts};
+pub use faults::{memory, no_certificate, no_layouts};
 pub use files::{
-    Certified, Traced, Unread, edits_in, module_in, read_certified, read_traced, trace_in,
+    Certified, Traced, Unread, edits_in, file_at, module_in, read_certified, read_traced,
+    shaped_in, trace_in,
 };
 pub use status::{
     STATUS_MEMORY, STATUS_NO, STATUS_UNREADABLE, STATUS_USAGE, STATUS_YES, status_of,

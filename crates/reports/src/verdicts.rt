@@ -5,7 +5,7 @@ ghost use Rattle.reports.specs.Report as spec;
 ghost use Rattle.reports.specs.Report.{IsTold};
 ghost use Rattle.block_rules.specs.RuleNames.{rule_name};
 ghost use Rattle.reports.specs.Said.{OfVerdict, Says};
-ghost use Rattle.module_check.specs.Accepted.{IsFirstRefusal, IsVerdictOf};
+ghost use Rattle.module_check.specs.Accepted.{IsFirstRefusal, IsVerdictOf, shaped};
 
 use crate::faults::{memory, no_layouts};
 use crate::found::{name_of_block, name_of_function, write_found_local, write_found_name};
@@ -14,7 +14,7 @@ use block_rules::{Detail, Refusal, Rule};
 use certificate::print_line;
 use certs::Certs;
 use ir_ast::{FuncId, Module};
-use module_check::{NotAccepted, Verdict};
+use module_check::{NotAccepted, Reason};
 use std::alloc::{AllocError, Global};
 use std::io;
 use std::io::Write;
@@ -27,7 +27,7 @@ pub fn accepted<W: Write>(out: &mut W, functions: usize) -> io::Result<u8>
     Ok(STATUS_YES)
 }
 
-/// The target of an edge and the line of its certificate that is not shown on it, if there are any, as they come after
+/// The target of an edge and the line of the claim that is not implied on it, if there are any, as they come after
 /// a rule: ` %loop %p ref Node nonnull`.
 fn write_detail<W: Write>(
     out: &mut W,
@@ -57,8 +57,8 @@ pub fn line_of_refusal(
     ensures { IfOk result (λ line. line.items ≡ spec.line_of certs.now.sections of_module.now refusal.now.func refusal.now.detail) }
 {
     match refusal.detail {
-        Some(Detail { target, line }) => {
-            print_line(alloc, certs, of_module, refusal.func, target, line)
+        Some(Detail { target, claim }) => {
+            print_line(alloc, certs, of_module, refusal.func, target, claim)
         }
         None => Ok(Vec::new(alloc)),
     }
@@ -86,7 +86,7 @@ fn write_rule<W: Write>(out: &mut W, rule: Rule) -> io::Result<()>
 }
 
 /// The first refused instruction, by its function, its block and its place there, and the rule that it breaks:
-/// `no @f %b 3 K6`. After K15 come the target and its line that is not shown.
+/// `no @f %b 3 K6`. After K15 come the target and the line of its claim that is not implied.
 pub fn refused<W: Write>(
     out: &mut W,
     of_module: &Module,
@@ -111,8 +111,8 @@ fn report_refusal<O: Write, E: Write>(
     out: &mut O,
     err: &mut E,
 ) -> io::Result<u8>
-    requires { IsFirstRefusal answer.now.of_module answer.now.certs.sections refusal.now }
-    ensures { IfOk result (Says (OfVerdict answer.now.of_module answer.now.certs.sections) (O.contents out.old) (O.contents out.new) (E.contents err.old) (E.contents err.new)) }
+    requires { IsFirstRefusal (shaped answer.now.of_module answer.now.certs) answer.now.certs.sections refusal.now }
+    ensures { IfOk result (Says (OfVerdict answer.now.of_module answer.now.certs) (O.contents out.old) (O.contents out.new) (E.contents err.old) (E.contents err.new)) }
 {
     match line_of_refusal(alloc, &answer.of_module, &answer.certs, refusal) {
         Ok(line) => refused(out, &answer.of_module, refusal, line.as_slice()),
@@ -127,12 +127,12 @@ pub fn report_verdict<O: Write, E: Write>(
     out: &mut O,
     err: &mut E,
 ) -> io::Result<u8>
-    requires { IsVerdictOf answer.now.of_module answer.now.certs.sections answer.now.verdict }
-    ensures { IfOk result (Says (OfVerdict answer.now.of_module answer.now.certs.sections) (O.contents out.old) (O.contents out.new) (E.contents err.old) (E.contents err.new)) }
+    requires { IsVerdictOf (shaped answer.now.of_module answer.now.certs) answer.now.certs.sections answer.now.verdict }
+    ensures { IfOk result (Says (OfVerdict answer.now.of_module answer.now.certs) (O.contents out.old) (O.contents out.new) (E.contents err.old) (E.contents err.new)) }
 {
     match answer.verdict {
-        Verdict::Refused(refusal) => report_refusal(alloc, answer, &refusal, out, err),
-        Verdict::Layout(fault) => no_layouts(err, &answer.of_module, fault),
-        Verdict::Memory => memory(err),
+        Reason::Refused(refusal) => report_refusal(alloc, answer, &refusal, out, err),
+        Reason::Layout(fault) => no_layouts(err, &answer.of_module, fault),
+        Reason::Memory => memory(err),
     }
 }

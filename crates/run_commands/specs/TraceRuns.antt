@@ -2,8 +2,9 @@
 use Rattle.std.specs.Prelude.{◌≡◌, ◌≢◌, ℕ, List, Option}
 use Rattle.ir_ast.specs.declared.module.Module.{Module}
 use Rattle.layout.specs.Layouts.{LaidOut}
+use Rattle.certs.specs.declared.certs.Certs.{Certs}
 use Rattle.certs.specs.declared.section.Section.{Section}
-use Rattle.module_check.specs.Accepted.{IsProgramCertified}
+use Rattle.module_check.specs.Accepted.{IsProgramCertified, shaped}
 use Rattle.trace_text.specs.declared.trace.Trace.{Trace}
 use Rattle.setups.specs.Setups.{HasNoFault, IsSetupFault}
 use Rattle.setups.specs.declared.setup_fault.SetupFault.{SetupFault}
@@ -34,10 +35,12 @@ pub data OfSeeds (seeds steps : ℕ) (p : LaidOut) (t : Trace) : Said → Type 0
   soaked : (outcome : SoakOutcome) → HasNoFault p t.setup → IsSoakOutcome p t.setup seeds steps outcome → OfSeeds seeds steps p t (OnOutput (of_soak seeds outcome))
   not_started : (fault : SetupFault) → (fault ≢ setup.Memory → IsSetupFault p t.setup fault) → OfSeeds seeds steps p t (OnError (of_setup_fault fault))
 
--- what is said of the files of a program and its trace, which have these paths, where this is said of them once they are read
-pub data OfRun (Run : LaidOut → Trace → Said → Type 0) (module_path trace_path : List ℕ) (first second : Option (List ℕ)) : Said → Type 0 where
-  not_traced : (unread : Unread) → IsUntraced module_path trace_path first second unread → OfRun Run module_path trace_path first second (OnError (of_unread unread))
-  of_traced : (p : LaidOut) (t : Trace) (said : Said) → HasProgram first p → HasTrace second p t → Run p t said → OfRun Run module_path trace_path first second said
+-- what is said of the files of a program, its trace and its shapes, which have these paths, where this is said of program and trace once
+-- they are read; of the files the second is the trace's and the third the shapes'
+pub data OfRun (Run : LaidOut → Trace → Said → Type 0) (module_path trace_path : List ℕ) (shapes_path : Option (List ℕ)) (file : ℕ → Option (List ℕ)) : Said → Type 0 where
+  not_traced : (unread : Unread) → IsUntraced module_path trace_path shapes_path file unread → OfRun Run module_path trace_path shapes_path file (OnError (of_unread unread))
+  of_traced : (p : LaidOut) (t : Trace) (said : Said) → HasProgram (file 0) shapes_path (file 2) p → HasTrace (file 1) p t → Run p t said
+      → OfRun Run module_path trace_path shapes_path file said
 
 -- ---- run
 
@@ -53,7 +56,7 @@ pub data OfTraceFile (limits : Limits) (p : LaidOut) (certs : List Section) (pat
   of_trace : (t : Trace) (said : Said) → HasTrace file p t → OfThreads limits p certs t said → OfTraceFile limits p certs path file said
 
 -- what it says of a module, its certificates and the file of the trace: why they are not accepted, or what is said of the program
-pub data OfRunCerts (limits : Limits) (path : List ℕ) (file : Option (List ℕ)) (m : Module) (certs : List Section) : Said → Type 0 where
+pub data OfRunCerts (limits : Limits) (path : List ℕ) (file : Option (List ℕ)) (m : Module) (certs : Certs) : Said → Type 0 where
   no_program : (said : Said) → OfVerdict m certs said → OfRunCerts limits path file m certs said
-  of_program : (p : LaidOut) (said : Said) → p.of_module ≡ m → IsProgramCertified p certs → OfTraceFile limits p certs path file said
+  of_program : (p : LaidOut) (said : Said) → p.of_module ≡ shaped m certs → IsProgramCertified p certs.sections → OfTraceFile limits p certs.sections path file said
       → OfRunCerts limits path file m certs said

@@ -1,5 +1,5 @@
 //! The command `replay`.
-ghost use Rattle.std.specs.Prelude.{IfOk};
+ghost use Rattle.std.specs.Prelude.{IfOk, option_map};
 ghost use Rattle.run_commands.specs.TraceRuns.{OfRun, OfTrace};
 ghost use Rattle.reports.specs.Said.{Says};
 ghost use Rattle.reports.specs.Files as spec;
@@ -29,8 +29,8 @@ fn replay_traced<O: Write, E: Write>(
     }
 }
 
-/// Replays the trace of a line in its module. After the faults of the files, the first thread
-/// counts that does not begin.
+/// Replays the trace of a line in its module, which has the shapes of the line where it writes `ptr`. After the faults of the files, the
+/// first thread counts that does not begin.
 pub fn replay_files<O: Write, E: Write>(
     alloc: Global,
     asked: ReplayLine<'_>,
@@ -38,9 +38,10 @@ pub fn replay_files<O: Write, E: Write>(
     out: &mut O,
     err: &mut E,
 ) -> io::Result<u8>
-    ensures { IfOk result (Says (OfRun OfTrace asked.entry.module_path.now asked.entry.trace_path.now (spec.file_at files.now 0) (spec.file_at files.now 1)) (O.contents out.old) (O.contents out.new) (E.contents err.old) (E.contents err.new)) }
+    ensures { IfOk result (Says (OfRun OfTrace asked.entry.module_path.now asked.entry.trace_path.now (option_map (λ path. path.now) asked.entry.shapes_path) (spec.file_at files.now)) (O.contents out.old) (O.contents out.new) (E.contents err.old) (E.contents err.new)) }
 {
-    match read_traced(alloc, (asked.module_path, asked.trace_path), files) {
+    let paths = (asked.module_path, asked.trace_path, asked.shapes_path);
+    match read_traced(alloc, paths, files) {
         Ok(traced) => {
             let status = replay_traced(alloc, &traced, out, err);
             drop(traced);

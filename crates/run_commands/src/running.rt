@@ -71,7 +71,7 @@ fn run_certified<O: Write, E: Write>(
     out: &mut O,
     err: &mut E,
 ) -> io::Result<u8>
-    ensures { IfOk result (Says (OfRunCerts limits path.now (spec.file_at files.now 2) certified.of_module certified.certs.sections) (O.contents out.old) (O.contents out.new) (E.contents err.old) (E.contents err.new)) }
+    ensures { IfOk result (Says (OfRunCerts limits path.now (spec.file_at files.now 2) certified.of_module certified.certs) (O.contents out.old) (O.contents out.new) (E.contents err.old) (E.contents err.new)) }
 {
     match check(alloc, certified.of_module, certified.certs) {
         Ok(accepted) => {

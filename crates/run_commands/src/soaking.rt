@@ -1,5 +1,5 @@
 //! The command `soak`.
-ghost use Rattle.std.specs.Prelude.{IfOk};
+ghost use Rattle.std.specs.Prelude.{IfOk, option_map};
 ghost use Rattle.run_commands.specs.TraceRuns.{OfRun, OfSeeds};
 ghost use Rattle.reports.specs.Said.{Says};
 ghost use Rattle.reports.specs.Files as spec;
@@ -40,8 +40,8 @@ fn soak_traced<O: Write, E: Write>(
     }
 }
 
-/// Runs the seeds of a line with its number of steps each, from the start of its trace in its module. The steps of the trace are
-/// left out.
+/// Runs the seeds of a line with its number of steps each, from the start of its trace in its module, which has the shapes of the line
+/// where it writes `ptr`. The steps of the trace are left out.
 pub fn soak_files<O: Write, E: Write>(
     rt: &(impl Threads + Sync),
     alloc: Global,
@@ -50,9 +50,10 @@ pub fn soak_files<O: Write, E: Write>(
     out: &mut O,
     err: &mut E,
 ) -> io::Result<u8>
-    ensures { IfOk result (Says (OfRun (OfSeeds asked.entry.seeds asked.entry.steps) asked.entry.module_path.now asked.entry.trace_path.now (spec.file_at files.now 0) (spec.file_at files.now 1)) (O.contents out.old) (O.contents out.new) (E.contents err.old) (E.contents err.new)) }
+    ensures { IfOk result (Says (OfRun (OfSeeds asked.entry.seeds asked.entry.steps) asked.entry.module_path.now asked.entry.trace_path.now (option_map (λ path. path.now) asked.entry.shapes_path) (spec.file_at files.now)) (O.contents out.old) (O.contents out.new) (E.contents err.old) (E.contents err.new)) }
 {
-    match read_traced(alloc, (asked.module_path, asked.trace_path), files) {
+    let paths = (asked.module_path, asked.trace_path, asked.shapes_path);
+    match read_traced(alloc, paths, files) {
         Ok(traced) => {
             let status = soak_traced(rt, alloc, &traced, asked.seeds, asked.steps, out, err);
             drop(traced);

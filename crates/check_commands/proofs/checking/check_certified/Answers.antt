@@ -19,5 +19,5 @@ returns-in-Err g c =
     let answer = c.in-Err.answer in
     let back = c.in-Err.ensures.given_back in
     IfOk-weaker c.report_verdict-status.result _ _
-    (λ status told. (told.0, not_accepted told.0 (subst (λ (m : Module). OfVerdict m c.args.certified.certs.sections told.0) back.0 (subst (λ (certs : Certs). OfVerdict answer.of_module certs.sections told.0) back.1 told.1)), told.2))
+    (λ status told. (told.0, not_accepted told.0 (subst (λ (m : Module). OfVerdict m c.args.certified.certs told.0) back.0 (subst (λ (certs : Certs). OfVerdict answer.of_module certs told.0) back.1 told.1)), told.2))
     c.report_verdict-status.ensures

@@ -9,9 +9,9 @@ use Rattle.check_commands.proofs.making.print_made.Goals as goal
 pub returns-in-Ok : goal.returns-in-Ok
 returns-in-Ok g c =
     let accepted = c.args.accepted.now in
-    let text : c.as_slice.result.now ≡ cert_text accepted.certs.sections accepted.program.of_module = search rules in
+    let text : c.as_slice.result.now ≡ cert_text accepted.certs accepted.program.of_module = search rules in
     IfOk-weaker c.print_text.result _ _
-    (λ status told. (OnOutput _, made accepted.certs.sections c.requires.fits c.requires.certified, (subst (λ text. IsTold (g.O.Write.contents c.args.out.now) (g.O.Write.contents c.print_text.new.out) status (made_text text)) text told, refl)))
+    (λ status told. (OnOutput _, made accepted.certs c.requires.fits c.requires.shapes c.requires.certified, (subst (λ text. IsTold (g.O.Write.contents c.args.out.now) (g.O.Write.contents c.print_text.new.out) status (made_text text)) text told, refl)))
     c.print_text.ensures
 
 pub returns-in-Err : goal.returns-in-Err

@@ -20,3 +20,6 @@ returns-in-Run g c = rw c.in-Run.is c.run_files.ensures
 
 pub returns-in-Explain : goal.returns-in-Explain
 returns-in-Explain g c = rw c.in-Explain.is c.explain_code.ensures
+
+pub returns-in-Migrate : goal.returns-in-Migrate
+returns-in-Migrate g c = rw c.in-Migrate.is c.migrate_files.ensures

@@ -11,7 +11,7 @@ returns-in-Ok g c =
     IfOk-weaker c.recheck_certified-status.result _ _
     (λ status told. (
       told.0,
-      of_edits c.in-Ok.edits told.0 c.in-Ok.ensures.ok (subst (λ (edits : List Edit). OfRechecked certified.of_module certified.certs.sections edits told.0) c.as_slice.ensures told.1),
+      of_edits c.in-Ok.edits told.0 c.in-Ok.ensures.ok (subst (λ (edits : List Edit). OfRechecked certified.of_module certified.certs edits told.0) c.as_slice.ensures told.1),
       told.2,
     ))
     c.recheck_certified-status.ensures

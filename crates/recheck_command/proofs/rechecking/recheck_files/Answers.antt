@@ -7,7 +7,7 @@ pub returns-in-Ok : goal.returns-in-Ok
 returns-in-Ok g c =
     let certified = c.in-Ok.certified in
     IfOk-weaker c.recheck_edits.result _ _
-    (λ status told. (told.0, of_certified certified.of_module certified.certs.sections told.0 c.in-Ok.ensures.of_module c.in-Ok.ensures.certs told.1, told.2))
+    (λ status told. (told.0, of_certified certified.of_module certified.certs told.0 c.in-Ok.ensures.of_module c.in-Ok.ensures.certs told.1, told.2))
     c.recheck_edits.ensures
 
 pub returns-in-Err : goal.returns-in-Err

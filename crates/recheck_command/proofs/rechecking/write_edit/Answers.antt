@@ -1,12 +1,12 @@
 use Rattle.std.proofs.Common.{subst, sym}
 use Rattle.std.proofs.lemmas.Result.{on_ok_weaker}
 use Rattle.recheck.specs.Session.{State}
-use Rattle.recheck_command.specs.Rechecks.{OfEdit, edit_refused, edit_taken, refused_text}
+use Rattle.recheck_command.specs.Rechecks.{OfEdit, edit_refused, edit_accepted, refused_text}
 use Rattle.recheck_command.proofs.rechecking.write_edit.Goals as goal
 
 pub returns-in-Ok : goal.returns-in-Ok
 returns-in-Ok g c =
-    on_ok_weaker c.write_taken.result (λ told. (_, edit_taken c.apply.new.self told.0 c.in-Ok.ensures.taken told.1, told.2)) c.write_taken.ensures
+    on_ok_weaker c.write_accepted.result (λ told. (_, edit_accepted c.apply.new.self told.0 c.in-Ok.ensures.accepted told.1, told.2)) c.write_accepted.ensures
 
 pub returns-in-Err : goal.returns-in-Err
 returns-in-Err g c =

@@ -1,6 +1,6 @@
 use Rattle.std.proofs.Common.{refl, subst}
 use Rattle.std.proofs.lemmas.Result.{IfOk-weaker}
-use Rattle.module_check.specs.Accepted.{IsVerdictOf}
+use Rattle.module_check.specs.Accepted.{IsVerdictOf, shaped}
 use Rattle.reports.specs.Said.{OnError, not_laid_out, not_checked}
 use Rattle.reports.proofs.verdicts.report_verdict.Goals as goal
 
@@ -8,7 +8,7 @@ pub returns-in-Layout : goal.returns-in-Layout
 returns-in-Layout g c =
     let answer = c.args.answer.now in
     IfOk-weaker c.no_layouts.result _ _
-    (λ status told. (OnError _, not_laid_out c.in-Layout.fault (subst (IsVerdictOf answer.of_module answer.certs.sections) c.in-Layout.is c.requires), (refl, told)))
+    (λ status told. (OnError _, not_laid_out c.in-Layout.fault (subst (IsVerdictOf (shaped answer.of_module answer.certs) answer.certs.sections) c.in-Layout.is c.requires), (refl, told)))
     c.no_layouts.ensures
 
 pub returns-in-Memory : goal.returns-in-Memory

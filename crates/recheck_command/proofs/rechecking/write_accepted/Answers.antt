@@ -3,8 +3,8 @@ use Rattle.std.specs.Fmt.{decimal}
 use Rattle.std.specs.Io.KnownBytes.{Appends}
 use Rattle.std.proofs.KnownBytes.{Appends-trans}
 use Rattle.reports.specs.Report.{Answer}
-use Rattle.recheck_command.specs.Rechecks.{taken_text}
-use Rattle.recheck_command.proofs.rechecking.write_taken.Goals as goal
+use Rattle.recheck_command.specs.Rechecks.{accepted_text}
+use Rattle.recheck_command.proofs.rechecking.write_accepted.Goals as goal
 
 -- five texts one after another
 joined : (a b c d e : List ℕ) → (a ++ (b ++ (c ++ d))) ++ e ≡ ((a ++ b) ++ c) ++ (d ++ e)
@@ -14,7 +14,7 @@ joined a b c d e =
     ∙ sym (append_assoc (a ++ b) c (d ++ e) ∙ append_assoc a b (c ++ (d ++ e)))
 
 -- the numbers and then the verdict are the line
-line_of_parts : (number n : ℕ) (verdict : Answer) → (decimal number ++ (codes " rechecked " ++ (decimal n ++ codes " "))) ++ verdict.text ≡ taken_text number n verdict
+line_of_parts : (number n : ℕ) (verdict : Answer) → (decimal number ++ (codes " rechecked " ++ (decimal n ++ codes " "))) ++ verdict.text ≡ accepted_text number n verdict
 line_of_parts number n verdict = joined (decimal number) (codes " rechecked ") (decimal n) (codes " ") verdict.text
 
 pub returns : goal.returns
@@ -24,5 +24,5 @@ returns g c =
     let old = g.W.Write.contents c.args.lines.now in
     let new = g.W.Write.contents c.write_verdict.new.lines in
     let written = Appends-trans _ _ _ _ _ c.in_ok-write.ensures.bytes verdict.2.1 in
-    let line = line_of_parts number c.rechecked.result verdict.0 ∙ ap (λ n. taken_text number n verdict.0) c.rechecked.ensures in
+    let line = line_of_parts number c.rechecked.result verdict.0 ∙ ap (λ n. accepted_text number n verdict.0) c.rechecked.ensures in
     (verdict.0, verdict.1, subst (Appends old new) line written)

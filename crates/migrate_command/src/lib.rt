@@ -1,0 +1,6 @@
+//! The command `migrate`.
+#![tactic(auto)]
+
+mod migrating;
+
+pub use migrating::migrate_files;
