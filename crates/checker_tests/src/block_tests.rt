@@ -1,5 +1,5 @@
 //! Facts that blocks share.
-use facts::{Class, ClassId, Entry, Facts, Given, KeptFacts, Known, SlotFact, Test};
+use facts::{Class, ClassId, Entry, Facts, Given, KeptFacts, Known, SlotFact, SpareRows, Test};
 use ir_ast::{Comparison, Constant, SymbolId, ValueId};
 use pools::{LayoutId, WordSet};
 use shadow_stack::SlotId;
@@ -213,7 +213,11 @@ fn make(alloc: Global, facts: &mut Facts, change: FactCall) -> Result<(), AllocE
         FactCall::DefineTest => facts.define_test(value, null_test(value)),
         FactCall::Receive => facts.receive(value, Given::Reference(layout), None),
         FactCall::LearnTest => facts.learn(test, false),
-        FactCall::AfterPhis => facts.after_phis([Entry { phi: value, known }].as_slice()),
+        FactCall::AfterPhis => facts.after_phis(
+            alloc,
+            &mut SpareRows::none(),
+            [Entry { phi: value, known }].as_slice(),
+        ),
         FactCall::DropFresh => facts.drop_fresh_of(known),
         FactCall::ClearSlot => facts.clear_slot(slot),
         FactCall::EndSlot => facts.end_slot(slot),

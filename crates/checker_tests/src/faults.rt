@@ -23,11 +23,12 @@ pub(crate) fn told_of_module(fault: &ReadFault) -> Told {
         ReadFault::LeftOut { place, .. } => told_at("L7", *place),
         ReadFault::Limit(place) => told_at("L8", *place),
         ReadFault::WrongNumber(place) => told_at("L9", *place),
+        ReadFault::OtherPointer(place) => told_at("L10", *place),
         ReadFault::Memory => ("memory", 0, 0),
     }
 }
 
-/// A fault in the text of certificates. What has no section is named by the numbers of its function and of its block.
+/// A fault in the text of certificates. What has no section is named by the numbers of its function and of its block, and what has no shape by its own.
 pub(crate) fn told_of_certificate(fault: CertFault) -> Told {
     match fault {
         CertFault::Syntax(place) => told_at("C1", place),
@@ -36,6 +37,9 @@ pub(crate) fn told_of_certificate(fault: CertFault) -> Told {
         CertFault::ListedTwice(place) => told_at("C4", place),
         CertFault::Missing(function) => ("C5", function, 0),
         CertFault::MissingBlock(function, block) => ("C5", function, block),
+        CertFault::MissingWord(layout, word) => ("C6", layout, word),
+        CertFault::MissingGlobal(symbol) => ("C6", symbol, 0),
+        CertFault::MissingRoot(function, slot) => ("C6", function, slot),
         CertFault::Memory => ("memory", 0, 0),
     }
 }

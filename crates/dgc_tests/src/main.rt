@@ -1,14 +1,18 @@
 //! `dgc_tests`, the program: runs commands of `dgc` on files and compares what they print with what is wanted. Each check is run
-//! by one worker and by three. Of each module that is accepted a certificate is made, with which it is accepted too.
+//! by one worker and by three. Of each module that is accepted a certificate is made, with which it is accepted too. It is also
+//! migrated with its own certificate, and checked again.
 //!
 //! `rows.txt` names the rows, one a line. The folder `rows/NAME` of a row has these files:
 //! - `args`: the command line after `dgc`, one word a line.
 //! - `status`, `stdout`, `stderr`: the wanted exit status and the wanted bytes of both outputs.
+//! - `migrated`: a folder with such files for the check of the opaque text, where they are other ones.
 //! - The files that `args` names. A file that is not there cannot be read by the command either.
 //!
 //! Before the rows it writes a line for each case that is made here, with its name and what comes of it. The file `stdout` has what
 //! must be written.
 #![tactic(auto)]
+
+ghost use Rattle.std.specs.Prelude.{◌≡◌, length};
 
 mod command_cases;
 mod meeting;
@@ -51,8 +55,27 @@ fn compare_with<O: Write>(
     Ok(is_alike)
 }
 
-/// Runs the command of a row, and a check once more by three workers, and once more with a certificate that is made if the
-/// module is accepted. Returns whether each prints what is wanted, and writes what differs.
+/// Migrates the module and the certificate of a row, and checks the one with the other. Returns whether that prints what is wanted,
+/// and whether the opaque text is printed as it is once it is read. Writes what differs.
+fn compare_migrated<O: Write>(
+    rt: &(impl Runtime + AllocGlobal + Threads + Sync),
+    name: &str,
+    row: &CommandRow,
+    out: &mut O,
+) -> Result<bool, RowFailure>
+    requires { length row.now.words.items ≡ 4 }
+{
+    let printed = row.checked_as_migrated(rt)?;
+    let is_alike = printed.compare(out, name, row.wanted_as_migrated())?;
+    if row.is_migrated_as_printed(rt)? {
+        return Ok(is_alike);
+    }
+    writeln!(out, "{name}: its opaque text is printed in another way")?;
+    Ok(false)
+}
+
+/// Runs the command of a row, and a check once more by three workers. If the module is accepted, it is checked once more with a
+/// certificate that is made, and once more as opaque text. Returns whether each prints what is wanted, and writes what differs.
 fn compare_row<O: Write>(
     rt: &(impl Runtime + AllocGlobal + Threads + Sync),
     name: &str,
@@ -70,7 +93,8 @@ fn compare_row<O: Write>(
     }
     let printed = row.checked_as_made(rt)?;
     let is_alike_as_made = printed.compare(out, name, row.wanted())?;
-    Ok(is_alike && is_alike_by_three && is_alike_as_made)
+    let is_alike_as_migrated = compare_migrated(rt, name, &row, out)?;
+    Ok(is_alike && is_alike_by_three && is_alike_as_made && is_alike_as_migrated)
 }
 
 /// Runs the command of a row. A row whose own files cannot be read is not as wanted.

@@ -16,6 +16,7 @@ use trace_text::{Actor, Trace, print_trace, read_trace};
 const REPLAY: Line<'static> = Line::Replay(ReplayLine {
     module_path: "module.ll",
     trace_path: "module.trace",
+    shapes_path: None,
 });
 
 /// The functions of a module and a trace of them.

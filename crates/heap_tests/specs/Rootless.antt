@@ -1,7 +1,7 @@
 -- A thread that asks for one safepoint after another, and has no roots.
 use Rattle.std.specs.Prelude.{List, []}
 use Rattle.pools.specs.Heap.{Setup}
-use Rattle.runs.specs.Machine.{Reference, Action, Safepoint, Answer}
+use Rattle.runs.specs.Machine.{WordValue, Action, Safepoint, Answer}
 use Rattle.moves.specs.Kinds.{KeepsKinds}
 use Rattle.moves.specs.RootsAfter.{AddsNewest}
 
@@ -14,7 +14,7 @@ abbrev pub goes_on : {State : Type 0} → State → Answer → State
 goes_on state answer = state
 
 -- it names nothing
-abbrev pub names : {State : Type 0} → State → List Reference
+abbrev pub names : {State : Type 0} → State → List WordValue
 names state = []
 
 -- each heap serves it

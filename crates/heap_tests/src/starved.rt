@@ -6,7 +6,7 @@ ghost use Rattle.heap_table.specs.Sweepers.{IsSweeperOf};
 use crate::opening::{ground, last_token, no_globals, open};
 use crate::steps::turn_on;
 use heap_table::{Heap, Mutator, Sweeper};
-use moves::{Answer, Call, Reference, RootsAfter, Runner};
+use moves::{Answer, Call, RootsAfter, Runner, WordValue};
 use pools::{Layouts, Pools};
 use runs::Machine;
 use serving::{ServingEnd, serve};
@@ -42,11 +42,11 @@ impl Runner for Starved {
         Call::Safepoint
     }
 
-    fn root_references(&self) -> Result<Vec<Reference>, AllocError> {
+    fn root_references(&self) -> Result<Vec<WordValue>, AllocError> {
         Err(AllocError)
     }
 
-    fn newest_roots(&self) -> Result<Vec<Reference>, AllocError> {
+    fn newest_roots(&self) -> Result<Vec<WordValue>, AllocError> {
         Err(AllocError)
     }
 

@@ -1,5 +1,5 @@
 define i64 @same(i64 %n) {
 entry:
-    #dbg_value(i64 %n, !4, !DIExpression(), !9)
+  # the same number
   ret i64 %n
 }

@@ -1,0 +1,16 @@
+%Node = type { i64, %Node* }
+@g = global %Node* null
+declare i8* @dg_alloc(i32)
+declare void @dg_safepoint()
+declare void @llvm.gcroot(i8**, i8*)
+declare i8* @llvm.gcread(i8*, i8**)
+declare void @llvm.gcwrite(i8*, i8*, i8**)
+define void @f(i1 %c) gc "shadow-stack" {
+entry:
+  %s = alloca %Node*
+  %r = bitcast %Node** %s to i8**
+  call void @llvm.gcroot(i8** %r, i8* null)
+  %v = select i1 %c, %Node* null, %Node* null
+  store %Node* %v, %Node** %s
+  ret void
+}

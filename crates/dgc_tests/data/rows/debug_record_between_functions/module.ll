@@ -1,0 +1,4 @@
+define void @f(i64 %n) {
+  ret void
+}
+#dbg_value(i64 0, !2, !DIExpression(), !3)

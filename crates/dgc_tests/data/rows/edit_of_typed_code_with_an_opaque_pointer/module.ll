@@ -1,0 +1,5 @@
+%Node = type { i64, %Node* }
+define void @leaf() gc "shadow-stack" {
+entry:
+  ret void
+}

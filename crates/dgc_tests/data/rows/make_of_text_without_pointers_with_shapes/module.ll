@@ -1,0 +1,4 @@
+define void @one() {
+entry:
+  ret void
+}

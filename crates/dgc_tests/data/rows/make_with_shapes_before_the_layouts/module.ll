@@ -1,0 +1,2 @@
+%T = type { ptr, %T }
+@g = global ptr null

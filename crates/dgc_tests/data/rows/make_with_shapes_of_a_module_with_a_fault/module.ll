@@ -1,0 +1,2 @@
+@g = global ptr null
+@g = global ptr null

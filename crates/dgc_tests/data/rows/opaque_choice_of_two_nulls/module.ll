@@ -1,0 +1,15 @@
+%Node = type { i64, ptr }
+@g = global ptr null
+declare ptr @dg_alloc(i32)
+declare void @dg_safepoint()
+declare void @llvm.gcroot(ptr, ptr)
+declare ptr @llvm.gcread(ptr, ptr)
+declare void @llvm.gcwrite(ptr, ptr, ptr)
+define void @f(i1 %c) gc "shadow-stack" {
+entry:
+  %s = alloca ptr
+  call void @llvm.gcroot(ptr %s, ptr null)
+  %v = select i1 %c, ptr null, ptr null
+  store ptr %v, ptr %s
+  ret void
+}

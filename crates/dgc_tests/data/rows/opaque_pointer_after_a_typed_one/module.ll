@@ -1,0 +1,2 @@
+%T = type { i64* }
+@g = global ptr null

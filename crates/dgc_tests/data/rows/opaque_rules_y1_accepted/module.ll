@@ -1,0 +1,5 @@
+%List = type { i64, ptr }
+define void @idle() {
+entry:
+  ret void
+}

@@ -1,0 +1,2 @@
+%T = type { ptr }
+declare i8** @f()

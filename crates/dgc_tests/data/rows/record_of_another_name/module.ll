@@ -1,0 +1,4 @@
+define void @f(i64 %n) {
+    #value(i64 %n)
+  ret void
+}

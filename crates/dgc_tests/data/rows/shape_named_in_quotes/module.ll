@@ -1,0 +1,2 @@
+%"a b" = type { ptr }
+@"c d" = global ptr null

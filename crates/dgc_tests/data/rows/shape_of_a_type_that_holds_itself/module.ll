@@ -1,0 +1,1 @@
+%T = type { ptr, %T }

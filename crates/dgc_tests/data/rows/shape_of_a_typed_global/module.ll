@@ -1,0 +1,2 @@
+%Node = type { i64, ptr }
+@n = global i64 0

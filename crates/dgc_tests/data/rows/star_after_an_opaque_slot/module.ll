@@ -1,0 +1,5 @@
+define void @f(ptr %p) {
+entry:
+  %s = alloca ptr*
+  ret void
+}

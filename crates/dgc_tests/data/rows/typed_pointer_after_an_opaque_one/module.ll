@@ -1,0 +1,2 @@
+%T = type { ptr }
+@g = global i64* null

@@ -1,0 +1,2 @@
+%T = type { ptr }
+declare [2 x { i64, i8** }]* @f()

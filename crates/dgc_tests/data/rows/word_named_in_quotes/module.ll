@@ -1,0 +1,1 @@
+%"a b" = type { ptr }
