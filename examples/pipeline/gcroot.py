@@ -1,9 +1,9 @@
 #!/usr/bin/env python3
-"""Makes gcroot code of what clang 14 prints of a C program.
+"""Makes gcroot code of what clang prints of a C program, with opaque pointers or with typed ones.
 
     gcroot.py IN.ll > OUT.ll
 
-IN.ll is typed text after the passes mem2reg, jump-threading and instnamer. A call of new_NAME becomes a claim of a cell of
+IN.ll is the text after the passes mem2reg, jump-threading and instnamer. A call of new_NAME becomes a claim of a cell of
 struct NAME. A safepoint comes to the head of each loop and before each call of a function of the program. A reference that
 is used after a safepoint is kept in a root slot: it is stored there where it is made, and loaded from there before each such
 use. An address is computed again after a safepoint. A reference is stored into a cell or a global by gcwrite. A branch on a
@@ -21,10 +21,17 @@ declare void @llvm.gcroot(i8**, i8*)
 declare i8* @llvm.gcread(i8*, i8**)
 declare void @llvm.gcwrite(i8*, i8*, i8**)
 """
+OPAQUE_RUNTIME = """declare ptr @dg_alloc(i32)
+declare void @dg_safepoint()
+declare void @llvm.gcroot(ptr, ptr)
+declare ptr @llvm.gcread(ptr, ptr)
+declare void @llvm.gcwrite(ptr, ptr, ptr)
+"""
+OPAQUE = re.compile(r"(?<![\w%@.$-])ptr\b(?!:)")
 DECORATIONS = re.compile(r"\b(noundef|nonnull|nocapture|readonly|readnone|writeonly|noalias|signext|zeroext|returned|dso_local|internal|"
                          r"local_unnamed_addr|unnamed_addr|fastcc|tail|notail|dereferenceable(_or_null)?\(\d+\)|align \d+(?=[ ,)])) ?")
 NAME = r"%[-\w.$]+"
-REFERENCE = re.compile(r"%struct\.\w+\*$|i8\*$")
+REFERENCE = re.compile(r"%struct\.\w+\*$|i8\*$|ptr$")
 SAFEPOINT = "call void @dg_safepoint()"
 
 
@@ -89,7 +96,7 @@ class Function:
                 cast = re.match(rf"bitcast (\S+) ({NAME}) to (\S+)", rest)
                 if rest.startswith("alloca"):
                     found[name] = ("slot", rest.split()[1])
-                elif rest.startswith("getelementptr") and re.search(rf"\* ({NAME}),", rest):
+                elif rest.startswith("getelementptr") and re.search(rf"(?:\*|ptr) ({NAME}),", rest):
                     found[name] = ("address", line)
                 elif cast and found.get(cast[2], ("",))[0] == "address":
                     found[name] = ("address", line)
@@ -111,6 +118,11 @@ def replaced(line, name, other):
     start = re.match(rf"{NAME} = ", line)
     at = start.end() if start else 0
     return line[:at] + re.sub(rf"(?<!label ){re.escape(name)}(?![-\w.$])", other, line[at:])
+
+
+def place_of(kind):
+    """The type of a place that holds this."""
+    return kind if kind == "ptr" else f"{kind}*"
 
 
 class Lowering:
@@ -147,12 +159,17 @@ class Lowering:
                 called = re.search(r"\bcall \S+ @([\w.$]+)\(", line)
                 if claim:
                     name, kind, layout = claim.groups()
-                    lines += [f"{name}.cell = call i8* @dg_alloc(i32 {self.layouts.index(layout)})", f"{name} = bitcast i8* {name}.cell to {kind}"]
+                    lines += self.claim(name, kind, self.layouts.index(layout))
                     continue
                 if called and not called[1].startswith("llvm."):
                     lines.append(SAFEPOINT)
                 lines.append(line)
             block[:] = lines
+
+    def claim(self, name, kind, layout):
+        if kind == "ptr":
+            return [f"{name} = call ptr @dg_alloc(i32 {layout})"]
+        return [f"{name}.cell = call i8* @dg_alloc(i32 {layout})", f"{name} = bitcast i8* {name}.cell to {kind}"]
 
     def current_at(self, names):
         """For each block, which of these names are still current where it begins: no way from where they are made meets a safepoint."""
@@ -232,7 +249,7 @@ class Lowering:
             if name not in kept:
                 kept.append(name)
             other, kind = self.f.fresh(name), made[name][1]
-            return [f"{other} = load {kind}, {kind}* {name}.root"], other
+            return [f"{other} = load {kind}, {place_of(kind)} {name}.root"], other
 
         self.mend_uses(names, again)
         for name in kept:
@@ -241,7 +258,7 @@ class Lowering:
 
     def keep(self, name, kind):
         """Stores a reference into its slot where it is made."""
-        store = f"store {kind} {name}, {kind}* {name}.root"
+        store = f"store {kind} {name}, {place_of(kind)} {name}.root"
         if name in [parameter for _, parameter in self.f.parameters]:
             self.f.blocks[self.f.entry].insert(self.end_of_allocas(), store)
             return
@@ -260,7 +277,7 @@ class Lowering:
     def base_of(self, made, place):
         """The reference whose cell an address lies in."""
         while made.get(place, ("",))[0] == "address":
-            place = re.search(rf"\* ({NAME})", made[place][1].split(" = ", 1)[1])[1]
+            place = re.search(rf"(?:\*|ptr) ({NAME})", made[place][1].split(" = ", 1)[1])[1]
         return place
 
     def add_barriers(self):
@@ -281,13 +298,16 @@ class Lowering:
         lines = []
 
         def bytes_of(name, kind):
-            if kind == "i8*" or name == "null":
+            if kind in ("i8*", "ptr") or name == "null":
                 return name
             other = self.f.fresh(name)
             lines.append(f"{other} = bitcast {kind} {name} to i8*")
             return other
 
         stored = bytes_of(value, kind)
+        if kind == "ptr":
+            owner = self.base_of(made, place) if place.startswith("%") else "null"
+            return [f"call void @llvm.gcwrite(ptr {stored}, ptr {owner}, ptr {place})"]
         if place.startswith("@"):
             return lines + [f"call void @llvm.gcwrite(i8* {stored}, i8* null, i8** bitcast ({place_kind} {place} to i8**))"]
         base = self.base_of(made, place)
@@ -304,12 +324,15 @@ class Lowering:
         for line in allocas:
             name, kind = re.match(rf"({NAME}) = alloca (\S+)", line).groups()
             if REFERENCE.match(kind):
-                place = name
-                if kind != "i8*":
-                    place = f"{name}.place"
-                    roots.append(f"{place} = bitcast {kind}* {name} to i8**")
-                roots.append(f"call void @llvm.gcroot(i8** {place}, i8* null)")
+                roots += self.root(name, kind)
         block[:] = allocas + roots + [line for line in block if " = alloca " not in line]
+
+    def root(self, name, kind):
+        if kind == "ptr":
+            return [f"call void @llvm.gcroot(ptr {name}, ptr null)"]
+        if kind == "i8*":
+            return [f"call void @llvm.gcroot(i8** {name}, i8* null)"]
+        return [f"{name}.place = bitcast {kind}* {name} to i8**", f"call void @llvm.gcroot(i8** {name}.place, i8* null)"]
 
     def text(self):
         """The text of the function."""
@@ -335,6 +358,16 @@ def functions_of(text):
     return found
 
 
+def code_of(text):
+    """The lines of types and functions."""
+    return "\n".join(plain(line) for line in text.split("\n") if not re.match(r"source_filename|target |attributes |!|;|@", line))
+
+
+def is_opaque(text):
+    """Whether the pointers of a text have no types."""
+    return bool(OPAQUE.search(code_of(text)))
+
+
 def module_of(text, names=None):
     """The module of these functions, or of all, as gcroot code."""
     types = [plain(line) for line in text.split("\n") if re.match(r"%struct\.\w+ = type \{", line)]
@@ -346,14 +379,13 @@ def module_of(text, names=None):
     for _ in names:
         may |= {it for it in names if functions[it].calls() & may}
     bodies = [Lowering(functions[it], layouts, may).text() for it in names]
-    return "\n".join(types + globals_of) + "\n" + RUNTIME + "\n".join(bodies) + "\n"
+    runtime = OPAQUE_RUNTIME if is_opaque(text) else RUNTIME
+    return "\n".join(types + globals_of) + "\n" + runtime + "\n".join(bodies) + "\n"
 
 
 def fault(text):
     """Why a text cannot be made into gcroot code, or None."""
-    code = "\n".join(plain(line) for line in text.split("\n") if not re.match(r"source_filename|target |attributes |!|;|@", line))
-    if re.search(r"(?<![\w%@.$-])ptr\b(?!:)", code):
-        return "it has pointers without types: use clang 14"
+    code = code_of(text)
     if re.search(r"%\d", code) or re.search(r"^define [^\n]*\n(?![-\w.$]+:)", code, re.M):
         return "it has values or blocks without names: run the pass instnamer"
     functions = functions_of(text)

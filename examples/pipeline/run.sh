@@ -1,17 +1,19 @@
 #!/bin/sh
-# Takes a C program through clang 14, opt 14, gcroot.py and dgc, step by step. README.md says why these steps.
+# Takes a C program through clang, opt, gcroot.py and dgc, step by step. README.md says why these steps.
 #
 #     DGC=path examples/pipeline/run.sh [PROGRAM.c [REPLAY.trace [RUN.trace]]]
 #
 # Without arguments it takes trees.c, replay.trace and run.trace. Without a trace, replay and run are left out.
-# DGC, CLANG and OPT name the programs. They are crates/dgc/out/dgc, clang-14 and opt-14 where they are not set.
+# LLVM is the version of clang and opt: 14 where it is not set. Version 14 prints typed pointers, and later ones opaque pointers.
+# DGC, CLANG and OPT name the programs. They are crates/dgc/out/dgc, clang-LLVM and opt-LLVM where they are not set.
 # OUT names a folder to keep what is made. Ends with 0 where each step succeeds, and otherwise with 1.
 
 here=$(cd "$(dirname "$0")" && pwd)
 top=$(cd "$here/../.." && pwd)
 dgc=${DGC:-$top/crates/dgc/out/dgc}
-clang=${CLANG:-clang-14}
-opt=${OPT:-opt-14}
+llvm=${LLVM:-14}
+clang=${CLANG:-clang-$llvm}
+opt=${OPT:-opt-$llvm}
 if [ $# -eq 0 ]; then
     set -- "$here/trees.c" "$here/replay.trace" "$here/run.trace"
 fi
@@ -44,17 +46,16 @@ needs() {
     command -v "$1" >/dev/null 2>&1 || fail "$1 is missing: $2"
 }
 
-# is_14 PROGRAM VARIABLE: fails where it is not of LLVM 14.
-is_14() {
-    "$1" --version 2>/dev/null | grep -q 'version 14\.' || fail "$1 is not of version 14: set $2 to one that is"
+# version_of PROGRAM: the first number of its version.
+version_of() {
+    "$1" --version 2>/dev/null | sed -n 's/.*version \([0-9]*\)\..*/\1/p' | head -n 1
 }
 
 needs python3 "install Python 3"
-needs "$clang" "install clang 14 (Debian: apt-get install clang-14), or set CLANG"
-needs "$opt" "install LLVM 14 (Debian: apt-get install llvm-14), or set OPT"
+needs "$clang" "install clang $llvm (Debian: apt-get install clang-$llvm), or set LLVM or CLANG"
+needs "$opt" "install LLVM $llvm (Debian: apt-get install llvm-$llvm), or set LLVM or OPT"
 needs "$dgc" "build it (README.md at the top, 'Build'), or set DGC"
-is_14 "$clang" CLANG
-is_14 "$opt" OPT
+[ "$(version_of "$clang")" = "$(version_of "$opt")" ] || fail "$clang and $opt are not of one version"
 for file in "$@"; do
     [ -r "$file" ] || fail "$file cannot be read"
 done
@@ -77,23 +78,32 @@ echo "3. gcroot.py: claims, safepoints, roots, barriers"
 python3 "$here/gcroot.py" "$out/2.ll" >"$out/3.ll" 2>"$out/3.txt" || stop "$(cat "$out/3.txt")"
 show "$out/3.txt"
 
+replay=$2
+run=$3
+set --
+if grep -qw ptr "$out/3.ll"; then
+    echo "   shapes.py: what the opaque pointers refer to"
+    python3 "$here/shapes.py" "$out/3.ll" >"$out/3.shapes" 2>"$out/3.txt" || stop "$(cat "$out/3.txt")"
+    set -- --shapes "$out/3.shapes"
+fi
+
 echo "4. dgc make: a certificate"
-"$dgc" make "$out/3.ll" --why >"$out/3.cert" 2>"$out/4.txt" || refused make "$(cat "$out/3.cert" "$out/4.txt")"
+"$dgc" make "$out/3.ll" "$@" --why >"$out/3.cert" 2>"$out/4.txt" || refused make "$(cat "$out/3.cert" "$out/4.txt")"
 echo "    $(wc -l <"$out/3.cert") lines"
 
 echo "5. dgc check: is the module safe in every schedule?"
 "$dgc" check "$out/3.ll" "$out/3.cert" >"$out/5.txt" 2>&1 || refused check "$(cat "$out/5.txt")"
 show "$out/5.txt"
 
-if [ -n "$2" ]; then
-    echo "6. dgc replay: the schedule of $(basename "$2")"
-    "$dgc" replay "$out/3.ll" "$2" >"$out/6.txt" 2>&1 || refused replay "$(cat "$out/6.txt")"
+if [ -n "$replay" ]; then
+    echo "6. dgc replay: the schedule of $(basename "$replay")"
+    "$dgc" replay "$out/3.ll" "$replay" "$@" >"$out/6.txt" 2>&1 || refused replay "$(cat "$out/6.txt")"
     show "$out/6.txt"
 fi
 
-if [ -n "$3" ]; then
-    echo "7. dgc run: real threads, as in $(basename "$3")"
-    "$dgc" run "$out/3.ll" "$out/3.cert" "$3" --steps 4294967295 --turns 4294967295 >"$out/7.txt" 2>&1 || refused run "$(cat "$out/7.txt")"
+if [ -n "$run" ]; then
+    echo "7. dgc run: real threads, as in $(basename "$run")"
+    "$dgc" run "$out/3.ll" "$out/3.cert" "$run" --steps 4294967295 --turns 4294967295 >"$out/7.txt" 2>&1 || refused run "$(cat "$out/7.txt")"
     show "$out/7.txt"
 fi
 
