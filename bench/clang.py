@@ -1,13 +1,14 @@
 #!/usr/bin/env python3
 """Reads by `dgc check` what clang makes of the small programs of bench/clang.
 
-    clang.py DGC [--clang PROGRAM] [--keep FOLDER] [--all]
+    clang.py DGC [--clang PROGRAM] [--debug] [--keep FOLDER] [--all]
 
 Each program is compiled to a text of LLVM IR with -O0, -O1 and -O2, without vectors and built-in functions. A second
 comment `flags: ..` at its beginning has more flags. The certificate is empty, so what is tried is the reader: a text is
-read where no fault L1 to L9 is printed. Prints for each text that it is read; or the fault with the line that it names,
+read where no fault L1 to L10 is printed. Prints for each text that it is read; or the fault with the line that it names,
 and whether the form is one that is left out on purpose (LEFT_OUT). Ends with status 1 where another form is refused.
-clang has to write typed pointers, as up to version 14. With --all the texts that are read are printed too. For use by hand.
+clang is of any version. With --debug it writes debug information too. With --all the texts that are read are printed too.
+For use by hand.
 """
 import argparse
 import collections
@@ -57,9 +58,9 @@ def flags_of(path):
     return found.group(1).split() if found else []
 
 
-def compiled(clang, path, level, out):
+def compiled(clang, path, levels, out):
     """Compiles a program to IR, and says what clang says if it fails."""
-    command = [clang, *FLAGS, level, *flags_of(path), "-o", out, path]
+    command = [clang, *FLAGS, *levels, *flags_of(path), "-o", out, path]
     run = subprocess.run(command, capture_output=True, text=True)
     return run.stderr if run.returncode else ""
 
@@ -67,7 +68,7 @@ def compiled(clang, path, level, out):
 def read(dgc, text, cert):
     """The reader's fault in a text: its code, line, column and word; or None."""
     run = subprocess.run([dgc, "check", text, cert], capture_output=True, text=True)
-    found = re.match(r"error (L\d) (\d+):(\d+) ?(.*)", run.stderr)
+    found = re.match(r"error (L\d+) (\d+):(\d+) ?(.*)", run.stderr)
     return (found[1], int(found[2]), int(found[3]), found[4]) if found else None
 
 
@@ -82,6 +83,7 @@ def main():
     parser = argparse.ArgumentParser(description=__doc__.split("\n")[0])
     parser.add_argument("dgc")
     parser.add_argument("--clang", default=shutil.which("clang-14") or "clang")
+    parser.add_argument("--debug", action="store_true")
     parser.add_argument("--keep", default=None)
     parser.add_argument("--all", action="store_true")
     options = parser.parse_args()
@@ -96,7 +98,7 @@ def main():
         for name in programs:
             for level in LEVELS:
                 text = os.path.join(folder, f"{name}{level}.ll")
-                failed = compiled(options.clang, os.path.join(HERE, "clang", name), level, text)
+                failed = compiled(options.clang, os.path.join(HERE, "clang", name), [level, "-g"] if options.debug else [level], text)
                 if failed:
                     sys.exit(f"{name} {level}: {failed}")
                 fault = read(options.dgc, text, cert)

@@ -46,7 +46,8 @@ def text_of(path):
 def read_row(name):
     """The row of this name."""
     folder = os.path.join(DATA, "rows", name)
-    files = {file: text_of(os.path.join(folder, file)) for file in sorted(os.listdir(os.path.join(TOP, folder)))}
+    names = sorted(entry.name for entry in os.scandir(os.path.join(TOP, folder)) if entry.is_file())
+    files = {name: text_of(os.path.join(folder, name)) for name in names}
     args, status, out, err = (files.pop(file) for file in ("args", "status", "stdout", "stderr"))
     return Row(args.splitlines(), status.strip(), out, err, files)
 
@@ -150,17 +151,17 @@ def changed(text, new, how, old):
     return "\n".join(lines)
 
 
-def checks(rows, head, example, printed):
-    """Whether some row checks this module and this certificate, and prints this. An empty line parts the two."""
-    module, _, certificate = example.partition("\n\n")
-    wanted = [head + "\n" + module + "\n", "cert 1\n" + certificate + "\n"]
+def checks(rows, heads, example, printed):
+    """Whether some row checks this module and this certificate, and prints this. An empty line parts the two, and each comes after
+    its head."""
+    wanted = [head + "\n" + part + "\n" for head, part in zip(heads, example.split("\n\n"))]
     return any(
         row.args[:1] == ["check"] and [row.files.get(name) for name in row.args[1:]] == wanted and prints(row, printed)
         for row in rows
     )
 
 
-def change_places(rows, where, head, example, text):
+def change_places(rows, where, heads, example, text):
     """The sentences of a paragraph that change an example."""
     places = []
     for found in CHANGE.finditer(text):
@@ -172,7 +173,7 @@ def change_places(rows, where, head, example, text):
         if other is None:
             places.append(Place(where, False, "this change fits no one place of the example: " + found[0]))
         else:
-            held = checks(rows, head, other, found["answer"])
+            held = checks(rows, heads, other, found["answer"])
             places.append(Place(where, held, "no row has the example of: " + found[0]))
     starts = len(re.findall(r"\bWith(?:out)? `", text))
     if len(places) != max(starts, text.count("the answer is")):
@@ -181,17 +182,18 @@ def change_places(rows, where, head, example, text):
 
 
 def worked_places(rows, page):
-    """docs/FRONT_ENDS.md: its examples, each of three blocks, and the sentences that change them."""
-    places, head, blocks, example = [], None, [], None
+    """docs/FRONT_ENDS.md: its first two blocks, after which modules and certificates come; its examples, each of three blocks, and the
+    sentences that change them."""
+    places, heads, blocks, example = [], [], [], None
     for number, kind, text in pieces(page) + [(0, "words", "")]:
         where = f"{page}:{number}"
-        if kind == "block" and head is None:
-            head = text
+        if kind == "block" and len(heads) < 2:
+            heads.append(text)
         elif kind == "block":
             blocks.append((where, text))
             if len(blocks) == 3:
                 where, example = blocks[0][0], blocks[0][1] + "\n\n" + blocks[1][1]
-                held = checks(rows, head, example, text)
+                held = checks(rows, heads, example, text)
                 places.append(Place(where, held, "no row has this module, this certificate and this line: " + text))
                 blocks = []
         else:
@@ -200,18 +202,19 @@ def worked_places(rows, page):
                 blocks = []
             if kind == "heading" or text.startswith("**"):
                 example = None
-            places += change_places(rows, where, head, example, text)
+            places += change_places(rows, where, heads, example, text)
     return places
 
 
 def may_stand_for(args, words):
     """Whether a row's command is this one, or the same soak with at most as many seeds and steps."""
-    if args[:1] != ["soak"] or words[:1] != ["soak"] or len(args) != 7 or len(words) != 7:
+    if args[:1] != ["soak"] or words[:1] != ["soak"] or len(args) != len(words):
         return args == words
-    same = [0, 1, 2, 3, 5]
-    if any(args[place] != words[place] for place in same) or not args[4].isdecimal() or not args[6].isdecimal():
-        return False
-    return all(words[place].isdecimal() and int(args[place]) <= int(words[place]) for place in (4, 6))
+    for before, arg, word in zip([None] + args, args, words):
+        fewer = before in ("--seeds", "--steps") and arg.isdecimal() and word.isdecimal() and int(arg) <= int(word)
+        if arg != word and not fewer:
+            return False
+    return True
 
 
 def command_place(rows, where, command, printed):
@@ -238,11 +241,11 @@ def bare(text):
 
 
 def is_part(part, text):
-    """Whether the part is the text's end from its first line on. Of other parts than certificates, traces and functions:
+    """Whether the part is the text's end from its first line on. Of other parts than certificates, shapes, traces and functions:
     whether its lines are together in the text, comments and indentation aside."""
     if part.startswith("define "):
         return text.endswith("\n" + part + "\n")
-    if part.startswith(("cert ", "trace ")):
+    if part.startswith(("cert ", "shapes ", "trace ")):
         return text == part + "\n"
     lines, whole = bare(part), bare(text)
     return any(whole[place : place + len(lines)] == lines for place in range(len(whole)))
@@ -278,7 +281,7 @@ def story_places(rows, page):
             places.append(Place(where, held is not None and is_part(text, held), f"{named} of {SWAP} has no such lines"))
         if kind == "heading":
             named = None
-        for name in re.findall(r"\w+\.(?:ll|cert|trace)\b", text):
+        for name in re.findall(r"\w+\.(?:ll|cert|shapes|trace)\b", text):
             named = name
     if command:
         places.append(Place(page, False, f"`{command}` stands without what it prints"))

@@ -18,7 +18,7 @@ import tempfile
 import time
 
 HERE = os.path.dirname(os.path.abspath(__file__))
-SWAP = os.path.join(HERE, "..", "examples", "swap")
+SWAP = os.path.join(HERE, "..", "examples", "swap", "typed")
 TEXT_LIMIT, FILE_LIMIT = 16777216, 1 << 30
 NOBODY = 65534
 MOST_SECONDS = 120

@@ -234,7 +234,7 @@ def only_safepoints(n):
     return function(safepoints(n) + "  ret void\n", mark="may")
 
 
-@kind("certificate lines")
+@kind("claims of a certificate")
 def certificate_lines(n):
     """Lines of one block."""
     body = numbers(n) + "  br label %next\nnext:\n  ret void\n"

@@ -18,7 +18,7 @@ class Kind:
 
 
 def kind(name, most=100000, command="check", says=None):
-    """Notes a function of n as the kind with this name.
+    """Records a function of n as the kind with this name.
 
     The function returns the module's text and the other one's, and how large they are if that is not their bytes. What
     the command prints begins with `says`.

@@ -96,7 +96,7 @@ def slots_blocks(n):
     return function(body, lines(n + 1, lambda i: f"block %b{i}\n%k i64"), K)
 
 
-@kind("root slots and blocks with no line", 60000)
+@kind("root slots and blocks with no claim", 60000)
 def slots_bare_blocks(n):
     """Blocks in a row without a line, after root slots."""
     body = roots(n) + "  br label %b0\n" + lines(n, lambda i: f"b{i}:\n  br label %b{i + 1}") + f"b{n}:\n  ret void\n"
@@ -120,7 +120,7 @@ def values_phis(n):
     return function(body, lines(n, lambda i: f"block %b{i}\n%p{i} i64"), K)
 
 
-@kind("lines and switch cases")
+@kind("claims and switch cases")
 def lines_cases(n):
     """Cases that lead to one block with lines."""
     listed = " ".join(f"i64 {i}, label %out" for i in range(n))
@@ -199,7 +199,7 @@ def fields_elements(n):
     return function(body, "param %x nonnull\n", "%T* %x", head=head)
 
 
-@kind("fields and lines about addresses")
+@kind("fields and claims about addresses")
 def fields_lines(n):
     """Lines of one block about addresses of the last field of a struct whose other fields have no word."""
     head = f"%T = type {{ {'[0 x i64], ' * n}i64 }}\n"
@@ -249,7 +249,7 @@ def phis_predecessors(n):
     return function(body, lines(n, lambda i: f"block %b{i}") + "block %out\n" + lines(count, lambda i: f"%p{i} i64"), K)
 
 
-@kind("ways in, and lines", 1000)
+@kind("edges in, and claims", 1000)
 def ways_lines(n):
     """Blocks that list what the block that they lead to lists: the text has n times n lines."""
     listed = " ".join(f"i64 {i}, label %b{i}" for i in range(n))

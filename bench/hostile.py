@@ -38,7 +38,8 @@ THREAD = rb"t \d+ (?:absent|ended|stopped|memory|running \d+|returned(?: \d+| nu
 # what a run may print on the standard output, by its status
 PRINTED = {
     "check": {0: rb"yes \d+\n", 1: rb"no @(?s:.*) K\d+(?s:.*)\n"},
-    "make": {0: rb"cert 1\n(?s:.*)", 1: rb"no answer\n"},
+    "make": {0: rb"cert [12]\n(?s:.*)", 1: rb"no answer\n"},
+    "migrate": {0: rb"(?s:.*)"},
     "recheck": {0: rb"(?s:.*)", 1: rb"(?s:.*)"},
     "replay": {0: rb"sound \d+\n(?:" + THREAD + rb")*claims \d+ frees \d+ posted \d+\n",
                1: rb"broken \d+ (?:t \d+|c) (?:wrong|(?:touch|reach)-(?:blue|birth) \d+)\n"},
@@ -46,7 +47,7 @@ PRINTED = {
     "run": {0: rb"(?:" + THREAD + rb")*collector turns \d+ cycles \d+\n", 1: rb"no @(?s:.*) K\d+(?s:.*)\n"},
 }
 FAULT = {
-    2: re.compile(rb"error (?:[LCP]\d+ \d+:\d+(?: (?s:.*))?|C5 @(?s:.*)|Y\d(?: (?s:.*))?|K(?:13|20) t \d+)\n"),
+    2: re.compile(rb"error (?:[LCP]\d+ \d+:\d+(?: (?s:.*))?|C[56] (?s:.*)|Y\d(?: (?s:.*))?|K(?:13|20) t \d+)\n"),
     3: re.compile(rb"error memory\n"),
     4: re.compile(rb"(?s:error.*)\n"),
 }
@@ -70,26 +71,36 @@ def fault_of(command, ended):
     return "" if form and form.fullmatch(said) else "another text"
 
 
+def shapes_in(certificate):
+    """A text of the shapes of a certificate: what stands between its first line and its first section, if it is of opaque text."""
+    lines = [line for line in re.split(rb"\r?\n", certificate) if line.split(b";")[0].strip()]
+    if not lines or lines[0].split(b";")[0].split() != [b"cert", b"2"]:
+        return b""
+    sections = [number for number, line in enumerate(lines) if line.split()[0] == b"function"]
+    return b"\n".join([b"shapes 1", *lines[1:sections[0] if sections else None], b""])
+
+
 class Soaks:
     """Soaks of modules that are accepted: each starts every function that integers can start."""
 
     def __init__(self, runner):
         self.runner, self.known, self.made = runner, {}, 0
 
-    def fault(self, module):
-        """Why an accepted module is not as it may be, or nothing."""
-        key = hashlib.sha256(module).digest()
+    def fault(self, module, shapes):
+        """Why an accepted module with these shapes is not as it may be, or nothing."""
+        key = hashlib.sha256(module + b"\0" + shapes).digest()
         if key not in self.known:
-            self.known[key] = self.look(module)
+            self.known[key] = self.look(module, shapes)
         return self.known[key]
 
-    def look(self, module):
+    def look(self, module, shapes):
         """Makes a soak of the module. A function that no integers start is left out."""
         traces = [trace for trace in (self.trace(module, count) for count in (1, 2)) if trace]
+        given = ["--shapes", "shapes"] if shapes else []
         for trace in traces:
             self.made += 1
-            ended = self.runner.run(["soak", "module.ll", "trace", "--seeds", str(SEEDS), "--steps", str(STEPS)],
-                                    {"module.ll": module, "trace": trace})
+            ended = self.runner.run(["soak", "module.ll", "trace", *given, "--seeds", str(SEEDS), "--steps", str(STEPS)],
+                                    {"module.ll": module, "trace": trace, "shapes": shapes})
             if ended.status == 1:
                 return "yes, and " + ended.stdout.decode(errors="replace").strip()
             if ended.signal or ended.status > 4:
@@ -138,7 +149,7 @@ class Search:
         if row.words[0] != "check" or ended.status != 0:
             return ""
         self.accepted += 1
-        return self.soaks.fault(texts[row.words[1]])
+        return self.soaks.fault(texts[row.words[1]], shapes_in(texts[row.words[2]]))
 
     def note(self, told, fault, row, texts, ended):
         """Keeps a wrong case."""

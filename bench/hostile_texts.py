@@ -3,7 +3,7 @@ import os
 import re
 from dataclasses import dataclass
 
-COMMANDS = ("check", "make", "recheck", "replay", "soak", "run")
+COMMANDS = ("check", "make", "recheck", "replay", "soak", "run", "migrate")
 TOKEN = re.compile(rb'"[^"\n]*"|[%@!#]?[-a-zA-Z$._0-9]+|\s+|.', re.S)
 NUMBERS = [b"0", b"1", b"2", b"63", b"64", b"65", b"255", b"65535", b"65536", b"1048576", b"2147483647", b"2147483648", b"4294967295",
            b"4294967296", b"9223372036854775807", b"9223372036854775808", b"-9223372036854775808", b"18446744073709551615",

@@ -26,7 +26,7 @@ TOKEN = re.compile(r'[%@!#$]?"[^"]*"|[%@!#$]?[-a-zA-Z$._0-9]+:?|;[^\n]*|\s+|.')
 
 def sources(folder):
     """The module and the certificate of each text that is changed."""
-    found = [tuple(os.path.join(HERE, "..", "examples", "swap", name) for name in ("barrier.ll", "swap.cert"))]
+    found = [tuple(os.path.join(HERE, "..", "examples", "swap", "typed", name) for name in ("barrier.ll", "swap.cert"))]
     for seed in range(20):
         base = os.path.join(folder, f"g{seed}")
         command = [sys.executable, os.path.join(HERE, "generate.py"), "--functions", "3", "--seed", str(seed), base]

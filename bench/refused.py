@@ -17,7 +17,7 @@ import sys
 import tempfile
 
 HERE = os.path.dirname(os.path.abspath(__file__))
-SWAP = os.path.join(HERE, "..", "examples", "swap")
+SWAP = os.path.join(HERE, "..", "examples", "swap", "typed")
 ROWS = os.path.join(HERE, "..", "crates", "dgc_tests", "data", "rows")
 SAFE, RACE = f"{SWAP}/barrier.ll {SWAP}/two.trace", f"{SWAP}/plain.ll {SWAP}/race.trace"
 COMMANDS = {

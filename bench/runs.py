@@ -21,7 +21,7 @@ import time
 from drawn import draw_module
 
 HERE = os.path.dirname(os.path.abspath(__file__))
-SWAP = os.path.join(HERE, "..", "examples", "swap")
+SWAP = os.path.join(HERE, "..", "examples", "swap", "typed")
 
 
 def run(dgc, *words):
