@@ -12,6 +12,8 @@ pub mod PrintedPromises
 pub mod PrintedBlocks
 pub mod PrintedCerts
 pub mod AnewFits
+mod NoRoots
+mod PlainNames
 mod TypedPointers
 mod Begun
 mod ReadShapes

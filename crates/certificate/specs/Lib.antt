@@ -1,5 +1,6 @@
 pub mod Numbers
 pub mod Names
+pub mod Allocas
 pub mod Drafts
 pub mod Input
 pub mod View

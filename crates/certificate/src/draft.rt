@@ -1,5 +1,6 @@
 //! The section that is read.
 ghost use Rattle.std.specs.Prelude.{◌≡◌, None, [], map, length, replicate, slice_set, IfOk, true, false};
+ghost use Rattle.certificate.specs.Allocas as allocas;
 ghost use Rattle.certs.specs.RootNames as root_spec;
 ghost use Rattle.certificate.specs.Drafts as spec;
 ghost use Rattle.certificate.specs.declared.draft.SectionDraft.{SectionDraft as ADraft};
@@ -76,6 +77,25 @@ fn record_blocks(roots: &mut Items<bool>, slots: &Slots, blocks: &[Block])
     }
 }
 
+fn is_alloca(instr: &Instr) -> bool
+    ensures { result ≡ allocas.is_alloca instr.now.op }
+{
+    matches!(&instr.op, Op::Memory(MemoryOp::Alloca(_)))
+}
+
+fn has_alloca(body: &[Instr]) -> bool
+    ensures { result ≡ allocas.has_alloca body.now }
+{
+    body.iter().any(|instr| is_alloca(instr))
+}
+
+/// Whether a function of these blocks has a slot.
+fn makes_slots(blocks: &[Block]) -> bool
+    ensures { result ≡ allocas.makes_slots blocks.now }
+{
+    blocks.iter().any(|block| has_alloca(block.body.as_slice()))
+}
+
 /// Whether each local name is that of a root slot: of its alloca.
 pub fn root_names(
     alloc: Global,
@@ -84,9 +104,12 @@ pub fn root_names(
 ) -> Result<Items<bool>, AllocError>
     ensures { IfOk result (λ roots. roots ≡ root_spec.root_names «module».now function.now) }
 {
-    let slots = slots_of(alloc, module, function)?;
     let none = vec![in alloc; false; function.locals.count()]?;
     let mut roots = Items::from_vec(none);
+    if !makes_slots(function.blocks.as_slice()) {
+        return Ok(roots);
+    }
+    let slots = slots_of(alloc, module, function)?;
     record_blocks(&mut roots, &slots, function.blocks.as_slice());
     Ok(roots)
 }

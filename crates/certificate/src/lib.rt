@@ -12,6 +12,7 @@ mod migrated;
 mod mistake;
 mod naming;
 mod numbers;
+mod plain;
 mod print;
 mod print_sections;
 mod print_shapes;

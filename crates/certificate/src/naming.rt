@@ -2,6 +2,7 @@
 ghost use Rattle.std.specs.Prelude.{◌≡◌, Some, IfOk};
 ghost use Rattle.certificate.specs.Names as spec;
 
+use crate::plain::{plain_global, plain_key, plain_layout};
 use ir_ast::{Function, LocalSort, Module, SymbolId, SymbolSort};
 use name_text::{Sigil, layout_name_in, name_in};
 use std::alloc::{AllocError, Global};
@@ -34,6 +35,9 @@ fn function_named(module: &Module, name: &[u8]) -> Naming
 pub fn function_of_word(alloc: Global, module: &Module, word: &[u8]) -> Result<Naming, AllocError>
     ensures { IfOk result (λ naming. naming ≡ spec.function_of_word «module».now word.now) }
 {
+    if let Some(name) = plain_global(word) {
+        return Ok(function_named(module, name));
+    }
     match name_in(alloc, Sigil::Global, word)? {
         None => Ok(Naming::NoName),
         Some(name) => Ok(function_named(module, name.as_slice())),
@@ -80,6 +84,9 @@ fn value_named(function: &Function, key: &[u8]) -> Naming
 pub fn value_of_word(alloc: Global, function: &Function, word: &[u8]) -> Result<Naming, AllocError>
     ensures { IfOk result (λ naming. naming ≡ spec.value_of_word function.now word.now) }
 {
+    if let Some(key) = plain_key(word) {
+        return Ok(value_named(function, key));
+    }
     match name_in(alloc, Sigil::Local, word)? {
         None => Ok(Naming::NoName),
         Some(key) => Ok(value_named(function, key.as_slice())),
@@ -102,6 +109,9 @@ fn block_named(function: &Function, key: &[u8]) -> Naming
 pub fn block_of_word(alloc: Global, function: &Function, word: &[u8]) -> Result<Naming, AllocError>
     ensures { IfOk result (λ naming. naming ≡ spec.block_of_word function.now word.now) }
 {
+    if let Some(key) = plain_key(word) {
+        return Ok(block_named(function, key));
+    }
     match name_in(alloc, Sigil::Local, word)? {
         None => Ok(Naming::NoName),
         Some(key) => Ok(block_named(function, key.as_slice())),
@@ -124,6 +134,9 @@ fn layout_named(module: &Module, name: &[u8]) -> Naming
 pub fn layout_of_word(alloc: Global, module: &Module, word: &[u8]) -> Result<Naming, AllocError>
     ensures { IfOk result (λ naming. naming ≡ spec.layout_of_word «module».now word.now) }
 {
+    if let Some(name) = plain_layout(word) {
+        return Ok(layout_named(module, name));
+    }
     match layout_name_in(alloc, word)? {
         None => Ok(Naming::NoName),
         Some(name) => Ok(layout_named(module, name.as_slice())),

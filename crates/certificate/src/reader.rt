@@ -127,7 +127,8 @@ fn result_line(
 fn past_lines(input: &Input<'_>) -> bool
     ensures { result ≡ text.past_lines input.now }
 {
-    input.begins(b"block") || input.begins(b"end")
+    let word = input.word();
+    word == b"block".as_slice() || word == b"end".as_slice()
 }
 
 #[tactic(auto, unfolding(crate::specs::Text::lines))]

@@ -10,6 +10,26 @@ use std::{fs, io};
 /// How many bytes a file may have that is no module.
 const FILE_LIMIT: u64 = 1 << 30;
 
+/// How many bytes are read at once.
+const PIECE: usize = 1 << 16;
+
+/// Appends what a file has from here on. Each piece is read into the same room, so no byte of the whole is written before it is read.
+fn append_all(source: &mut impl Read, bytes: &mut Vec<u8>) -> io::Result<()> {
+    let mut room = [0; PIECE];
+    for _turn in 0..u64::MAX {
+        match source.read(&mut room) {
+            Ok(0) => return Ok(()),
+            Ok(count) => bytes.extend_from_slice(&room[..count])?,
+            Err(error) => {
+                if error.kind() != io::ErrorKind::Interrupted {
+                    return Err(error);
+                }
+            }
+        }
+    }
+    Err(io::Error::from(io::ErrorKind::TimedOut))
+}
+
 /// The first bytes of a file, at most this many. A pipe is no file: nobody may write to it, or one who ends too early. A file that
 /// becomes shorter meanwhile is not read.
 fn first_bytes(rt: &(impl Runtime + AllocGlobal), path: &str, most: u64) -> io::Result<Vec<u8>> {
@@ -19,7 +39,7 @@ fn first_bytes(rt: &(impl Runtime + AllocGlobal), path: &str, most: u64) -> io::
     let file = fs::open(rt, path)?;
     let length = file.metadata()?.len().min(most);
     let mut bytes = Vec::new(rt.alloc());
-    file.take(most).read_to_end(&mut bytes)?;
+    append_all(&mut file.take(most), &mut bytes)?;
     if (bytes.len() as u64) < length {
         return Err(io::Error::from(io::ErrorKind::UnexpectedEof));
     }

@@ -233,7 +233,9 @@ impl Following for Spot {
 pub fn decorations(alloc: Global, input: &mut Input<'_>, spot: Spot) -> Result<(), Fault>
     ensures { Reads ((form.decorations spot).read input.old) result input.new }
 {
-    many_with(alloc, input, spot)?;
+    if begins_decoration(spot, input.cursor.begins_line(), input.kind()) {
+        many_with(alloc, input, spot)?;
+    }
     Ok(())
 }
 
@@ -294,7 +296,9 @@ impl Following for FlagsAfter {
 fn flags(alloc: Global, input: &mut Input<'_>, word: Kind) -> Result<(), Fault>
     ensures { Reads ((form.flags word).read input.old) result input.new }
 {
-    many_with(alloc, input, FlagsAfter { word })?;
+    if is_flag_of(word, input.kind()) {
+        many_with(alloc, input, FlagsAfter { word })?;
+    }
     Ok(())
 }
 
@@ -346,7 +350,9 @@ impl Listed for RecordList {
 pub fn debug_records(alloc: Global, input: &mut Input<'_>) -> Result<(), Fault>
     ensures { Reads (form.debug_records.read input.old) result input.new }
 {
-    many::<RecordList>(alloc, input)?;
+    if input.sees(Kind::DebugRecord) {
+        many::<RecordList>(alloc, input)?;
+    }
     Ok(())
 }
 
@@ -449,7 +455,9 @@ impl Following for Trail {
 pub fn trailing(alloc: Global, input: &mut Input<'_>, trail: Trail) -> Result<(), Fault>
     ensures { Reads ((form.trailing trail).read input.old) result input.new }
 {
-    many_with(alloc, input, trail)?;
+    if input.sees(Kind::Comma) {
+        many_with(alloc, input, trail)?;
+    }
     Ok(())
 }
 

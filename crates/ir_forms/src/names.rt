@@ -1,6 +1,8 @@
 //! Names: where they are defined, and where they are used.
 ghost use Rattle.std.specs.Prelude.{◌≡◌, Ok, Err, if◌then◌else◌, nat_lt, IfOk};
+ghost use Rattle.ir_forms.specs.Cursor as place;
 ghost use Rattle.ir_forms.specs.Input.{Reads};
+ghost use Rattle.ir_forms.specs.Intrinsics.{is_intrinsic as intrinsic_name, is_left_out as left_out_name};
 ghost use Rattle.ir_forms.specs.Names as form;
 
 use crate::fault::Fault;
@@ -110,13 +112,38 @@ impl<'a> Input<'a> {
         Ok(name)
     }
 
+    /// Whether the next token's global name is one of an intrinsic that is left out.
+    fn names_left_out(&self, alloc: Global) -> Result<bool, AllocError>
+        ensures { IfOk result (λ is. is ≡ left_out_name (place.spelled self.now.cursor)) }
+    {
+        match self.cursor.borrowed() {
+            Some(name) => Ok(is_left_out(name)),
+            None => {
+                let name = self.cursor.spelled(alloc)?;
+                Ok(is_left_out(name.as_slice()))
+            }
+        }
+    }
+
+    /// Whether the next token's global name is one of an intrinsic.
+    fn names_intrinsic(&self, alloc: Global) -> Result<bool, AllocError>
+        ensures { IfOk result (λ is. is ≡ intrinsic_name (place.spelled self.now.cursor)) }
+    {
+        match self.cursor.borrowed() {
+            Some(name) => Ok(is_intrinsic(name)),
+            None => {
+                let name = self.cursor.spelled(alloc)?;
+                Ok(is_intrinsic(name.as_slice()))
+            }
+        }
+    }
+
     /// A global name that is defined here, as this.
     #[tactic(auto, unfolding(crate::specs::Names::new_symbol))]
     pub fn new_symbol(&mut self, alloc: Global, sort: SymbolSort) -> Result<SymbolId, Fault>
         ensures { Reads ((form.new_symbol sort).read self.old) result self.new }
     {
-        let name = self.cursor.spelled(alloc)?;
-        if is_left_out(name.as_slice()) {
+        if self.names_left_out(alloc)? {
             return Err(self.left_out());
         }
         let number = self
@@ -136,8 +163,7 @@ impl<'a> Input<'a> {
     pub fn callee(&mut self, alloc: Global) -> Result<SymbolId, Fault>
         ensures { Reads (form.callee.read self.old) result self.new }
     {
-        let name = self.cursor.spelled(alloc)?;
-        if is_left_out(name.as_slice()) {
+        if self.names_left_out(alloc)? {
             return Err(self.left_out());
         }
         self.used_symbol(alloc, true)
@@ -148,8 +174,7 @@ impl<'a> Input<'a> {
     pub fn used_global(&mut self, alloc: Global) -> Result<SymbolId, Fault>
         ensures { Reads (form.used_global.read self.old) result self.new }
     {
-        let name = self.cursor.spelled(alloc)?;
-        if is_intrinsic(name.as_slice()) {
+        if self.names_intrinsic(alloc)? {
             return Err(self.left_out());
         }
         if is_function(self.symbol_sort(alloc)?) {

@@ -54,6 +54,9 @@ impl<'a> Input<'a> {
     pub fn intern_pointer(&mut self, start: u32, new: IrType) -> Result<TypeId, Fault>
         ensures { Reads ((form.intern_pointer start new).read self.old) result self.new }
     {
+        if let Some(id) = self.types.find(new) {
+            return Ok(TypeId::new(id.number()));
+        }
         let is_other = self.is_second_kind(&new);
         let id = self.intern(new)?;
         if is_other {

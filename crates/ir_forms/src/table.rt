@@ -31,11 +31,11 @@ impl<S: Copy + Drop> Table<S> {
         ensures number { IfOk result (λ number. number ≡ number_of name.now self.old.names) }
         ensures table { OnOk result (self.new ≡ spec.mentioned name.now nothing self.old) }
     {
-        if let Some(number) = self.names.find(name) {
-            return Ok(number);
-        }
+        let known = self.names.count();
         let number = self.names.number(alloc, name)?;
-        self.sorts.push(nothing)?;
+        if number >= known {
+            self.sorts.push(nothing)?;
+        }
         Ok(number)
     }
 
