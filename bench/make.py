@@ -11,7 +11,9 @@
   of opt.
 - The module of each worked example that `check` accepts (crates/dgc_tests/data), and modules of generate.py: a certificate
   has to be made for each.
-Each certificate that is made has to be accepted by `dgc check`. Ends with status 1 where something is not as it has to be.
+Each certificate that is made has to be accepted by `dgc check`. Then module and certificate are migrated to opaque pointers
+(`dgc migrate`). Where `check` accepts them, a certificate has to be made of the migrated module too. Ends with status 1 where
+something is not as it has to be.
 clang has to write typed pointers, as up to version 14. For use by hand.
 """
 import argparse
@@ -43,20 +45,27 @@ class Maker:
 
     def __init__(self, dgc, folder):
         self.dgc, self.folder, self.wrong = dgc, folder, []
+        self.migrated = 0
 
-    def made(self, name, module):
-        """`made`, or the rule of the refusal, or the fault of the text; and the line that says so."""
-        path = os.path.join(self.folder, name + ".ll")
+    def path(self, name, text):
+        """Writes a text, and returns where."""
+        path = os.path.join(self.folder, name)
         with open(path, "w") as out:
-            out.write(module)
-        answer = run(self.dgc, "make", path, "--why")
+            out.write(text)
+        return path
+
+    def made(self, name, module, shapes=""):
+        """`made`, or the rule of the refusal, or the fault of the text; and the line that says so."""
+        path = self.path(name + ".ll", module)
+        words = ["--shapes", self.path(name + ".shapes", shapes)] if shapes else []
+        answer = run(self.dgc, "make", path, *words, "--why")
         if answer.returncode == 0:
-            cert = path[:-3] + ".cert"
-            with open(cert, "w") as out:
-                out.write(answer.stdout)
+            cert = self.path(name + ".cert", answer.stdout)
             checked = run(self.dgc, "check", path, cert)
             if checked.returncode != 0:
                 self.wrong.append(f"{name}: made, and then {checked.stdout.strip()}{checked.stderr.strip()}")
+            elif not shapes:
+                self.make_migrated(name, path, cert)
             return "made", ""
         line = (answer.stderr.strip() or answer.stdout.strip()).split("\n")[-1]
         words = line.split()
@@ -65,6 +74,27 @@ class Maker:
         if answer.returncode != 2:
             self.wrong.append(f"{name}: status {answer.returncode} {line}")
         return words[1] if len(words) > 1 else "error", line
+
+    def make_migrated(self, name, path, cert):
+        """Makes a certificate of a module once more as it is migrated to opaque pointers, if `check` accepts it with the migrated one."""
+        module, migrated = run(self.dgc, "migrate", path), run(self.dgc, "migrate", path, cert)
+        if module.returncode or migrated.returncode:
+            self.wrong.append(f"{name}: not migrated: {module.stderr.strip()} {migrated.stderr.strip()}")
+            return
+        shapes = shapes_of(migrated.stdout)
+        opaque = self.path(name + ".opaque.ll", module.stdout), self.path(name + ".opaque.cert", migrated.stdout)
+        if shapes and run(self.dgc, "check", *opaque).returncode == 0:
+            answer, line = self.made(name + ".opaque", module.stdout, shapes)
+            self.migrated += 1
+            if answer != "made":
+                self.wrong.append(f"{name}: made, and not when it is migrated: {line}")
+
+
+def shapes_of(cert):
+    """The shapes of a certificate, as a file of their own; empty where it has none."""
+    lines = cert.split("\n")
+    shapes = [line for line in lines if line.split(" ")[0] in ("layout", "global", "root")]
+    return "\n".join(["shapes 1", *shapes, ""]) if lines[0].startswith("cert 2") else ""
 
 
 def compiled(options, path, level, passes):
@@ -135,20 +165,20 @@ def corpus(options, maker):
 
 
 def accepted_rows():
-    """The modules of the worked examples that `check` accepts."""
+    """The modules of the worked examples that `check` accepts, with their shapes."""
     for row in sorted(os.listdir(ROWS)):
         with open(f"{ROWS}/{row}/args") as args, open(f"{ROWS}/{row}/status") as status:
             words = args.read().split("\n")
             if words[0] == "check" and status.read().strip() == "0" and os.path.exists(f"{ROWS}/{row}/{words[1]}"):
-                with open(f"{ROWS}/{row}/{words[1]}") as module:
-                    yield row, module.read()
+                with open(f"{ROWS}/{row}/{words[1]}") as module, open(f"{ROWS}/{row}/{words[2]}") as cert:
+                    yield row, module.read(), shapes_of(cert.read())
 
 
 def references(maker):
     """Modules that have a certificate: one has to be made for each."""
     count = 0
-    for row, module in accepted_rows():
-        answer, line = maker.made(f"row_{row}", module)
+    for row, module, shapes in accepted_rows():
+        answer, line = maker.made(f"row_{row}", module, shapes)
         count += 1
         if answer != "made":
             maker.wrong.append(f"row {row}: {line}")
@@ -161,6 +191,7 @@ def references(maker):
         if answer != "made":
             maker.wrong.append(f"generated {seed}: {line}")
     print(f"{count} modules that have a certificate")
+    print(f"{maker.migrated} modules that were migrated, and accepted")
 
 
 def main():

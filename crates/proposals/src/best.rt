@@ -1,6 +1,5 @@
 //! The claims of a block that no edge enters: all that it needs, since it never runs.
 use crate::draft_claims::BlockClaims;
-use crate::rows::row_or;
 use crate::summary::FunctionSummary;
 use block_rules::RuleContext;
 use certs::{Age, Claim, Fact, Family, family_of_value};
@@ -40,11 +39,7 @@ fn best_fact(
             });
         }
         Family::Reference(layout) => layout,
-        Family::AnyReference | Family::Opaque => row_or(
-            &summary.reading.guesses.layouts,
-            value.number() as usize,
-            None,
-        )?,
+        Family::AnyReference | Family::Opaque => summary.layout_of(value)?,
         Family::Address | Family::Nothing => return None,
     };
     Some(Fact::Reference {

@@ -1,5 +1,5 @@
-use crate::buckets::Buckets;
 use ir_ast::{Block, Call, FuncId, Module, Op, Runtime, SymbolId, SymbolSort};
+use number_tables::Buckets;
 use std::alloc::{AllocError, Global};
 use types::runtime_called;
 

@@ -1,7 +1,7 @@
-use crate::rows::{put, row_or};
 use certs::Claim;
 use ir_ast::BlockId;
 use items::Items;
+use number_tables::{put, row_or};
 use std::alloc::{AllocError, Global};
 
 /// The claims of a block, and how often the bound of each has grown.

@@ -1,21 +1,28 @@
 //! The claims of a block by the first edge to it.
 use crate::draft_claims::BlockClaims;
-use crate::rows::row_or;
 use crate::summary::FunctionSummary;
 use block_rules::RuleContext;
 use certs::{Age, Claim, Fact, Family, family_of_value};
 use facts::{ClassId, Facts, Known};
 use indexmap::{IndexMap, IndexSet};
 use ir_ast::{BlockId, ValueId};
+use number_tables::row_or;
 use pools::{LayoutId, WordSet};
 use shadow_stack::SlotId;
 use std::alloc::{AllocError, Global};
+
+/// Whether a slot was seen before that holds the same.
+#[derive(Clone, Copy)]
+enum Seen {
+    Once,
+    Again,
+}
 
 /// What is listed of what is known on an edge.
 #[derive(Drop)]
 struct Lister<'a> {
     rule_context: RuleContext<'a>,
-    summary: &'a FunctionSummary,
+    summary: &'a FunctionSummary<'a>,
     facts: &'a Facts,
     /// What is wanted, in its order.
     wanted: &'a [u32],
@@ -160,11 +167,7 @@ impl<'a> Lister<'a> {
             value,
         ) {
             Family::Reference(layout) => Some(layout),
-            _ => row_or(
-                &self.summary.reading.guesses.layouts,
-                value.number() as usize,
-                None,
-            ),
+            _ => self.summary.layout_of(value),
         }
     }
 
@@ -191,7 +194,8 @@ impl<'a> Lister<'a> {
         }
     }
 
-    /// What a wanted slot holds is listed, though it is not wanted, where it is fresh or two slots hold it.
+    /// What a wanted slot holds is listed, though it is not wanted, where two slots hold it. Where it is fresh it is listed by its
+    /// first name, which most edges to a block imply.
     fn held(&mut self, alloc: Global, names: &[ValueId]) -> Result<(), AllocError> {
         let mut once = IndexSet::new(alloc);
         let mut hidden = IndexMap::new(alloc);
@@ -208,23 +212,35 @@ impl<'a> Lister<'a> {
         names: &[ValueId],
     ) -> Result<(), AllocError> {
         for slot in self.summary.slots.root_slots() {
-            if let Some(class) = self.unlisted(*slot) {
-                if self.facts.class(class).fresh || once.contains(&class.number()) {
+            if let Some(class) = self.class_kept(*slot) {
+                let seen = if once.insert(class.number())? {
+                    Seen::Once
+                } else {
+                    Seen::Again
+                };
+                if self.is_name_needed(class, seen) {
                     self.list_hidden(hidden, names, class)?;
                 }
-                once.insert(class.number())?;
             }
         }
         Ok(())
     }
 
-    /// The class that a wanted slot holds, if no value of it is listed.
-    fn unlisted(&self, slot: SlotId) -> Option<ClassId> {
+    /// The class that a wanted slot holds.
+    fn class_kept(&self, slot: SlotId) -> Option<ClassId> {
         let class = self.held_class(slot)?;
-        if self.is_slot_wanted(slot) && self.firsts.get(&class.number()).is_none() {
+        if self.is_slot_wanted(slot) {
             Some(class)
         } else {
             None
+        }
+    }
+
+    /// Whether a value of a class that a slot holds is to be listed besides those that are wanted.
+    fn is_name_needed(&self, class: ClassId, seen: Seen) -> bool {
+        match seen {
+            Seen::Once => self.facts.class(class).fresh,
+            Seen::Again => self.firsts.get(&class.number()).is_none(),
         }
     }
 
@@ -238,12 +254,14 @@ impl<'a> Lister<'a> {
             self.find_hidden(hidden, names)?;
         }
         match hidden.get(&class.number()).copied() {
-            Some((value, layout)) => self.reference(value, class, layout),
-            None => Ok(()),
+            Some((value, layout)) if !self.is_wanted(value.number()) => {
+                self.reference(value, class, layout)
+            }
+            _ => Ok(()),
         }
     }
 
-    /// A value of each class of which one has a name.
+    /// The first value of each class of which one has a name.
     fn find_hidden(
         &self,
         hidden: &mut IndexMap<usize, (ValueId, LayoutId)>,
@@ -327,11 +345,33 @@ fn record_hidden(
             layout,
             stale,
         } => {
-            if !stale {
-                hidden.insert(class.number(), (value, layout))?;
+            if stale {
+                Ok(())
+            } else {
+                record_first(hidden, value, class, layout)
             }
-            Ok(())
         }
         _ => Ok(()),
+    }
+}
+
+/// Records a value of a class, unless one that comes before is recorded.
+fn record_first(
+    hidden: &mut IndexMap<usize, (ValueId, LayoutId)>,
+    value: ValueId,
+    class: ClassId,
+    layout: LayoutId,
+) -> Result<(), AllocError> {
+    if comes_before(value, hidden.get(&class.number())) {
+        hidden.insert(class.number(), (value, layout))?;
+    }
+    Ok(())
+}
+
+/// Whether a value comes before another, in the order in which the text mentions them first.
+fn comes_before(value: ValueId, other: Option<&(ValueId, LayoutId)>) -> bool {
+    match other {
+        Some((other, _)) => value.number() < other.number(),
+        None => true,
     }
 }

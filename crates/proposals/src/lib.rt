@@ -3,7 +3,6 @@
 #![tactic(auto)]
 
 mod best;
-mod buckets;
 mod call_graph;
 mod draft_claims;
 mod first_claims;
@@ -14,10 +13,8 @@ mod inferred;
 mod marks;
 mod needs;
 mod numbers;
-mod opaque_guesses;
 mod order;
 mod proposal;
-mod rows;
 mod scan;
 mod summaries;
 mod summary;

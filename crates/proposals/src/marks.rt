@@ -1,6 +1,6 @@
 use crate::call_graph::CallGraph;
-use crate::rows::{put, row_or};
 use certs::Mark;
+use number_tables::{put, row_or};
 use std::alloc::{AllocError, Global};
 
 /// The mark of each of `count` functions: `may` where a safepoint can be reached over calls.

@@ -2,10 +2,10 @@
 use crate::call_graph::defined;
 use crate::inferred::smaller;
 use crate::numbers::bounded_operand;
-use crate::rows::{put, row_or};
 use crate::summaries::Summaries;
 use ir_ast::{Block, Call, Element, Function, Instr, Module, Op, Operand, Phi, TypeId};
 use layout::{Program, Step};
+use number_tables::{put, row_or};
 use std::alloc::{AllocError, Global};
 
 /// What each value of a function has to be below, as far as the text tells.

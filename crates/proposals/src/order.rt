@@ -1,6 +1,6 @@
 //! The order in which functions are walked over first.
 use crate::call_graph::CallGraph;
-use crate::rows::{put, row_or};
+use number_tables::{put, row_or};
 use std::alloc::{AllocError, Global};
 
 /// Functions on the path down the calls.

@@ -10,6 +10,7 @@ use certs::{Certs, Promise, Section};
 use ir_ast::{FuncId, IrType, Module, TypeId};
 use items::Items;
 use layout::Program;
+use layout_flow::LayoutFlow;
 use std::alloc::{AllocError, Global};
 
 /// What all walks look at.
@@ -17,6 +18,7 @@ use std::alloc::{AllocError, Global};
 struct ModuleContext<'a> {
     program: &'a Program,
     graph: &'a CallGraph,
+    layouts: &'a LayoutFlow,
     /// No certificates.
     none: &'a Certs,
     /// The lengths of the module's arrays, in order.
@@ -37,8 +39,21 @@ fn propose_over(
     graph: &CallGraph,
     boldness: Boldness,
 ) -> Result<Certs, AllocError> {
-    let mut summaries = Summaries::of(alloc, program, graph, boldness)?;
-    let certs = propose_from(alloc, program, graph, &mut summaries);
+    let layouts = LayoutFlow::of(alloc, program)?;
+    let certs = propose_with(alloc, program, graph, &layouts, boldness);
+    drop(layouts);
+    certs
+}
+
+fn propose_with(
+    alloc: Global,
+    program: &Program,
+    graph: &CallGraph,
+    layouts: &LayoutFlow,
+    boldness: Boldness,
+) -> Result<Certs, AllocError> {
+    let mut summaries = Summaries::of(alloc, program, graph, layouts, boldness)?;
+    let certs = propose_from(alloc, program, graph, layouts, &mut summaries);
     drop(summaries);
     certs
 }
@@ -47,10 +62,11 @@ fn propose_from(
     alloc: Global,
     program: &Program,
     graph: &CallGraph,
+    layouts: &LayoutFlow,
     summaries: &mut Summaries,
 ) -> Result<Certs, AllocError> {
     let mut drafts = drafts_of(alloc, program.module())?;
-    let certs = match walk_all(alloc, program, graph, summaries, &mut drafts) {
+    let certs = match walk_all(alloc, program, graph, layouts, summaries, &mut drafts) {
         Ok(()) => certs_of(alloc, program.module(), summaries, &drafts),
         Err(refused) => Err(refused),
     };
@@ -72,6 +88,7 @@ fn walk_all(
     alloc: Global,
     program: &Program,
     graph: &CallGraph,
+    layouts: &LayoutFlow,
     summaries: &mut Summaries,
     drafts: &mut [DraftClaims],
 ) -> Result<(), AllocError> {
@@ -83,6 +100,7 @@ fn walk_all(
     let context = ModuleContext {
         program,
         graph,
+        layouts,
         none: &none,
         lengths: &lengths,
     };
@@ -138,7 +156,7 @@ fn walk_one(
     if number >= drafts.len() {
         return Ok(());
     }
-    let summary = FunctionSummary::of(alloc, module, func, function, summaries)?;
+    let summary = FunctionSummary::of(alloc, module, func, function, context.layouts)?;
     let function_context = FunctionContext {
         rule_context: RuleContext {
             program: context.program,

@@ -1,10 +1,10 @@
 //! What each block reads before it writes it, and what it writes. A value has its own number, and a slot the one after those
 //! of all values.
 use crate::numbers::operands_of;
-use crate::rows::{put, row_or};
 use ir_ast::{
     Argument, Block, End, Function, Incoming, Instr, MemoryOp, NumberOp, Op, Operand, Phi, ValueId,
 };
+use number_tables::{put, row_or};
 use shadow_stack::{SlotId, Slots};
 use std::alloc::{AllocError, Global};
 use types::target_of;

@@ -1,15 +1,13 @@
 use crate::call_graph::CallGraph;
-use crate::guesses::{cast_layouts, returned_layout};
 use crate::inferred::{InferredPromise, Shown};
 use crate::marks::marks_of;
 use crate::needs::needs_of;
-use crate::opaque_guesses::record_others;
 use crate::order::callees_first;
-use crate::rows::{put, row_or};
 use certs::{Mark, Promise, family_of_type, family_of_value};
 use ir_ast::{FuncId, Function, Module};
 use layout::Program;
-use pools::LayoutId;
+use layout_flow::LayoutFlow;
+use number_tables::{put, row_or};
 use std::alloc::{AllocError, Global};
 
 /// How much is promised at first.
@@ -46,6 +44,7 @@ impl Summaries {
         alloc: Global,
         program: &Program,
         graph: &CallGraph,
+        layouts: &LayoutFlow,
         boldness: Boldness,
     ) -> Result<Summaries, AllocError> {
         let mut summaries = Summaries {
@@ -57,7 +56,7 @@ impl Summaries {
             waiting: Vec::new(alloc),
             walks: Vec::new(alloc),
         };
-        match summaries.fill(alloc, program, graph, boldness) {
+        match summaries.fill(alloc, program, graph, layouts, boldness) {
             Ok(()) => Ok(summaries),
             Err(refused) => {
                 drop(summaries);
@@ -71,6 +70,7 @@ impl Summaries {
         alloc: Global,
         program: &Program,
         graph: &CallGraph,
+        layouts: &LayoutFlow,
         boldness: Boldness,
     ) -> Result<(), AllocError> {
         let module = program.module();
@@ -79,8 +79,10 @@ impl Summaries {
         self.queue = callees_first(alloc, graph, count)?;
         self.waiting = vec![in alloc; true; count]?;
         self.walks = vec![in alloc; 0u8; count]?;
+        let mut number = 0u32;
         for function in module.functions.as_slice() {
-            self.add(alloc, module, function, boldness)?;
+            self.add(module, FuncId::new(number), function, layouts, boldness)?;
+            number = number.saturating_add(1);
         }
         if boldness == Boldness::Bounded {
             self.ask_bounds(alloc, program)?;
@@ -174,38 +176,25 @@ impl Summaries {
         Ok(())
     }
 
+    /// The promises of a function.
     fn add(
         &mut self,
-        alloc: Global,
         module: &Module,
+        func: FuncId,
         function: &Function,
-        boldness: Boldness,
-    ) -> Result<(), AllocError> {
-        let mut layouts = cast_layouts(alloc, module, function)?;
-        record_others(module, &mut layouts);
-        let added = self.add_promises(module, function, &layouts, boldness);
-        drop(layouts);
-        added
-    }
-
-    /// The promises of a function; `layouts` are those of its values, as far as the text tells.
-    fn add_promises(
-        &mut self,
-        module: &Module,
-        function: &Function,
-        layouts: &[Option<LayoutId>],
+        layouts: &LayoutFlow,
         boldness: Boldness,
     ) -> Result<(), AllocError> {
         let nonnull = boldness != Boldness::Timid;
         self.firsts.push(self.parameters.len())?;
         for parameter in function.parameters.as_slice() {
             let family = family_of_value(module, function, parameter.value);
-            let layout = row_or(layouts, parameter.value.number() as usize, None);
+            let layout = layouts.of_value(func, parameter.value);
             let inferred = InferredPromise::of(family, nonnull, None, layout);
             self.parameters.push(inferred)?;
         }
         let family = family_of_type(module, function.returned);
-        let layout = returned_layout(module, function, layouts);
+        let layout = layouts.of_result(func);
         let inferred = InferredPromise::of(family, true, Some(1), layout);
         self.results.push(inferred)?;
         Ok(())

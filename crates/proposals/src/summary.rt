@@ -1,17 +1,19 @@
-use crate::buckets::Buckets;
 use crate::guesses::Guesses;
 use crate::incoming_operands::IncomingOperands;
 use crate::scan::Scan;
-use crate::summaries::Summaries;
 use crate::wanted::wanted_of;
-use ir_ast::{FuncId, Function, Module};
+use ir_ast::{FuncId, Function, Module, ValueId};
+use layout_flow::LayoutFlow;
+use number_tables::Buckets;
+use pools::LayoutId;
 use shadow_stack::{Slots, slots_of};
 use std::alloc::{AllocError, Global};
 
 /// What is found of a function once, for a walk over its blocks.
 #[derive(Drop)]
-pub struct FunctionSummary {
+pub struct FunctionSummary<'a> {
     pub func: FuncId,
+    layouts: &'a LayoutFlow,
     pub slots: Slots,
     /// How many values it has.
     pub values: usize,
@@ -27,37 +29,37 @@ pub struct Reading {
     pub wanted: Buckets,
 }
 
-impl FunctionSummary {
+impl<'a> FunctionSummary<'a> {
     pub fn of(
         alloc: Global,
         module: &Module,
         func: FuncId,
         function: &Function,
-        summaries: &Summaries,
-    ) -> Result<FunctionSummary, AllocError> {
+        layouts: &'a LayoutFlow,
+    ) -> Result<FunctionSummary<'a>, AllocError> {
         let slots = slots_of(alloc, module, function)?;
-        let Ok(reading) = Reading::of(alloc, module, function, &slots, summaries) else {
+        let Ok(reading) = Reading::of(alloc, function, &slots) else {
             drop(slots);
             return Err(AllocError);
         };
         Ok(FunctionSummary {
             func,
+            layouts,
             slots,
             values: function.locals.count(),
             reading,
         })
     }
+
+    /// The layout of an `i8*` or a `ptr`, as far as the module tells.
+    pub fn layout_of(&self, value: ValueId) -> Option<LayoutId> {
+        self.layouts.of_value(self.func, value)
+    }
 }
 
 impl Reading {
-    fn of(
-        alloc: Global,
-        module: &Module,
-        function: &Function,
-        slots: &Slots,
-        summaries: &Summaries,
-    ) -> Result<Reading, AllocError> {
-        let guesses = Guesses::of(alloc, module, function, slots, summaries)?;
+    fn of(alloc: Global, function: &Function, slots: &Slots) -> Result<Reading, AllocError> {
+        let guesses = Guesses::of(alloc, function, slots)?;
         let Ok(wanted) = wanted_in(alloc, function, slots, &guesses) else {
             drop(guesses);
             return Err(AllocError);

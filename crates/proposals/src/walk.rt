@@ -18,7 +18,7 @@ use types::target_of;
 #[derive(Clone, Copy)]
 pub struct FunctionContext<'a> {
     pub rule_context: RuleContext<'a>,
-    pub summary: &'a FunctionSummary,
+    pub summary: &'a FunctionSummary<'a>,
     pub graph: &'a CallGraph,
     /// The lengths of the module's arrays, in order.
     pub lengths: &'a [u64],

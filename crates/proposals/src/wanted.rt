@@ -1,8 +1,7 @@
 //! Which values and slots are read at a block or after it, before they are written again.
-use crate::buckets::Buckets;
-use crate::rows::{put, row_or};
 use crate::scan::Scan;
 use ir_ast::{Block, End, Function, ValueId};
+use number_tables::{Buckets, put, row_or};
 use std::alloc::{AllocError, Global};
 use types::target_of;
 

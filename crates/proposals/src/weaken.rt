@@ -1,12 +1,12 @@
 //! What is left of the claims of a block where another edge leads to it.
 use crate::draft_claims::BlockClaims;
 use crate::flow_facts::FlowFacts;
-use crate::rows::row_or;
 use crate::summary::FunctionSummary;
 use certs::{Age, Claim, Fact};
 use facts::{Class, ClassId, Facts, Known};
 use indexmap::IndexSet;
 use ir_ast::{SymbolId, ValueId};
+use number_tables::row_or;
 use pools::{LayoutId, WordSet};
 use shadow_stack::SlotId;
 use std::alloc::{AllocError, Global};

@@ -1,5 +1,3 @@
-//! Tables by number.
-
 /// Puts a row in the place of another, if there is one.
 pub fn put<T: Copy>(rows: &mut [T], at: usize, row: T) {
     if at < rows.len() {
