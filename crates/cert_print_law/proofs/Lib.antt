@@ -1,4 +1,5 @@
 mod Keys
 mod Names
 mod NamedTraces
+mod RootValues
 mod Unshaped

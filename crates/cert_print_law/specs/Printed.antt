@@ -5,9 +5,11 @@ use Rattle.ir_ast.specs.declared.module.Module.{Module}
 use Rattle.ir_text.specs.Read.{IsText}
 use Rattle.ir_tokens.specs.Bytes.{Text}
 use Rattle.name_text.specs.Readings.{AreBytes}
+use Rattle.ir_print_law.specs.Within.{IsWithin}
 use Rattle.certs.specs.Families.{is_opaque_text}
 use Rattle.certs.specs.declared.certs.Certs.{Certs}
-use Rattle.certificate.specs.Named.{IsNamed}
+use Rattle.certificate.specs.Alike.{IsCertAlike}
+use Rattle.certificate.specs.Named.{IsNamed, HasRootValues}
 use Rattle.certificate.specs.Print.{name_text, key_text, cert_text}
 use Rattle.certificate.specs.Text.{IsCert}
 
@@ -28,3 +30,11 @@ AreNamed = (bytes : Text) (m : Module) → AreBytes bytes → IsText bytes m →
 -- what is printed of certificates that are read for it is a text of them, where its text is typed
 abbrev pub AreReadAgain : Type 0
 AreReadAgain = (bytes text : Text) (m : Module) (certs : Certs) → AreBytes bytes → IsText bytes m → HasShortNames m → is_opaque_text m ≡ false → IsCert text m certs → IsCert (cert_text certs m) m certs
+
+-- in a module whose numbers are within its tables each root slot's name is that of a value
+abbrev pub AreRootsNamed : Type 0
+AreRootsNamed = (m : Module) → IsWithin m → HasRootValues m
+
+-- what is printed of certificates that are read for such a module is a text of certificates with the same sections, and with shapes that say the same of it
+abbrev pub AreReadAlike : Type 0
+AreReadAlike = (bytes text : Text) (m : Module) (certs : Certs) → AreBytes bytes → IsText bytes m → HasShortNames m → IsCert text m certs → IsCertAlike (cert_text certs m) m certs

@@ -1,6 +1,14 @@
 pub mod Tables
+pub mod TablesInOrder
 pub mod Implies
 pub mod FamiliesAfter
 pub mod RootsAfter
 pub mod ClaimsAfter
 pub mod SectionsAfter
+pub mod CellsAfter
+pub mod MigratedCells
+pub mod ShapesAfter
+pub mod OpsAfter
+pub mod PrintableAfter
+pub mod TypedModules
+pub mod Worked

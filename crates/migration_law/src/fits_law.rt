@@ -1,8 +1,10 @@
 //! What is migrated fits.
 ghost use Rattle.migration_law.specs.MigratedFits.{AreMigratedFitting};
+ghost use Rattle.migration_law.specs.TypedModules.{ArePrintableTyped};
 
 /// Sections that fit a module fit its opaque text once they are migrated, where each getelementptr is of a typed pointer, and each
-/// parameter's value has the parameter's type.
+/// parameter's value has the parameter's type. In a printable module of a typed text each getelementptr is so.
 pub fn migrated_law()
-    ensures { AreMigratedFitting }
+    ensures fits { AreMigratedFitting }
+    ensures typed { ArePrintableTyped }
 {}

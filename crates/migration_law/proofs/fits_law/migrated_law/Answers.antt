@@ -1,5 +1,9 @@
 use Rattle.migration_law.proofs.SectionsAfter.{migrated_fit}
+use Rattle.migration_law.proofs.TypedModules.{printable_typed}
 use Rattle.migration_law.proofs.fits_law.migrated_law.Goals as goal
 
-pub returns : goal.returns
-returns c = migrated_fit
+pub returns-clause-fits : goal.returns-clause-fits
+returns-clause-fits c = migrated_fit
+
+pub returns-clause-typed : goal.returns-clause-typed
+returns-clause-typed c = printable_typed

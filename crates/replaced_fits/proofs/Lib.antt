@@ -1,0 +1,9 @@
+pub mod Implies
+pub mod Closed
+pub mod GrownFamilies
+pub mod GrownSlots
+pub mod GrownSections
+pub mod GrownShapes
+pub mod Plain
+pub mod Replaced
+pub mod Others

@@ -1,0 +1,9 @@
+use Rattle.replaced_fits.proofs.Closed.{within_closed}
+use Rattle.replaced_fits.proofs.Others.{others_stay}
+use Rattle.replaced_fits.proofs.replaced_fits_law.Goals as goal
+
+pub returns-clause-closed : goal.returns-clause-closed
+returns-clause-closed c = within_closed
+
+pub returns-clause-others : goal.returns-clause-others
+returns-clause-others c = others_stay c.grown_law.ensures
