@@ -17,6 +17,7 @@ use crate::ends::end_action;
 use crate::entered::{Entered, function_of};
 use crate::entry::entry_frame;
 use crate::frame::Frame;
+use crate::frame_place::FramePlace;
 use crate::frame_roots::FrameRoots;
 use crate::frames::{above_callers, after_end, after_instr, with_room};
 use crate::integers::wrapped;
@@ -200,6 +201,19 @@ impl<'a> Thread<'a> {
     {
         let frame = frame_at(&self.running, self.below.as_slice(), frame);
         self.entered.frame_roots(frame)
+    }
+
+    /// Where a frame is, the newest being number 0.
+    pub fn frame_place(&self, frame: usize) -> FramePlace
+        requires { frame < length self.now.state.frames }
+        ensures { (of : AFrame) → slice_get self.now.state.frames frame ≡ Some of → (result.function ≡ of.function) × (result.block ≡ of.block) × (result.place ≡ of.place) }
+    {
+        let frame = frame_at(&self.running, self.below.as_slice(), frame);
+        FramePlace {
+            function: frame.function,
+            block: frame.block,
+            place: frame.place,
+        }
     }
 
     /// The thread goes on with the answer to what it asked for. Without memory it stays as it was.

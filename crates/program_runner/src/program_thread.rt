@@ -78,6 +78,14 @@ impl<'a> ProgramThread<'a> {
         self.thread.ending()
     }
 
+    /// The thread itself.
+    pub fn thread(&self) -> &Thread<'a>
+        ensures program { result.now.program ≡ self.now.program }
+        ensures state { result.now.state ≡ self.now.state }
+    {
+        &self.thread
+    }
+
     /// What the words of a cell hold.
     fn words(&self, cell: u32) -> &[WordKind]
         requires { cell < cells self.now.heap }
