@@ -1,0 +1,2 @@
+pub mod AtEnd
+pub mod Followed

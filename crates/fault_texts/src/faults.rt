@@ -1,0 +1,484 @@
+//! What is told of faults of texts and layouts: the file, the line with a caret, what stands there, what was expected, and how to go on.
+use crate::forms::{cert_form_of, form_before, lexed_of};
+use crate::left_out::advice_on;
+use crate::near::{near, put_like};
+use certificate::CertFault;
+use explain::Code;
+use ir_ast::{Function, Module, SymbolId, ValueId};
+use ir_text::ReadFault;
+use ir_tokens::Position;
+use layout::LayoutFault;
+use messages::{
+    Ink, NamedText, Pen, begin_ink, end_ink, put, put_inked, put_path_at, put_position_line,
+};
+use name_text::{Blank, past_blanks, put_global, put_layout, put_local, put_number, word};
+use places::line_numbered;
+use pools::LayoutId;
+use std::alloc::AllocError;
+
+/// The rule on a page: its first lines, without the code and the blanks after it.
+fn rule_on(page: &'static str) -> &'static str {
+    let head = match page.split_once("\n\n") {
+        Some((head, _)) => head,
+        None => page,
+    };
+    match head.split_once("  ") {
+        Some((_, rule)) => rule,
+        None => head,
+    }
+}
+
+/// Lines as one line.
+fn put_joined(out: &mut Vec<u8>, lines: &str) -> Result<(), AllocError> {
+    for (number, line) in lines.split('\n').enumerate() {
+        put(out, if number == 0 { "" } else { " " })?;
+        put(out, line.trim_start())?;
+    }
+    Ok(())
+}
+
+/// The code and what it says in one sentence.
+fn put_rule(out: &mut Vec<u8>, pen: Pen, code: Code) -> Result<(), AllocError> {
+    put(out, ": ")?;
+    put_inked(out, pen.look, Ink::Fault, code.name())?;
+    put(out, ": ")?;
+    put_joined(out, rule_on(code.text()))?;
+    put(out, "\n")
+}
+
+/// A fault at a place of a text: the place, the rule, and the line.
+fn put_fault_at(
+    pen: Pen,
+    out: &mut Vec<u8>,
+    named: NamedText,
+    position: Position,
+    code: Code,
+) -> Result<(), AllocError> {
+    begin_ink(out, pen.look, Ink::Place)?;
+    put_path_at(pen.alloc, out, named.path, position)?;
+    end_ink(out, pen.look)?;
+    put_rule(out, pen, code)?;
+    put_position_line(out, pen, Ink::Fault, named.text, position)?;
+    put(out, "\n")
+}
+
+/// A line of words with a mark before it, where there are words.
+fn put_told(
+    out: &mut Vec<u8>,
+    pen: Pen,
+    ink: Ink,
+    mark: &str,
+    text: &str,
+) -> Result<(), AllocError> {
+    if text.is_empty() {
+        return Ok(());
+    }
+    put_inked(out, pen.look, ink, mark)?;
+    put(out, text)?;
+    put(out, "\n")
+}
+
+/// How many bytes come before a position.
+fn offset_of(text: &[u8], position: Position) -> usize {
+    let mut line: usize = 1;
+    for (place, byte) in text.iter().enumerate() {
+        if line >= position.line {
+            return place.saturating_add(position.column).saturating_sub(1);
+        }
+        if *byte == b'\n' {
+            line = line.saturating_add(1);
+        }
+    }
+    text.len()
+}
+
+/// What a byte stands for that begins no token.
+fn advice_on_byte(text: &[u8], place: usize) -> &'static str {
+    match text.get(place) {
+        Some(b'#') => "a comment begins with `;`",
+        Some(b'"') => "a text in quotes ends on its line, with another quote",
+        Some(b'/') => "a comment begins with `;`",
+        _ => "",
+    }
+}
+
+/// What another file begins with, where a module is expected.
+fn other_text(text: &[u8]) -> &'static str {
+    match word(past_blanks(text)) {
+        b"cert" => "this file is a certificate: the module comes before it on the command line",
+        b"shapes" => "this file has shapes: the module comes first on the command line",
+        b"trace" => "this file is a trace: the module comes first on the command line",
+        [0xef, 0xbb, 0xbf, ..] => "the text begins with a byte order mark: save it without one",
+        [0xff, 0xfe, ..] | [0xfe, 0xff, ..] => "the text is UTF-16: save it as UTF-8",
+        [b'B', b'C', 0xc0, 0xde, ..] => "this is bitcode: llvm-dis writes its text",
+        _ => "",
+    }
+}
+
+/// A form that is left out.
+fn put_left_out(
+    pen: Pen,
+    out: &mut Vec<u8>,
+    named: NamedText,
+    position: Position,
+    word: &[u8],
+) -> Result<(), AllocError> {
+    put_fault_at(pen, out, named, position, Code::L7)?;
+    put_inked(out, pen.look, Ink::Note, "  here:  ")?;
+    put(out, "`")?;
+    out.extend_from_slice(word)?;
+    put(
+        out,
+        "` begins a form that is not read; docs/TEXT.md lists these\n",
+    )?;
+    put_told(out, pen, Ink::Mend, "  mend:  ", advice_on(word))
+}
+
+/// The place of a fault of a module's text, with its code.
+fn place_of(fault: &ReadFault) -> Option<(Position, Code)> {
+    match fault {
+        ReadFault::BadByte(place) => Some((*place, Code::L1)),
+        ReadFault::Unfinished(place) => Some((*place, Code::L2)),
+        ReadFault::Unexpected(place) => Some((*place, Code::L3)),
+        ReadFault::DefinedTwice(place) => Some((*place, Code::L4)),
+        ReadFault::NotDefined(place) => Some((*place, Code::L5)),
+        ReadFault::OutOfRange(place) => Some((*place, Code::L6)),
+        ReadFault::LeftOut { place, .. } => Some((*place, Code::L7)),
+        ReadFault::Limit(place) => Some((*place, Code::L8)),
+        ReadFault::WrongNumber(place) => Some((*place, Code::L9)),
+        ReadFault::OtherPointer(place) => Some((*place, Code::L10)),
+        ReadFault::Memory => None,
+    }
+}
+
+/// What is said besides, by the code.
+fn advice_of(code: Code) -> &'static str {
+    match code {
+        Code::L10 =>
+            "write all pointers as `ptr`, or none; `dgc migrate` turns typed pointers into `ptr`",
+        Code::L9 =>
+            "names without a letter are numbered from 0: parameters, blocks and values in the order of the text",
+        Code::L4 => "write another name here, and where it is used",
+        Code::L8 => "docs/TEXT.md, 'Limits', has the limits",
+        Code::L6 => "a number of iN is from -2^(N-1) to 2^N - 1",
+        Code::L2 =>
+            "something is not closed: a function ends with `}`, a block with br, switch, ret or unreachable",
+        _ => "",
+    }
+}
+
+/// A name of the text that was perhaps meant by the one that is not defined.
+fn put_meant(
+    pen: Pen,
+    out: &mut Vec<u8>,
+    module: NamedText,
+    name: &[u8],
+    otherwise: &str,
+) -> Result<(), AllocError> {
+    let Some(lexed) = lexed_of(pen.alloc, module)? else {
+        return Ok(());
+    };
+    match near(module.text, lexed.tokens.as_slice(), name) {
+        Some(other) => {
+            put_inked(out, pen.look, Ink::Mend, "  mend:  ")?;
+            put(out, "is ")?;
+            put_like(out, name, other)?;
+            put(out, " meant?\n")
+        }
+        None => put_told(out, pen, Ink::Mend, "  mend:  ", otherwise),
+    }
+}
+
+/// Whether a byte ends a name that is not in quotes.
+fn ends_name(byte: u8) -> bool {
+    matches!(
+        byte,
+        b' ' | b',' | b')' | b'(' | b']' | b'\t' | b'\r' | b'\n' | b';'
+    )
+}
+
+/// The name at a position of a text.
+fn name_at(text: &[u8], position: Position) -> &[u8] {
+    let line = line_numbered(text, position.line.saturating_sub(1));
+    let rest = line.get(position.column.saturating_sub(1)..).unwrap_or(&[]);
+    let length = rest.iter().take_while(|byte| !ends_name(**byte)).count();
+    rest.get(..length).unwrap_or(rest)
+}
+
+/// What was expected, or how to go on.
+fn put_expected(
+    pen: Pen,
+    out: &mut Vec<u8>,
+    named: NamedText,
+    position: Position,
+    code: Code,
+) -> Result<(), AllocError> {
+    match code {
+        Code::L1 | Code::L3 if !other_text(named.text).is_empty() => {
+            put_told(out, pen, Ink::Mend, "  mend:  ", other_text(named.text))
+        }
+        Code::L1 => {
+            let advice = advice_on_byte(named.text, offset_of(named.text, position));
+            put_told(out, pen, Ink::Mend, "  mend:  ", advice)
+        }
+        Code::L3 => {
+            let form = form_before(pen.alloc, named, offset_of(named.text, position))?;
+            put_told(out, pen, Ink::Mend, "  form:  ", form)
+        }
+        Code::L5 => put_meant(pen, out, named, name_at(named.text, position), ""),
+        code => put_told(out, pen, Ink::Mend, "  mend:  ", advice_of(code)),
+    }
+}
+
+/// What is told of a text that is no module.
+pub fn put_read_fault(
+    pen: Pen,
+    out: &mut Vec<u8>,
+    named: NamedText,
+    fault: &ReadFault,
+) -> Result<(), AllocError> {
+    if let ReadFault::LeftOut { place, word } = fault {
+        return put_left_out(pen, out, named, *place, word.as_slice());
+    }
+    match place_of(fault) {
+        Some((position, code)) => {
+            put_fault_at(pen, out, named, position, code)?;
+            put_expected(pen, out, named, position, code)
+        }
+        None => Ok(()),
+    }
+}
+
+/// A fault of a text as a whole.
+fn put_whole_fault(out: &mut Vec<u8>, pen: Pen, path: &str, code: Code) -> Result<(), AllocError> {
+    put_inked(out, pen.look, Ink::Place, path)?;
+    put_rule(out, pen, code)
+}
+
+/// The form of the line at which a certificate has a fault.
+fn put_cert_form(
+    pen: Pen,
+    out: &mut Vec<u8>,
+    named: NamedText,
+    position: Position,
+) -> Result<(), AllocError> {
+    let line = line_numbered(named.text, position.line.saturating_sub(1));
+    let form = cert_form_of(word(past_blanks(line)));
+    if form.is_empty() {
+        return put_told(
+            out,
+            pen,
+            Ink::Mend,
+            "  form:  ",
+            "a certificate begins with `cert 2` (or `cert 1` without `ptr`), has its shapes and a section for each function, and ends with `end`",
+        );
+    }
+    put_told(out, pen, Ink::Mend, "  form:  ", form)
+}
+
+/// What is said of a name on a line of slots that is none of a root slot.
+fn advice_on_line(text: &[u8], position: Position) -> &'static str {
+    let line = line_numbered(text, position.line.saturating_sub(1));
+    match word(past_blanks(line)) {
+        b"root" | b"slot" => {
+            "a root slot is an alloca that llvm.gcroot names: call void @llvm.gcroot(ptr SLOT, ptr null) behind the allocas of the entry"
+        }
+        _ => "",
+    }
+}
+
+/// The files of a check.
+#[derive(Clone, Copy)]
+pub struct CheckedTexts<'a> {
+    pub of_module: NamedText<'a>,
+    pub of_certs: NamedText<'a>,
+}
+
+/// A fault at a place of a certificate.
+fn put_cert_fault_at(
+    pen: Pen,
+    out: &mut Vec<u8>,
+    texts: CheckedTexts,
+    position: Position,
+    code: Code,
+) -> Result<(), AllocError> {
+    let named = texts.of_certs;
+    put_fault_at(pen, out, named, position, code)?;
+    match code {
+        Code::C3 => {
+            let name = name_at(named.text, position);
+            put_meant(
+                pen,
+                out,
+                texts.of_module,
+                name,
+                advice_on_line(named.text, position),
+            )
+        }
+        Code::C4 => put_told(
+            out,
+            pen,
+            Ink::Mend,
+            "  mend:  ",
+            "take one of the two lines out",
+        ),
+        _ => put_cert_form(pen, out, named, position),
+    }
+}
+
+/// The line to add for a block without a section.
+fn put_block_line(out: &mut Vec<u8>, function: &Function, block: usize) -> Result<(), AllocError> {
+    put(out, "add `block ")?;
+    if let Some(block) = function.blocks.get(block) {
+        put_local(out, &function.locals, block.label, Blank::Kept)?;
+    }
+    put(out, "` to the section of ")
+}
+
+/// The line to add for a function or a block without a section.
+fn put_section(
+    pen: Pen,
+    out: &mut Vec<u8>,
+    of_module: &Module,
+    function: usize,
+    block: Option<usize>,
+) -> Result<(), AllocError> {
+    let Some(function) = of_module.functions.get(function) else {
+        return Ok(());
+    };
+    put_inked(out, pen.look, Ink::Mend, "  mend:  ")?;
+    match block {
+        Some(block) => put_block_line(out, function, block)?,
+        None => put(
+            out,
+            "add a section, from `function NAME none` or `function NAME may` to `end`; NAME is ",
+        )?,
+    }
+    put_global(out, of_module, function.symbol, Blank::Kept)?;
+    put(out, "\n")
+}
+
+/// The name of a word without a shape: `layout Node 1`.
+fn put_word_name(
+    pen: Pen,
+    out: &mut Vec<u8>,
+    of_module: &Module,
+    layout: usize,
+    place: usize,
+) -> Result<(), AllocError> {
+    put(out, "layout ")?;
+    if let Ok(layout) = u32::try_from(layout) {
+        put_layout(out, of_module, LayoutId::new(layout), Blank::Kept)?;
+    }
+    put(out, " ")?;
+    put_number(pen.alloc, out, place as u64)
+}
+
+/// The name of a root slot without a shape: `root @f %s`.
+fn put_root_name(
+    out: &mut Vec<u8>,
+    of_module: &Module,
+    function: usize,
+    local: usize,
+) -> Result<(), AllocError> {
+    let Some(function) = of_module.functions.get(function) else {
+        return Ok(());
+    };
+    put(out, "root ")?;
+    put_global(out, of_module, function.symbol, Blank::Kept)?;
+    put(out, " ")?;
+    match u32::try_from(local) {
+        Ok(local) => put_local(out, &function.locals, ValueId::new(local), Blank::Kept),
+        Err(_) => Ok(()),
+    }
+}
+
+/// The name of a global without a shape: `global @g`.
+fn put_global_name(out: &mut Vec<u8>, of_module: &Module, symbol: usize) -> Result<(), AllocError> {
+    put(out, "global ")?;
+    match u32::try_from(symbol) {
+        Ok(symbol) => put_global(out, of_module, SymbolId::new(symbol), Blank::Kept),
+        Err(_) => Ok(()),
+    }
+}
+
+/// What has no shape.
+fn put_shapeless(
+    pen: Pen,
+    out: &mut Vec<u8>,
+    of_module: &Module,
+    fault: CertFault,
+) -> Result<(), AllocError> {
+    match fault {
+        CertFault::MissingWord(layout, place) => {
+            put_word_name(pen, out, of_module, layout, place)
+        }
+        CertFault::MissingRoot(function, local) => {
+            put_root_name(out, of_module, function, local)
+        }
+        CertFault::MissingGlobal(symbol) => put_global_name(out, of_module, symbol),
+        _ => Ok(()),
+    }
+}
+
+/// The shape to add.
+fn put_shape(
+    pen: Pen,
+    out: &mut Vec<u8>,
+    of_module: &Module,
+    fault: CertFault,
+) -> Result<(), AllocError> {
+    put_inked(out, pen.look, Ink::Mend, "  mend:  ")?;
+    put(out, "add `")?;
+    put_shapeless(pen, out, of_module, fault)?;
+    put(
+        out,
+        " ref L` in front of the sections, where L is the layout to which it refers\n",
+    )
+}
+
+/// What is told of a text that is no certificate of its module.
+pub fn put_cert_fault(
+    pen: Pen,
+    out: &mut Vec<u8>,
+    texts: CheckedTexts,
+    of_module: &Module,
+    fault: CertFault,
+) -> Result<(), AllocError> {
+    let path = texts.of_certs.path;
+    match fault {
+        CertFault::Syntax(position) => put_cert_fault_at(pen, out, texts, position, Code::C1),
+        CertFault::Version(position) => put_cert_fault_at(pen, out, texts, position, Code::C2),
+        CertFault::UnknownName(position) => put_cert_fault_at(pen, out, texts, position, Code::C3),
+        CertFault::ListedTwice(position) => put_cert_fault_at(pen, out, texts, position, Code::C4),
+        CertFault::Missing(function) => {
+            put_whole_fault(out, pen, path, Code::C5)?;
+            put_section(pen, out, of_module, function, None)
+        }
+        CertFault::MissingBlock(function, block) => {
+            put_whole_fault(out, pen, path, Code::C5)?;
+            put_section(pen, out, of_module, function, Some(block))
+        }
+        CertFault::MissingWord(..) | CertFault::MissingGlobal(_) | CertFault::MissingRoot(..) => {
+            put_whole_fault(out, pen, path, Code::C6)?;
+            put_shape(pen, out, of_module, fault)
+        }
+        CertFault::Memory => Ok(()),
+    }
+}
+
+/// What is told of a module that has no layouts.
+pub fn put_layout_fault(
+    pen: Pen,
+    out: &mut Vec<u8>,
+    path: &str,
+    fault: LayoutFault,
+) -> Result<(), AllocError> {
+    match fault {
+        LayoutFault::HoldsItself(_) => put_whole_fault(out, pen, path, Code::Y1),
+        LayoutFault::TooManyWords(_) => put_whole_fault(out, pen, path, Code::Y2),
+        LayoutFault::NoSuchLayout(_) => put_whole_fault(out, pen, path, Code::Y3),
+        LayoutFault::ShapesWanted => put_whole_fault(out, pen, path, Code::Y5),
+        LayoutFault::Memory => Ok(()),
+    }
+}

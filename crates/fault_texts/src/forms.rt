@@ -1,0 +1,133 @@
+//! What was expected where a text goes on with no form: the form that its line begins.
+use ir_tokens::{Kind, Lexed, TEXT_LIMIT, Token, read_tokens};
+use messages::NamedText;
+use std::alloc::{AllocError, Global};
+
+/// The form of an item of the module.
+fn item_of(kind: Kind) -> &'static str {
+    match kind {
+        Kind::Define => "define T @f(T %a, ..) gc \"shadow-stack\" {",
+        Kind::Declare => "declare T @f(T, ..)",
+        Kind::GlobalName => "@g = global T CONSTANT",
+        Kind::LocalName => "%T = type { T, .. }",
+        Kind::LabelName | Kind::LabelNumber => "label:, and then an instruction on the next line",
+        _ => "",
+    }
+}
+
+/// The form of an instruction that is on integers, or chooses.
+fn number_of(kind: Kind) -> &'static str {
+    match kind {
+        Kind::Add | Kind::Sub | Kind::Mul | Kind::And | Kind::Or | Kind::Xor => {
+            "%v = add T V, W, and so sub, mul, and, or, xor"
+        }
+        Kind::Zext | Kind::Sext | Kind::Trunc => "%v = zext T V to U, and so sext, trunc",
+        Kind::Icmp => "%v = icmp eq T V, W, and so ne, ugt, uge, ult, ule, sgt, sge, slt, sle",
+        Kind::Select => "%v = select i1 V, T V, T W",
+        Kind::Phi => "%v = phi T [ V, %b ], [ W, %c ]",
+        _ => "",
+    }
+}
+
+/// The form of an instruction on memory, of a call, or of the end of a block.
+fn other_of(kind: Kind) -> &'static str {
+    match kind {
+        Kind::Alloca => "%v = alloca T",
+        Kind::Load => "%v = load T, ptr V",
+        Kind::Store => "store T V, ptr W",
+        Kind::Getelementptr => "%v = getelementptr T, ptr V, i32 0, T W, ..",
+        Kind::Bitcast => "%v = bitcast T V to U",
+        Kind::Call | Kind::Tail | Kind::Notail => "call T @f(T V, ..)",
+        Kind::Br => "br label %b, or br i1 V, label %a, label %b",
+        Kind::Switch => "switch T V, label %d [ T CONSTANT, label %b .. ]",
+        Kind::Ret => "ret void, or ret T V",
+        _ => "",
+    }
+}
+
+fn form_of(kind: Kind) -> &'static str {
+    let number = number_of(kind);
+    if !number.is_empty() {
+        return number;
+    }
+    other_of(kind)
+}
+
+/// The form that is begun by these tokens of a line.
+fn form_of_line(tokens: &[Token]) -> &'static str {
+    let [first, rest @ ..] = tokens else {
+        return "";
+    };
+    let of_first = form_of(first.kind);
+    if !of_first.is_empty() {
+        return of_first;
+    }
+    match rest {
+        [_, word, ..] => {
+            let of_word = form_of(word.kind);
+            if of_word.is_empty() {
+                item_of(first.kind)
+            } else {
+                of_word
+            }
+        }
+        _ => item_of(first.kind),
+    }
+}
+
+/// The tokens from the beginning of the line on which a place is, or of the line before where it begins its own.
+fn from_line(tokens: &[Token], place: u32) -> &[Token] {
+    let mut found: &[Token] = &[];
+    for (index, token) in tokens.iter().enumerate() {
+        if token.start >= place && index > 0 {
+            return found;
+        }
+        if token.begins_line {
+            found = tokens.get(index..).unwrap_or(&[]);
+        }
+    }
+    found
+}
+
+/// The tokens of a text, if it is not too long.
+pub fn lexed_of(alloc: Global, named: NamedText) -> Result<Option<Lexed>, AllocError> {
+    if named.text.len() > TEXT_LIMIT {
+        return Ok(None);
+    }
+    Ok(Some(read_tokens(alloc, named.text)?))
+}
+
+/// The form that was begun before a place of the text.
+pub fn form_before(
+    alloc: Global,
+    named: NamedText,
+    place: usize,
+) -> Result<&'static str, AllocError> {
+    let Ok(place) = u32::try_from(place) else {
+        return Ok("");
+    };
+    match lexed_of(alloc, named)? {
+        Some(lexed) => Ok(form_of_line(from_line(lexed.tokens.as_slice(), place))),
+        None => Ok(""),
+    }
+}
+
+/// The form of a line of a certificate, by its first word.
+pub fn cert_form_of(word: &[u8]) -> &'static str {
+    match word {
+        b"cert" => "cert 2 for a text with `ptr`, cert 1 for one with typed pointers",
+        b"layout" => "layout L WORD ref M",
+        b"global" => "global @g ref M",
+        b"root" => "root @f %s ref M",
+        b"function" => "function @f may, or function @f none",
+        b"param" => "param %x [ref L] [nonnull] [below N]",
+        b"result" => "result [ref L] [nonnull] [below N]",
+        b"block" => "block %b",
+        b"slot" => "slot %s [nonnull] [holds %x]",
+        b"end" => "end, after the last function",
+        [b'%', ..] => {
+            "%v iN [below N], %v ref L [nonnull] [stale | fresh] [same %w], %v addr %x WORDS, or %v addr @g"
+        }
+        _ => "",
+    }
+}

@@ -1,0 +1,121 @@
+//! L7: which option of which tool leaves a form out.
+use std::str;
+
+const DEBUG: &str = "leave debug information out: clang -g0, or opt -passes=strip";
+
+const VECTORS: &str = "leave vectors out: clang -fno-vectorize -fno-slp-vectorize";
+
+const FLOATS: &str = "no floating point is read: keep it out of the functions that are checked";
+
+const DIVISION: &str =
+    "no division and no shift is read: add, sub, mul, and, or, xor, zext, sext and trunc are";
+
+const CASTS: &str =
+    "a pointer is never a number here: keep references as references, and other addresses out";
+
+const EXCEPTIONS: &str = "leave exceptions out: clang -fno-exceptions, or C in place of C++";
+
+const MEMORY: &str =
+    "leave calls of memcpy and memset out: clang -O1 -fno-builtin, and copy word by word";
+
+const LIFETIMES: &str =
+    "clang -O0 writes none of these; clang -Xclang -disable-lifetime-markers leaves them out at -O1";
+
+const AGGREGATES: &str =
+    "keep structs and arrays out of registers and slots: opt -passes=sroa, and return a struct through the heap";
+
+const POISON: &str = "a value that is not defined: give each variable a first value in the source";
+
+const MIN_MAX: &str =
+    "opt makes these from a comparison and a select: clang -O0 and opt -passes=sroa do not";
+
+const CALLS: &str = "call functions by their names, with a fixed number of arguments";
+
+const CONSTANTS: &str = "write it as an instruction, before the one that uses it";
+
+const GLOBALS: &str = "define the global in this module, with a value";
+
+const ATOMICS: &str = "threads meet at the heap and its barriers only: leave it out";
+
+fn of_kind(word: &str) -> Option<&'static str> {
+    match word {
+        "sdiv" | "udiv" | "srem" | "urem" | "shl" | "lshr" | "ashr" => Some(DIVISION),
+        "half"
+        | "bfloat"
+        | "float"
+        | "double"
+        | "fadd"
+        | "fsub"
+        | "fmul"
+        | "fdiv"
+        | "fneg"
+        | "fcmp"
+        | "fptosi"
+        | "sitofp"
+        | "uitofp"
+        | "fptoui"
+        | "x86_fp80"
+        | "fp128" => Some(FLOATS),
+        "<" | "extractelement" | "insertelement" | "shufflevector" => Some(VECTORS),
+        "ptrtoint" | "inttoptr" | "ptrtoaddr" | "addrspacecast" | "addrspace" => Some(CASTS),
+        "invoke" | "landingpad" | "resume" | "personality" | "catchpad" | "cleanuppad" => {
+            Some(EXCEPTIONS)
+        }
+        _ => None,
+    }
+}
+
+fn of_form(word: &str) -> Option<&'static str> {
+    match word {
+        "{" | "[" | "extractvalue" | "insertvalue" | "byval" | "sret" => Some(AGGREGATES),
+        "poison" | "freeze" => Some(POISON),
+        "..." | "va_arg" | "musttail" | "callbr" | "indirectbr" | "(" => Some(CALLS),
+        "external" | "extern_weak" | "alias" | "ifunc" => Some(GLOBALS),
+        "atomic" | "atomicrmw" | "cmpxchg" | "fence" | "thread_local" => Some(ATOMICS),
+        "getelementptr"
+        | "add"
+        | "sub"
+        | "mul"
+        | "and"
+        | "or"
+        | "xor"
+        | "zext"
+        | "sext"
+        | "trunc"
+        | "icmp"
+        | "select" => Some(CONSTANTS),
+        _ => None,
+    }
+}
+
+fn of_intrinsic(word: &str) -> &'static str {
+    if word.starts_with("@llvm.dbg") {
+        DEBUG
+    } else if word.starts_with("@llvm.mem") {
+        MEMORY
+    } else if word.starts_with("@llvm.lifetime") {
+        LIFETIMES
+    } else if word.starts_with("@llvm.") {
+        MIN_MAX
+    } else {
+        ""
+    }
+}
+
+fn of_word(word: &str) -> &'static str {
+    match of_kind(word) {
+        Some(advice) => advice,
+        None => match of_form(word) {
+            Some(advice) => advice,
+            None => of_intrinsic(word),
+        },
+    }
+}
+
+/// How a form that begins with this token is left out; nothing where no option does that.
+pub fn advice_on(word: &[u8]) -> &'static str {
+    match str::from_utf8(word) {
+        Ok(word) => of_word(word),
+        Err(_) => "",
+    }
+}

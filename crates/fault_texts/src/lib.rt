@@ -1,0 +1,10 @@
+//! What is told of faults of texts and layouts besides their line: the file, the line with a caret, what was expected, and how to go on.
+//! These are texts: no contract says more than that they are made.
+#![tactic(auto)]
+
+mod faults;
+mod forms;
+mod left_out;
+mod near;
+
+pub use faults::{CheckedTexts, put_cert_fault, put_layout_fault, put_read_fault};

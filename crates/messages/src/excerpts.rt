@@ -1,0 +1,250 @@
+//! A line of a text with its number, and a caret under a part of it. Columns are those of a terminal; tabs stay; what a terminal would
+//! obey is shown as `?`; a long line is cut around the caret.
+use crate::look::{Ink, Pen, begin_ink, end_ink, put, put_inked};
+use ir_tokens::{Position, Token};
+use name_text::put_number;
+use places::{line_at, line_numbered};
+use std::alloc::AllocError;
+use std::str;
+use unicode_width::UnicodeWidthChar;
+
+/// The most bytes of a line that are shown.
+const SHOWN: usize = 110;
+
+/// How many of them stand before the caret, where a line is cut.
+const BEFORE: usize = 50;
+
+/// A part of a line.
+#[derive(Clone, Copy)]
+struct Part {
+    start: usize,
+    length: usize,
+}
+
+/// The bytes of a line that are shown.
+#[derive(Clone, Copy)]
+struct Window {
+    start: usize,
+    end: usize,
+}
+
+/// Whether a character may begin with this byte.
+fn may_begin(byte: Option<&u8>) -> bool {
+    match byte {
+        Some(byte) => *byte < 0x80 || *byte >= 0xc0,
+        None => true,
+    }
+}
+
+/// The first place from here on at which a character begins.
+fn at_character(line: &[u8], place: usize) -> usize {
+    for more in 0..3usize {
+        if may_begin(line.get(place.saturating_add(more))) {
+            return place.saturating_add(more);
+        }
+    }
+    place
+}
+
+fn window_of(line: &[u8], part: Part) -> Window {
+    if line.len() <= SHOWN {
+        return Window {
+            start: 0,
+            end: line.len(),
+        };
+    }
+    let start = at_character(line, part.start.saturating_sub(BEFORE));
+    let end = at_character(line, start.saturating_add(SHOWN));
+    Window {
+        start,
+        end: if end.saturating_add(3) < line.len() {
+            end
+        } else {
+            line.len()
+        },
+    }
+}
+
+fn between(line: &[u8], start: usize, end: usize) -> &[u8] {
+    line.get(start..end).unwrap_or(&[])
+}
+
+/// The byte that is shown for one of a text.
+fn shown(byte: u8, is_text: bool) -> u8 {
+    let obeyed = byte < 0x20 || byte == 0x7f || (byte >= 0x80 && !is_text);
+    if obeyed && byte != b'\t' { b'?' } else { byte }
+}
+
+fn put_shown(out: &mut Vec<u8>, bytes: &[u8]) -> Result<(), AllocError> {
+    let is_text = str::from_utf8(bytes).is_ok();
+    for byte in bytes {
+        out.push(shown(*byte, is_text))?;
+    }
+    Ok(())
+}
+
+/// As many blanks as a character has columns. A tab stays.
+fn blank_for(character: char) -> &'static str {
+    match (character, character.width()) {
+        ('\t', _) => "\t",
+        (_, Some(0)) => "",
+        (_, Some(2)) => "  ",
+        _ => " ",
+    }
+}
+
+/// Blanks under a text that is shown.
+fn put_blanks_under(out: &mut Vec<u8>, before: &[u8]) -> Result<(), AllocError> {
+    match str::from_utf8(before) {
+        Ok(before) => {
+            for character in before.chars() {
+                put(out, blank_for(character))?;
+            }
+        }
+        Err(_) => {
+            for byte in before {
+                put(out, if *byte == b'\t' { "\t" } else { " " })?;
+            }
+        }
+    }
+    Ok(())
+}
+
+/// How many columns a text has.
+fn columns(bytes: &[u8]) -> usize {
+    let mut count: usize = 0;
+    match str::from_utf8(bytes) {
+        Ok(text) => {
+            for character in text.chars() {
+                count = count.saturating_add(character.width().unwrap_or(1));
+            }
+        }
+        Err(_) => count = bytes.len(),
+    }
+    count
+}
+
+/// A caret, and a line as long as what it is under.
+fn put_caret(out: &mut Vec<u8>, marked: &[u8]) -> Result<(), AllocError> {
+    put(out, "^")?;
+    for _column in 1..columns(marked) {
+        put(out, "~")?;
+    }
+    Ok(())
+}
+
+/// Blanks before the number of a line, so that numbers end in one column.
+fn blanks_before(number: usize) -> &'static str {
+    match number {
+        0..=9 => "    ",
+        10..=99 => "   ",
+        100..=999 => "  ",
+        1000..=9999 => " ",
+        _ => "",
+    }
+}
+
+fn put_gutter(out: &mut Vec<u8>, pen: Pen, number: usize) -> Result<(), AllocError> {
+    begin_ink(out, pen.look, Ink::Gutter)?;
+    put(out, blanks_before(number))?;
+    put_number(pen.alloc, out, number as u64)?;
+    put(out, " | ")?;
+    end_ink(out, pen.look)
+}
+
+/// What stands where a line is cut.
+fn cut_mark(cut: bool) -> &'static str {
+    if cut { "..." } else { "" }
+}
+
+fn put_line(out: &mut Vec<u8>, line: &[u8], window: Window) -> Result<(), AllocError> {
+    put(out, cut_mark(window.start > 0))?;
+    put_shown(out, between(line, window.start, window.end))?;
+    put(out, cut_mark(window.end < line.len()))?;
+    put(out, "\n")
+}
+
+/// The caret under a part of a line that is shown. The line goes on.
+fn put_under(
+    out: &mut Vec<u8>,
+    pen: Pen,
+    ink: Ink,
+    line: &[u8],
+    window: Window,
+    part: Part,
+) -> Result<(), AllocError> {
+    put_inked(out, pen.look, Ink::Gutter, "      | ")?;
+    put(out, if window.start > 0 { "   " } else { "" })?;
+    put_blanks_under(out, between(line, window.start, part.start))?;
+    let end = part.start.saturating_add(part.length).min(window.end);
+    begin_ink(out, pen.look, ink)?;
+    put_caret(out, between(line, part.start, end))?;
+    end_ink(out, pen.look)
+}
+
+/// A line without a carriage return at its end.
+fn without_return(line: &[u8]) -> &[u8] {
+    match line {
+        [before @ .., b'\r'] => before,
+        _ => line,
+    }
+}
+
+fn put_part(
+    out: &mut Vec<u8>,
+    pen: Pen,
+    ink: Ink,
+    number: usize,
+    line: &[u8],
+    part: Part,
+) -> Result<(), AllocError> {
+    let line = without_return(line);
+    let window = window_of(line, part);
+    put_gutter(out, pen, number)?;
+    put_line(out, line, window)?;
+    put_under(out, pen, ink, line, window, part)
+}
+
+/// The line of a token, and a caret under it. What is said of it may follow, and then the line's end.
+pub fn put_token_line(
+    out: &mut Vec<u8>,
+    pen: Pen,
+    ink: Ink,
+    text: &[u8],
+    token: Token,
+) -> Result<(), AllocError> {
+    let place = (token.start as usize).min(text.len());
+    let line = line_at(text, place);
+    let part = Part {
+        start: place.saturating_sub(line.start),
+        length: token.length as usize,
+    };
+    let position = Position::of(text, token.start);
+    put_part(out, pen, ink, position.line, line.bytes, part)
+}
+
+/// How many bytes a word has that begins here: up to a blank or the line's end, and at least one.
+fn word_length(line: &[u8], start: usize) -> usize {
+    line.get(start..)
+        .unwrap_or(&[])
+        .iter()
+        .take_while(|byte| !matches!(**byte, b' ' | b',' | b')' | b'\t' | b'\r'))
+        .count()
+}
+
+/// The line of a position, and a caret under the word there. What is said of it may follow, and then the line's end.
+pub fn put_position_line(
+    out: &mut Vec<u8>,
+    pen: Pen,
+    ink: Ink,
+    text: &[u8],
+    position: Position,
+) -> Result<(), AllocError> {
+    let line = line_numbered(text, position.line.saturating_sub(1));
+    let start = position.column.saturating_sub(1);
+    let part = Part {
+        start,
+        length: word_length(line, start),
+    };
+    put_part(out, pen, ink, position.line, line, part)
+}

@@ -1,0 +1,64 @@
+//! Where a line is in the text of a certificate.
+use ir_ast::{BlockId, SymbolId, ValueId};
+use ir_tokens::Position;
+use places::{CertLine, cert_place};
+use scenes::{Scene, put_block, put_symbol, put_value};
+use std::alloc::AllocError;
+
+/// Which line of a function's certificate is looked for.
+#[derive(Clone, Copy)]
+pub enum Sought {
+    Function,
+    Param(ValueId),
+    Result,
+    Block(BlockId),
+    /// The claim of a block with this number, from 0.
+    Claim(BlockId, usize),
+}
+
+/// The same by its words.
+fn line_of(sought: &Sought) -> CertLine {
+    match sought {
+        Sought::Function => CertLine::Mark,
+        Sought::Param(_) => CertLine::Parameter,
+        Sought::Result => CertLine::Result,
+        Sought::Block(_) => CertLine::Block,
+        Sought::Claim(_, number) => CertLine::Claim(*number),
+    }
+}
+
+/// The name that the line has, or its block.
+fn put_name(out: &mut Vec<u8>, scene: &Scene, sought: &Sought) -> Result<(), AllocError> {
+    match sought {
+        Sought::Param(value) => put_value(out, scene, *value),
+        Sought::Block(block) | Sought::Claim(block, _) => put_block(out, scene, *block),
+        _ => Ok(()),
+    }
+}
+
+/// The position of a place of a text.
+fn position_of(text: &[u8], place: usize) -> Position {
+    Position::after(text.get(..place).unwrap_or(text))
+}
+
+/// Where a line of the certificate of a function is, if it is spelled as it would be printed.
+pub fn cert_position(
+    scene: &Scene,
+    function: SymbolId,
+    sought: &Sought,
+) -> Result<Option<Position>, AllocError> {
+    let text = scene.certificate.text;
+    let mut of_function = Vec::new(scene.pen.alloc);
+    put_symbol(&mut of_function, scene, function)?;
+    let mut name = Vec::new(scene.pen.alloc);
+    put_name(&mut name, scene, sought)?;
+    match cert_place(
+        text,
+        of_function.as_slice(),
+        name.as_slice(),
+        line_of(sought),
+    ) {
+        Some(place) => Ok(Some(position_of(text, place))),
+        None => Ok(None),
+    }
+}

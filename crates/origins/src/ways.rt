@@ -1,0 +1,272 @@
+//! The ways through a function that lead to an instruction, gone back over block by block.
+use certs::Mark;
+use ir_ast::{
+    Block, BlockId, End, Function, Incoming, Instr, Op, Operand, Phi, Runtime, SymbolSort, ValueId,
+};
+use scenes::{Scene, Spot};
+use std::alloc::{AllocError, Global};
+use types::{runtime_called, target_of};
+
+/// How many blocks are gone over at most.
+const FAR: usize = 4096;
+
+/// A place up to which the ways lead, and the value that is followed there.
+#[derive(Clone, Copy)]
+struct Way {
+    block: BlockId,
+    value: ValueId,
+    /// How many instructions of the block's body come before it.
+    upto: usize,
+}
+
+/// A call that may reach a safepoint, and the value that is stale after it.
+#[derive(Clone, Copy)]
+pub struct Lost {
+    pub spot: Spot,
+    pub value: ValueId,
+}
+
+/// What is met first from there back.
+#[derive(Clone, Copy)]
+enum Met {
+    /// A call that may reach a safepoint, and the value over it.
+    Safepoint(usize, ValueId),
+    Definition,
+    /// The beginning of the block, where the value has this name.
+    Beginning(ValueId),
+}
+
+fn is_block(function: &Function, label: ValueId, block: BlockId) -> bool {
+    match target_of(function, label) {
+        Some(found) => found.number() == block.number(),
+        None => false,
+    }
+}
+
+/// Whether a block ends with a way to another.
+pub fn leads_to(function: &Function, end: &End, block: BlockId) -> bool {
+    match end {
+        End::Jump(label) => is_block(function, *label, block),
+        End::Branch { taken, other, .. } => {
+            is_block(function, *taken, block) || is_block(function, *other, block)
+        }
+        End::Switch {
+            otherwise,
+            cases,
+            ..
+        } => {
+            is_block(function, *otherwise, block)
+                || cases
+                    .as_slice()
+                    .iter()
+                    .any(|case| is_block(function, case.target, block))
+        }
+        _ => false,
+    }
+}
+
+/// Whether a function of the module is marked so that it may reach a safepoint.
+fn is_marked_may(scene: &Scene, sort: Option<&SymbolSort>) -> bool {
+    match sort {
+        Some(SymbolSort::Defined(func)) => {
+            matches!(scene.context.certs.mark(*func), Some(Mark::May))
+        }
+        _ => false,
+    }
+}
+
+/// Whether an instruction is a call that may reach a safepoint.
+pub fn may_reach_safepoint(scene: &Scene, instr: &Instr) -> bool {
+    let module = scene.context.module();
+    match &instr.op {
+        Op::Call(call) => match runtime_called(module, call.callee) {
+            Some(runtime) => matches!(runtime, Runtime::Safepoint),
+            None => is_marked_may(scene, module.sorts.get(call.callee.number() as usize)),
+        },
+        _ => false,
+    }
+}
+
+/// Of which other value an instruction gives the same reference, or a place in its cell.
+fn same_under_other_name(instr: &Instr) -> Option<ValueId> {
+    match &instr.op {
+        Op::Cast(cast) => local(cast.operand),
+        Op::Element(element) => local(element.base),
+        _ => None,
+    }
+}
+
+pub fn local(operand: Operand) -> Option<ValueId> {
+    match operand {
+        Operand::Local(value) => Some(value),
+        _ => None,
+    }
+}
+
+/// Whether an instruction gives a value its name.
+pub fn defines(instr: &Instr, value: ValueId) -> bool {
+    match instr.result {
+        Some(result) => result.number() == value.number(),
+        None => false,
+    }
+}
+
+/// The first instructions, as many as there are up to this number.
+fn before(body: &[Instr], count: usize) -> &[Instr] {
+    body.get(..count).unwrap_or(body)
+}
+
+/// What is met in a block from an instruction of its body back.
+fn met_in(scene: &Scene, body: &[Instr], way: &Way) -> Met {
+    let mut value = way.value;
+    for (index, instr) in before(body, way.upto).iter().enumerate().rev() {
+        if defines(instr, value) {
+            match same_under_other_name(instr) {
+                Some(other) => value = other,
+                None => return Met::Definition,
+            }
+        } else if may_reach_safepoint(scene, instr) {
+            return Met::Safepoint(index, value);
+        }
+    }
+    Met::Beginning(value)
+}
+
+fn phi_of(phis: &[Phi], value: ValueId) -> Option<&Phi> {
+    phis.iter().find(|phi| phi.value.number() == value.number())
+}
+
+fn is_among(ways: &[Way], way: &Way) -> bool {
+    ways.iter().any(|other| {
+        other.block.number() == way.block.number() && other.value.number() == way.value.number()
+    })
+}
+
+fn add(ways: &mut Vec<Way>, block: BlockId, value: ValueId) -> Result<(), AllocError> {
+    let way = Way {
+        block,
+        value,
+        upto: usize::MAX,
+    };
+    if is_among(ways.as_slice(), &way) {
+        return Ok(());
+    }
+    ways.push(way)?;
+    Ok(())
+}
+
+/// The ways over which the entries of a phi come in.
+fn add_entries(
+    function: &Function,
+    ways: &mut Vec<Way>,
+    incoming: &[Incoming],
+) -> Result<(), AllocError> {
+    for entry in incoming {
+        if let (Some(value), Some(block)) = (
+            local(entry.operand),
+            target_of(function, entry.from),
+        ) {
+            add(ways, block, value)?;
+        }
+    }
+    Ok(())
+}
+
+/// The block at a place among those of its function.
+pub fn block_id(place: usize) -> Option<BlockId> {
+    match u32::try_from(place) {
+        Ok(number) => Some(BlockId::new(number)),
+        Err(_) => None,
+    }
+}
+
+/// The blocks that lead to a block.
+pub fn predecessors(
+    alloc: Global,
+    function: &Function,
+    block: BlockId,
+) -> Result<Vec<BlockId>, AllocError> {
+    let mut found = Vec::new(alloc);
+    for (place, other) in function.blocks.as_slice().iter().enumerate() {
+        if let Some(id) = block_id(place) {
+            if leads_to(function, &other.end, block) {
+                found.push(id)?;
+            }
+        }
+    }
+    Ok(found)
+}
+
+/// The ways over which a block is entered.
+fn add_predecessors(
+    scene: &Scene,
+    ways: &mut Vec<Way>,
+    block: BlockId,
+    value: ValueId,
+) -> Result<(), AllocError> {
+    let blocks = predecessors(scene.pen.alloc, scene.context.function, block)?;
+    for other in blocks.as_slice() {
+        add(ways, *other, value)?;
+    }
+    Ok(())
+}
+
+fn add_ways(
+    scene: &Scene,
+    ways: &mut Vec<Way>,
+    block: BlockId,
+    phis: &[Phi],
+    value: ValueId,
+) -> Result<(), AllocError> {
+    match phi_of(phis, value) {
+        Some(phi) => add_entries(scene.context.function, ways, phi.incoming.as_slice()),
+        None => add_predecessors(scene, ways, block, value),
+    }
+}
+
+fn block_at(function: &Function, block: BlockId) -> Option<&Block> {
+    function.blocks.get(block.number() as usize)
+}
+
+/// Goes on from one place back; the call that is met, if one is.
+fn go_back(scene: &Scene, ways: &mut Vec<Way>, way: &Way) -> Result<Option<Lost>, AllocError> {
+    let function = scene.context.function;
+    let Some(block) = block_at(function, way.block) else {
+        return Ok(None);
+    };
+    match met_in(scene, block.body.as_slice(), way) {
+        Met::Safepoint(index, value) => Ok(Some(Lost {
+            spot: scene.spot_in(way.block, index),
+            value,
+        })),
+        Met::Definition => Ok(None),
+        Met::Beginning(value) => {
+            add_ways(scene, ways, way.block, block.phis.as_slice(), value)?;
+            Ok(None)
+        }
+    }
+}
+
+/// The nearest call that may reach a safepoint on a way from the definition of a value to an instruction.
+pub fn safepoint_before(
+    scene: &Scene,
+    spot: &Spot,
+    value: ValueId,
+) -> Result<Option<Lost>, AllocError> {
+    let mut ways = Vec::new(scene.pen.alloc);
+    ways.push(Way {
+        block: spot.block,
+        value,
+        upto: spot.place.saturating_sub(scene.phis_of(spot.block)),
+    })?;
+    for turn in 0..FAR {
+        let Some(way) = ways.get(turn).copied() else {
+            return Ok(None);
+        };
+        let met = go_back(scene, &mut ways, &way)?;
+        if met.is_some() {
+            return Ok(met);
+        }
+    }
+    Ok(None)
+}

@@ -1,0 +1,116 @@
+//! What is known of operands, as lines of a certificate.
+use crate::operands::reference_of;
+use crate::scene::Scene;
+use certificate::print_line;
+use certs::{Certs, Claim, Fact};
+use diagnosis::{claim_of, claims_as_certs};
+use ir_ast::{BlockId, Operand, ValueId};
+use items::Items;
+use messages::{Ink, put, put_inked};
+use std::alloc::{AllocError, Global};
+
+fn is_of(claim: &Claim, value: ValueId) -> bool {
+    match claim {
+        Claim::Value { value: other, .. } => other.number() == value.number(),
+        _ => false,
+    }
+}
+
+fn names(claims: &[Claim], value: ValueId) -> bool {
+    for claim in claims {
+        if is_of(claim, value) {
+            return true;
+        }
+    }
+    false
+}
+
+/// What is known of a value comes after what is known of others, each once.
+fn add_known(scene: &Scene, claims: &mut Items<Claim>, value: ValueId) -> Result<(), AllocError> {
+    if names(claims.as_slice(), value) {
+        return Ok(());
+    }
+    match claim_of(scene.facts, value) {
+        Some(claim) => claims.push(claim),
+        None => Ok(()),
+    }
+}
+
+/// What is known of operands, and of the references to whose words they lead.
+fn known_claims(scene: &Scene, operands: &[Operand]) -> Result<Items<Claim>, AllocError> {
+    let mut claims = Items::new(scene.pen.alloc);
+    for operand in operands {
+        if let Operand::Local(value) = operand {
+            add_known(scene, &mut claims, *value)?;
+            add_known(scene, &mut claims, reference_of(scene.facts, *value))?;
+        }
+    }
+    Ok(claims)
+}
+
+/// A claim of a function's certificate at this place of its first block.
+fn put_claim_at(
+    out: &mut Vec<u8>,
+    scene: &Scene,
+    certs: &Certs,
+    place: usize,
+) -> Result<(), AllocError> {
+    let line = print_line(
+        scene.pen.alloc,
+        certs,
+        scene.context.module(),
+        scene.refusal.func,
+        BlockId::new(0),
+        place,
+    )?;
+    out.extend_from_slice(line.as_slice())
+}
+
+/// A list of one claim, which is of a value.
+fn alone(alloc: Global, value: ValueId, fact: Fact) -> Result<Items<Claim>, AllocError> {
+    let mut claims = Items::new(alloc);
+    claims.push(Claim::Value { value, fact })?;
+    Ok(claims)
+}
+
+/// A claim of a value as a line of a certificate, without the line's end.
+pub fn put_claim(
+    out: &mut Vec<u8>,
+    scene: &Scene,
+    value: ValueId,
+    fact: Fact,
+) -> Result<(), AllocError> {
+    let claims = alone(scene.pen.alloc, value, fact)?;
+    let certs = claims_as_certs(scene.pen.alloc, scene.refusal.func, claims)?;
+    put_claim_at(out, scene, &certs, 0)
+}
+
+/// What comes before the first line of what is known, and before the others.
+fn put_margin(out: &mut Vec<u8>, scene: &Scene, place: usize) -> Result<(), AllocError> {
+    if place > 0 {
+        return put(out, "         ");
+    }
+    put_inked(out, scene.pen.look, Ink::Note, "  known: ")
+}
+
+fn put_lines(
+    out: &mut Vec<u8>,
+    scene: &Scene,
+    certs: &Certs,
+    count: usize,
+) -> Result<(), AllocError> {
+    for place in 0..count {
+        put_margin(out, scene, place)?;
+        put_claim_at(out, scene, certs, place)?;
+        put(out, "\n")?;
+    }
+    Ok(())
+}
+
+/// What is known before the refused instruction of these operands, a line for each.
+pub fn put_known(out: &mut Vec<u8>, scene: &Scene, operands: &[Operand]) -> Result<(), AllocError> {
+    let claims = known_claims(scene, operands)?;
+    let count = claims.len();
+    let certs = claims_as_certs(scene.pen.alloc, scene.refusal.func, claims)?;
+    put_lines(out, scene, &certs, count)
+}
