@@ -1,1 +1,2 @@
+pub mod ShapedRoots
 pub mod EditedFits

@@ -4,16 +4,14 @@
 ghost use Rattle.edited_fits.specs.EditedFits.{EditsStayFitting};
 
 use certificate::cert_law;
-use ir_print_law::grown_law;
-use locality::fit_law;
 use recheck::fitting_law;
+use replaced_fits::replaced_fits_law;
 
 /// Certificates that fit the module of a session fit it after each edit that is accepted, where the module's types are within its table.
 pub fn edited_fits_law()
     ensures { EditsStayFitting }
 {
     cert_law();
-    fit_law();
     fitting_law();
-    grown_law();
+    replaced_fits_law();
 }

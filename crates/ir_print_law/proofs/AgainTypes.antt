@@ -32,7 +32,7 @@ use Rattle.ir_print_law.proofs.Words.{sign_comes, number_comes, local_comes, see
 use Rattle.ir_print_law.specs.Definitions.{defined_structs}
 use Rattle.ir_print_law.specs.Shapes.{Shape, Integer, Pointer, Array, Empty, Struct, Named, Opaque, HasShape, IsWritten, IsStruct, levels}
 use Rattle.ir_print_law.proofs.State.{Invariant, Ready, Reads, Any}
-use Rattle.ir_print_law.proofs.Shown.{shown, field_count, IsTypeRead, shape_stays, some_level}
+use Rattle.ir_print_law.proofs.Shown.{shown, field_count, IsTypeRead, shape_stays, shape_within, some_level}
 use Rattle.ir_print_law.proofs.Steps.{go_on, so, said_then, token_then, shorter, checked_then, test_reads, looked, sign_reads, sign_skipped, sign_kind, word_reads, word_skipped, word_seen, intern_pointer_reads, unlike, grows_further, grows_advanced, passed}
 use Rattle.ir_print_law.proofs.Types.{Comes, length_said, opaque_type_reads}
 
@@ -307,7 +307,12 @@ module _ {m : Module} {f : Function} (v : Invariant m f) where
       (said_then v (w.again p >> w.further_star p.room) (λ _. w.intern_pointer (start i.cursor) (type.Pointer p.id)) i (advanced a.1) tt rest s good
       (a.0, a.1, a.2, (tt, a.1, (tt, a.1, (seen k.Star a.1 star.0, refl), (room, refl)), (refl, refl))) (grows_further i a.1 (advanced a.1) a.4 (grows_advanced v a.1))
       (so v (w.intern_pointer (start i.cursor) (type.Pointer p.id)) (advanced a.1) rest s (λ n o. slice_get o.types n ≡ Some (type.Pointer p.id)) good
-      (intern_pointer_reads v (start i.cursor) (type.Pointer p.id) (advanced a.1) rest s plain (passed v a.1 (42 ∷ rest) rest s (s + 1) a.3 star.3 (omega arith)))
+      (intern_pointer_reads v (start i.cursor) (type.Pointer p.id) (advanced a.1) rest s (
+        plain,
+        (let g = grows_further i a.1 (advanced a.1) a.4 (grows_advanced v a.1) in
+            shape_within (advanced a.1).types (advanced a.1).struct_names.names shape p.id (shape_stays i.types (advanced a.1).types i.struct_names.names (advanced a.1).struct_names.names shape p.id g.types g.structs read.has_shape)),
+      )
+      (passed v a.1 (42 ∷ rest) rest s (s + 1) a.3 star.3 (omega arith)))
       (λ n o g there.
       let h = grows_further i (advanced a.1) o (grows_further i a.1 (advanced a.1) a.4 (grows_advanced v a.1)) g in
       (p.id, there, shape_stays i.types o.types i.struct_names.names o.struct_names.names shape p.id h.types h.structs read.has_shape)))))

@@ -128,13 +128,13 @@ module _ {m : Module} {f : Function} (v : Within m f) where
   abbrev pub IsPlaceOf : WrittenType → Argument → Type 0
   IsPlaceOf held a = ((shape : Shape) → IsTypeOf m 64 held shape → IsPlaceType m shape held.id a.written) × IsOperand m f None a.operand
 
-  pub place_keeps : (held : WrittenType) (i : Input) → Keeps v.reading.Fore (Same v.reading.Fore) v.reading.Back (place_of held) (IsPlaceOf held) i
+  pub place_keeps : (held : WrittenType) (i : Input) → held.id < length i.types → Keeps v.reading.Fore (Same v.reading.Fore) v.reading.Back (place_of held) (IsPlaceOf held) i
   unfolding place_of
-  place_keeps held i x o h fore =
+  place_keeps held i there x o h fore =
       let r = v.reading in
       let t = h.3 in
       let u = t.3 in
-      let a = place_type_keeps r held i h.0 h.1 h.2 fore in
+      let a = place_type_keeps r held i there h.0 h.1 h.2 fore in
       let b = operand_keeps v None h.1 t.0 t.1 t.2 a.0 in (
         subst r.Fore u.1 b.0,
         λ back.

@@ -154,7 +154,7 @@ module _ {m : Module} {f : Function} {Back : Input → Type 0} {Fore : Progress 
       let a = parameter_type_keeps g (kind i.cursor) i h.0 h.1 h.2 fore in
       let c = decorations_pass r spot.Parameter h.1 t.0 t.1 t.2 a.0 in
       let d = name_by_keeps g (kind t.1.cursor) t.1 refl u.0 u.1 u.2 c.0 in
-      let e = sort_keeps (naming_of b g u.0) (local.Value h.0.id) tt u.1 w.0 w.1 w.2 d.0 in
+      let e = sort_keeps (naming_of b g u.0) (local.Value h.0.id) u.1 tt w.0 w.1 w.2 d.0 in
       let s = separator_passes (within_of (b.kit (with_named_value g u.0))).reading k.CloseRound w.1 z.0 z.1 z.2 e.0 in (
         subst (λ (y : Parameter). Fore (with_named_value g y.value) o) z.3.0 (subst (Fore (with_named_value g u.0)) z.3.1 s.0),
         λ back.

@@ -105,7 +105,7 @@ module _ {m : Module} {f : Function} {value : ℕ} (n : Naming m f value) where
       let u = t.3 in
       let a = scalar_keeps r i h.0 h.1 h.2 fore in
       let b = call_after_keeps n.within h.0.id h.1 t.0 t.1 t.2 a.0 in
-      let c = sort_keeps n (local.Value h.0.id) tt t.1 u.0 u.1 u.2 b.0 in (
+      let c = sort_keeps n (local.Value h.0.id) t.1 tt u.0 u.1 u.2 b.0 in (
         subst n.After u.3.1 c.0,
         λ back.
             let cb = c.1 (subst r.Back (sym u.3.1) back) in

@@ -146,7 +146,7 @@ module _ {m : Module} {f : Function} {Back : Input → Type 0} {Fore : Progress 
       let c = expect_passes r k.Phi h.1 t.0 t.1 t.2 a.0 in
       let d = scalar_keeps r t.1 u.0 u.1 u.2 c.0 in
       let e = entries_keep naming.within (bits_of u.0) u.1 w.0 w.1 w.2 d.0 in
-      let s = sort_keeps naming (local.Value u.0.id) tt w.1 y.0 y.1 y.2 e.0 in
+      let s = sort_keeps naming (local.Value u.0.id) w.1 tt y.0 y.1 y.2 e.0 in
       let q = instruction_end_passes (within_of (b.kit (with_named_value g n))).reading trail.Other y.1 z.0 z.1 z.2 s.0 in (
         subst (λ (p : Phi). Fore (with_named_value g p.value) o) z.3.0 (subst (Fore (with_named_value g n)) z.3.1 q.0),
         λ back.

@@ -11,7 +11,8 @@ use Rattle.ir_print_law.proofs.Arguments.{place_keeps, indices_keep}
 use Rattle.ir_print_law.proofs.Decorations.{flagged_passes}
 use Rattle.ir_print_law.proofs.Passes.{expect_passes}
 use Rattle.ir_print_law.proofs.Reading.{Naming}
-use Rattle.ir_print_law.proofs.TypesThat.{type_of, any_type_keeps}
+use Rattle.ir_print_law.proofs.Tokens.{having}
+use Rattle.ir_print_law.proofs.TypesThat.{type_of, any_type_there}
 use Rattle.ir_print_law.proofs.ValueSorts.{Gives, ends}
 
 module _ {m : Module} {f : Function} {value : ℕ} (n : Naming m f value) where
@@ -24,9 +25,9 @@ module _ {m : Module} {f : Function} {value : ℕ} (n : Naming m f value) where
       let w = u.3 in
       let z = w.3 in
       let a = flagged_passes r i h.0 h.1 h.2 fore in
-      let b = any_type_keeps r h.1 t.0 t.1 t.2 a.0 in
-      let c = expect_passes r k.Comma t.1 u.0 u.1 u.2 b.0 in
-      let d = place_keeps n.within t.0 u.1 w.0 w.1 w.2 c.0 in
+      let b = any_type_there r h.1 t.0 t.1 t.2 a.0 in
+      let c = expect_passes (having r t.0.id) k.Comma t.1 u.0 u.1 u.2 b.0 in
+      let d = place_keeps n.within t.0 u.1 c.0.1 w.0 w.1 w.2 c.0.0 in
       let e = indices_keep n.within w.1 z.0 z.1 z.2 d.0 in
       let g = ends n (local.Element site.block site.place) tt (record { source = t.0.id; base_type = w.0.written; base = w.0.operand; indices = z.0 }) z.1 x o z.3 e.0 in (
         g.0,

@@ -21,7 +21,7 @@ use Rattle.ir_print_law.proofs.FunctionEnds.{whole_of, function_uses}
 use Rattle.ir_print_law.proofs.FunctionPlaces.{Places, use_places, sort_places}
 use Rattle.ir_print_law.proofs.LocalNames.{Locals, mention_keeps}
 use Rattle.ir_print_law.proofs.Outside.{Outside, with_own}
-use Rattle.ir_print_law.proofs.Reading.{Progress, with_named_value, with_named_label, Kit, IsValueSort}
+use Rattle.ir_print_law.proofs.Reading.{Progress, with_named_value, with_named_label, Kit, IsSortWithin, value_sort}
 use Rattle.ir_print_law.proofs.Tables.{Begins, begins_itself, begins_further, stays, name_begins, name_there}
 
 -- This much of the function is defined, except for the value that is pending.
@@ -58,11 +58,11 @@ module _ {m : Module} (w : Outside m) where
     places = use_places g pending i.locals i.local_uses (local_key i.cursor) (use_here wanted i) refl h.places;
   }
 
-  pub sort_holds : (g : Progress) (n : ℕ) (i : Input) (sort : LocalSort) → IsValueSort sort → Holds m w (with_named_value g n) (Some n) i
+  pub sort_holds : (g : Progress) (n : ℕ) (i : Input) (sort : LocalSort) → IsSortWithin (length i.types) sort → Holds m w (with_named_value g n) (Some n) i
       → Holds m w (with_named_value g n) None (with_sort n sort i)
   sort_holds g n i sort is h = record {
     outside = w.on_own i (defined n sort i.locals) i.local_uses i.values i.unnamed h.outside;
-    names = value_sorted g n i.locals i.unnamed sort is h.names;
+    names = value_sorted g n i.locals i.unnamed sort (value_sort (length i.types) sort is) h.names;
     count = h.count;
     few = h.few;
     numbers = h.numbers;

@@ -54,7 +54,7 @@ module _ (m : Module) where
   Grown i = HasGrown i.types i.struct_names.sorts
 
   -- nothing is asked of where reading goes on to
-  abbrev Nowhere : Input → Type 0
+  abbrev pub Nowhere : Input → Type 0
   Nowhere i = ⊥
 
   abbrev kit : (f : Function) → Kit m f Grown Nowhere
@@ -140,7 +140,7 @@ module _ (m : Module) where
   name_grown sort i n o said h = name_by sort (kind i.cursor) i n o said h
 
   -- any function of the module
-  abbrev some_function : Function
+  abbrev pub some_function : Function
   some_function = record { symbol = 0; returned = 0; parameters = []; collector = None; locals = []; sorts = []; blocks = [] }
 
   function_grown : (func : ℕ) (name : Text) (i o : Input) → (anew func name).says i tt o → Grown i → Grown o

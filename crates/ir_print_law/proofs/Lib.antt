@@ -122,6 +122,7 @@ pub mod FoundNames
 pub mod DefinedWithin
 pub mod PartsWithin
 pub mod OpsWithin
+pub mod Slots
 pub mod WithinRead
 pub mod AnewState
 pub mod AnewRead

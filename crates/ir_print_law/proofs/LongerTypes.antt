@@ -42,7 +42,7 @@ module _ (m : Module) (types : List IrType) (fs : List Function) (more : IsLonge
   void_again t h = stays m.types types t type.Void more.0 h
 
   pub place_again : (shape : Shape) (held place : ℕ) → IsPlaceType m shape held place → IsPlaceType longer shape held place
-  place_again shape held place (inl h) = let there = stays m.types types place (type.Pointer held) more.0 h.1 in inl (more.1 place (type.Pointer held) there, there, h.2)
+  place_again shape held place (inl h) = let there = stays m.types types place (type.Pointer held) more.0 h.1 in inl ((more.1 place (type.Pointer held) there).0, there, h.2)
   place_again shape held place (inr h) = let there = stays m.types types place type.Opaque more.0 h.1 in inr (more.1 place type.Opaque there, there)
 
   -- ---- operands

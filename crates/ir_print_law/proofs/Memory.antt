@@ -18,8 +18,9 @@ use Rattle.ir_print_law.proofs.Forms.{Keeps, Same}
 use Rattle.ir_print_law.proofs.Operands.{operand_keeps}
 use Rattle.ir_print_law.proofs.Passes.{skip_passes, expect_passes}
 use Rattle.ir_print_law.proofs.Reading.{Within, Naming}
-use Rattle.ir_print_law.proofs.TypesThat.{scalar_of, scalar_keeps}
-use Rattle.ir_print_law.proofs.ValueSorts.{Gives, ends}
+use Rattle.ir_print_law.proofs.Tokens.{having, having_within}
+use Rattle.ir_print_law.proofs.TypesThat.{scalar_of, scalar_there}
+use Rattle.ir_print_law.proofs.ValueSorts.{Gives, ends, ends_as}
 
 -- an operation that gives a value, or none
 abbrev pub IsGivingMemory : Module → Function → (gives : Bool) → MemoryOp → Type 0
@@ -32,8 +33,8 @@ module _ {m : Module} {f : Function} {value : ℕ} (n : Naming m f value) where
       let r = n.within.reading in
       let t = h.3 in
       let a = skip_passes r i h.0 h.1 h.2 fore in
-      let b = scalar_keeps r h.1 t.0 t.1 t.2 a.0 in
-      let c = ends n (local.Slot t.0.id) tt (memory.Alloca t.0.id) t.1 x o t.3 b.0 in (
+      let b = scalar_there r h.1 t.0 t.1 t.2 a.0 in
+      let c = ends_as n (local.Slot t.0.id) (memory.Alloca t.0.id) t.1 b.0.1 x o t.3 b.0.0 in (
         c.0,
         λ back.
             let cb = c.1 back in
@@ -51,9 +52,9 @@ module _ {m : Module} {f : Function} {value : ℕ} (n : Naming m f value) where
       let z = w.3 in
       let a = skip_passes r i h.0 h.1 h.2 fore in
       let b = optional_passes r k.Volatile h.1 t.0 t.1 t.2 a.0 in
-      let c = scalar_keeps r t.1 u.0 u.1 u.2 b.0 in
-      let d = expect_passes r k.Comma u.1 w.0 w.1 w.2 c.0 in
-      let e = place_keeps n.within u.0 w.1 z.0 z.1 z.2 d.0 in
+      let c = scalar_there r t.1 u.0 u.1 u.2 b.0 in
+      let d = expect_passes (having r u.0.id) k.Comma u.1 w.0 w.1 w.2 c.0 in
+      let e = place_keeps n.within u.0 w.1 d.0.1 z.0 z.1 z.2 d.0.0 in
       let g = ends n (local.Value u.0.id) tt (memory.Load u.0.id z.0.written z.0.operand) z.1 x o z.3 e.0 in (
         g.0,
         λ back.
@@ -73,10 +74,10 @@ module _ {m : Module} {f : Function} (v : Within m f) where
       let u = t.3 in
       let w = u.3 in
       let z = w.3 in
-      let a = scalar_keeps r i h.0 h.1 h.2 fore in
-      let b = operand_keeps v (bits_of h.0) h.1 t.0 t.1 t.2 a.0 in
-      let c = expect_passes r k.Comma t.1 u.0 u.1 u.2 b.0 in
-      let d = place_keeps v h.0 u.1 w.0 w.1 w.2 c.0 in (
+      let a = scalar_there r i h.0 h.1 h.2 fore in
+      let b = operand_keeps (having_within v h.0.id) (bits_of h.0) h.1 t.0 t.1 t.2 a.0 in
+      let c = expect_passes (having r h.0.id) k.Comma t.1 u.0 u.1 u.2 b.0 in
+      let d = place_keeps v h.0 u.1 c.0.1 w.0 w.1 w.2 c.0.0 in (
         subst r.Fore z.1 d.0,
         λ back.
             let db = d.1 (subst r.Back (sym z.1) back) in

@@ -1,5 +1,5 @@
 -- Tables of types in which all pointers are of one kind.
-use Rattle.std.proofs.Common.{◌≡◌, ℕ, zero, suc, Bool, true, false, List, [], ◌∷◌, ◌++◌, length, slice_get, is_some, if◌then◌else◌, Option, None, Some, refl, sym, ap, subst, ◌∙◌, inl, inr}
+use Rattle.std.proofs.Common.{◌≡◌, ◌<◌, ℕ, zero, suc, Bool, true, false, List, [], ◌∷◌, ◌++◌, length, slice_get, is_some, if◌then◌else◌, Option, None, Some, refl, sym, ap, subst, ◌∙◌, inl, inr}
 use Rattle.std.specs.Prelude.{◌&&◌, ◌||◌, is_none}
 use Rattle.std.specs.List.{list_any}
 use Rattle.lemmas.specs.Bools.{or_false, or_neither}
@@ -45,7 +45,7 @@ not_opaque n (type.Struct first rest) h = refl
 not_opaque n (type.Named name) h = refl
 
 not_typed : (n : ℕ) (x : IrType) → IsInOrder true n x → is_typed_pointer x ≡ false
-not_typed n (type.Pointer part) h = absurd cc
+not_typed n (type.Pointer part) h = absurd (let no = h.0 in cc)
 not_typed n type.Opaque h = refl
 not_typed n type.Void h = refl
 not_typed n (type.Integer bits) h = refl
@@ -72,7 +72,7 @@ opaque_stays t types other none = by (is_some (place_of_type t types)) where
 
 -- a type of the table's kind is no pointer of another kind
 pub no_other_kind : (opaque : Bool) (n : ℕ) (t : IrType) (types : List IrType) → IsInOrder opaque n t → AreInOrder opaque types → is_other_kind t types ≡ false
-no_other_kind opaque n (type.Pointer part) types h all = and_false (has_opaque types) _ (no_opaque types (subst (λ b. AreInOrder b types) h all))
+no_other_kind opaque n (type.Pointer part) types h all = and_false (has_opaque types) _ (no_opaque types (subst (λ b. AreInOrder b types) h.0 all))
 no_other_kind opaque n type.Opaque types h all = and_false (has_typed types) _ (no_typed types (subst (λ b. AreInOrder b types) h all))
 no_other_kind opaque n type.Void types h all = refl
 no_other_kind opaque n (type.Integer bits) types h all = refl
@@ -91,10 +91,11 @@ type_in_order opaque t types last before = by (is_some (place_of_type t types)) 
     | inr h ↦ subst (λ y. IsInOrder opaque n y) (sym h.1) (subst (λ k. IsInOrder opaque k t) (sym h.0) last)
   ]
 
--- what is to hold of a type that comes next into a table: the rest of a struct is there, and a pointer is not of another kind
+-- what is to hold of a type that comes next into a table: its parts are there, and a pointer is not of another kind
 abbrev pub IsNext : List IrType → IrType → Type 0
 IsNext types (type.Struct first rest) = IsInOrder false (length types) (type.Struct first rest)
-IsNext types (type.Pointer part) = is_other_kind (type.Pointer part) types ≡ false
+IsNext types (type.Array count part) = part < length types
+IsNext types (type.Pointer part) = (is_other_kind (type.Pointer part) types ≡ false) × (part < length types)
 IsNext types type.Opaque = is_other_kind type.Opaque types ≡ false
 IsNext types _ = Unit {0}
 
@@ -129,15 +130,15 @@ module _ (types : List IrType) where
     by type.Opaque other own = refl
     by type.Void other own = tt
     by (type.Integer bits) other own = tt
-    by (type.Array count part) other own = tt
+    by (type.Array count part) other own = own
     by type.EmptyStruct other own = tt
     by (type.Struct first rest) other own = own
     by (type.Named name) other own = tt
 
   new_ordered : (t : IrType) → is_none (place_of_type t types) ≡ true → IsNext types t → AreOrdered types → AreOrdered (types ++ t ∷ [])
   new_ordered (type.Pointer part) new next h =
-      let none = first_false (has_opaque types) (is_none (place_of_type (type.Pointer part) types)) next new in
-      so_ordered false (type.Pointer part) (kind_same (type.Pointer part) refl ∙ none) refl (subst (λ b. AreInOrder b types) none h)
+      let none = first_false (has_opaque types) (is_none (place_of_type (type.Pointer part) types)) next.0 new in
+      so_ordered false (type.Pointer part) (kind_same (type.Pointer part) refl ∙ none) (refl, next.1) (subst (λ b. AreInOrder b types) none h)
   new_ordered type.Opaque new next h =
       let none = first_false (has_typed types) (is_none (place_of_type type.Opaque types)) next new in
       so_ordered true type.Opaque (kind_more type.Opaque ∙ or_true (has_opaque types)) refl (untyped none h) where
@@ -146,7 +147,7 @@ module _ (types : List IrType) where
         or_true false = refl
   new_ordered type.Void new next h = so_ordered (has_opaque types) type.Void (kind_same type.Void refl) tt h
   new_ordered (type.Integer bits) new next h = so_ordered (has_opaque types) (type.Integer bits) (kind_same (type.Integer bits) refl) tt h
-  new_ordered (type.Array count part) new next h = so_ordered (has_opaque types) (type.Array count part) (kind_same (type.Array count part) refl) tt h
+  new_ordered (type.Array count part) new next h = so_ordered (has_opaque types) (type.Array count part) (kind_same (type.Array count part) refl) next h
   new_ordered type.EmptyStruct new next h = so_ordered (has_opaque types) type.EmptyStruct (kind_same type.EmptyStruct refl) tt h
   new_ordered (type.Struct first rest) new next h = so_ordered (has_opaque types) (type.Struct first rest) (kind_same (type.Struct first rest) refl) next h
   new_ordered (type.Named name) new next h = so_ordered (has_opaque types) (type.Named name) (kind_same (type.Named name) refl) tt h
@@ -165,7 +166,7 @@ IsLonger types more = Begins types more × AreOrdered more
 -- a type that may be written, in another table that has it
 pub written_in : (types : List IrType) (names : _) (opaque : Bool) (structs : _) (shape : Shape) (n : ℕ) → AreOrdered types → HasShape types names shape n → IsWritten opaque structs shape → IsWritten (has_opaque types) structs shape
 written_in types names opaque structs (Integer bits) n order has h = h
-written_in types names opaque structs (Pointer part) n order has h = (order n (type.Pointer has.0) has.1, written_in types names opaque structs part has.0 order has.2 h.1)
+written_in types names opaque structs (Pointer part) n order has h = ((order n (type.Pointer has.0) has.1).0, written_in types names opaque structs part has.0 order has.2 h.1)
 written_in types names opaque structs (Array count part) n order has h = (h.0, written_in types names opaque structs part has.0 order has.2 h.1)
 written_in types names opaque structs Empty n order has h = tt
 written_in types names opaque structs (Struct first rest) n order has h =

@@ -7,7 +7,6 @@ use Rattle.lemmas.specs.Lists.{in_either, IsIn}
 use Rattle.ir_ast.specs.Names.{place_of}
 use Rattle.ir_ast.specs.declared.argument.Argument.{Argument}
 use Rattle.ir_ast.specs.declared.function.Function.{Function}
-use Rattle.ir_ast.specs.declared.ir_type.IrType.{IrType}
 use Rattle.ir_ast.specs.declared.ir_type.IrType.TheVariants as type
 use Rattle.ir_ast.specs.declared.items_of_module.Declare.{Declare}
 use Rattle.ir_ast.specs.declared.items_of_module.Global.{Global}
@@ -21,23 +20,15 @@ use Rattle.ir_print_law.specs.Definitions.{value_keys, label_keys, target_keys, 
 use Rattle.ir_print_law.specs.ModuleNames.{HasModuleNames}
 use Rattle.ir_print_law.specs.Parts.{IsType, IsVoid, IsPointer, IsPlaceType, IsOperand, IsArgument, ArePair, IsConverted, IsReturned}
 use Rattle.ir_print_law.specs.PartsWithin.{HasType, HasSymbol, HasGlobal, HasFunction, HasLocal, HasValue, HasBlock, HasTarget, IsOperandWithin, IsArgumentWithin, ArePairWithin, IsConvertedWithin}
-use Rattle.ir_print_law.specs.Shapes.{Shape, Integer, Pointer, Array, Empty, Struct, Named, Opaque, HasShape, bits_of_shape}
+use Rattle.ir_print_law.specs.Shapes.{Shape, Pointer, Opaque, bits_of_shape}
 use Rattle.ir_print_law.proofs.DefinedWithin.{AreDefinedWithin, all_at, any_all}
 use Rattle.ir_print_law.proofs.FoundNames.{found_number, in_all, place_in, place_after, item_in, each_number, item_keys, items_stay}
 use Rattle.ir_print_law.proofs.FunctionEnds.{whole_of, values_are, labels_are, rest_keys}
 use Rattle.ir_print_law.proofs.LocalNames.{keys_at, names_stay}
+use Rattle.ir_print_law.proofs.Shown.{shape_within}
 use Rattle.ir_print_law.proofs.Tables.{begins_with}
 
 -- ---- types
-
-pub shape_within : (types : List IrType) (names : List Text) (shape : Shape) (written : ℕ) → HasShape types names shape written → written < length types
-shape_within types names (Integer bits) written h = slice_get_within types written (type.Integer bits) h
-shape_within types names (Pointer part) written h = slice_get_within types written (type.Pointer h.0) h.1
-shape_within types names (Array count part) written h = slice_get_within types written (type.Array count h.0) h.1
-shape_within types names Empty written h = slice_get_within types written type.EmptyStruct h
-shape_within types names (Struct first rest) written h = slice_get_within types written (type.Struct h.0 h.1) h.2
-shape_within types names (Named name) written h = slice_get_within types written (type.Named h.0) h.1
-shape_within types names Opaque written h = slice_get_within types written type.Opaque h
 
 -- the type of a place
 pub place_type_within : (m : Module) (shape : Shape) (held place : ℕ) → IsPlaceType m shape held place → place < length m.types

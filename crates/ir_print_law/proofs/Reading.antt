@@ -1,5 +1,5 @@
 -- What is known of a state while a module is read: of what was read before it, and of where reading ends.
-use Rattle.std.specs.Prelude.{◌≡◌, ℕ, Bool, List, [], ◌∷◌, ◌++◌, length}
+use Rattle.std.specs.Prelude.{◌≡◌, ◌<◌, ℕ, Bool, List, [], ◌∷◌, ◌++◌, length}
 use Rattle.lemmas.specs.Lists.{IsIn}
 use Rattle.ir_ast.specs.declared.function.Function.{Function}
 use Rattle.ir_ast.specs.declared.function.LocalSort.{LocalSort}
@@ -54,11 +54,35 @@ IsValueSort (local.Slot held) = Unit {0}
 IsValueSort (local.Element block place) = Unit {0}
 IsValueSort _ = ⊥
 
+-- the same, where what a slot holds is one of this number of types
+abbrev pub IsSortWithin : (count : ℕ) → LocalSort → Type 0
+IsSortWithin count (local.Slot held) = held < count
+IsSortWithin count sort = IsValueSort sort
+
+-- the same of what is no slot
+abbrev pub IsPlainSort : LocalSort → Type 0
+IsPlainSort (local.Slot held) = ⊥
+IsPlainSort sort = IsValueSort sort
+
+pub value_sort : (count : ℕ) (sort : LocalSort) → IsSortWithin count sort → IsValueSort sort
+value_sort count (local.Value t) is = tt
+value_sort count (local.Slot held) is = tt
+value_sort count (local.Element block place) is = tt
+value_sort count local.Unknown is = absurd is
+value_sort count (local.Block b) is = absurd is
+
+pub plain_sort : (count : ℕ) (sort : LocalSort) → IsPlainSort sort → IsSortWithin count sort
+plain_sort count (local.Value t) is = tt
+plain_sort count (local.Element block place) is = tt
+plain_sort count (local.Slot held) is = absurd is
+plain_sort count local.Unknown is = absurd is
+plain_sort count (local.Block b) is = absurd is
+
 -- The same while a value with this number is named that has no type yet, and after that, where it has one.
 pub record Naming (m : Module) (f : Function) (value : ℕ) : Type 1 where
   pub within : Within m f
   pub After : Input → Type 0
-  pub on_value : (i : Input) (sort : LocalSort) → IsValueSort sort → within.reading.Fore i → After (with_sort value sort i)
+  pub on_value : (i : Input) (sort : LocalSort) → IsSortWithin (length i.types) sort → within.reading.Fore i → After (with_sort value sort i)
   pub from_value : (i : Input) (sort : LocalSort) → within.reading.Back (with_sort value sort i) → within.reading.Back i
 
 -- The same for what holds before, and for what is known from after it.
@@ -126,7 +150,7 @@ with_named_label g n = record { names = g.names ++ n ∷ []; values = g.values; 
 pub record Builder (m : Module) (f : Function) (Back : Input → Type 0) (Fore : Progress → Input → Type 0) (Open : Progress → ℕ → Input → Type 0) : Type 0 where
   pub kit : (g : Progress) → Kit m f (Fore g) Back
   pub open_kit : (g : Progress) (n : ℕ) → Kit m f (Open g n) Back
-  pub on_sort : (g : Progress) (n : ℕ) (i : Input) (sort : LocalSort) → IsValueSort sort → Open g n i → Fore (with_named_value g n) (with_sort n sort i)
+  pub on_sort : (g : Progress) (n : ℕ) (i : Input) (sort : LocalSort) → IsSortWithin (length i.types) sort → Open g n i → Fore (with_named_value g n) (with_sort n sort i)
   pub from_sort : (n : ℕ) (i : Input) (sort : LocalSort) → Back (with_sort n sort i) → Back i
   pub named : (g : Progress) (i : Input) → kind i.cursor ≡ k.LocalName → Keeps (Fore g) (Open g) Back new_value Any i
   pub numbered : (g : Progress) (i : Input) → kind i.cursor ≡ k.LocalNumber → Keeps (Fore g) (Open g) Back numbered_value Any i

@@ -18,6 +18,7 @@ use Rattle.name_text.specs.Readings.{AreBytes}
 use Rattle.ir_print.specs.Names.{name_at}
 use Rattle.ir_print_law.specs.Definitions.{AreNew, defined_globals, declared_functions, defined_functions}
 use Rattle.ir_print_law.specs.FunctionNames.{HasNames}
+use Rattle.ir_print_law.specs.Growing.{IsReplacedAlone}
 use Rattle.ir_print_law.specs.ModuleNames.{IsNumbered}
 use Rattle.ir_print_law.specs.Printable.{IsFunction, IsStructType, IsGlobal, IsDeclare, IsSymbol}
 use Rattle.ir_print_law.specs.Wholes.{IsWhole}
@@ -128,19 +129,36 @@ module _ (m : Module) (whole : IsWhole m) (func : ℕ) (old : Function) (at : sl
       ∙ ap (λ (x : List Text). built o.types m.struct_names m.struct_of x o.functions) h.end.symbols
       ∙ ap (λ (x : List Function). built o.types m.struct_names m.struct_of m.symbols x) h.functions
 
-  old_whole : (bytes : Text) (n : Module) → AreBytes bytes → IsReplaced m func bytes n → IsWhole n
-  old_whole bytes n own h =
+  -- what was read, in the place of the old function, is the module that comes of it
+  abbrev pub Becomes : Module → Type 0
+  Becomes n = (o : Input) × (f : Function) × IsRead m old f o × (edited o.types f ≡ n)
+
+  pub becomes : (bytes : Text) (n : Module) → AreBytes bytes → IsReplaced m func bytes n → Becomes n
+  becomes bytes n own h =
       let text = h.1 in
       let read = text.3 in
       let said = subst (λ (name : Text). (anew func name).says (start_anew (tables_of m) func bytes text.1) tt read.0) (ap (name_in m) at) read.1 in
       let got = function_read m whole.names func old at bytes text.1 read.0 whole.ordered own text.2 said read.2 in
-      let is = got.1 in
-      let end : edited read.0.types got.0 ≡ n = sym (read_edits read.0 got.0 is) ∙ ap (with_replacement m func) read.3 ∙ h.2 in
-      subst IsWhole end (edited_whole read.0.types got.0 is.begins is.ordered is.symbol_is is.function_is is.has_names)
+      (read.0, got.0, got.1, sym (read_edits read.0 got.0 got.1) ∙ ap (with_replacement m func) read.3 ∙ h.2)
+
+  old_whole : (bytes : Text) (n : Module) → AreBytes bytes → IsReplaced m func bytes n → IsWhole n
+  old_whole bytes n own h =
+      let b = becomes bytes n own h in
+      let is = b.2 in
+      subst IsWhole b.3 (edited_whole b.0.types b.1 is.begins is.ordered is.symbol_is is.function_is is.has_names)
+
+  old_alone : (bytes : Text) (n : Module) → AreBytes bytes → IsReplaced m func bytes n → IsReplacedAlone m func n
+  old_alone bytes n own h =
+      let b = becomes bytes n own h in
+      (b.1, sym b.3 ∙ ap (λ (types : List IrType). edited types b.1) (ap (λ (x : Module). x.types) b.3))
 
 -- the module in which a function is replaced
 pub replaced_is_whole : (m : Module) (func : ℕ) (bytes : Text) (n : Module) → IsWhole m → func < length m.functions → AreBytes bytes → IsReplaced m func bytes n → IsWhole n
 replaced_is_whole m func bytes n whole within own h = let old = get_some m.functions func within in old_whole m whole func old.0 old.1 bytes n own h
+
+-- and nothing of the module is another then but its types and that function
+pub replaced_is_alone : (m : Module) (func : ℕ) (bytes : Text) (n : Module) → IsWhole m → func < length m.functions → AreBytes bytes → IsReplaced m func bytes n → IsReplacedAlone m func n
+replaced_is_alone m func bytes n whole within own h = let old = get_some m.functions func within in old_alone m whole func old.0 old.1 bytes n own h
 
 -- a module that is read
 pub read_is_whole : (bytes : Text) (m : Module) → AreBytes bytes → IsText bytes m → IsWhole m

@@ -1,5 +1,5 @@
 -- The numbers of a module are within its tables where one of its functions is replaced.
-use Rattle.std.proofs.Common.{◌≡◌, ℕ, ◌<◌, ◌≤◌, List, length, slice_get, Some, sym, ap, subst, ◌∙◌, arith, length-append, inl, inr}
+use Rattle.std.proofs.Common.{◌≡◌, ℕ, ◌<◌, ◌≤◌, List, length, slice_get, Some, sym, subst, arith, inl, inr}
 use Rattle.lemmas.specs.All.{all_get, all_so}
 use Rattle.lemmas.specs.Lists.{get_some}
 use Rattle.std.proofs.lemmas.List.{length-set}
@@ -9,28 +9,19 @@ use Rattle.ir_ast.specs.declared.items_of_module.Global.{Global}
 use Rattle.ir_ast.specs.declared.items_of_module.StructType.{StructType}
 use Rattle.ir_ast.specs.declared.module.Module.{Module}
 use Rattle.ir_tokens.specs.Bytes.{Text}
-use Rattle.function_text.specs.Anew.{start_anew, anew}
-use Rattle.copies.specs.Tables.{tables_of}
-use Rattle.function_text.specs.Replaced.{name_in, with_replacement, IsReplaced}
+use Rattle.function_text.specs.Replaced.{IsReplaced}
 use Rattle.name_text.specs.Readings.{AreBytes}
 use Rattle.ir_print_law.specs.ModuleNames.{HasModuleNames}
 use Rattle.ir_print_law.specs.PartsWithin.{HasSymbol}
 use Rattle.ir_print_law.specs.Wholes.{IsWhole}
 use Rattle.ir_print_law.specs.Within.{IsFunctionWithin, IsStructWithin, IsGlobalWithin, IsDeclareWithin, IsWithin}
-use Rattle.ir_print_law.proofs.AnewRead.{function_read}
 use Rattle.ir_print_law.proofs.LongerTypes.{with_types}
 use Rattle.ir_print_law.proofs.PartsWithin.{functions_have}
-use Rattle.ir_print_law.proofs.ReplacedWhole.{all_set, edited, read_edits}
-use Rattle.ir_print_law.proofs.Tables.{Begins}
+use Rattle.ir_print_law.proofs.ReplacedWhole.{all_set, becomes, edited}
+use Rattle.ir_print_law.proofs.Tables.{Begins, begins_length}
 use Rattle.ir_print_law.proofs.WithinRead.{IsInnerOf}
 use Rattle.ir_print_law.proofs.PartsLonger.{MeansAsMuch, type_longer}
 use Rattle.ir_print_law.proofs.WithinLonger.{declare_longer, function_longer}
-
--- ---- lists
-
--- a list that begins with another one is not shorter
-begins_length : {A : Type 0} (xs ys : List A) → Begins xs ys → length xs ≤ length ys
-begins_length xs ys b = let same = ap length b.1 in let sum = length-append xs b.0 in omega (arith, same, sum)
 
 module _ (m : Module) (whole : IsWhole m) (within : IsWithin m) (func : ℕ) (old : Function) (at : slice_get m.functions func ≡ Some old) where
   -- the names mean what they mean in the module, whatever its types are
@@ -91,18 +82,14 @@ module _ (m : Module) (whole : IsWhole m) (within : IsWithin m) (func : ℕ) (ol
   function_within types f more symbol_is inner =
       let inside = inner (names_again types) in
       let old_within = all_get (λ (x : Function). HasSymbol m x.symbol) m.functions func old (functions_have m whole.names) at in
-      record { symbol = subst (HasSymbol m) (sym symbol_is) old_within; returned = inside.0; parameters = inside.1; sorts = inside.2; blocks = inside.3 }
+      record { symbol = subst (HasSymbol m) (sym symbol_is) old_within; returned = inside.0; parameters = inside.1; sorts = inside.2; slots = inside.3; blocks = inside.4 }
 
-  old_within : (bytes : Text) (n : Module) → AreBytes bytes → IsReplaced m func bytes n → IsWithin n
-  old_within bytes n own h =
-      let text = h.1 in
-      let read = text.3 in
-      let said = subst (λ (name : Text). (anew func name).says (start_anew (tables_of m) func bytes text.1) tt read.0) (ap (name_in m) at) read.1 in
-      let got = function_read m whole.names func old at bytes text.1 read.0 whole.ordered own text.2 said read.2 in
-      let is = got.1 in
-      let end : edited m whole func old at read.0.types got.0 ≡ n = sym (read_edits m whole func old at read.0 got.0 is) ∙ ap (with_replacement m func) read.3 ∙ h.2 in
-      subst IsWithin end (edited_within read.0.types got.0 is.begins (function_within read.0.types got.0 is.begins is.symbol_is is.inner))
+  old_is_within : (bytes : Text) (n : Module) → AreBytes bytes → IsReplaced m func bytes n → IsWithin n
+  old_is_within bytes n own h =
+      let b = becomes m whole func old at bytes n own h in
+      let is = b.2 in
+      subst IsWithin b.3 (edited_within b.0.types b.1 is.begins (function_within b.0.types b.1 is.begins is.symbol_is is.inner))
 
 -- the module in which a function is replaced
 pub replaced_is_within : (m : Module) (func : ℕ) (bytes : Text) (n : Module) → IsWhole m → IsWithin m → func < length m.functions → AreBytes bytes → IsReplaced m func bytes n → IsWithin n
-replaced_is_within m func bytes n whole within less own h = let old = get_some m.functions func less in old_within m whole within func old.0 old.1 bytes n own h
+replaced_is_within m func bytes n whole within less own h = let old = get_some m.functions func less in old_is_within m whole within func old.0 old.1 bytes n own h

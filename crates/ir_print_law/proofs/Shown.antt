@@ -1,7 +1,8 @@
 -- Types by their shapes: how they are printed, and what a reader knows of one.
-use Rattle.std.proofs.Common.{◌≡◌, ℕ, zero, suc, ◌+◌, ◌≤◌, Bool, true, false, List, [], ◌∷◌, ◌++◌, refl, sym, ap, ◌∙◌, arith}
+use Rattle.std.proofs.Common.{◌≡◌, ℕ, zero, suc, ◌+◌, ◌<◌, ◌≤◌, Bool, true, false, List, [], ◌∷◌, ◌++◌, length, refl, sym, ap, ◌∙◌, arith}
 use Rattle.std.specs.Prelude.{codes, ◌==◌}
 use Rattle.std.specs.Fmt.{decimal}
+use Rattle.std.proofs.lemmas.Option.{slice_get_within}
 use Rattle.ir_print_law.proofs.Looks.{suc_one, bits_looks, held_looks, passed_looks, scalar_looks, pointer_looks, base_of, stars_of, looking}
 use Rattle.lemmas.specs.Numbers.{suc_not_null}
 use Rattle.ir_ast.specs.declared.ir_type.IrType.{IrType}
@@ -53,6 +54,16 @@ shape_stays types more names others (Struct first rest) n a b h =
     (h.0, h.1, stays types more n _ a h.2, h.3, shape_stays types more names others first h.0 a b h.4, shape_stays types more names others rest h.1 a b h.5)
 shape_stays types more names others (Named name) n a b h = (h.0, stays types more n _ a h.1, place_stays name names others h.0 b h.2)
 shape_stays types more names others Opaque n a b h = stays types more n _ a h
+
+-- a type that has a shape is in the table
+pub shape_within : (types : List IrType) (names : List Text) (shape : Shape) (n : ℕ) → HasShape types names shape n → n < length types
+shape_within types names (Integer bits) n h = slice_get_within types n _ h
+shape_within types names (Pointer part) n h = slice_get_within types n _ h.1
+shape_within types names (Array count part) n h = slice_get_within types n _ h.1
+shape_within types names Empty n h = slice_get_within types n _ h
+shape_within types names (Struct first rest) n h = slice_get_within types n _ h.2
+shape_within types names (Named name) n h = slice_get_within types n _ h.1
+shape_within types names Opaque n h = slice_get_within types n _ h
 
 -- what was read stays
 pub read_stays : (shape : Shape) (most : ℕ) (w : WrittenType) (i o : Input) → Grows i o → IsTypeRead shape most w i → IsTypeRead shape most w o

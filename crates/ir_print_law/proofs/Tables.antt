@@ -36,6 +36,10 @@ begins_further xs ys zs a b = (a.0 ++ b.0, b.1 ∙ ap (λ l. l ++ b.0) a.1 ∙ a
 pub begins_with : {A : Type 0} (xs more : List A) → Begins xs (xs ++ more)
 begins_with xs more = (more, refl)
 
+-- a list that begins with another one is not shorter
+pub begins_length : {A : Type 0} (xs ys : List A) → Begins xs ys → length xs ≤ length ys
+begins_length xs ys b = let same = ap length b.1 in let sum = length-append xs b.0 in omega (arith, same, sum)
+
 -- an element stays at its place
 pub stays : {A : Type 0} (xs ys : List A) (n : ℕ) (x : A) → Begins xs ys → slice_get xs n ≡ Some x → slice_get ys n ≡ Some x
 stays xs ys n x b e = ap (λ l. slice_get l n) b.1 ∙ get_front xs b.0 n x e
@@ -62,6 +66,13 @@ type_length t types = by (is_some (place_of_type t types)) where
   by : (b : Bool) → length (if b then types else types ++ t ∷ []) ≤ length types + 1
   by true = omega arith
   by false = let e = length-append types (t ∷ []) in omega (arith, e)
+
+-- what is in the table stays there
+pub type_further : (t : IrType) (types : List IrType) (number : ℕ) → number < length types → number < length (numbered_type t types)
+type_further t types number less = by (is_some (place_of_type t types)) where
+  by : (b : Bool) → number < length (if b then types else types ++ t ∷ [])
+  by true = less
+  by false = let e = length-append types (t ∷ []) in omega (arith, less, e)
 
 -- ---- names
 

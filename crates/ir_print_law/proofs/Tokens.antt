@@ -6,6 +6,7 @@ use Rattle.lemmas.specs.Lists.{IsIn}
 use Rattle.grammar.specs.Grammar.{step}
 use Rattle.ir_ast.specs.Names.{numbered, place_of}
 use Rattle.ir_ast.specs.Types.{number_of_type, numbered_type}
+use Rattle.ir_ast.specs.declared.function.Function.{Function}
 use Rattle.ir_ast.specs.declared.ir_type.IrType.{IrType}
 use Rattle.ir_ast.specs.declared.module.Module.{Module}
 use Rattle.ir_tokens.specs.declared.token.Kind.{Kind}
@@ -21,8 +22,8 @@ use Rattle.name_text.specs.Readings.{AreBytes}
 use Rattle.ir_print_law.specs.Definitions.{defined_structs}
 use Rattle.ir_print_law.proofs.Forms.{Keeps, Same, Any, stepped, where_true}
 use Rattle.ir_print_law.proofs.OneKind.{IsNext}
-use Rattle.ir_print_law.proofs.Reading.{Reading}
-use Rattle.ir_print_law.proofs.Tables.{IsInOrder, stays, type_there, place_there, place_stays}
+use Rattle.ir_print_law.proofs.Reading.{Reading, Within}
+use Rattle.ir_print_law.proofs.Tables.{IsInOrder, stays, type_further, type_there, place_there, place_stays}
 
 -- this type is at its number
 abbrev pub IsAt : Module → IrType → ℕ → Type 0
@@ -39,6 +40,37 @@ IsInterned m b room t w = IsAt m t w.id × (w.base ≡ b) × (w.stars ≡ 0) × 
 -- the table of types has this number
 abbrev pub Has : (Input → Type 0) → ℕ → Input → Type 0
 Has Fore n i = Fore i × (n < length i.types)
+
+-- The same reading, where the table of types has this number.
+abbrev pub having : {m : Module} → Reading m → ℕ → Reading m
+having r k = record {
+  Fore = Has r.Fore k;
+  Back = r.Back;
+  ordered = r.ordered;
+  bytes = λ i h back. r.bytes i h.0 back;
+  has_types = r.has_types;
+  has_structs = r.has_structs;
+  has_symbols = r.has_symbols;
+  on_token = λ i h. (r.on_token i h.0, h.1);
+  from_token = r.from_token;
+  on_type = λ i t next h. (r.on_type i t next h.0, type_further t i.types k h.1);
+  from_type = r.from_type;
+  on_struct = λ i h. (r.on_struct i h.0, h.1);
+  from_struct = r.from_struct;
+  struct_is = r.struct_is;
+  on_symbol = λ i is_call h. (r.on_symbol i is_call h.0, h.1);
+  from_symbol = r.from_symbol;
+  symbol_is = r.symbol_is;
+}
+
+abbrev pub having_within : {m : Module} {f : Function} → Within m f → ℕ → Within m f
+having_within v k = record {
+  reading = having v.reading k;
+  has_locals = v.has_locals;
+  on_local = λ i wanted h. (v.on_local i wanted h.0, h.1);
+  from_local = v.from_local;
+  local_is = v.local_is;
+}
 
 module _ {m : Module} (r : Reading m) where
   pub skip_keeps : (i : Input) → Keeps r.Fore (Same r.Fore) r.Back skip Any i
@@ -66,15 +98,15 @@ module _ {m : Module} (r : Reading m) where
   intern_goes t i last a o h f = let x = intern_keeps t i last a o h f in (x.0.0, x.1)
 
   -- so it is with a pointer type, which is of the text's kind
-  pub pointer_goes : (start : ℕ) (t : IrType) (i : Input) → (is_other_kind t i.types ≡ false → IsNext i.types t) → Keeps r.Fore (Same r.Fore) r.Back (intern_pointer start t) (IsAt m t) i
+  pub pointer_goes : (start : ℕ) (t : IrType) (i : Input) → (is_other_kind t i.types ≡ false → IsNext i.types t) → Keeps r.Fore (Has r.Fore) r.Back (intern_pointer start t) (IsAt m t) i
   unfolding intern_pointer is_second_kind
   pointer_goes start t i next = by (is_other_kind t i.types) refl where
-    by : (b : Bool) → is_other_kind t i.types ≡ b → Keeps r.Fore (Same r.Fore) r.Back (interned_pointer start t b) (IsAt m t) i
+    by : (b : Bool) → is_other_kind t i.types ≡ b → Keeps r.Fore (Has r.Fore) r.Back (interned_pointer start t b) (IsAt m t) i
     by true e = λ n o h f. absurd (let no = h.3.2.0 in cc)
     by false e = λ n o h f.
-        let x = intern_goes t i (next e) h.0 h.1 h.2 f in
+        let x = intern_keeps t i (next e) h.0 h.1 h.2 f in
         let same = h.3.2.1 ∙ h.3.3.1 in
-        (subst r.Fore same x.0, λ b. let c = x.1 (subst r.Back (sym same) b) in (c.0, subst (IsAt m t) h.3.3.0 c.1))
+        (subst (λ (k : ℕ). Has r.Fore k o) h.3.3.0 (subst (Has r.Fore h.0) same x.0), λ b. let c = x.1 (subst r.Back (sym same) b) in (c.0, subst (IsAt m t) h.3.3.0 c.1))
 
   pub interned_keeps : (b : Base) (room : ℕ) (t : IrType) (i : Input) → IsNext i.types t
       → Keeps r.Fore (λ w o. Has r.Fore w.id o) r.Back (interned b room t) (IsInterned m b room t) i

@@ -40,7 +40,7 @@ use Rattle.ir_print_law.specs.Definitions.{defined_structs}
 use Rattle.ir_print_law.specs.Shapes.{Shape, Integer, Pointer, Array, Empty, Struct, Named, Opaque, HasShape, levels}
 use Rattle.ir_print_law.proofs.Tables.{AreInOrder, IsInOrder, begins_itself, name_begins, name_length, place_there, place_stays, number_within}
 use Rattle.ir_print_law.proofs.State.{Invariant, Ready, Grows, Reads}
-use Rattle.ir_print_law.proofs.Shown.{shown, IsTypeRead, shape_stays}
+use Rattle.ir_print_law.proofs.Shown.{shown, IsTypeRead, shape_stays, shape_within}
 use Rattle.ir_print_law.proofs.Steps.{go_on, so, given, token_then, shorter, checked_then, looked, sign_skipped, sign_kind, word_skipped, word_seen, intern_reads, intern_pointer_reads, unlike}
 
 -- ---- what follows a type
@@ -122,7 +122,8 @@ module _ {m : Module} {f : Function} (v : Invariant m f) where
       (go_on v skip (λ _. intern_pointer from (type.Pointer number)) i afterwards afterwards (s + 1) s (λ _ o. advanced i ≡ o) (λ n o. HasShape o.types o.struct_names.names (Pointer shape) n)
       (sign_skipped v 42 k.Star i [] afterwards s (s + 1) refl refl refl (omega arith) ready)
       (λ _ o ready g e. so v (intern_pointer from (type.Pointer number)) o afterwards s (λ n p. slice_get p.types n ≡ Some (type.Pointer number)) (λ n p. HasShape p.types p.struct_names.names (Pointer shape) n)
-      (intern_pointer_reads v from (type.Pointer number) o afterwards s may ready)
+      (intern_pointer_reads v from (type.Pointer number) o afterwards s
+      (may, shape_within o.types o.struct_names.names shape number (shape_stays i.types o.types i.struct_names.names o.struct_names.names shape number g.types g.structs has)) ready)
       (λ n p h there. (
         number,
         there,

@@ -1,10 +1,12 @@
 -- A type that is read has a shape.
-use Rattle.std.proofs.Common.{◌≡◌, ℕ, zero, suc, ◌+◌, ◌<◌, ◌≤◌, ◌^◌, Bool, true, false, List, [], ◌∷◌, if◌then◌else◌, Option, None, Some, unwrap_or, refl, sym, ap, subst, ◌∙◌, arith}
+use Rattle.std.proofs.Common.{◌≡◌, ℕ, zero, suc, ◌+◌, ◌<◌, ◌≤◌, ◌^◌, Bool, true, false, List, [], ◌∷◌, length, if◌then◌else◌, Option, None, Some, unwrap_or, refl, sym, ap, subst, ◌∙◌, arith}
 use Rattle.std.specs.Prelude.{nat_lt, nat_le, max, min, ◌&&◌, ◌==◌, option_and_then}
 use Rattle.std.specs.List.{AllByRecursion}
 use Rattle.std.proofs.lemmas.Bool.Decides.{nat_tests}
+use Rattle.lemmas.specs.All.{all_so}
 use Rattle.lemmas.specs.Bools.{and_parts}
 use Rattle.grammar.specs.Grammar.{pure, refuse, step, ◌>>=◌, ◌>>◌}
+use Rattle.grammar.specs.Many.{Listed}
 use Rattle.ir_ast.specs.declared.ir_type.IrType.{IrType}
 use Rattle.ir_ast.specs.declared.ir_type.IrType.TheVariants as type
 use Rattle.ir_ast.specs.declared.module.Module.{Module}
@@ -23,10 +25,10 @@ use Rattle.ir_forms.specs.Written as w
 use Rattle.ir_forms.specs.Written.{has_opaque, intern_pointer, opaque_type, stars_after, part_of, integer, bits_at, length_at, array_length, pointers, star_or, at_star, at_brace, comma_or, after_field, field, field_takes, before, struct_of, starred as with_starred, with_stars, interned, part, firm, Firm, no_type}
 use Rattle.ir_print_law.specs.Definitions.{defined_structs}
 use Rattle.ir_print_law.specs.Shapes.{Shape, Integer, Pointer, Array, Empty, Struct, Named, Opaque, HasShape, IsWritten, IsStruct, levels}
-use Rattle.ir_print_law.proofs.Forms.{Keeps, Same, Any, stepped, where_true, all}
+use Rattle.ir_print_law.proofs.Forms.{Keeps, Same, Any, stepped, where_true, all, each}
 use Rattle.ir_print_law.proofs.Looks.{starred, base_of, stars_of, IsTypeOf, IsShaped, starred_levels, starred_base, starred_stars}
 use Rattle.ir_print_law.proofs.Reading.{Reading}
-use Rattle.ir_print_law.proofs.Tokens.{IsAt, IsInterned, Has, skip_keeps, expect_keeps, pointer_goes, interned_keeps, struct_name_keeps}
+use Rattle.ir_print_law.proofs.Tokens.{IsAt, IsInterned, Has, having, skip_keeps, expect_keeps, pointer_goes, interned_keeps, struct_name_keeps}
 
 -- a number of bits that an integer type may have
 abbrev AreBits : ℕ → Type 0
@@ -46,21 +48,25 @@ IsBare m most p = (shape : Shape) × IsTypeOf m most p shape × (p.stars ≡ 0)
 abbrev pub IsWhole : Module → (most : ℕ) → WrittenType → Type 0
 IsWhole m most p = (shape : Shape) × IsTypeOf m most p shape × (p.stars ≡ 0) × IsStruct shape
 
+-- types with room for this many levels are read, and are in the table then
+abbrev pub Inner : Module → (room : ℕ) → Firm → Type 1
+Inner m room inner = (r : Reading m) (i : Input) → Keeps r.Fore (λ w. Has r.Fore w.id) r.Back inner.form (IsShaped m room) i
+
 module _ {m : Module} (r : Reading m) where
   -- ---- stars
 
-  star_keeps : (from room pointee : ℕ) (i : Input) → Keeps r.Fore (Same r.Fore) r.Back (pointers from room pointee) (IsStarred m room pointee) i
+  star_keeps : (from room pointee : ℕ) (i : Input) → Keeps (Has r.Fore pointee) (λ found. Has r.Fore found.1) r.Back (pointers from room pointee) (IsStarred m room pointee) i
   unfolding pointers
   star_keeps from zero pointee i = by (at_star i) where
-    by : (t : Bool) → Keeps r.Fore (Same r.Fore) r.Back (star_or (refuse limit) (pure (0, pointee)) t) (IsStarred m 0 pointee) i
+    by : (t : Bool) → Keeps (Has r.Fore pointee) (λ found. Has r.Fore found.1) r.Back (star_or (refuse limit) (pure (0, pointee)) t) (IsStarred m 0 pointee) i
     by true = λ a o h f. absurd h
-    by false = λ a o h f. (subst r.Fore h.1 f, λ b. (subst r.Back (sym h.1) b, subst (IsStarred m 0 pointee) h.0 (λ shape has own. (0, refl, has, own))))
+    by false = λ a o h f. (subst (λ (x : ℕ × ℕ). Has r.Fore x.1 o) h.0 (subst (Has r.Fore pointee) h.1 f), λ b. (subst r.Back (sym h.1) b, subst (IsStarred m 0 pointee) h.0 (λ shape has own. (0, refl, has, own))))
   star_keeps from (suc room) pointee i = by (at_star i) (λ n j. star_keeps from room n j) where
-    by : (t : Bool) → ((n : ℕ) (j : Input) → Keeps r.Fore (Same r.Fore) r.Back (pointers from room n) (IsStarred m room n) j)
-        → Keeps r.Fore (Same r.Fore) r.Back (star_or (skip >> intern_pointer from (type.Pointer pointee) >>= pointers from room) (pure (suc room, pointee)) t) (IsStarred m (suc room) pointee) i
+    by : (t : Bool) → ((n : ℕ) (j : Input) → Keeps (Has r.Fore n) (λ found. Has r.Fore found.1) r.Back (pointers from room n) (IsStarred m room n) j)
+        → Keeps (Has r.Fore pointee) (λ found. Has r.Fore found.1) r.Back (star_or (skip >> intern_pointer from (type.Pointer pointee) >>= pointers from room) (pure (suc room, pointee)) t) (IsStarred m (suc room) pointee) i
     by true further = λ a o h f.
-        let x = skip_keeps r i h.2.0 h.2.1 h.2.2 f in
-        let y = pointer_goes r from (type.Pointer pointee) h.2.1 (λ next. next) h.0 h.1 h.2.3 x.0 in
+        let x = skip_keeps (having r pointee) i h.2.0 h.2.1 h.2.2 f in
+        let y = pointer_goes r from (type.Pointer pointee) h.2.1 (λ next. (next, x.0.1)) h.0 h.1 h.2.3 x.0.0 in
         let z = further h.0 h.1 a o h.3 y.0 in (
           z.0,
           λ b.
@@ -69,19 +75,19 @@ module _ {m : Module} (r : Reading m) where
               let e = x.1 d.0 in (
                 e.0,
                 λ shape has own.
-                    let u = c.1 (Pointer shape) (pointee, d.1.0, has) (d.1.1, own) in
+                    let u = c.1 (Pointer shape) (pointee, d.1.0, has) (d.1.1.0, own) in
                     let n = u.1 in
                     (suc u.0, omega (arith, n), u.2, u.3),
               ),
         )
-    by false further = λ a o h f. (subst r.Fore h.1 f, λ b. (subst r.Back (sym h.1) b, subst (IsStarred m (suc room) pointee) h.0 (λ shape has own. (0, omega arith, has, own))))
+    by false further = λ a o h f. (subst (λ (x : ℕ × ℕ). Has r.Fore x.1 o) h.0 (subst (Has r.Fore pointee) h.1 f), λ b. (subst r.Back (sym h.1) b, subst (IsStarred m (suc room) pointee) h.0 (λ shape has own. (0, omega arith, has, own))))
 
   -- the stars after a base, if it takes any
-  after_keeps : (from : ℕ) (p : WrittenType) (x : Base) (i : Input) → Keeps r.Fore (Same r.Fore) r.Back (stars_after from p x) (IsStarred m p.room p.id) i
+  after_keeps : (from : ℕ) (p : WrittenType) (x : Base) (i : Input) → Keeps (Has r.Fore p.id) (λ found. Has r.Fore found.1) r.Back (stars_after from p x) (IsStarred m p.room p.id) i
   after_keeps from p (base.Integer bits) i = star_keeps from p.room p.id i
   after_keeps from p base.Named i = star_keeps from p.room p.id i
   after_keeps from p base.Aggregate i = star_keeps from p.room p.id i
-  after_keeps from p base.Opaque i = λ a o h f. (subst r.Fore h.1 f, λ b. (subst r.Back (sym h.1) b, subst (IsStarred m p.room p.id) h.0 (λ shape has own. (0, omega arith, has, own))))
+  after_keeps from p base.Opaque i = λ a o h f. (subst (λ (x : ℕ × ℕ). Has r.Fore x.1 o) h.0 (subst (Has r.Fore p.id) h.1 f), λ b. (subst r.Back (sym h.1) b, subst (IsStarred m p.room p.id) h.0 (λ shape has own. (0, omega arith, has, own))))
 
   starred_type : (most : ℕ) (p : WrittenType) (found : ℕ × ℕ) → IsBare m most p → IsStarred m p.room p.id found → IsShaped m most (with_stars p found)
   starred_type most p found bare stars =
@@ -104,14 +110,14 @@ module _ {m : Module} (r : Reading m) where
         },
       )
 
-  starred_keeps : (from most : ℕ) (p : WrittenType) (i : Input) → Keeps r.Fore (Same r.Fore) r.Back (with_starred from p) (λ w. IsBare m most p → IsShaped m most w) i
+  starred_keeps : (from most : ℕ) (p : WrittenType) (i : Input) → Keeps (Has r.Fore p.id) (λ w. Has r.Fore w.id) r.Back (with_starred from p) (λ w. IsBare m most p → IsShaped m most w) i
   unfolding with_starred
   starred_keeps from most p i w o h f =
       let x = after_keeps from p p.base i h.0 h.1 h.2 f in
       let rule = h.3.2 in
       let end = h.3.3 in
       let same = rule.1 ∙ end.1 in (
-        subst r.Fore same x.0,
+        subst (λ (y : WrittenType). Has r.Fore y.id o) end.0 (subst (Has r.Fore h.0.1) same x.0),
         λ b.
             let c = x.1 (subst r.Back (sym same) b) in
             (c.0, λ bare. subst (IsShaped m most) end.0 (starred_type most p h.0 bare c.1)),
@@ -148,22 +154,22 @@ module _ {m : Module} (r : Reading m) where
         own.2,
       )
 
-  integer_type_keeps : (room : ℕ) (i : Input) → Keeps r.Fore (Same r.Fore) r.Back (integer >>= λ bits. interned (base.Integer bits) room (type.Integer bits)) (IsBare m (suc room)) i
+  integer_type_keeps : (room : ℕ) (i : Input) → Keeps r.Fore (λ w. Has r.Fore w.id) r.Back (integer >>= λ bits. interned (base.Integer bits) room (type.Integer bits)) (IsBare m (suc room)) i
   integer_type_keeps room i p o h f =
       let x = integer_keeps i h.0 h.1 h.2 f in
       let y = interned_keeps r (base.Integer h.0) room (type.Integer h.0) h.1 tt p o h.3 x.0 in (
-        y.0.0,
+        y.0,
         λ b.
             let c = y.1 b in
             let d = x.1 c.0 in
             (d.0, bare_of (base.Integer h.0) room (suc room) (type.Integer h.0) (Integer h.0) p refl refl (omega arith) d.1 c.1 (λ at. at.0)),
       )
 
-  named_type_keeps : (room : ℕ) (i : Input) → Keeps r.Fore (Same r.Fore) r.Back (struct_name >>= λ name. interned base.Named room (type.Named name)) (IsBare m (suc room)) i
+  named_type_keeps : (room : ℕ) (i : Input) → Keeps r.Fore (λ w. Has r.Fore w.id) r.Back (struct_name >>= λ name. interned base.Named room (type.Named name)) (IsBare m (suc room)) i
   named_type_keeps room i p o h f =
       let x = struct_name_keeps r i h.0 h.1 h.2 f in
       let y = interned_keeps r base.Named room (type.Named h.0) h.1 tt p o h.3 x.0 in (
-        y.0.0,
+        y.0,
         λ b.
             let c = y.1 b in
             let d = x.1 c.0 in
@@ -172,17 +178,17 @@ module _ {m : Module} (r : Reading m) where
 
   -- ---- `ptr`
 
-  pub opaque_keeps : (i : Input) → Keeps r.Fore (Same r.Fore) r.Back opaque_type (IsAt m type.Opaque) i
+  pub opaque_keeps : (i : Input) → Keeps r.Fore (Has r.Fore) r.Back opaque_type (IsAt m type.Opaque) i
   unfolding opaque_type
   opaque_keeps i n o h f =
       let x = skip_keeps r i h.0 h.1 h.2 f in
       let y = pointer_goes r (start i.cursor) type.Opaque h.1 (λ next. next) n o h.3 x.0 in
       (y.0, λ b. let c = y.1 b in ((x.1 c.0).0, c.1))
 
-  opaque_type_keeps : (room : ℕ) (i : Input) → Keeps r.Fore (Same r.Fore) r.Back (opaque_type >>= λ id. pure (part_of base.Opaque room id)) (IsBare m (suc room)) i
+  opaque_type_keeps : (room : ℕ) (i : Input) → Keeps r.Fore (λ w. Has r.Fore w.id) r.Back (opaque_type >>= λ id. pure (part_of base.Opaque room id)) (IsBare m (suc room)) i
   opaque_type_keeps room i p o h f =
       let x = opaque_keeps i h.0 h.1 h.2 f in (
-        subst r.Fore h.3.1 x.0,
+        subst (λ (y : WrittenType). Has r.Fore y.id o) h.3.0 (subst (Has r.Fore h.0) h.3.1 x.0),
         λ b.
             let c = x.1 (subst r.Back (sym h.3.1) b) in
             let own = bare_of base.Opaque room (suc room) type.Opaque Opaque (part_of base.Opaque room h.0) refl refl (omega arith) c.1.1 (c.1, refl, refl, refl) (λ at. at.0) in
@@ -220,8 +226,8 @@ module _ {m : Module} (r : Reading m) where
       (λ f. (r.on_token h.1 f, λ b. (r.from_token h.1 b, natural_less (spelling h.1.cursor)))) n o h.3 (subst r.Fore same f) in
       (x.0, λ b. let c = x.1 b in (subst r.Back (sym same) c.0, c.1))
 
-  array_keeps : (room : ℕ) (inner : Firm) → ((i : Input) → Keeps r.Fore (Same r.Fore) r.Back inner.form (IsShaped m room) i) → (i : Input)
-      → Keeps r.Fore (Same r.Fore) r.Back (w.array inner) (IsBare m (suc room)) i
+  array_keeps : (room : ℕ) (inner : Firm) → Inner m room inner → (i : Input)
+      → Keeps r.Fore (λ w. Has r.Fore w.id) r.Back (w.array inner) (IsBare m (suc room)) i
   array_keeps room inner part i p o h f =
       let t = h.3 in
       let u = t.3 in
@@ -230,10 +236,10 @@ module _ {m : Module} (r : Reading m) where
       let a = skip_keeps r i h.0 h.1 h.2 f in
       let b = length_keeps h.1 t.0 t.1 t.2 a.0 in
       let c = expect_keeps r k.X t.1 u.0 u.1 u.2 b.0 in
-      let d = part u.1 v.0 v.1 v.2 c.0 in
-      let e = expect_keeps r k.CloseSquare v.1 z.0 z.1 z.2 d.0 in
-      let g = interned_keeps r base.Aggregate v.0.room (type.Array t.0 v.0.id) z.1 tt p o z.3 e.0 in (
-        g.0.0,
+      let d = part r u.1 v.0 v.1 v.2 c.0 in
+      let e = expect_keeps (having r v.0.id) k.CloseSquare v.1 z.0 z.1 z.2 d.0 in
+      let g = interned_keeps r base.Aggregate v.0.room (type.Array t.0 v.0.id) z.1 e.0.1 p o z.3 e.0.0 in (
+        g.0,
         λ back.
             let gb = g.1 back in
             let eb = e.1 gb.0 in
@@ -247,8 +253,6 @@ module _ {m : Module} (r : Reading m) where
             (ab.0, bare_of base.Aggregate v.0.room (suc room) (type.Array t.0 v.0.id) (Array t.0 shape) p refl refl (omega (arith, fits)) (bb.1, own.is_written) gb.1 (λ at. (v.0.id, at.0, own.has_shape))),
       )
 
-  -- ---- structs
-
   after_field_keeps : (i : Input) → Keeps r.Fore (Same r.Fore) r.Back after_field Any i
   unfolding after_field
   after_field_keeps i = by (at_brace i) where
@@ -258,21 +262,33 @@ module _ {m : Module} (r : Reading m) where
         let x = expect_keeps r k.Comma i h.0 h.1 h.2 f in
         (subst r.Fore h.3.1 x.0, λ b. let c = x.1 (subst r.Back (sym h.3.1) b) in (c.0, tt))
 
-  field_keeps : (room : ℕ) (inner : Firm) → ((i : Input) → Keeps r.Fore (Same r.Fore) r.Back inner.form (IsShaped m room) i) → (i : Input)
-      → Keeps r.Fore (Same r.Fore) r.Back (field inner) (IsShaped m room) i
-  field_keeps room inner part i p o h f =
+-- ---- structs
+
+fits_struct : (p whole room a b : ℕ) → a + p ≡ room → b + whole ≡ suc room → max (suc a) b + min p whole ≡ suc room
+fits_struct p whole room a b e g = omega (arith, e, g)
+
+module _ {m : Module} where
+  field_keeps : (r : Reading m) (room : ℕ) (inner : Firm) → Inner m room inner → (i : Input) → Keeps r.Fore (λ w. Has r.Fore w.id) r.Back (field inner) (IsShaped m room) i
+  field_keeps r room inner part i p o h f =
       let t = h.3 in
-      let a = part i h.0 h.1 h.2 f in
-      let b = after_field_keeps h.1 t.0 t.1 t.2 a.0 in (
-        subst r.Fore t.3.1 b.0,
+      let a = part r i h.0 h.1 h.2 f in
+      let b = after_field_keeps (having r h.0.id) h.1 t.0 t.1 t.2 a.0 in (
+        subst (λ (y : WrittenType). Has r.Fore y.id o) t.3.0 (subst (Has r.Fore h.0.id) t.3.1 b.0),
         λ back.
             let c = b.1 (subst r.Back (sym t.3.1) back) in
             let d = a.1 c.0 in
             (d.0, subst (IsShaped m room) t.3.0 d.1),
       )
 
-  fits_struct : (p whole room a b : ℕ) → a + p ≡ room → b + whole ≡ suc room → max (suc a) b + min p whole ≡ suc room
-  fits_struct p whole room a b e g = omega (arith, e, g)
+  -- the type of each field is in the table after them
+  fields_there : (r : Reading m) (room : ℕ) (inner : Firm) → Inner m room inner → (i : Input) (xs : List WrittenType) (o : Input) → Listed at_brace (field inner).says i xs o → r.Fore i
+      → AllByRecursion (λ (p : WrittenType). p.id < length o.types) xs
+  fields_there r room inner part i [] o h f = tt
+  fields_there r room inner part i (a ∷ xs) o h f =
+      let x = field_keeps r room inner part i a h.1 h.2 f in
+      let y = each r.Back (Has r.Fore a.id) Any at_brace (field inner)
+      (λ j b p said fore. let z = field_keeps (having r a.id) room inner part j b p said fore in (z.0.0, λ k. ((z.1 k).0, tt))) h.1 xs o h.3 x.0 in
+      (y.0.1, fields_there r room inner part h.1 xs o h.3 x.0.0)
 
   whole_of : (room : ℕ) (p whole w : WrittenType) → IsInterned m base.Aggregate (min p.room whole.room) (type.Struct p.id whole.id) w → IsShaped m room p → IsWhole m (suc room) whole → IsWhole m (suc room) w
   whole_of room p whole w own field rest =
@@ -281,7 +297,7 @@ module _ {m : Module} (r : Reading m) where
       let rest_fits = rest.1.fits in (
         Struct field.0 rest.0,
         record {
-          has_shape = (p.id, whole.id, own.0.0, own.0.1, field.1.has_shape, rest.1.has_shape);
+          has_shape = (p.id, whole.id, own.0.0, own.0.1.1, field.1.has_shape, rest.1.has_shape);
           fits = ap (λ n. levels (Struct field.0 rest.0) + n) e ∙ fits_struct p.room whole.room room (levels field.0) (levels rest.0) first_fits rest_fits;
           is_written = (rest.3, field.1.is_written, rest.1.is_written);
           base_is = own.1;
@@ -291,16 +307,16 @@ module _ {m : Module} (r : Reading m) where
         tt,
       )
 
-  before_keeps : (room : ℕ) (parts : List WrittenType) (whole : WrittenType) (i : Input)
-      → Keeps (Has r.Fore whole.id) (λ w o. Has r.Fore w.id o) r.Back (before parts whole) (λ w. AllByRecursion (IsShaped m room) parts → IsWhole m (suc room) whole → IsWhole m (suc room) w) i
+  before_keeps : (r : Reading m) (room : ℕ) (parts : List WrittenType) (whole : WrittenType) (i : Input) → AllByRecursion (λ (p : WrittenType). p.id < length i.types) parts
+      → Keeps (Has r.Fore whole.id) (λ w. Has r.Fore w.id) r.Back (before parts whole) (λ w. AllByRecursion (IsShaped m room) parts → IsWhole m (suc room) whole → IsWhole m (suc room) w) i
   unfolding before
-  before_keeps room [] whole i w o h f = (
+  before_keeps r room [] whole i there w o h f = (
     subst (λ (y : WrittenType). Has r.Fore y.id o) h.0 (subst (Has r.Fore whole.id) h.1 f),
     λ b. (subst r.Back (sym h.1) b, λ fields is_whole. subst (IsWhole m (suc room)) h.0 is_whole),
   )
-  before_keeps room (p ∷ parts) whole i w o h f =
-      let a = before_keeps room parts whole i h.0 h.1 h.2 f in
-      let b = interned_keeps r base.Aggregate (min p.room h.0.room) (type.Struct p.id h.0.id) h.1 a.0.1 w o h.3 a.0.0 in (
+  before_keeps r room (p ∷ parts) whole i there w o h f =
+      let a = before_keeps (having r p.id) room parts whole i there.1 h.0 h.1 h.2 ((f.0, there.0), f.1) in
+      let b = interned_keeps r base.Aggregate (min p.room h.0.room) (type.Struct p.id h.0.id) h.1 (a.0.0.1, a.0.1) w o h.3 a.0.0.0 in (
         b.0,
         λ back.
             let c = b.1 back in
@@ -308,44 +324,44 @@ module _ {m : Module} (r : Reading m) where
             (d.0, λ fields is_whole. whole_of room p h.0 w c.1 fields.0 (d.1 fields.1 is_whole)),
       )
 
-  pub struct_keeps : (room : ℕ) (inner : Firm) → ((i : Input) → Keeps r.Fore (Same r.Fore) r.Back inner.form (IsShaped m room) i) → (i : Input)
-      → Keeps r.Fore (Same r.Fore) r.Back (w.braced room inner) (IsWhole m (suc room)) i
+  pub struct_keeps : (r : Reading m) (room : ℕ) (inner : Firm) → Inner m room inner → (i : Input) → Keeps r.Fore (λ w. Has r.Fore w.id) r.Back (w.braced room inner) (IsWhole m (suc room)) i
   unfolding struct_of
-  struct_keeps room inner part i p o h f =
+  struct_keeps r room inner part i p o h f =
       let t = h.3 in
       let u = t.3 in
       let v = u.3 in
       let a = skip_keeps r i h.0 h.1 h.2 f in
-      let b = all r.Back r.Fore (IsShaped m room) at_brace (field inner) (field_takes inner) (λ j. field_keeps room inner part j) h.1 t.0 t.1 t.2 a.0 in
+      let b = all r.Back r.Fore (IsShaped m room) at_brace (field inner) (field_takes inner) (λ j x q said fore. let y = field_keeps r room inner part j x q said fore in (y.0.0, y.1)) h.1 t.0 t.1 t.2 a.0 in
       let c = expect_keeps r k.CloseBrace t.1 u.0 u.1 u.2 b.0 in
       let d = interned_keeps r base.Aggregate room type.EmptyStruct u.1 tt v.0 v.1 v.2 c.0 in
-      let e = before_keeps room t.0 v.0 v.1 p o v.3 d.0 in (
-        e.0.0,
+      let stays_there : (n : ℕ) → n < length t.1.types → n < length v.1.types = λ n less.
+      (interned_keeps (having r n) base.Aggregate room type.EmptyStruct u.1 tt v.0 v.1 v.2 (expect_keeps (having r n) k.CloseBrace t.1 u.0 u.1 u.2 (b.0, less)).0).0.0.1 in
+      let there = all_so (λ (x : WrittenType). x.id < length t.1.types) (λ (x : WrittenType). x.id < length v.1.types) t.0 (λ x less. stays_there x.id less) (fields_there r room inner part h.1 t.0 t.1 t.2 a.0) in
+      let e = before_keeps r room t.0 v.0 v.1 there p o v.3 d.0 in (
+        e.0,
         λ back.
             let eb = e.1 back in
             let db = d.1 eb.0 in
             let cb = c.1 db.0 in
             let bb = b.1 cb.0 in
             let ab = a.1 bb.0 in
-            let empty = bare_of base.Aggregate room (suc room) type.EmptyStruct Empty v.0 refl refl (omega arith) tt db.1 (λ at. at.0) in
             (ab.0, eb.1 bb.1 (Empty, record { has_shape = db.1.0.0; fits = let e = db.1.3 in omega (arith, e); is_written = tt; base_is = db.1.1; stars_are = db.1.2 }, db.1.2, tt)),
       )
 
   -- ---- a type
 
-  base_keeps : (room : ℕ) (inner : Firm) → ((i : Input) → Keeps r.Fore (Same r.Fore) r.Back inner.form (IsShaped m room) i) → (x : Kind) (i : Input)
-      → Keeps r.Fore (Same r.Fore) r.Back (w.base_by room inner x) (IsBare m (suc room)) i
-  base_keeps room inner part k.IntegerType i = integer_type_keeps room i
-  base_keeps room inner part k.LocalName i = named_type_keeps room i
-  base_keeps room inner part k.OpenSquare i = array_keeps room inner part i
-  base_keeps room inner part k.Ptr i = opaque_type_keeps room i
-  base_keeps room inner part k.OpenBrace i = λ p o h f. let x = struct_keeps room inner part i p o h f in (x.0, λ b. let c = x.1 b in (c.0, (c.1.0, c.1.1, c.1.2)))
-  base_keeps room inner part _ i = λ p o h f. absurd h
+  base_keeps : (r : Reading m) (room : ℕ) (inner : Firm) → Inner m room inner → (x : Kind) (i : Input) → Keeps r.Fore (λ w. Has r.Fore w.id) r.Back (w.base_by room inner x) (IsBare m (suc room)) i
+  base_keeps r room inner part k.IntegerType i = integer_type_keeps r room i
+  base_keeps r room inner part k.LocalName i = named_type_keeps r room i
+  base_keeps r room inner part k.OpenSquare i = array_keeps r room inner part i
+  base_keeps r room inner part k.Ptr i = opaque_type_keeps r room i
+  base_keeps r room inner part k.OpenBrace i = λ p o h f. let x = struct_keeps r room inner part i p o h f in (x.0, λ b. let c = x.1 b in (c.0, (c.1.0, c.1.1, c.1.2)))
+  base_keeps r room inner part _ i = λ p o h f. absurd h
 
-  pub part_keeps : (levels : ℕ) (i : Input) → Keeps r.Fore (Same r.Fore) r.Back (part levels) (IsShaped m levels) i
+  pub part_keeps : (r : Reading m) (levels : ℕ) (i : Input) → Keeps r.Fore (λ w. Has r.Fore w.id) r.Back (part levels) (IsShaped m levels) i
   unfolding firm no_type
-  part_keeps zero i p o h f = absurd h
-  part_keeps (suc room) i p o h f =
-      let a = base_keeps room (firm room) (part_keeps room) (kind i.cursor) i h.0 h.1 h.2 f in
-      let b = starred_keeps (start i.cursor) (suc room) h.0 h.1 p o h.3 a.0 in
+  part_keeps r zero i p o h f = absurd h
+  part_keeps r (suc room) i p o h f =
+      let a = base_keeps r room (firm room) (λ q. part_keeps q room) (kind i.cursor) i h.0 h.1 h.2 f in
+      let b = starred_keeps r (start i.cursor) (suc room) h.0 h.1 p o h.3 a.0 in
       (b.0, λ back. let c = b.1 back in let d = a.1 c.0 in (d.0, c.1 d.1))

@@ -1,5 +1,5 @@
 -- Types that are allowed somewhere, and pointers to them.
-use Rattle.std.proofs.Common.{◌≡◌, ℕ, ◌<◌, Bool, true, false, refl, sym, subst, ◌∙◌, arith, inl, inr}
+use Rattle.std.proofs.Common.{◌≡◌, ℕ, ◌<◌, Bool, true, false, length, refl, sym, subst, ◌∙◌, arith, inl, inr}
 use Rattle.std.specs.Prelude.{nat_lt}
 use Rattle.std.proofs.lemmas.Bool.Decides.{nat_tests}
 use Rattle.ir_ast.specs.declared.ir_type.IrType.TheVariants as type
@@ -16,7 +16,7 @@ use Rattle.ir_print_law.proofs.Forms.{Keeps, Same}
 use Rattle.ir_print_law.proofs.Looks.{IsTypeOf, IsShaped, scalar_is, passed_is, pointer_is}
 use Rattle.ir_print_law.proofs.Passes.{again_passes, skip_passes}
 use Rattle.ir_print_law.proofs.Reading.{Reading}
-use Rattle.ir_print_law.proofs.Tokens.{pointer_goes}
+use Rattle.ir_print_law.proofs.Tokens.{Has, having, pointer_goes}
 use Rattle.ir_print_law.proofs.TypesRead.{part_keeps, struct_keeps, opaque_keeps}
 
 -- a type that is allowed somewhere
@@ -42,21 +42,33 @@ is_struct_of (Named name) h = absurd h
 is_struct_of Opaque h = absurd h
 
 module _ {m : Module} (r : Reading m) where
-  pub any_type_keeps : (i : Input) → Keeps r.Fore (Same r.Fore) r.Back any_type (IsShaped m 64) i
+  -- any type, which is in the table then
+  pub any_type_there : (i : Input) → Keeps r.Fore (λ w. Has r.Fore w.id) r.Back any_type (IsShaped m 64) i
   unfolding any_type type_within
-  any_type_keeps i = part_keeps r 64 i
+  any_type_there i = part_keeps r 64 i
 
-  that_keeps : (may_stand : WrittenType → Bool) (i : Input) → Keeps r.Fore (Same r.Fore) r.Back (type_that may_stand 63) (IsFit m may_stand) i
+  pub any_type_keeps : (i : Input) → Keeps r.Fore (Same r.Fore) r.Back any_type (IsShaped m 64) i
+  any_type_keeps i w o h f = let x = any_type_there i w o h f in (x.0.0, x.1)
+
+  that_there : (may_stand : WrittenType → Bool) (i : Input) → Keeps r.Fore (λ w. Has r.Fore w.id) r.Back (type_that may_stand 63) (IsFit m may_stand) i
   unfolding type_within
-  that_keeps may_stand i w o h f =
+  that_there may_stand i w o h f =
       let x = part_keeps r 64 i h.0 h.1 h.2 f in
       let t = h.3 in
       let same = t.2.1 ∙ t.3.1 in (
-        subst r.Fore same x.0,
+        subst (λ (y : WrittenType). Has r.Fore y.id o) t.3.0 (subst (Has r.Fore h.0.id) same x.0),
         λ b.
             let c = x.1 (subst r.Back (sym same) b) in
             (c.0, subst (IsFit m may_stand) t.3.0 (c.1, t.2.0)),
       )
+
+  that_keeps : (may_stand : WrittenType → Bool) (i : Input) → Keeps r.Fore (Same r.Fore) r.Back (type_that may_stand 63) (IsFit m may_stand) i
+  that_keeps may_stand i w o h f = let x = that_there may_stand i w o h f in (x.0.0, x.1)
+
+  -- a type that a word holds, which is in the table then
+  pub scalar_there : (i : Input) → Keeps r.Fore (λ w. Has r.Fore w.id) r.Back scalar (IsFit m is_scalar) i
+  unfolding scalar scalar_within
+  scalar_there i = that_there is_scalar i
 
   pub scalar_keeps : (i : Input) → Keeps r.Fore (Same r.Fore) r.Back scalar (IsFit m is_scalar) i
   unfolding scalar scalar_within
@@ -86,27 +98,27 @@ module _ {m : Module} (r : Reading m) where
   pub struct_body_keeps : (i : Input) → Keeps r.Fore (Same r.Fore) r.Back struct_body (λ n. (shape : Shape) × IsType m shape n × (is_struct_shape shape ≡ true)) i
   unfolding struct_body
   struct_body_keeps i n o h f =
-      let x = struct_keeps r 63 (firm 63) (part_keeps r 63) i h.0 h.1 h.2 f in
+      let x = struct_keeps r 63 (firm 63) (λ q. part_keeps q 63) i h.0 h.1 h.2 f in
       let t = h.3 in (
-        subst r.Fore t.1 x.0,
+        subst r.Fore t.1 x.0.0,
         λ b.
             let c = x.1 (subst r.Back (sym t.1) b) in
             (c.0, (c.1.0, subst (λ (y : ℕ). IsType m c.1.0 y) t.0 (type_of m h.0 c.1.0 c.1.1), is_struct_of c.1.0 c.1.3)),
       )
 
   -- a pointer to the same type, or `ptr`
-  pub place_type_keeps : (w : WrittenType) (i : Input) → Keeps r.Fore (Same r.Fore) r.Back (pointer_again w) (λ n. (shape : Shape) → IsTypeOf m 64 w shape → IsPlaceType m shape w.id n) i
+  pub place_type_keeps : (w : WrittenType) (i : Input) → w.id < length i.types → Keeps r.Fore (Same r.Fore) r.Back (pointer_again w) (λ n. (shape : Shape) → IsTypeOf m 64 w shape → IsPlaceType m shape w.id n) i
   unfolding pointer_again
-  place_type_keeps w i = by (sees k.Ptr i.cursor) where
+  place_type_keeps w i there = by (sees k.Ptr i.cursor) where
     by : (t : Bool) → Keeps r.Fore (Same r.Fore) r.Back (opaque_or opaque_type (starred_again w) t) (λ n. (shape : Shape) → IsTypeOf m 64 w shape → IsPlaceType m shape w.id n) i
-    by true = λ n o h f. let x = opaque_keeps r i n o h f in (x.0, λ back. let c = x.1 back in (c.0, λ shape own. inr (c.1.1, c.1.0)))
+    by true = λ n o h f. let x = opaque_keeps r i n o h f in (x.0.0, λ back. let c = x.1 back in (c.0, λ shape own. inr (c.1.1, c.1.0)))
     by false = λ n o h f.
         let star = h.2.3 in
-        let a = again_passes r w i h.2.0 h.2.1 h.2.2 f in
+        let a = again_passes (having r w.id) w i h.2.0 h.2.1 h.2.2 (f, there) in
         let same = star.2.2.1 ∙ star.2.3.1 in
-        let b = skip_passes r star.1 h.0 h.1 star.3 (subst r.Fore same a.0) in
-        let c = pointer_goes r (start i.cursor) (type.Pointer w.id) h.1 (λ next. next) n o h.3 b.0 in (
-          c.0,
+        let b = skip_passes (having r w.id) star.1 h.0 h.1 star.3 (subst (Has r.Fore w.id) same a.0) in
+        let c = pointer_goes r (start i.cursor) (type.Pointer w.id) h.1 (λ next. (next, b.0.1)) n o h.3 b.0.0 in (
+          c.0.0,
           λ back.
               let cb = c.1 back in
               let bb = b.1 cb.0 in
@@ -116,6 +128,6 @@ module _ {m : Module} (r : Reading m) where
                     let room : nat_lt 0 w.room ≡ true = star.2.3.0 in
                     let fits = own.fits in
                     let some : 0 < w.room = grind (arith, nat_tests) in
-                    inl (cb.1.1, cb.1.0, omega (arith, fits, some)),
+                    inl (cb.1.1.0, cb.1.0, omega (arith, fits, some)),
               ),
         )

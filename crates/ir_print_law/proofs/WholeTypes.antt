@@ -1,12 +1,10 @@
 -- A printed type is read as a type of the same shape: arrays, structs, and all types.
-use Rattle.std.proofs.Common.{◌≡◌, ℕ, zero, suc, ◌+◌, ◌<◌, ◌≤◌, ◌^◌, Bool, true, false, not, List, [], ◌∷◌, ◌++◌, length, refl, sym, ap, subst, ◌∙◌, arith, append_assoc}
+use Rattle.std.proofs.Common.{◌≡◌, ℕ, zero, suc, ◌+◌, ◌<◌, ◌≤◌, ◌^◌, Bool, true, false, not, List, [], ◌∷◌, ◌++◌, refl, sym, ap, subst, ◌∙◌, arith, append_assoc}
 use Rattle.std.specs.Prelude.{codes, min}
 use Rattle.std.specs.Fmt as text
-use Rattle.std.proofs.lemmas.Option.{slice_get_within}
 use Rattle.grammar.specs.Grammar.{checked, ◌>>=◌, ◌>>◌}
 use Rattle.grammar.specs.Many.{many, Listed}
 use Rattle.ir_ast.specs.declared.function.Function.{Function}
-use Rattle.ir_ast.specs.declared.ir_type.IrType.{IrType}
 use Rattle.ir_ast.specs.declared.ir_type.IrType.TheVariants as type
 use Rattle.ir_ast.specs.declared.module.Module.{Module}
 use Rattle.ir_tokens.specs.declared.token.Kind.{Kind}
@@ -26,9 +24,9 @@ use Rattle.ir_print_law.specs.Stars.{stars}
 use Rattle.ir_print_law.proofs.Constants.{integer_types_are_read, are_digits}
 use Rattle.ir_print_law.proofs.Words.{sign_comes, number_comes, local_comes, word_comes, seen}
 use Rattle.ir_print_law.specs.Definitions.{defined_structs}
-use Rattle.ir_print_law.specs.Shapes.{Shape, Integer, Pointer, Array, Empty, Struct, Named, Opaque, HasShape, IsWritten, IsStruct, levels, is_struct_shape}
+use Rattle.ir_print_law.specs.Shapes.{Shape, Integer, Pointer, Array, Empty, Struct, Named, Opaque, IsWritten, IsStruct, levels, is_struct_shape}
 use Rattle.ir_print_law.proofs.State.{Invariant, Ready, Grows, Reads, Any}
-use Rattle.ir_print_law.proofs.Shown.{shown, field_count, IsTypeRead, shape_stays, read_stays, some_level}
+use Rattle.ir_print_law.proofs.Shown.{shown, field_count, IsTypeRead, shape_stays, shape_within, read_stays, some_level}
 use Rattle.ir_print_law.proofs.Looks.{starred, stars_of, MayStar, starred_parts}
 use Rattle.ir_print_law.proofs.Steps.{go_on, so, given, said_then, token_then, shorter, test_reads, looked, less_spare, sign_reads, sign_skipped, sign_kind, word_reads, unlike, grows_itself, grows_further}
 use Rattle.ir_print_law.proofs.Types.{EndsType, ends_type, HasStars, length_said, named_read, integer_read, opaque_read, interned_read, over_read}
@@ -87,16 +85,6 @@ ends_field (Pointer part) rest is = absurd is
 ends_field (Array count part) rest is = absurd is
 ends_field (Named name) rest is = absurd is
 ends_field Opaque rest is = absurd is
-
--- a type that has a shape is in the table
-shape_within : (types : List IrType) (names : List Text) (shape : Shape) (n : ℕ) → HasShape types names shape n → n < length types
-shape_within types names (Integer bits) n h = slice_get_within types n _ h
-shape_within types names (Pointer part) n h = slice_get_within types n _ h.1
-shape_within types names (Array count part) n h = slice_get_within types n _ h.1
-shape_within types names Empty n h = slice_get_within types n _ h
-shape_within types names (Struct first rest) n h = slice_get_within types n _ h.2
-shape_within types names (Named name) n h = slice_get_within types n _ h.1
-shape_within types names Opaque n h = slice_get_within types n _ h
 
 -- which token a type begins with, at any place
 pub shape_comes : (opaque : Bool) (structs : List Text) (shape : Shape) (place : Place) (gap afterwards : Text) → IsWritten opaque structs shape → AreBlanks gap → IsSeam afterwards → Stands place (gap ++ (shown false shape ++ afterwards)) → begins_type (kind place) ≡ true
@@ -168,7 +156,8 @@ module _ {m : Module} {f : Function} (v : Invariant m f) where
       (sign_reads v 93 k.CloseSquare o [] afterwards (s + 1) (s + 1) refl refl refl (omega arith) ready)
       (λ _ q ready h e.
       let fits = read.fits in
-      interned_read v base.Aggregate p.room (suc room) (type.Array count p.id) (Array count shape) q afterwards s tt refl refl (omega (arith, fits))
+      interned_read v base.Aggregate p.room (suc room) (type.Array count p.id) (Array count shape) q afterwards s
+      (shape_within q.types q.struct_names.names shape p.id (shape_stays o.types q.types o.struct_names.names q.struct_names.names shape p.id h.types h.structs read.has_shape)) refl refl (omega (arith, fits))
       (λ n r grows ordered there. (
         p.id,
         there,
@@ -241,12 +230,12 @@ module _ {m : Module} {f : Function} (v : Invariant m f) where
       let a = one.fits in
       let b = later.fits in
       interned_read v base.Aggregate (min p.room q.room) (suc room) (type.Struct p.id q.id) (Struct first rest) o bytes s
-      (shape_within o.types o.struct_names.names rest q.id later.has_shape) refl refl (omega (arith, a, b))
+      (shape_within o.types o.struct_names.names first p.id one.has_shape, shape_within o.types o.struct_names.names rest q.id later.has_shape) refl refl (omega (arith, a, b))
       (λ n r grows ordered there. (
         p.id,
         q.id,
         there,
-        ordered n (type.Struct p.id q.id) there,
+        (ordered n (type.Struct p.id q.id) there).1,
         shape_stays o.types r.types o.struct_names.names r.struct_names.names first p.id grows.types grows.structs one.has_shape,
         shape_stays o.types r.types o.struct_names.names r.struct_names.names rest q.id grows.types grows.structs later.has_shape,
       ))

@@ -63,5 +63,6 @@ module _ (m n : Module) (types : length m.types ≤ length n.types) (names : Mea
       returned = type_longer m n types names f.returned h.returned;
       parameters = all_so (IsParameterWithin m f) (IsParameterWithin n f) f.parameters (λ (x : Parameter) is. (type_longer m n types names x.written is.0, is.1)) h.parameters;
       sorts = h.sorts;
+      slots = λ value held at. type_longer m n types names held (h.slots value held at);
       blocks = all_so (IsBlockWithin m f) (IsBlockWithin n f) f.blocks block_longer h.blocks;
     }

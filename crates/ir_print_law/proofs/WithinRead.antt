@@ -1,5 +1,5 @@
 -- The numbers of a module that is read are within its tables.
-use Rattle.std.proofs.Common.{◌≡◌, ℕ, Bool, true, false, List, ◌++◌, length, sym, subst, inl, inr, ◌⊎◌}
+use Rattle.std.proofs.Common.{◌≡◌, ℕ, Bool, true, false, List, ◌++◌, length, sym, subst, arith, inl, inr, ◌⊎◌}
 use Rattle.std.specs.List.{AllByRecursion}
 use Rattle.lemmas.specs.All.{all_so}
 use Rattle.lemmas.specs.Lists.{IsIn}
@@ -14,7 +14,7 @@ use Rattle.ir_text.specs.Read.{IsText}
 use Rattle.name_text.specs.Readings.{AreBytes}
 use Rattle.ir_print_law.specs.ModuleNames.{HasModuleNames}
 use Rattle.ir_print_law.specs.Parts.{IsVoid}
-use Rattle.ir_print_law.specs.PartsWithin.{HasType, HasSymbol, HasValue}
+use Rattle.ir_print_law.specs.PartsWithin.{AreSlotsBelow, HasType, HasSymbol, HasValue}
 use Rattle.ir_print_law.specs.Printable.{IsPassed, IsParameter, IsAnyType, IsStructType, IsGlobal, IsDeclare, IsBlock, IsPrintable}
 use Rattle.ir_print_law.specs.Definitions.{used_symbols}
 use Rattle.ir_print_law.specs.Within.{IsParameterWithin, IsBlockWithin, IsFunctionWithin, IsStructWithin, IsGlobalWithin, IsDeclareWithin, IsWithin}
@@ -23,10 +23,12 @@ use Rattle.ir_print_law.proofs.FunctionNames.{function_names}
 use Rattle.ir_print_law.proofs.FunctionsRead.{function_parts}
 use Rattle.ir_print_law.proofs.ModuleRead.{FunctionKeeps, read_so, read_is_printable, read_has_names}
 use Rattle.ir_print_law.proofs.OpsWithin.{blocks_within}
-use Rattle.ir_print_law.proofs.PartsWithin.{wide_module, wide, globals_have, declares_have, functions_have, globals_stay, functions_stay, shape_within, void_within}
+use Rattle.ir_print_law.proofs.PartsWithin.{wide_module, wide, globals_have, declares_have, functions_have, globals_stay, functions_stay, void_within}
+use Rattle.ir_print_law.proofs.Shown.{shape_within}
+use Rattle.ir_print_law.proofs.Slots.{slots_there}
 use Rattle.ir_print_law.proofs.Outside.{Outside}
 use Rattle.ir_print_law.proofs.Reading.{Reading}
-use Rattle.ir_print_law.proofs.Tables.{begins_itself, begins_further, begins_with}
+use Rattle.ir_print_law.proofs.Tables.{begins_itself, begins_further, begins_length, begins_with}
 use Rattle.ir_print_law.proofs.Uses.{local_right}
 
 -- ---- a module with more global names
@@ -72,7 +74,7 @@ module _ {m : Module} (own : HasModuleNames m) (more : List Text) where
 -- the numbers of a function are within the tables, except for its own symbol
 abbrev pub IsInner : Module → Function → Type 0
 IsInner m f =
-    HasType m f.returned × AllByRecursion (IsParameterWithin m f) f.parameters × (length f.sorts ≡ length f.locals) × AllByRecursion (IsBlockWithin m f) f.blocks
+    HasType m f.returned × AllByRecursion (IsParameterWithin m f) f.parameters × (length f.sorts ≡ length f.locals) × AreSlotsBelow (length m.types) f.sorts × AllByRecursion (IsBlockWithin m f) f.blocks
 
 returned_has : (m : Module) (t : ℕ) → IsVoid m t ⊎ IsPassed m t → HasType m t
 returned_has m t (inl void) = void_within m t void
@@ -103,7 +105,14 @@ inner_keeps m w symbol returned ps c bs i i1 i2 i3 i4 i5 i6 o s1 s2 s3 s4 s5 s6 
                 let blocks : (more : List Text) → AllByRecursion (IsBlock (wide_module m more) (wide f more)) bs =
                 λ more.
                 ((function_parts (wide_outside own more w) (wide f more) i i1 i2 i3 i4 i5 i6 o s1 s2 s3 s4 s5 s6 s7 locals uses values unnamed (begins_with o.locals.names more) fore).1 missing back).5 in
-                (returned_has m returned is, parameters_have m f ps y.1 within.parameters, within.sorts, blocks_within m f own within blocks),
+                let types = begins_length o.types m.types (w.reading.has_types o back) in
+                let slots = slots_there m ps c bs i i1 i2 i3 i4 i5 i6 o s1 s2 s3 s4 s5 s6 s7 locals in (
+                  returned_has m returned is,
+                  parameters_have m f ps y.1 within.parameters,
+                  within.sorts,
+                  λ value held at. (let less = slots value held at in omega (arith, less, types)),
+                  blocks_within m f own within blocks,
+                ),
           ),
     )
 
@@ -131,7 +140,7 @@ module _ (m : Module) (names : HasModuleNames m) where
             ))
             (both (λ (x : Declare). HasSymbol m x.symbol) (IsDeclare m) m.declares (declares_have m names) h.declares);
         functions = all_so (λ (x : Function). HasSymbol m x.symbol × IsInnerOf m x) (IsFunctionWithin m) m.functions
-            (λ x is. let inside = is.1 names in record { symbol = is.0; returned = inside.0; parameters = inside.1; sorts = inside.2; blocks = inside.3 })
+            (λ x is. let inside = is.1 names in record { symbol = is.0; returned = inside.0; parameters = inside.1; sorts = inside.2; slots = inside.3; blocks = inside.4 })
             (both (λ (x : Function). HasSymbol m x.symbol) (IsInnerOf m) m.functions (functions_have m names) inner);
       }
 

@@ -1,5 +1,5 @@
 -- Numbers within the tables of a module and of one of its functions: names, types, operands, and parts of instructions of several families.
-use Rattle.std.specs.Prelude.{◌≡◌, ℕ, ◌<◌, length, Option, Some, None, ◌⊎◌, slice_get}
+use Rattle.std.specs.Prelude.{◌≡◌, ℕ, ◌<◌, List, length, Option, Some, None, ◌⊎◌, slice_get}
 use Rattle.ir_ast.specs.declared.argument.Argument.{Argument}
 use Rattle.ir_ast.specs.declared.function.Function.{Function}
 use Rattle.ir_ast.specs.declared.function.LocalSort.{LocalSort}
@@ -44,6 +44,10 @@ IsOfValue (Some (local.Value t)) = Unit {0}
 IsOfValue (Some (local.Slot held)) = Unit {0}
 IsOfValue (Some (local.Element block place)) = Unit {0}
 IsOfValue _ = ⊥
+
+-- what each slot holds, by these sorts of local names, is one of this number of types
+abbrev pub AreSlotsBelow : (count : ℕ) → List LocalSort → Type 0
+AreSlotsBelow count sorts = (value held : ℕ) → slice_get sorts value ≡ Some (local.Slot held) → held < count
 
 -- it is the local name of a value
 abbrev pub HasValue : Function → (value : ℕ) → Type 0

@@ -1,13 +1,14 @@
--- Tables of types in which what a type needs comes before it, and in which all pointers are of one kind.
+-- Tables of types in which the parts of a type come before it, and in which all pointers are of one kind.
 use Rattle.std.specs.Prelude.{◌≡◌, ◌<◌, ℕ, Bool, true, false, List, Some, slice_get}
 use Rattle.ir_ast.specs.declared.ir_type.IrType.{IrType}
 use Rattle.ir_ast.specs.declared.ir_type.IrType.TheVariants as type
 use Rattle.ir_forms.specs.Written.{has_opaque}
 
--- the struct of the further fields of a struct is before it; a pointer is of the text's kind, `ptr` or not
+-- the parts of a type are before it; a pointer is of the text's kind, `ptr` or not
 abbrev pub IsInOrder : (opaque : Bool) → (number : ℕ) → IrType → Type 0
-IsInOrder opaque number (type.Struct first rest) = rest < number
-IsInOrder opaque number (type.Pointer part) = opaque ≡ false
+IsInOrder opaque number (type.Struct first rest) = (first < number) × (rest < number)
+IsInOrder opaque number (type.Array length part) = part < number
+IsInOrder opaque number (type.Pointer part) = (opaque ≡ false) × (part < number)
 IsInOrder opaque number type.Opaque = opaque ≡ true
 IsInOrder opaque number _ = Unit {0}
 

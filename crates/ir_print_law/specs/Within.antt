@@ -20,7 +20,7 @@ use Rattle.ir_tokens.specs.Bytes.{Text}
 use Rattle.ir_text.specs.Read.{IsText}
 use Rattle.function_text.specs.Replaced.{IsReplaced}
 use Rattle.name_text.specs.Readings.{AreBytes}
-use Rattle.ir_print_law.specs.PartsWithin.{HasType, HasStructName, HasSymbol, HasValue, HasBlock, HasTarget, HasResult, IsOperandWithin, IsArgumentWithin}
+use Rattle.ir_print_law.specs.PartsWithin.{AreSlotsBelow, HasType, HasStructName, HasSymbol, HasValue, HasBlock, HasTarget, HasResult, IsOperandWithin, IsArgumentWithin}
 use Rattle.ir_print_law.specs.Numbers.{IsNumberOpWithin}
 use Rattle.ir_print_law.specs.Memory.{IsMemoryOpWithin}
 use Rattle.ir_print_law.specs.Elements.{IsElementWithin}
@@ -80,12 +80,13 @@ IsBlockWithin m f x =
 abbrev pub IsParameterWithin : Module → Function → Parameter → Type 0
 IsParameterWithin m f x = HasType m x.written × HasValue f x.value
 
--- a defined function; it notes of each local name what it stands for
+-- a defined function; it notes of each local name what it stands for, and of a slot what it holds
 pub record IsFunctionWithin (m : Module) (f : Function) : Type 0 where
   pub symbol : HasSymbol m f.symbol
   pub returned : HasType m f.returned
   pub parameters : AllByRecursion (IsParameterWithin m f) f.parameters
   pub sorts : length f.sorts ≡ length f.locals
+  pub slots : AreSlotsBelow (length m.types) f.sorts
   pub blocks : AllByRecursion (IsBlockWithin m f) f.blocks
 
 -- a struct type

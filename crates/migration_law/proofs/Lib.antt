@@ -1,3 +1,4 @@
+pub mod WholeTables
 pub mod Tables
 pub mod TablesInOrder
 pub mod Implies

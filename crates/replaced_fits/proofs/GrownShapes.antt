@@ -66,13 +66,15 @@ module _ (m n : Module) (g : Grows m n) (closed : IsClosed m) where
 
   -- ---- all shapes
 
-  functions_imply : (given : Shapes) → n.functions ≡ m.functions → Implies (list_all (roots_fit m given) m.functions) (list_all (roots_fit n given) n.functions)
-  functions_imply given same h =
-      subst (λ fs. list_all (roots_fit n given) fs ≡ true) (sym same)
-      (each_implies (roots_fit m given) (roots_fit n given) m.functions (λ k f e. roots_imply given f (closed.functions k f e)) h)
+  -- the functions of the first module pass in the second one
+  abbrev Pass : Shapes → Type 0
+  Pass given = list_all (roots_fit n given) m.functions ≡ true
 
-  all_imply : (given : Shapes) → n.functions ≡ m.functions → Implies (all_shapes_fit m given) (all_shapes_fit n given)
-  all_imply given same =
+  functions_pass : (given : Shapes) → list_all (roots_fit m given) m.functions ≡ true → Pass given
+  functions_pass given h = each_implies (roots_fit m given) (roots_fit n given) m.functions (λ k f e. roots_imply given f (closed.functions k f e)) h
+
+  all_imply : (given : Shapes) → (Pass given → list_all (roots_fit n given) n.functions ≡ true) → Implies (all_shapes_fit m given) (all_shapes_fit n given)
+  all_imply given keep =
       let words_m = list_all (row_fits m) given.words in
       let words_n = list_all (row_fits n) given.words in
       let roots_m = list_all (root_row_fits m) given.roots in
@@ -86,8 +88,9 @@ module _ (m n : Module) (g : Grows m n) (closed : IsClosed m) where
       (both_imply words_m (row_fits m given.globals) words_n (row_fits n given.globals) words (row_implies given.globals))
       roots)
       (globals_imply given))
-      (functions_imply given same)
+      (λ h. keep (functions_pass given h))
 
-  pub shapes_imply : (shapes : Option Shapes) → n.functions ≡ m.functions → Implies (shapes_fit m shapes) (shapes_fit n shapes)
-  shapes_imply None same h = ap not g.opaque ∙ h
-  shapes_imply (Some given) same h = both_imply (is_opaque_text m) (all_shapes_fit m given) (is_opaque_text n) (all_shapes_fit n given) (λ t. g.opaque ∙ t) (all_imply given same) h
+  -- shapes that fit the first module fit the second one, if each of its functions has them for its root slots where those of the first one do
+  pub shapes_imply : (shapes : Option Shapes) → ((given : Shapes) → shapes ≡ Some given → Pass given → list_all (roots_fit n given) n.functions ≡ true) → Implies (shapes_fit m shapes) (shapes_fit n shapes)
+  shapes_imply None keep h = ap not g.opaque ∙ h
+  shapes_imply (Some given) keep h = both_imply (is_opaque_text m) (all_shapes_fit m given) (is_opaque_text n) (all_shapes_fit n given) (λ t. g.opaque ∙ t) (all_imply given (keep given refl)) h

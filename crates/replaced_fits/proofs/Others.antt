@@ -1,7 +1,15 @@
--- The sections of the other functions fit as they did where one function is replaced.
+-- The sections of the other functions, and the shapes, fit as they did where one function is replaced.
+use Rattle.std.proofs.Common.{refl}
 use Rattle.ir_print_law.specs.Growing.{ReplacingKeepsTables}
-use Rattle.replaced_fits.specs.ReplacedFits.{OthersStayFitting}
-use Rattle.replaced_fits.proofs.Replaced.{others}
+use Rattle.replaced_fits.specs.ReplacedFits.{OthersStayFitting, PointersStay, ShapesStayFitting}
+use Rattle.replaced_fits.proofs.Replaced.{others, pointers_by, shapes_stay_by}
 
-pub others_stay : ReplacingKeepsTables → OthersStayFitting
-others_stay grown m certs func code n closed fit is opaque = others grown m func code n is closed certs fit opaque
+module _ (grown : ReplacingKeepsTables) where
+  pub others_stay : OthersStayFitting
+  others_stay m certs func code n closed fit is opaque = others grown m func code n is closed certs fit opaque
+
+  pub pointers_stay : PointersStay
+  pointers_stay m func code n is unwanted fit = pointers_by grown m func code n is m.shapes refl unwanted fit
+
+  pub shapes_stay : ShapesStayFitting
+  shapes_stay m func code n closed is opaque shaped fit = shapes_stay_by grown m func code n is closed opaque shaped fit

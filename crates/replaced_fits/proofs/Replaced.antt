@@ -1,8 +1,8 @@
 -- The tables of a module in which one function is replaced have grown.
-use Rattle.std.proofs.Common.{◌≡◌, ◌∙◌, ℕ, true, false, ◌&&◌, ◌==◌, List, length, slice_get, is_none, is_some, unwrap_or, Option, Some, None, refl, sym, ap, subst}
+use Rattle.std.proofs.Common.{◌≡◌, ◌∙◌, ℕ, zero, suc, Bool, true, false, ◌&&◌, ◌==◌, List, [], ◌∷◌, length, slice_get, is_none, is_some, unwrap_or, Option, Some, None, refl, sym, ap, subst}
 use Rattle.std.specs.Prelude.{slice_set}
 use Rattle.std.specs.List.{list_all, zip}
-use Rattle.lemmas.specs.Bools.{and_first, not_true}
+use Rattle.lemmas.specs.Bools.{and_first, and_parts, and_true, not_true}
 use Rattle.ir_ast.specs.Places.{is_some-position}
 use Rattle.ir_ast.specs.TypePlaces.{stands}
 use Rattle.ir_ast.specs.Types.{is_same_type, place_of_type}
@@ -18,12 +18,14 @@ use Rattle.layout.specs.Layouts.{wants_shapes}
 use Rattle.types.specs.References.{struct_in}
 use Rattle.certs.specs.Families.{is_opaque_text}
 use Rattle.certs.specs.Fits.{fits, section_fits}
-use Rattle.certs.specs.ShapesFit.{all_shapes_fit, shapes_fit}
+use Rattle.certs.specs.ShapesFit.{all_shapes_fit, roots_fit, shapes_fit}
 use Rattle.certs.specs.declared.section.Section.{Section}
 use Rattle.certificate.specs.Replaced.{FitOthers}
 use Rattle.replaced_fits.specs.Closed.{IsClosed}
+use Rattle.replaced_fits.specs.ReplacedFits.{AreRootsShaped}
 use Rattle.replaced_fits.proofs.GrownFamilies.{Grows}
 use Rattle.replaced_fits.proofs.GrownSections.{any_at, sections_imply}
+use Rattle.replaced_fits.proofs.GrownShapes.{shapes_imply}
 use Rattle.replaced_fits.proofs.Implies.{both_imply, itself}
 use Rattle.replaced_fits.proofs.Plain.{fit_each, others_fit}
 
@@ -32,6 +34,21 @@ meant : (layout : Option (Option ℕ)) → struct_in layout ≡ unwrap_or layout
 meant None = refl
 meant (Some layout) = refl
 
+-- ---- one of the functions is another one
+
+module _ (test : Function → Bool) where
+  all_set : (fs : List Function) (i : ℕ) (f : Function) → (slice_get (slice_set fs i f) i ≡ Some f → test f ≡ true) → list_all test fs ≡ true → list_all test (slice_set fs i f) ≡ true
+  all_set [] i f one h = refl
+  all_set (g ∷ fs) zero f one h = let parts = and_parts (test g) (list_all test fs) h in and_true (test f) (list_all test fs) (one refl) parts.1
+  all_set (g ∷ fs) (suc i) f one h = let parts = and_parts (test g) (list_all test fs) h in and_true (test g) (list_all test (slice_set fs i f)) parts.0 (all_set fs i f one parts.1)
+
+  -- all pass where the one that is put there does
+  all_put : (put : Option Function) (fs : List Function) (i : ℕ) → ((f : Function) → slice_get (put_function i put fs) i ≡ Some f → test f ≡ true) → list_all test fs ≡ true → list_all test (put_function i put fs) ≡ true
+  all_put None fs i one h = h
+  all_put (Some f) fs i one h = all_set fs i f (one f) h
+
+-- ---- the module with the function
+
 module _ (grown : ReplacingKeepsTables) (m : Module) (func : ℕ) (code : Text) (n : Module) (is : IsReplaced m func code n) where
   stay : TablesStay m n
   stay = grown m func code n is
@@ -39,10 +56,10 @@ module _ (grown : ReplacingKeepsTables) (m : Module) (func : ℕ) (code : Text) 
   sorts_same : n.sorts ≡ m.sorts
   sorts_same = sym (ap (λ (x : Module). x.sorts) is.2) ∙ sym (ap (λ (a : Replacement). a.tables.sorts) is.1.3.3)
 
-  pub shapes_same : n.shapes ≡ m.shapes
+  shapes_same : n.shapes ≡ m.shapes
   shapes_same = sym (ap (λ (x : Module). x.shapes) is.2)
 
-  pub grows : is_opaque_text n ≡ is_opaque_text m → Grows m n
+  grows : is_opaque_text n ≡ is_opaque_text m → Grows m n
   grows opaque = record {
     types = stay.types;
     names = λ name. meant (slice_get n.struct_of name) ∙ stay.names name ∙ sym (meant (slice_get m.struct_of name));
@@ -55,10 +72,10 @@ module _ (grown : ReplacingKeepsTables) (m : Module) (func : ℕ) (code : Text) 
   }
 
   -- the functions are the module's, but for the one that is put in its place
-  abbrev pub put : Option Function
+  abbrev put : Option Function
   put = slice_get is.0.functions 0
 
-  pub functions_are : n.functions ≡ put_function func put m.functions
+  functions_are : n.functions ≡ put_function func put m.functions
   functions_are = sym (ap (λ (x : Module). x.functions) is.2)
 
   -- a text that writes `ptr` writes it still
@@ -71,17 +88,14 @@ module _ (grown : ReplacingKeepsTables) (m : Module) (func : ℕ) (code : Text) 
         is_some-position (is_same_type type.Opaque) n.types ∙ any_at (is_same_type type.Opaque) n.types k type.Opaque there refl
 
   -- where no shapes are wanted, the text writes `ptr` if it did before
-  opaque_by : (shapes : Option Shapes) → m.shapes ≡ shapes → wants_shapes n ≡ false → shapes_fit m shapes ≡ true → is_opaque_text n ≡ is_opaque_text m
-  opaque_by None same unwanted fit =
+  pub pointers_by : (shapes : Option Shapes) → m.shapes ≡ shapes → wants_shapes n ≡ false → shapes_fit m shapes ≡ true → is_opaque_text n ≡ is_opaque_text m
+  pointers_by None same unwanted fit =
       let none : is_none n.shapes ≡ true = ap is_none (shapes_same ∙ same) in
       let after : is_opaque_text n ≡ false = sym (ap (λ b. b && is_opaque_text n) none) ∙ unwanted in
       after ∙ sym (not_true (is_opaque_text m) fit)
-  opaque_by (Some given) same unwanted fit =
+  pointers_by (Some given) same unwanted fit =
       let before = and_first (is_opaque_text m) (all_shapes_fit m given) fit in
       opaque_stays before ∙ sym before
-
-  pub opaque_same : (shapes : Option Shapes) → m.shapes ≡ shapes → wants_shapes n ≡ false → shapes_fit m shapes ≡ true → is_opaque_text n ≡ is_opaque_text m
-  opaque_same shapes same unwanted fit = opaque_by shapes same unwanted fit
 
   -- with some section of the new function the sections fit
   pub others : IsClosed m → (certs : List Section) → fits m certs ≡ true → is_opaque_text n ≡ is_opaque_text m → FitOthers n func certs
@@ -91,3 +105,12 @@ module _ (grown : ReplacingKeepsTables) (m : Module) (func : ℕ) (code : Text) 
       (itself (length certs == length m.functions)) (sections_imply m n (grows opaque) closed m.functions certs closed.functions) fit in
       let found = others_fit n func put m.functions certs here in
       (found.0, subst (λ fs. fit_each n fs (slice_set certs func found.0) ≡ true) (sym functions_are) found.1)
+
+  -- where the root slots of the function that is put there have shapes, the shapes fit
+  pub shapes_stay_by : IsClosed m → is_opaque_text n ≡ is_opaque_text m → AreRootsShaped n func → shapes_fit m m.shapes ≡ true → shapes_fit n n.shapes ≡ true
+  shapes_stay_by closed opaque shaped fit =
+      subst (λ (x : Option Shapes). shapes_fit n x ≡ true) (sym shapes_same)
+      (shapes_imply m n (grows opaque) closed m.shapes
+      (λ given same pass. subst (λ fs. list_all (roots_fit n given) fs ≡ true) (sym functions_are) (all_put (roots_fit n given) put m.functions func (own given same) pass)) fit) where
+        own : (given : Shapes) → m.shapes ≡ Some given → (f : Function) → slice_get (put_function func put m.functions) func ≡ Some f → roots_fit n given f ≡ true
+        own given same f at = shaped given f (shapes_same ∙ same) (ap (λ fs. slice_get fs func) functions_are ∙ at)

@@ -1,21 +1,38 @@
 -- Certificates that fit a module, where one function is replaced.
-use Rattle.std.specs.Prelude.{◌≡◌, ℕ, true, List, Some, slice_get}
+use Rattle.std.specs.Prelude.{◌≡◌, ℕ, true, false, List, Some, slice_get}
 use Rattle.ir_ast.specs.declared.function.Function.{Function}
 use Rattle.ir_ast.specs.declared.module.Module.{Module}
+use Rattle.ir_ast.specs.declared.shapes.Shapes.{Shapes}
 use Rattle.ir_tokens.specs.Bytes.{Text}
 use Rattle.function_text.specs.Replaced.{IsReplaced}
+use Rattle.ir_print_law.specs.Wholes.{IsWhole}
 use Rattle.ir_print_law.specs.Within.{IsWithin}
+use Rattle.layout.specs.Layouts.{wants_shapes}
 use Rattle.certs.specs.Families.{is_opaque_text}
 use Rattle.certs.specs.Fits.{fits}
+use Rattle.certs.specs.ShapesFit.{roots_fit, shapes_fit}
 use Rattle.certs.specs.declared.section.Section.{Section}
 use Rattle.certificate.specs.Replaced.{FitOthers}
-use Rattle.replaced_fits.specs.Closed.{ArePartsWithin, AreSlotsWithin, IsClosed}
+use Rattle.replaced_fits.specs.Closed.{IsClosed}
 
--- a module whose numbers are within its tables is so, where the parts of its types and what its slots hold are
+-- the types of a whole module whose numbers are within its tables are within its table
 abbrev pub AreWithinClosed : Type 0
-AreWithinClosed = (m : Module) → IsWithin m → ArePartsWithin m.types → ((number : ℕ) (f : Function) → slice_get m.functions number ≡ Some f → AreSlotsWithin m f) → IsClosed m
+AreWithinClosed = (m : Module) → IsWhole m → IsWithin m → IsClosed m
 
 -- where the code of one function is replaced, the sections of the others fit as they did; the text writes `ptr` where it did
 abbrev pub OthersStayFitting : Type 0
 OthersStayFitting = (m : Module) (certs : List Section) (func : ℕ) (code : Text) (n : Module) → IsClosed m → fits m certs ≡ true → IsReplaced m func code n → is_opaque_text n ≡ is_opaque_text m
     → FitOthers n func certs
+
+-- where the code of one function is replaced, a text that has its shapes, and wants none, writes `ptr` where it did
+abbrev pub PointersStay : Type 0
+PointersStay = (m : Module) (func : ℕ) (code : Text) (n : Module) → IsReplaced m func code n → wants_shapes n ≡ false → shapes_fit m m.shapes ≡ true → is_opaque_text n ≡ is_opaque_text m
+
+-- each root slot of type `ptr` of the function with this number has a shape, where the module has shapes
+abbrev pub AreRootsShaped : Module → (func : ℕ) → Type 0
+AreRootsShaped n func = (given : Shapes) (f : Function) → n.shapes ≡ Some given → slice_get n.functions func ≡ Some f → roots_fit n given f ≡ true
+
+-- where the code of one function is replaced, the module's shapes fit as they did, if they have one for each root slot of the new function; the text writes `ptr` where it did
+abbrev pub ShapesStayFitting : Type 0
+ShapesStayFitting = (m : Module) (func : ℕ) (code : Text) (n : Module) → IsClosed m → IsReplaced m func code n → is_opaque_text n ≡ is_opaque_text m → AreRootsShaped n func → shapes_fit m m.shapes ≡ true
+    → shapes_fit n n.shapes ≡ true

@@ -7,20 +7,13 @@ use Rattle.ir_ast.specs.declared.function.Function.{Function}
 use Rattle.ir_ast.specs.declared.ir_type.IrType.{IrType}
 use Rattle.ir_ast.specs.declared.module.Module.{Module}
 use Rattle.ir_tokens.specs.Bytes.{Text}
-use Rattle.copies.specs.Tables.{tables_of}
-use Rattle.function_text.specs.Anew.{start_anew, anew}
-use Rattle.function_text.specs.Replaced.{name_in, with_replacement, IsReplaced}
-use Rattle.name_text.specs.Readings.{AreBytes}
 use Rattle.ir_print.specs.Items.{declare_line, function_text, global_line, struct_line}
+use Rattle.ir_print_law.specs.Growing.{AreReplacedAlone, ReplacingKeepsTables}
 use Rattle.ir_print_law.specs.Printable.{IsDeclare, IsFunction, IsGlobal, IsStructType}
 use Rattle.ir_print_law.specs.Wholes.{IsWhole}
-use Rattle.ir_print_law.proofs.AnewRead.{function_read}
-use Rattle.ir_print_law.proofs.LongerTypes.{with_types}
-use Rattle.ir_print_law.proofs.ReplacedWhole.{edited, read_edits}
-use Rattle.ir_print_law.proofs.SameParts.{same3}
-use Rattle.ir_print_law.proofs.Tables.{Begins}
 use Rattle.replaced_text.specs.ReplacedText.{AreReplacedPrinted, IsPrintedWith}
-use Rattle.replaced_text.proofs.Texts.{declare, function, global, lines, struct}
+use Rattle.replaced_text.proofs.Texts.{ap₃, declare, function, global, lines, struct}
+use Rattle.replaced_text.proofs.Types.{Stay, with_types}
 
 -- a text after another one, in front of two more
 joined : (a b c d : Text) → a ++ (b ++ c ++ d) ≡ (a ++ b) ++ c ++ d
@@ -44,7 +37,7 @@ module _ (shown again : Function → Text) (P : Function → Type 0) (same : (x 
       )
 
 module _ (m : Module) (whole : IsWhole m) (func : ℕ) (old : Function) (at : slice_get m.functions func ≡ Some old) (less : func < length m.functions) where
-  edited_printed : (types : List IrType) (f : Function) → Begins m.types types → IsPrintedWith m func (edited m whole func old at types f)
+  edited_printed : (types : List IrType) (f : Function) → Stay m.types types → IsPrintedWith m func (with_types m types (slice_set m.functions func f))
   edited_printed types f more =
       let fs = slice_set m.functions func f in
       let n = with_types m types fs in
@@ -62,21 +55,14 @@ module _ (m : Module) (whole : IsWhole m) (func : ℕ) (old : Function) (at : sl
         front = items ++ functions.0;
         rest = functions.1;
         text = ap (λ (t : Text). items ++ t) functions.2 ∙ joined items functions.0 (function_text m old) functions.1;
-        text_with = same3 (λ a b c. a ++ b ++ c ++ flat_map (function_text n) fs) (sym structs) (sym globals) (sym declares)
+        text_with = ap₃ (λ a b c. a ++ b ++ c ++ flat_map (function_text n) fs) (sym structs) (sym globals) (sym declares)
             ∙ ap (λ (t : Text). items ++ t) functions.3 ∙ joined items functions.0 (function_text n f) functions.1;
         struct_names = refl;
         symbols = refl;
       }
 
-  old_printed : (bytes : Text) (n : Module) → AreBytes bytes → IsReplaced m func bytes n → IsPrintedWith m func n
-  old_printed bytes n own h =
-      let text = h.1 in
-      let read = text.3 in
-      let said = subst (λ (name : Text). (anew func name).says (start_anew (tables_of m) func bytes text.1) tt read.0) (ap (name_in m) at) read.1 in
-      let got = function_read m whole.names func old at bytes text.1 read.0 whole.ordered own text.2 said read.2 in
-      let is = got.1 in
-      let end : edited m whole func old at read.0.types got.0 ≡ n = sym (read_edits m whole func old at read.0 got.0 is) ∙ ap (with_replacement m func) read.3 ∙ h.2 in
-      subst (IsPrintedWith m func) end (edited_printed read.0.types got.0 is.begins)
-
-pub replaced_printed : AreReplacedPrinted
-replaced_printed m func bytes n whole less own h = let old = get_some m.functions func less in old_printed m whole func old.0 old.1 less bytes n own h
+pub replaced_printed : ReplacingKeepsTables → AreReplacedAlone → AreReplacedPrinted
+replaced_printed grown alone m func bytes n whole less own is =
+    let old = get_some m.functions func less in
+    let only = alone m func bytes n whole less own is in
+    subst (IsPrintedWith m func) (sym only.1) (edited_printed m whole func old.0 old.1 less n.types only.0 (grown m func bytes n is).types)

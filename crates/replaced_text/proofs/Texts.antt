@@ -1,5 +1,5 @@
 -- What is printed of the items of a module is the same where its table of types has grown.
-use Rattle.std.proofs.Common.{◌≡◌, ℕ, List, [], ◌∷◌, ◌++◌, Option, None, Some, ◌⊎◌, inl, inr, refl, ap}
+use Rattle.std.proofs.Common.{◌≡◌, ℕ, List, [], ◌∷◌, ◌++◌, Option, None, Some, ◌⊎◌, inl, inr, refl, ap, ap₂, ◌∙◌}
 use Rattle.std.specs.Prelude.{codes}
 use Rattle.std.specs.List.{AllByRecursion, flat_map}
 use Rattle.ir_ast.specs.declared.argument.Argument.{Argument}
@@ -24,6 +24,7 @@ use Rattle.ir_ast.specs.declared.numbers.NumberOp.{NumberOp}
 use Rattle.ir_ast.specs.declared.numbers.NumberOp.TheVariants as number
 use Rattle.ir_ast.specs.declared.op.Op.{Op}
 use Rattle.ir_ast.specs.declared.op.Op.TheVariants as op
+use Rattle.ir_ast.specs.declared.operand.Constant.{Constant}
 use Rattle.ir_ast.specs.declared.operand.Operand.{Operand}
 use Rattle.ir_ast.specs.declared.operand.Operand.TheVariants as operand
 use Rattle.ir_tokens.specs.Bytes.{Text}
@@ -37,48 +38,49 @@ use Rattle.ir_print.specs.Items.{collector_text, declare_line, function_text, gl
 use Rattle.ir_print.specs.Memory.{memory_op_text}
 use Rattle.ir_print.specs.Names.{name_at, global_text, key_text, local_text, struct_text}
 use Rattle.ir_print.specs.Numbers.{arithmetic_word, comparison_word, number_op_text, resize_word}
-use Rattle.ir_print.specs.Operands.{argument_text, listed, operand_text, typed_text}
+use Rattle.ir_print.specs.Operands.{argument_text, constant_text, listed, operand_text, typed_text}
 use Rattle.ir_print.specs.Parts.{converted_text, pair_text, placed_text, typed}
 use Rattle.ir_print.specs.Types.{type_text}
 use Rattle.ir_print_law.specs.Calls.{IsCall}
 use Rattle.ir_print_law.specs.Memory.{IsMemoryOp}
 use Rattle.ir_print_law.specs.Numbers.{IsNumberOp}
 use Rattle.ir_print_law.specs.Parts.{ArePair, IsArgument, IsCondition, IsConverted, IsOperand, IsPlaceType, IsReturned, IsVoid}
-use Rattle.ir_print_law.specs.PartsAgain.{IsTypeAgain}
 use Rattle.ir_print_law.specs.Printable.{IsAnyType, IsBlock, IsDeclare, IsEnd, IsFunction, IsGlobal, IsIncoming, IsInstr, IsOp, IsParameter, IsPassed, IsPhi, IsStructType}
 use Rattle.ir_print_law.specs.Shapes.{Shape, Integer, Pointer, Opaque, HasShape, bits_of_shape}
-use Rattle.ir_print_law.proofs.LongerTypes.{with_types}
-use Rattle.ir_print_law.proofs.SameParts.{constant_same, result_same, same2, same3, type_same}
-use Rattle.ir_print_law.proofs.Shown.{shape_stays}
-use Rattle.ir_print_law.proofs.Tables.{Begins, begins_itself, stays}
+use Rattle.replaced_text.proofs.Types.{Stay, constant_same, plain_same, type_same, with_types}
+
+-- ---- texts of equal parts
+
+-- what three texts make
+pub ap₃ : (f : Text → Text → Text → Text) {a b c d e g : Text} → a ≡ b → c ≡ d → e ≡ g → f a c e ≡ f b d g
+ap₃ f {b = b} {c = c} {e = e} p q r = ap (λ (x : Text). f x c e) p ∙ ap₂ (f b) q r
 
 -- ---- lists
 
 -- what is printed of each element is the same
 pub lines : {A : Type 0} (P : A → Type 0) (line other : A → Text) (xs : List A) → ((x : A) → P x → line x ≡ other x) → AllByRecursion P xs → flat_map line xs ≡ flat_map other xs
 lines P line other [] on h = refl
-lines P line other (x ∷ xs) on h = same2 (λ a b. a ++ b) (on x h.0) (lines P line other xs on h.1)
+lines P line other (x ∷ xs) on h = ap₂ (λ a b. a ++ b) (on x h.0) (lines P line other xs on h.1)
 
 list : {A : Type 0} (P : A → Type 0) (part other : A → Text) (xs : List A) → ((x : A) → P x → part x ≡ other x) → AllByRecursion P xs → listed part xs ≡ listed other xs
 list P part other [] on h = refl
 list {A = A} P part other (x ∷ xs) on h =
-    same2 (λ a b. a ++ b) (on x h.0) (lines P (λ (y : A). codes ", " ++ part y) (λ (y : A). codes ", " ++ other y) xs (λ y p. ap (λ (t : Text). codes ", " ++ t) (on y p)) h.1)
+    ap₂ (λ a b. a ++ b) (on x h.0) (lines P (λ (y : A). codes ", " ++ part y) (λ (y : A). codes ", " ++ other y) xs (λ y p. ap (λ (t : Text). codes ", " ++ t) (on y p)) h.1)
 
-module _ (m : Module) (types : List IrType) (fs : List Function) (more : Begins m.types types) where
+module _ (m : Module) (types : List IrType) (fs : List Function) (more : Stay m.types types) where
   abbrev n : Module
   n = with_types m types fs
 
   -- ---- types
 
-  -- a type of some shape
-  again : (shape : Shape) (t : ℕ) → HasShape m.types m.struct_names shape t → IsTypeAgain m n t t
-  again shape t h = (shape, h, shape_stays m.types types m.struct_names m.struct_names shape t more (begins_itself m.struct_names) h)
-
   same_type : (shape : Shape) (t : ℕ) → HasShape m.types m.struct_names shape t → type_text m t ≡ type_text n t
-  same_type shape t h = type_same m n t t (again shape t h)
+  same_type shape t h = type_same m types fs more shape t h
 
   same_void : (t : ℕ) → IsVoid m t → type_text m t ≡ type_text n t
-  same_void t h = result_same m n t t (inl (h, stays m.types types t _ more h))
+  same_void t h = plain_same m types fs more t _ h (λ shown other. refl)
+
+  same_constant : (shape : Shape) (t : ℕ) (x : Constant) → HasShape m.types m.struct_names shape t → constant_text m t x ≡ constant_text n t x
+  same_constant shape t x h = constant_same m types fs more shape t x h
 
   -- the type of a place has a shape
   place_shape : (shape : Shape) (held place : ℕ) → HasShape m.types m.struct_names shape held → IsPlaceType m shape held place → (s : Shape) × HasShape m.types m.struct_names s place
@@ -89,14 +91,14 @@ module _ (m : Module) (types : List IrType) (fs : List Function) (more : Begins 
 
   module _ (f : Function) where
     operands : (bits : Option ℕ) (shape : Shape) (t : ℕ) (x : Operand) → HasShape m.types m.struct_names shape t → IsOperand m f bits x → operand_text m f.locals t x ≡ operand_text n f.locals t x
-    operands bits shape t (operand.Constant x) has h = constant_same m n t t x x (again shape t has) refl
+    operands bits shape t (operand.Constant x) has h = same_constant shape t x has
     operands bits shape t (operand.Local value) has h = refl
     operands bits shape t (operand.Global symbol) has h = refl
     operands bits shape t (operand.CastGlobal from symbol to) has h =
-        same2 (λ a b. codes "bitcast (" ++ a ++ 32 ∷ global_text m symbol ++ codes " to " ++ b ++ 41 ∷ []) (same_type h.0.0 from h.0.1.0) (same_type h.2.0 to h.2.1.0)
+        ap₂ (λ a b. codes "bitcast (" ++ a ++ 32 ∷ global_text m symbol ++ codes " to " ++ b ++ 41 ∷ []) (same_type h.0.0 from h.0.1.0) (same_type h.2.0 to h.2.1.0)
 
     with_type : (bits : Option ℕ) (shape : Shape) (t : ℕ) (x : Operand) → HasShape m.types m.struct_names shape t → IsOperand m f bits x → typed_text m f.locals t x ≡ typed_text n f.locals t x
-    with_type bits shape t x has h = same2 (λ a b. a ++ 32 ∷ b) (same_type shape t has) (operands bits shape t x has h)
+    with_type bits shape t x has h = ap₂ (λ a b. a ++ 32 ∷ b) (same_type shape t has) (operands bits shape t x has h)
 
     argument : (x : Argument) → IsArgument m f x → argument_text m f.locals x ≡ argument_text n f.locals x
     argument x h = with_type (bits_of_shape h.0) h.0 x.written x.operand h.1.0.0 h.2
@@ -105,10 +107,10 @@ module _ (m : Module) (types : List IrType) (fs : List Function) (more : Begins 
     condition t x h = with_type (Some 1) (Integer 1) t x h.0 h.1
 
     pair : (t : ℕ) (x y : Operand) → ArePair m f t x y → pair_text m f.locals (typed t x) y ≡ pair_text n f.locals (typed t x) y
-    pair t x y h = same2 (λ a b. a ++ codes ", " ++ b) (with_type (bits_of_shape h.0) h.0 t x h.1.0.0 h.2) (operands (bits_of_shape h.0) h.0 t y h.1.0.0 h.3)
+    pair t x y h = ap₂ (λ a b. a ++ codes ", " ++ b) (with_type (bits_of_shape h.0) h.0 t x h.1.0.0 h.2) (operands (bits_of_shape h.0) h.0 t y h.1.0.0 h.3)
 
     converted : (from : ℕ) (x : Operand) (to : ℕ) → IsConverted m f from x to → converted_text m f.locals (typed from x) to ≡ converted_text n f.locals (typed from x) to
-    converted from x to h = same2 (λ a b. a ++ codes " to " ++ b) (argument (typed from x) h.0) (same_type h.1.0 to h.1.1.0.0)
+    converted from x to h = ap₂ (λ a b. a ++ codes " to " ++ b) (argument (typed from x) h.0) (same_type h.1.0 to h.1.1.0.0)
 
     returned : (t : ℕ) → IsReturned m t → type_text m t ≡ type_text n t
     returned t (inl h) = same_void t h
@@ -116,7 +118,7 @@ module _ (m : Module) (types : List IrType) (fs : List Function) (more : Begins 
 
     placed : (shape : Shape) (held place : ℕ) (x : Operand) → HasShape m.types m.struct_names shape held → IsPlaceType m shape held place → IsOperand m f None x
         → placed_text m f.locals held (typed place x) ≡ placed_text n f.locals held (typed place x)
-    placed shape held place x has is h = let s = place_shape shape held place has is in same2 (λ a b. a ++ codes ", " ++ b) (same_type shape held has) (with_type None s.0 place x s.1 h)
+    placed shape held place x has is h = let s = place_shape shape held place has is in ap₂ (λ a b. a ++ codes ", " ++ b) (same_type shape held has) (with_type None s.0 place x s.1 h)
 
     -- ---- instructions
 
@@ -130,23 +132,23 @@ module _ (m : Module) (types : List IrType) (fs : List Function) (more : Begins 
     memory_op (memory.Load loaded place_type place) h = ap (λ (text : Text). codes "load " ++ text) (placed h.0 loaded place_type place h.1.0.0 h.2 h.3)
     memory_op (memory.Store stored x place_type place) h =
         let s = place_shape h.0 stored place_type h.1.0.0 h.3 in
-        same2 (λ a b. codes "store " ++ a ++ codes ", " ++ b) (with_type (bits_of_shape h.0) h.0 stored x h.1.0.0 h.2) (with_type None s.0 place_type place s.1 h.4)
+        ap₂ (λ a b. codes "store " ++ a ++ codes ", " ++ b) (with_type (bits_of_shape h.0) h.0 stored x h.1.0.0 h.2) (with_type None s.0 place_type place s.1 h.4)
 
     call : (x : Call) → IsCall m f x → call_text m f.locals x ≡ call_text n f.locals x
     call x h =
-        same2 (λ a b. codes "call " ++ a ++ 32 ∷ global_text m x.callee ++ 40 ∷ b ++ 41 ∷ []) (returned x.returned h.0)
+        ap₂ (λ a b. codes "call " ++ a ++ 32 ∷ global_text m x.callee ++ 40 ∷ b ++ 41 ∷ []) (returned x.returned h.0)
         (list (IsArgument m f) (argument_text m f.locals) (argument_text n f.locals) x.arguments argument h.2)
 
     operation : (x : Op) → IsOp m f x → op_text m f.locals x ≡ op_text n f.locals x
     operation (op.Number x) h = number_op x h
     operation (op.Memory x) h = memory_op x h
     operation (op.Element x) h =
-        same2 (λ a b. element_word ++ a ++ b) (placed h.0 x.source x.base_type x.base h.1.0 h.2 h.3)
+        ap₂ (λ a b. element_word ++ a ++ b) (placed h.0 x.source x.base_type x.base h.1.0 h.2 h.3)
         (lines (IsArgument m f) (index_text m f.locals) (index_text n f.locals) x.indices (λ y p. ap (λ (text : Text). codes ", " ++ text) (argument y p)) h.5)
     operation (op.Cast x) h = ap (λ (text : Text). codes "bitcast " ++ text) (converted x.from x.operand x.to h)
     operation (op.Choice x) h =
         let p = h.1 in
-        same3 (λ a b c. codes "select " ++ a ++ codes ", " ++ b ++ codes ", " ++ c) (condition x.condition_type x.condition h.0)
+        ap₃ (λ a b c. codes "select " ++ a ++ codes ", " ++ b ++ codes ", " ++ c) (condition x.condition_type x.condition h.0)
         (with_type (bits_of_shape p.0) p.0 x.written x.chosen p.1.0.0 p.2) (with_type (bits_of_shape p.0) p.0 x.written x.other p.1.0.0 p.3)
     operation (op.Call x) h = call x h
 
@@ -160,26 +162,26 @@ module _ (m : Module) (types : List IrType) (fs : List Function) (more : Begins 
 
     phi : (x : Phi) → IsPhi m f x → phi_line m f.locals x ≡ phi_line n f.locals x
     phi x h =
-        same2 (λ a b. codes "  " ++ local_text f.locals x.value ++ codes " = phi " ++ a ++ 32 ∷ b ++ codes "\n") (same_type h.0 x.written h.1.0.0)
+        ap₂ (λ a b. codes "  " ++ local_text f.locals x.value ++ codes " = phi " ++ a ++ 32 ∷ b ++ codes "\n") (same_type h.0 x.written h.1.0.0)
         (list (IsIncoming m f (bits_of_shape h.0)) (incoming_text m f.locals x.written) (incoming_text n f.locals x.written) x.incoming (incoming (bits_of_shape h.0) h.0 x.written h.1.0.0) h.3)
 
     cases : (shape : Shape) (t : ℕ) → HasShape m.types m.struct_names shape t → (xs : List Case) → flat_map (case_text m f.locals t) xs ≡ flat_map (case_text n f.locals t) xs
     cases shape t has [] = refl
     cases shape t has (x ∷ xs) =
-        same3 (λ a b c. (32 ∷ a ++ 32 ∷ b ++ codes ", " ++ target_text f.locals x.target) ++ c) (same_type shape t has) (constant_same m n t t x.constant x.constant (again shape t has) refl) (cases shape t has xs)
+        ap₃ (λ a b c. (32 ∷ a ++ 32 ∷ b ++ codes ", " ++ target_text f.locals x.target) ++ c) (same_type shape t has) (same_constant shape t x.constant has) (cases shape t has xs)
 
     ending : (x : End) → IsEnd m f x → end_text m f.locals x ≡ end_text n f.locals x
     ending (end.Jump label) h = refl
     ending (end.Branch t x taken other) h = ap (λ (text : Text). codes "br " ++ text ++ codes ", " ++ target_text f.locals taken ++ codes ", " ++ target_text f.locals other) (condition t x h.0)
     ending (end.Switch t x otherwise xs) h =
-        same2 (λ a b. codes "switch " ++ a ++ codes ", " ++ target_text f.locals otherwise ++ codes " [" ++ b ++ codes " ]") (with_type (bits_of_shape h.0) h.0 t x h.1.0.0 h.2) (cases h.0 t h.1.0.0 xs)
+        ap₂ (λ a b. codes "switch " ++ a ++ codes ", " ++ target_text f.locals otherwise ++ codes " [" ++ b ++ codes " ]") (with_type (bits_of_shape h.0) h.0 t x h.1.0.0 h.2) (cases h.0 t h.1.0.0 xs)
     ending end.Unreachable h = refl
     ending end.ReturnVoid h = refl
     ending (end.Return x) h = ap (λ (text : Text). codes "ret " ++ text) (argument x h)
 
     block : (x : Block) → IsBlock m f x → block_text m f.locals x ≡ block_text n f.locals x
     block x h =
-        same3 (λ a b c. key_text (name_at f.locals x.label) ++ codes ":\n" ++ a ++ b ++ c) (lines (IsPhi m f) (phi_line m f.locals) (phi_line n f.locals) x.phis phi h.0)
+        ap₃ (λ a b c. key_text (name_at f.locals x.label) ++ codes ":\n" ++ a ++ b ++ c) (lines (IsPhi m f) (phi_line m f.locals) (phi_line n f.locals) x.phis phi h.0)
         (lines (IsInstr m f) (instruction_line m f.locals) (instruction_line n f.locals) x.body instruction h.1) (ap (λ (text : Text). codes "  " ++ text ++ codes "\n") (ending x.end h.2))
 
     -- ---- functions
@@ -193,7 +195,7 @@ module _ (m : Module) (types : List IrType) (fs : List Function) (more : Begins 
 
     pub function : IsFunction m f → function_text m f ≡ function_text n f
     function h =
-        same3 (λ a b c. (codes "define " ++ a ++ 32 ∷ global_text m f.symbol ++ 40 ∷ b ++ 41 ∷ collector_text f.collector ++ codes " {\n") ++ c ++ codes "}\n") (result f.returned h.returned)
+        ap₃ (λ a b c. (codes "define " ++ a ++ 32 ∷ global_text m f.symbol ++ 40 ∷ b ++ 41 ∷ collector_text f.collector ++ codes " {\n") ++ c ++ codes "}\n") (result f.returned h.returned)
         (list (IsParameter m) (parameter_text m f.locals) (parameter_text n f.locals) f.parameters parameter h.parameters)
         (lines (IsBlock m f) (block_text m f.locals) (block_text n f.locals) f.blocks block h.blocks)
 
@@ -204,7 +206,7 @@ module _ (m : Module) (types : List IrType) (fs : List Function) (more : Begins 
 
   pub global : (x : Global) → IsGlobal m x → global_line m x ≡ global_line n x
   global x h =
-      same2 (λ a b. global_text m x.symbol ++ global_word x.is_constant ++ a ++ 32 ∷ b ++ 10 ∷ []) (same_type h.0 x.held h.1.0) (constant_same m n x.held x.held x.initial x.initial (again h.0 x.held h.1.0) refl)
+      ap₂ (λ a b. global_text m x.symbol ++ global_word x.is_constant ++ a ++ 32 ∷ b ++ 10 ∷ []) (same_type h.0 x.held h.1.0) (same_constant h.0 x.held x.initial h.1.0)
 
   any : (t : ℕ) → IsAnyType m t → type_text m t ≡ type_text n t
   any t h = same_type h.0 t h.1.0
@@ -215,4 +217,4 @@ module _ (m : Module) (types : List IrType) (fs : List Function) (more : Begins 
 
   pub declare : (x : Declare) → IsDeclare m x → declare_line m x ≡ declare_line n x
   declare x h =
-      same2 (λ a b. codes "declare " ++ a ++ 32 ∷ global_text m x.symbol ++ 40 ∷ b ++ codes ")\n") (any_result x.returned h.0) (list (IsAnyType m) (type_text m) (type_text n) x.parameters any h.1)
+      ap₂ (λ a b. codes "declare " ++ a ++ 32 ∷ global_text m x.symbol ++ 40 ∷ b ++ codes ")\n") (any_result x.returned h.0) (list (IsAnyType m) (type_text m) (type_text n) x.parameters any h.1)
