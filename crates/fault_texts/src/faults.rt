@@ -47,7 +47,7 @@ fn put_rule(out: &mut Vec<u8>, pen: Pen, code: Code) -> Result<(), AllocError> {
 }
 
 /// A fault at a place of a text: the place, the rule, and the line.
-fn put_fault_at(
+pub(crate) fn put_fault_at(
     pen: Pen,
     out: &mut Vec<u8>,
     named: NamedText,
@@ -63,7 +63,7 @@ fn put_fault_at(
 }
 
 /// A line of words with a mark before it, where there are words.
-fn put_told(
+pub(crate) fn put_told(
     out: &mut Vec<u8>,
     pen: Pen,
     ink: Ink,
@@ -167,7 +167,29 @@ fn advice_of(code: Code) -> &'static str {
     }
 }
 
-/// A name of the text that was perhaps meant by the one that is not defined.
+/// The name of the module that was perhaps meant by this one. Returns whether there is one.
+pub(crate) fn put_near(
+    pen: Pen,
+    out: &mut Vec<u8>,
+    module: NamedText,
+    name: &[u8],
+) -> Result<bool, AllocError> {
+    let Some(lexed) = lexed_of(pen.alloc, module)? else {
+        return Ok(false);
+    };
+    match near(module.text, lexed.tokens.as_slice(), name) {
+        Some(other) => {
+            put_inked(out, pen.look, Ink::Mend, "  mend:  ")?;
+            put(out, "is ")?;
+            put_like(out, name, other)?;
+            put(out, " meant?\n")?;
+            Ok(true)
+        }
+        None => Ok(false),
+    }
+}
+
+/// The name of the module that was perhaps meant by one that is not defined; if there is none, how to go on.
 fn put_meant(
     pen: Pen,
     out: &mut Vec<u8>,
@@ -175,18 +197,10 @@ fn put_meant(
     name: &[u8],
     otherwise: &str,
 ) -> Result<(), AllocError> {
-    let Some(lexed) = lexed_of(pen.alloc, module)? else {
+    if put_near(pen, out, module, name)? {
         return Ok(());
-    };
-    match near(module.text, lexed.tokens.as_slice(), name) {
-        Some(other) => {
-            put_inked(out, pen.look, Ink::Mend, "  mend:  ")?;
-            put(out, "is ")?;
-            put_like(out, name, other)?;
-            put(out, " meant?\n")
-        }
-        None => put_told(out, pen, Ink::Mend, "  mend:  ", otherwise),
     }
+    put_told(out, pen, Ink::Mend, "  mend:  ", otherwise)
 }
 
 /// Whether a byte ends a name that is not in quotes.
@@ -250,9 +264,48 @@ pub fn put_read_fault(
 }
 
 /// A fault of a text as a whole.
-fn put_whole_fault(out: &mut Vec<u8>, pen: Pen, path: &str, code: Code) -> Result<(), AllocError> {
+pub(crate) fn put_whole_fault(
+    out: &mut Vec<u8>,
+    pen: Pen,
+    path: &str,
+    code: Code,
+) -> Result<(), AllocError> {
     put_inked(out, pen.look, Ink::Place, path)?;
     put_rule(out, pen, code)
+}
+
+/// A fault of a text as a whole, and how to go on.
+pub fn put_fault_of(
+    pen: Pen,
+    out: &mut Vec<u8>,
+    path: &str,
+    code: Code,
+    mend: &str,
+) -> Result<(), AllocError> {
+    put_whole_fault(out, pen, path, code)?;
+    put_told(out, pen, Ink::Mend, "  mend:  ", mend)
+}
+
+/// What is told of a text that is no text of edits.
+pub fn put_edits_fault(
+    pen: Pen,
+    out: &mut Vec<u8>,
+    named: NamedText,
+    fault: &CertFault,
+) -> Result<(), AllocError> {
+    match fault {
+        CertFault::Syntax(position) => {
+            put_fault_at(pen, out, named, *position, Code::C1)?;
+            put_told(
+                out,
+                pen,
+                Ink::Mend,
+                "  form:  ",
+                "an edit begins with `edit code @f`, `edit cert @f` or `edit both @f`; each of its texts ends with a line `.`",
+            )
+        }
+        _ => Ok(()),
+    }
 }
 
 /// The form of the line at which a certificate has a fault.
@@ -270,7 +323,7 @@ fn put_cert_form(
             pen,
             Ink::Mend,
             "  form:  ",
-            "a certificate begins with `cert 2` (or `cert 1` without `ptr`), has its shapes and a section for each function, and ends with `end`",
+            "a certificate begins with `cert 2` (or `cert 1` without `ptr`), and then has its shapes and a section for each function, which ends with `end`",
         );
     }
     put_told(out, pen, Ink::Mend, "  form:  ", form)
@@ -478,7 +531,13 @@ pub fn put_layout_fault(
         LayoutFault::HoldsItself(_) => put_whole_fault(out, pen, path, Code::Y1),
         LayoutFault::TooManyWords(_) => put_whole_fault(out, pen, path, Code::Y2),
         LayoutFault::NoSuchLayout(_) => put_whole_fault(out, pen, path, Code::Y3),
-        LayoutFault::ShapesWanted => put_whole_fault(out, pen, path, Code::Y5),
+        LayoutFault::ShapesWanted => put_fault_of(
+            pen,
+            out,
+            path,
+            Code::Y5,
+            "--shapes FILE gives them: a text that begins with `shapes 1` (docs/CERTIFICATES.md)",
+        ),
         LayoutFault::Memory => Ok(()),
     }
 }

@@ -53,6 +53,14 @@ fn form_of(kind: Kind) -> &'static str {
     other_of(kind)
 }
 
+/// The form of an item of the module that begins with these two, or of an instruction that gives a value.
+fn item_before(first: Kind, word: Kind) -> &'static str {
+    if matches!(first, Kind::LocalName) && !matches!(word, Kind::Type) {
+        return "%v = INSTRUCTION; docs/TEXT.md has those that are read";
+    }
+    item_of(first)
+}
+
 /// The form that is begun by these tokens of a line.
 fn form_of_line(tokens: &[Token]) -> &'static str {
     let [first, rest @ ..] = tokens else {
@@ -66,7 +74,7 @@ fn form_of_line(tokens: &[Token]) -> &'static str {
         [_, word, ..] => {
             let of_word = form_of(word.kind);
             if of_word.is_empty() {
-                item_of(first.kind)
+                item_before(first.kind, word.kind)
             } else {
                 of_word
             }
@@ -112,6 +120,23 @@ pub fn form_before(
     }
 }
 
+/// The form of a line of a trace, by its first word.
+pub fn trace_form_of(word: &[u8]) -> &'static str {
+    match word {
+        b"trace" => "trace 1, or trace 2 where threads begin late",
+        b"pool" => "pool L N, for each layout at most once",
+        b"start" => "start @f N .., where N are its integer arguments",
+        b"late" => "late @f N .., in a text that begins with `trace 2`",
+        b"steps" => "steps, after the lines of pools and threads",
+        b"t" => "t I N, where thread I makes the next N steps",
+        b"c" => "c N, where the collector makes the next N steps",
+        b"end" => "end, with nothing after it",
+        _ => {
+            "a trace begins with `trace 1` or `trace 2`, has lines of pools and threads, then `steps` and lines of steps, and ends with `end`"
+        }
+    }
+}
+
 /// The form of a line of a certificate, by its first word.
 pub fn cert_form_of(word: &[u8]) -> &'static str {
     match word {
@@ -124,7 +149,7 @@ pub fn cert_form_of(word: &[u8]) -> &'static str {
         b"result" => "result [ref L] [nonnull] [below N]",
         b"block" => "block %b",
         b"slot" => "slot %s [nonnull] [holds %x]",
-        b"end" => "end, after the last function",
+        b"end" => "end, after the last block of a section",
         [b'%', ..] => {
             "%v iN [below N], %v ref L [nonnull] [stale | fresh] [same %w], %v addr %x WORDS, or %v addr @g"
         }

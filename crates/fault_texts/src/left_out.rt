@@ -1,7 +1,7 @@
 //! L7: which option of which tool leaves a form out.
 use std::str;
 
-const DEBUG: &str = "leave debug information out: clang -g0, or opt -passes=strip";
+const DEBUG: &str = "leave debug information out: clang -g0, or opt -passes=strip,globaldce";
 
 const VECTORS: &str = "leave vectors out: clang -fno-vectorize -fno-slp-vectorize";
 
@@ -22,12 +22,12 @@ const LIFETIMES: &str =
     "clang -O0 writes none of these; clang -Xclang -disable-lifetime-markers leaves them out at -O1";
 
 const AGGREGATES: &str =
-    "keep structs and arrays out of registers and slots: opt -passes=sroa, and return a struct through the heap";
+    "keep structs and arrays out of registers and slots: clang -O1 -Xclang -disable-llvm-passes, and then opt -passes=sroa; return a struct through the heap";
 
 const POISON: &str = "a value that is not defined: give each variable a first value in the source";
 
 const MIN_MAX: &str =
-    "opt makes these from a comparison and a select: clang -O0 and opt -passes=sroa do not";
+    "passes make these from a comparison and a select: clang -O1 -Xclang -disable-llvm-passes and opt -passes=mem2reg do not";
 
 const CALLS: &str = "call functions by their names, with a fixed number of arguments";
 

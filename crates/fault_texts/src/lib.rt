@@ -6,5 +6,9 @@ mod faults;
 mod forms;
 mod left_out;
 mod near;
+mod traces;
 
-pub use faults::{CheckedTexts, put_cert_fault, put_layout_fault, put_read_fault};
+pub use faults::{
+    CheckedTexts, put_cert_fault, put_edits_fault, put_fault_of, put_layout_fault, put_read_fault,
+};
+pub use traces::{TracedTexts, put_trace_fault};

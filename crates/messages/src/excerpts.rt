@@ -223,12 +223,19 @@ pub fn put_token_line(
     put_part(out, pen, ink, position.line, line.bytes, part)
 }
 
-/// How many bytes a word has that begins here: up to a blank or the line's end, and at least one.
+/// Whether a byte is no part of a word: a blank, or a mark that stands alone.
+fn ends_word(byte: u8) -> bool {
+    matches!(
+        byte,
+        b' ' | b'\t' | b'\r' | b',' | b'(' | b')' | b'<' | b'>' | b'[' | b']' | b'{' | b'}'
+    )
+}
+
+/// How many bytes a word has that begins here: up to a blank, a mark or the line's end. A mark alone has none.
 fn word_length(line: &[u8], start: usize) -> usize {
-    line.get(start..)
-        .unwrap_or(&[])
+    between(line, start, line.len())
         .iter()
-        .take_while(|byte| !matches!(**byte, b' ' | b',' | b')' | b'\t' | b'\r'))
+        .take_while(|byte| !ends_word(**byte))
         .count()
 }
 

@@ -36,9 +36,18 @@ fn put_name(out: &mut Vec<u8>, scene: &Scene, sought: &Sought) -> Result<(), All
     }
 }
 
-/// The position of a place of a text.
+/// How many blanks a text begins with.
+fn blanks(text: &[u8]) -> usize {
+    text.iter()
+        .take_while(|byte| matches!(**byte, b' ' | b'\t'))
+        .count()
+}
+
+/// The position of the first word after a place of a text.
 fn position_of(text: &[u8], place: usize) -> Position {
-    Position::after(text.get(..place).unwrap_or(text))
+    let rest = text.get(place..).unwrap_or(&[]);
+    let word = place.saturating_add(blanks(rest));
+    Position::after(text.get(..word).unwrap_or(text))
 }
 
 /// Where a line of the certificate of a function is, if it is spelled as it would be printed.

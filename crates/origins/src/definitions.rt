@@ -157,6 +157,18 @@ pub fn blocks_between(
     Ok(blocks)
 }
 
+/// Whether a way from the beginning of the function leads to a block past the one that defines a value.
+pub fn is_bypassed(scene: &Scene, from: &Option<BlockId>, to: BlockId) -> Result<bool, AllocError> {
+    let entry = BlockId::new(0);
+    match from {
+        Some(from) if from.number() != 0 => {
+            let blocks = blocks_between(scene, &Some(*from), to)?;
+            Ok(is_among(blocks.as_slice(), entry))
+        }
+        _ => Ok(false),
+    }
+}
+
 /// Whether a value has to be listed at a block, and is not.
 pub fn is_missing(scene: &Scene, from: &Option<BlockId>, block: BlockId, value: ValueId) -> bool {
     let is_first = match from {

@@ -7,5 +7,7 @@ mod definitions;
 mod ways;
 
 pub use cert_lines::{Sought, cert_position};
-pub use definitions::{Definition, blocks_between, claim_after, definition_of, is_missing};
+pub use definitions::{
+    Definition, blocks_between, claim_after, definition_of, is_bypassed, is_missing,
+};
 pub use ways::{Lost, block_id, leads_to, local, safepoint_before};

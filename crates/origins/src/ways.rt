@@ -1,9 +1,10 @@
 //! The ways through a function that lead to an instruction, gone back over block by block.
 use certs::Mark;
+use diagnosis::{Change, last_change};
 use ir_ast::{
     Block, BlockId, End, Function, Incoming, Instr, Op, Operand, Phi, Runtime, SymbolSort, ValueId,
 };
-use scenes::{Scene, Spot};
+use scenes::{Scene, Spot, reference_of};
 use std::alloc::{AllocError, Global};
 use types::{runtime_called, target_of};
 
@@ -32,8 +33,7 @@ enum Met {
     /// A call that may reach a safepoint, and the value over it.
     Safepoint(usize, ValueId),
     Definition,
-    /// The beginning of the block, where the value has this name.
-    Beginning(ValueId),
+    Beginning,
 }
 
 fn is_block(function: &Function, label: ValueId, block: BlockId) -> bool {
@@ -129,7 +129,7 @@ fn met_in(scene: &Scene, body: &[Instr], way: &Way) -> Met {
             return Met::Safepoint(index, value);
         }
     }
-    Met::Beginning(value)
+    Met::Beginning
 }
 
 fn phi_of(phis: &[Phi], value: ValueId) -> Option<&Phi> {
@@ -138,7 +138,9 @@ fn phi_of(phis: &[Phi], value: ValueId) -> Option<&Phi> {
 
 fn is_among(ways: &[Way], way: &Way) -> bool {
     ways.iter().any(|other| {
-        other.block.number() == way.block.number() && other.value.number() == way.value.number()
+        other.block.number() == way.block.number()
+            && other.value.number() == way.value.number()
+            && other.upto == way.upto
     })
 }
 
@@ -228,26 +230,91 @@ fn block_at(function: &Function, block: BlockId) -> Option<&Block> {
     function.blocks.get(block.number() as usize)
 }
 
-/// Goes on from one place back; the call that is met, if one is.
-fn go_back(scene: &Scene, ways: &mut Vec<Way>, way: &Way) -> Result<Option<Lost>, AllocError> {
-    let function = scene.context.function;
-    let Some(block) = block_at(function, way.block) else {
-        return Ok(None);
-    };
-    match met_in(scene, block.body.as_slice(), way) {
-        Met::Safepoint(index, value) => Ok(Some(Lost {
-            spot: scene.spot_in(way.block, index),
-            value,
-        })),
-        Met::Definition => Ok(None),
-        Met::Beginning(value) => {
-            add_ways(scene, ways, way.block, block.phis.as_slice(), value)?;
-            Ok(None)
+/// The name of a value at the beginning of a block, if it is defined before.
+fn name_before(body: &[Instr], way: &Way) -> Option<ValueId> {
+    let mut value = way.value;
+    for instr in before(body, way.upto).iter().rev() {
+        if defines(instr, value) {
+            value = same_under_other_name(instr)?;
         }
+    }
+    Some(value)
+}
+
+/// The reference that a value is before an instruction, or that leads to its cell.
+fn reference_at(scene: &Scene, spot: &Spot, value: ValueId) -> Result<ValueId, AllocError> {
+    let facts = scene.facts_at(spot)?;
+    Ok(reference_of(&facts, value))
+}
+
+/// The instruction at which a reference becomes stale, up to this one of its block.
+fn last_stale(scene: &Scene, spot: &Spot, reference: ValueId) -> Result<Option<usize>, AllocError> {
+    last_change(
+        scene.pen.alloc,
+        &scene.context,
+        scene.refusal.func,
+        spot.block,
+        spot.place.saturating_add(1),
+        reference,
+        Change::Stale,
+    )
+}
+
+/// What is found of a value in a block.
+#[derive(Clone, Copy)]
+enum Found {
+    /// A call at which it becomes stale.
+    Since(Lost),
+    /// A call before which it is not known, or stale already.
+    Over(Lost),
+    Nothing,
+}
+
+/// What is found of a value in a block up to a call that may reach a safepoint.
+fn found_at(scene: &Scene, spot: &Spot, value: ValueId) -> Result<Found, AllocError> {
+    let reference = reference_at(scene, spot, value)?;
+    match last_stale(scene, spot, reference)? {
+        Some(index) => Ok(Found::Since(Lost {
+            spot: scene.spot_in(spot.block, index),
+            value: reference,
+        })),
+        None => Ok(Found::Over(Lost { spot: *spot, value })),
     }
 }
 
-/// The nearest call that may reach a safepoint on a way from the definition of a value to an instruction.
+/// Goes on from one place back to the blocks before.
+fn go_on(scene: &Scene, ways: &mut Vec<Way>, way: &Way, block: &Block) -> Result<(), AllocError> {
+    match name_before(block.body.as_slice(), way) {
+        Some(value) => add_ways(scene, ways, way.block, block.phis.as_slice(), value),
+        None => Ok(()),
+    }
+}
+
+/// What is found in a block from one place of it back.
+fn found_in(scene: &Scene, way: &Way, block: &Block) -> Result<Found, AllocError> {
+    match met_in(scene, block.body.as_slice(), way) {
+        Met::Safepoint(index, value) => {
+            let spot = scene.spot_in(way.block, index);
+            found_at(scene, &spot, value)
+        }
+        Met::Definition | Met::Beginning => Ok(Found::Nothing),
+    }
+}
+
+/// Goes on from one place back, if the value does not become stale in its block.
+fn go_back(scene: &Scene, ways: &mut Vec<Way>, way: &Way) -> Result<Found, AllocError> {
+    let Some(block) = block_at(scene.context.function, way.block) else {
+        return Ok(Found::Nothing);
+    };
+    let found = found_in(scene, way, block)?;
+    if !matches!(found, Found::Since(_)) {
+        go_on(scene, ways, way, block)?;
+    }
+    Ok(found)
+}
+
+/// The call on a way from the definition of a value to an instruction at which the value becomes stale. Where none is found, the nearest
+/// call that may reach a safepoint.
 pub fn safepoint_before(
     scene: &Scene,
     spot: &Spot,
@@ -259,14 +326,16 @@ pub fn safepoint_before(
         value,
         upto: spot.place.saturating_sub(scene.phis_of(spot.block)),
     })?;
+    let mut nearest = None;
     for turn in 0..FAR {
         let Some(way) = ways.get(turn).copied() else {
-            return Ok(None);
+            return Ok(nearest);
         };
-        let met = go_back(scene, &mut ways, &way)?;
-        if met.is_some() {
-            return Ok(met);
+        match go_back(scene, &mut ways, &way)? {
+            Found::Since(lost) => return Ok(Some(lost)),
+            Found::Over(lost) => nearest = nearest.or(Some(lost)),
+            Found::Nothing => {}
         }
     }
-    Ok(None)
+    Ok(nearest)
 }

@@ -11,7 +11,7 @@ mod subjects;
 
 pub use known::{put_claim, put_known};
 pub use names::{put_block, put_function, put_operand, put_spot, put_symbol, put_value};
-pub use operands::{operands_of, reference_of};
+pub use operands::{operands_of, reference_of, slot_among};
 pub use scene::{Scene, Source, Spot, There};
 pub use spans::token_within;
 pub use subjects::{arguments_of, is_runtime_call, place_of, subject_of};

@@ -47,6 +47,18 @@ fn object_named(scene: &Scene) -> Option<Operand> {
     }
 }
 
+/// The operand of a cast, or the base of a getelementptr.
+fn led(scene: &Scene) -> Option<Operand> {
+    let There::Body(instr) = scene.there() else {
+        return None;
+    };
+    match &instr.op {
+        Op::Cast(cast) => Some(cast.operand),
+        Op::Element(element) => Some(element.base),
+        _ => None,
+    }
+}
+
 /// The first index of a getelementptr that is no constant.
 fn index_of(operands: &[Operand]) -> Option<Operand> {
     match operands {
@@ -86,7 +98,8 @@ pub fn subject_of(scene: &Scene, operands: &[Operand]) -> Option<Operand> {
         Rule::K6 => stored(scene),
         Rule::K7 => object_named(scene),
         Rule::K10 => slot_among(scene, operands),
-        Rule::K8 | Rule::K11 | Rule::K16 | Rule::K19 => scene.result(),
+        Rule::K8 | Rule::K11 | Rule::K16 => scene.result(),
+        Rule::K19 => led(scene),
         _ => None,
     }
 }

@@ -1,0 +1,350 @@
+//! Makes the edits of a recheck again, and explains the first verdict, each edit that is refused, and the last verdict.
+ghost use Rattle.std.specs.Prelude.{◌≡◌, true, OnOk};
+ghost use Rattle.certs.specs.Fits.{fits};
+ghost use Rattle.explained_checks.specs.Explained.{GivesText};
+
+use crate::explained::{named, put_in_program, put_unread};
+use certificate::{CertFault, print_cert};
+use explain::Code;
+use fault_texts::{
+    CheckedTexts, put_cert_fault, put_edits_fault, put_fault_of, put_layout_fault, put_read_fault,
+};
+use ir_print::print;
+use messages::{Look, NamedText, Pen};
+use module_check::Reason;
+use recheck::{Edit, EditFault, Session};
+use reports::{Certified, Unread, edits_in, read_certified};
+use std::alloc::{AllocError, Global};
+use std::io;
+use std::io::Write;
+
+/// How a module is named that stands in no file.
+const EDITED_MODULE: &str = "edited module";
+
+/// How certificates are named that stand in no file.
+const EDITED_CERTS: &str = "edited certificate";
+
+/// The code in an edit, empty where there is none.
+fn code_in(edit: &Edit) -> &[u8] {
+    match edit {
+        Edit::Code { code, .. } => code.as_slice(),
+        Edit::Both { code, .. } => code.as_slice(),
+        Edit::Cert { .. } => &[],
+    }
+}
+
+/// The section in an edit, empty where there is none.
+fn section_in(edit: &Edit) -> &[u8] {
+    match edit {
+        Edit::Cert { section, .. } => section.as_slice(),
+        Edit::Both { section, .. } => section.as_slice(),
+        Edit::Code { .. } => &[],
+    }
+}
+
+/// The code of a fault of a section.
+fn code_of(fault: &CertFault) -> Option<Code> {
+    match fault {
+        CertFault::Syntax(_) => Some(Code::C1),
+        CertFault::Version(_) => Some(Code::C2),
+        CertFault::UnknownName(_) => Some(Code::C3),
+        CertFault::ListedTwice(_) => Some(Code::C4),
+        CertFault::Missing(_) | CertFault::MissingBlock(..) => Some(Code::C5),
+        CertFault::MissingWord(..) | CertFault::MissingGlobal(_) | CertFault::MissingRoot(..) => {
+            Some(Code::C6)
+        }
+        CertFault::Memory => None,
+    }
+}
+
+/// Explains why the section that stands does not fit the code of an edit.
+fn put_kept_fault(
+    pen: Pen,
+    out: &mut Vec<u8>,
+    path: &str,
+    fault: &CertFault,
+) -> Result<(), AllocError> {
+    match code_of(fault) {
+        Some(code) => put_fault_of(
+            pen,
+            out,
+            path,
+            code,
+            "the section that stands does not fit the new code: `edit both` gives a section with the code",
+        ),
+        None => Err(AllocError),
+    }
+}
+
+/// Explains why the section of an edit does not fit its code.
+fn put_section_fault(
+    pen: Pen,
+    out: &mut Vec<u8>,
+    session: &Session,
+    texts: CheckedTexts,
+    fault: &CertFault,
+) -> Result<(), AllocError> {
+    match fault {
+        CertFault::Missing(_) | CertFault::MissingBlock(..) => put_fault_of(
+            pen,
+            out,
+            texts.of_certs.path,
+            Code::C5,
+            "list each block of the code but the entry one in the section, as `block %b`",
+        ),
+        fault => put_cert_fault(pen, out, texts, session.program().module(), *fault),
+    }
+}
+
+/// Explains why an edit of this name is refused.
+fn put_edit_fault(
+    pen: Pen,
+    out: &mut Vec<u8>,
+    session: &Session,
+    path: &str,
+    edit: &Edit,
+    fault: &EditFault,
+) -> Result<(), AllocError> {
+    let of_module = NamedText {
+        path,
+        text: code_in(edit),
+    };
+    match fault {
+        EditFault::NoFunction => put_fault_of(
+            pen,
+            out,
+            path,
+            Code::L5,
+            "the edit names a function that the module does not define",
+        ),
+        EditFault::NoSection => put_fault_of(
+            pen,
+            out,
+            path,
+            Code::C3,
+            "the edit names a function that the module does not define",
+        ),
+        EditFault::ShapesWanted => put_fault_of(
+            pen,
+            out,
+            path,
+            Code::C2,
+            "begin the certificate with `cert 2` and its shapes: this code writes `ptr`",
+        ),
+        EditFault::Code(fault) => put_read_fault(pen, out, of_module, fault),
+        EditFault::Cert(fault) if matches!(edit, Edit::Code { .. }) => {
+            put_kept_fault(pen, out, path, fault)
+        }
+        EditFault::Cert(fault) => {
+            let of_certs = NamedText {
+                path,
+                text: section_in(edit),
+            };
+            let texts = CheckedTexts {
+                of_module,
+                of_certs,
+            };
+            put_section_fault(pen, out, session, texts, fault)
+        }
+        EditFault::Memory => Err(AllocError),
+    }
+}
+
+/// How the edit with this number is named.
+fn edit_name(alloc: Global, number: usize) -> Result<String, AllocError> {
+    let digits = number.to_string(alloc)?;
+    let mut name = String::new(alloc);
+    name.push_str("edit ")?;
+    name.push_str(digits.as_str())?;
+    Ok(name)
+}
+
+/// Explains why the edit with this number is refused.
+fn put_refused_edit(
+    pen: Pen,
+    out: &mut Vec<u8>,
+    session: &Session,
+    number: usize,
+    edit: &Edit,
+    fault: &EditFault,
+) -> Result<(), AllocError> {
+    let name = edit_name(pen.alloc, number)?;
+    put_edit_fault(pen, out, session, name.as_str(), edit, fault)
+}
+
+/// Makes an edit, and explains why it is refused.
+fn put_edit(
+    pen: Pen,
+    out: &mut Vec<u8>,
+    session: &mut Session,
+    number: usize,
+    edit: &Edit,
+) -> Result<(), AllocError> {
+    match session.apply(pen.alloc, edit) {
+        Ok(()) => Ok(()),
+        Err(fault) => {
+            let told = put_refused_edit(pen, out, session, number, edit, &fault);
+            drop(fault);
+            told
+        }
+    }
+}
+
+/// Makes edits, and explains each that is refused.
+fn put_edits(
+    pen: Pen,
+    out: &mut Vec<u8>,
+    session: &mut Session,
+    edits: &[Edit],
+) -> Result<(), AllocError> {
+    for (place, edit) in edits.iter().enumerate() {
+        put_edit(pen, out, session, place + 1, edit)?;
+    }
+    Ok(())
+}
+
+/// Explains the verdict on the edited module, by the text that is printed of it.
+fn put_last(pen: Pen, out: &mut Vec<u8>, session: &Session) -> Result<(), AllocError> {
+    let Some(refusal) = session.verdict() else {
+        return Ok(());
+    };
+    let program = session.program();
+    let module_text = print(pen.alloc, program.module())?;
+    let cert_text = print_cert(pen.alloc, session.certs(), program.module())?;
+    let texts = CheckedTexts {
+        of_module: NamedText {
+            path: EDITED_MODULE,
+            text: module_text.as_slice(),
+        },
+        of_certs: NamedText {
+            path: EDITED_CERTS,
+            text: cert_text.as_slice(),
+        },
+    };
+    put_in_program(pen, out, texts, program, session.certs(), refusal)
+}
+
+/// Explains the first verdict on a session, and then the edits. If the first verdict is yes, the last one is explained after them.
+fn put_session(
+    pen: Pen,
+    out: &mut Vec<u8>,
+    texts: CheckedTexts,
+    session: &mut Session,
+    edits: &[Edit],
+) -> Result<(), AllocError> {
+    match session.verdict() {
+        Some(refusal) => {
+            put_in_program(pen, out, texts, session.program(), session.certs(), refusal)?;
+            put_edits(pen, out, session, edits)
+        }
+        None => {
+            put_edits(pen, out, session, edits)?;
+            put_last(pen, out, session)
+        }
+    }
+}
+
+/// Begins a session of what was read of the files, and explains what comes of the edits.
+fn put_begun(
+    pen: Pen,
+    out: &mut Vec<u8>,
+    texts: CheckedTexts,
+    certified: Certified,
+    edits: &[Edit],
+) -> Result<(), AllocError>
+    requires { fits certified.of_module certified.certs.sections ≡ true }
+{
+    match Session::new(pen.alloc, certified.of_module, certified.certs) {
+        Ok(mut session) => {
+            let told = put_session(pen, out, texts, &mut session, edits);
+            drop(session);
+            told
+        }
+        Err(answer) => {
+            let told = match answer.verdict {
+                Reason::Layout(fault) => put_layout_fault(pen, out, texts.of_module.path, fault),
+                _ => Err(AllocError),
+            };
+            drop(answer);
+            told
+        }
+    }
+}
+
+/// Reads the edits of this path, the third file, and explains what comes of them.
+fn put_with_edits(
+    pen: Pen,
+    out: &mut Vec<u8>,
+    texts: CheckedTexts,
+    certified: Certified,
+    path: &str,
+    files: &[Option<Vec<u8>>],
+) -> Result<(), AllocError>
+    requires { fits certified.of_module certified.certs.sections ≡ true }
+{
+    match edits_in(pen.alloc, path, files, 2) {
+        Ok(edits) => {
+            let told = put_begun(pen, out, texts, certified, edits.as_slice());
+            drop(edits);
+            told
+        }
+        Err(unread) => {
+            drop(certified);
+            let told = match &unread {
+                Unread::NoEdits(fault) => put_edits_fault(pen, out, named(path, files, 2), fault),
+                _ => Ok(()),
+            };
+            drop(unread);
+            told
+        }
+    }
+}
+
+/// What is told of the files of these paths: a module, a certificate and edits.
+fn put_files(
+    pen: Pen,
+    out: &mut Vec<u8>,
+    paths: (&str, &str, &str),
+    files: &[Option<Vec<u8>>],
+) -> Result<(), AllocError> {
+    let texts = CheckedTexts {
+        of_module: named(paths.0, files, 0),
+        of_certs: named(paths.1, files, 1),
+    };
+    match read_certified(pen.alloc, (paths.0, paths.1), files) {
+        Ok(certified) => put_with_edits(pen, out, texts, certified, paths.2, files),
+        Err(unread) => {
+            let told = put_unread(pen, out, texts, &unread);
+            drop(unread);
+            told
+        }
+    }
+}
+
+/// The text of what is told of the files of these paths.
+fn text_of_recheck(
+    pen: Pen,
+    paths: (&str, &str, &str),
+    files: &[Option<Vec<u8>>],
+) -> Result<Vec<u8>, AllocError> {
+    let mut out = Vec::new(pen.alloc);
+    put_files(pen, &mut out, paths, files)?;
+    Ok(out)
+}
+
+/// Explains why the module of the first path is not accepted with the certificate of the second, before or after the edits of the third,
+/// and why edits are refused.
+pub fn explain_recheck<E: Write>(
+    alloc: Global,
+    look: Look,
+    paths: (&str, &str, &str),
+    files: &[Option<Vec<u8>>],
+    err: &mut E,
+) -> io::Result<()>
+    ensures { OnOk result (GivesText (E.contents err.old) (E.contents err.new)) }
+{
+    match text_of_recheck(Pen { alloc, look }, paths, files) {
+        Ok(text) => err.write_all(text.as_slice()),
+        Err(_) => writeln!(err, "no memory to explain it"),
+    }
+}

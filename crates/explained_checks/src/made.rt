@@ -1,0 +1,196 @@
+//! Makes certificates of a module again, and explains the first refusal with the boldest that were tried.
+ghost use Rattle.std.specs.Prelude.{OnOk};
+ghost use Rattle.explained_checks.specs.Explained.{GivesText};
+
+use crate::explained::{named, put_in_program, put_unread};
+use cert_maker::{MakeFault, NotMade, Refused, make};
+use certificate::print_cert;
+use copies::copy_shapes;
+use fault_texts::{CheckedTexts, put_layout_fault};
+use ir_ast::{Module, Shapes};
+use messages::{Look, NamedText, Pen};
+use module_check::UnderCheck;
+use reports::shaped_in;
+use std::alloc::{AllocError, Global};
+use std::io;
+use std::io::Write;
+
+/// How the certificate is named that stands in no file.
+const TRIED: &str = "certificate";
+
+/// Explains the first refusal of a module with some certificates.
+fn put_under(
+    pen: Pen,
+    out: &mut Vec<u8>,
+    texts: CheckedTexts,
+    of_module: Module,
+    tried: &Refused,
+) -> Result<(), AllocError> {
+    match UnderCheck::new(pen.alloc, of_module, &tried.certs) {
+        Ok(under) => {
+            let program = under.program();
+            let told = put_in_program(pen, out, texts, program, &tried.certs, tried.refusal);
+            drop(under);
+            told
+        }
+        Err(refused) => {
+            drop(refused);
+            Err(AllocError)
+        }
+    }
+}
+
+/// Explains the first refusal of a module with some certificates, whose text is made for that.
+fn put_tried(
+    pen: Pen,
+    out: &mut Vec<u8>,
+    of_file: NamedText,
+    of_module: Module,
+    tried: &Refused,
+) -> Result<(), AllocError> {
+    match print_cert(pen.alloc, &tried.certs, &of_module) {
+        Ok(text) => {
+            let texts = CheckedTexts {
+                of_module: of_file,
+                of_certs: NamedText {
+                    path: TRIED,
+                    text: text.as_slice(),
+                },
+            };
+            put_under(pen, out, texts, of_module, tried)
+        }
+        Err(error) => {
+            drop(of_module);
+            Err(error)
+        }
+    }
+}
+
+/// Explains the first refusal of a module with some certificates, which are given its shapes.
+fn put_shaped(
+    pen: Pen,
+    out: &mut Vec<u8>,
+    of_file: NamedText,
+    of_module: Module,
+    tried: Refused,
+) -> Result<(), AllocError> {
+    match copy_shapes(pen.alloc, &of_module.shapes) {
+        Ok(shapes) => {
+            let tried = with_shapes(tried, shapes);
+            let told = put_tried(pen, out, of_file, of_module, &tried);
+            drop(tried);
+            told
+        }
+        Err(error) => {
+            drop(of_module);
+            drop(tried);
+            Err(error)
+        }
+    }
+}
+
+/// The same certificates with these shapes.
+fn with_shapes(tried: Refused, shapes: Option<Shapes>) -> Refused {
+    let mut tried = tried;
+    tried.certs.shapes = shapes;
+    tried
+}
+
+/// Explains why no certificates were tried.
+fn put_untried(
+    pen: Pen,
+    out: &mut Vec<u8>,
+    path: &str,
+    fault: &MakeFault,
+) -> Result<(), AllocError> {
+    match fault {
+        MakeFault::Layout(fault) => put_layout_fault(pen, out, path, *fault),
+        _ => Ok(()),
+    }
+}
+
+/// Explains why no certificates are made.
+fn put_unmade(
+    pen: Pen,
+    out: &mut Vec<u8>,
+    of_file: NamedText,
+    unmade: NotMade,
+) -> Result<(), AllocError> {
+    let NotMade {
+        fault,
+        of_module,
+        refused,
+    } = unmade;
+    match refused {
+        Some(tried) => put_shaped(pen, out, of_file, of_module, tried),
+        None => {
+            drop(of_module);
+            put_untried(pen, out, of_file.path, &fault)
+        }
+    }
+}
+
+/// Makes certificates of a module, and explains why there are none.
+fn put_made(
+    pen: Pen,
+    out: &mut Vec<u8>,
+    of_file: NamedText,
+    of_module: Module,
+) -> Result<(), AllocError> {
+    match make(pen.alloc, of_module) {
+        Ok(made) => {
+            drop(made);
+            Ok(())
+        }
+        Err(unmade) => put_unmade(pen, out, of_file, unmade),
+    }
+}
+
+/// What is told of the files of these paths.
+fn put_files(
+    pen: Pen,
+    out: &mut Vec<u8>,
+    paths: (&str, Option<&str>),
+    files: &[Option<Vec<u8>>],
+) -> Result<(), AllocError> {
+    let of_file = named(paths.0, files, 0);
+    match shaped_in(pen.alloc, paths, files, 1) {
+        Ok(of_module) => put_made(pen, out, of_file, of_module),
+        Err(unread) => {
+            let texts = CheckedTexts {
+                of_module: of_file,
+                of_certs: named(paths.1.unwrap_or(""), files, 1),
+            };
+            let told = put_unread(pen, out, texts, &unread);
+            drop(unread);
+            told
+        }
+    }
+}
+
+/// The text of what is told of the files of these paths.
+fn text_of_make(
+    pen: Pen,
+    paths: (&str, Option<&str>),
+    files: &[Option<Vec<u8>>],
+) -> Result<Vec<u8>, AllocError> {
+    let mut out = Vec::new(pen.alloc);
+    put_files(pen, &mut out, paths, files)?;
+    Ok(out)
+}
+
+/// Explains why no certificates of the module of the first path are made with the shapes of the second.
+pub fn explain_make<E: Write>(
+    alloc: Global,
+    look: Look,
+    paths: (&str, Option<&str>),
+    files: &[Option<Vec<u8>>],
+    err: &mut E,
+) -> io::Result<()>
+    ensures { OnOk result (GivesText (E.contents err.old) (E.contents err.new)) }
+{
+    match text_of_make(Pen { alloc, look }, paths, files) {
+        Ok(text) => err.write_all(text.as_slice()),
+        Err(_) => writeln!(err, "no memory to explain it"),
+    }
+}

@@ -1,0 +1,22 @@
+//! What is told of a refusal besides its line: its place in the text, the rule, what is known there, and what mends it.
+//! These are texts: no contract says more than that they are made.
+#![tactic(auto)]
+
+mod cells;
+mod edges;
+mod mismatches;
+mod missing;
+mod missing_blocks;
+mod notes;
+mod nulls;
+mod phis;
+mod promised;
+mod refusals;
+mod rules;
+mod stale;
+mod told;
+mod unknown;
+mod write_barrier;
+
+pub use refusals::{Texts, put_refusal};
+pub use scenes::Source;

@@ -1,0 +1,176 @@
+//! K4: a base that may be null, where it came in, and what would show that it is not.
+use crate::notes::{put_line, put_mend, put_note, put_or};
+use crate::told::{Told, value_in};
+use crate::write_barrier::spot_of;
+use certs::is_opaque_text;
+use ir_ast::{MemoryOp, Op, Operand, ValueId};
+use origins::{Definition, definition_of};
+use scenes::Scene;
+use std::alloc::AllocError;
+
+/// Whether an instruction of the body of the refused one's block defines a value.
+pub fn is_made_here(scene: &Scene, value: ValueId) -> bool {
+    let block = scene.refusal.block;
+    match spot_of(scene, value) {
+        Some(spot) => {
+            spot.block.number() == block.number() && spot.place >= scene.phis_of(block)
+        }
+        None => false,
+    }
+}
+
+/// Whether an operand names a value.
+pub fn is_value(value: ValueId, operand: Option<Operand>) -> bool {
+    match value_in(operand) {
+        Some(other) => value.number() == other.number(),
+        None => false,
+    }
+}
+
+fn is_same(one: Option<Operand>, other: Option<Operand>) -> bool {
+    match value_in(one) {
+        Some(one) => is_value(one, other),
+        None => false,
+    }
+}
+
+/// The place, whose base may be null.
+pub fn put_place_line(out: &mut Vec<u8>, told: &Told) -> Result<(), AllocError> {
+    if told.place.is_none() || is_same(told.it, told.place) {
+        return put_line(out, told, told.it, "used as the base of a place");
+    }
+    put_line(out, told, told.place, "a place in the cell of {it}")
+}
+
+/// Where the base came in.
+pub fn put_base_note(out: &mut Vec<u8>, told: &Told) -> Result<(), AllocError> {
+    let Some(Operand::Local(place)) = told.place else {
+        return Ok(());
+    };
+    let scene = told.scene;
+    if is_same(told.it, told.place) {
+        return Ok(());
+    }
+    match spot_of(scene, place) {
+        Some(spot) => {
+            put_note(
+                out,
+                told,
+                &spot,
+                told.it,
+                "{it} is the base of {place} from here on",
+            )
+        }
+        _ => Ok(()),
+    }
+}
+
+/// The slot from which a value is loaded.
+fn slot_loaded(scene: &Scene, value: ValueId) -> Option<Operand> {
+    let spot = spot_of(scene, value)?;
+    let block = scene
+        .context
+        .function
+        .blocks
+        .get(spot.block.number() as usize)?;
+    let instr = block.body.get(spot.place.checked_sub(block.phis.len())?)?;
+    match &instr.op {
+        Op::Memory(MemoryOp::Load { place, .. }) => match place {
+            Operand::Local(slot) => {
+                scene.context.slots.slot_of(*slot)?;
+                Some(*place)
+            }
+            _ => None,
+        },
+        _ => None,
+    }
+}
+
+/// Where the value that may be null comes from.
+pub fn put_source_note(out: &mut Vec<u8>, told: &Told, value: ValueId) -> Result<(), AllocError> {
+    let scene = told.scene;
+    let definition = definition_of(scene.context.function, value);
+    match &definition {
+        Definition::At(spot) => put_note(
+            out,
+            told,
+            spot,
+            None,
+            "{it} is defined here, and not compared with null on the way",
+        ),
+        _ => Ok(()),
+    }
+}
+
+/// The comparison that shows that it is not null.
+fn put_test(out: &mut Vec<u8>, told: &Told) -> Result<(), AllocError> {
+    let scene = told.scene;
+    if is_opaque_text(scene.context.module()) {
+        return put_mend(
+            out,
+            told,
+            "compare and branch before: icmp eq ptr {it}, null; use it where that is false",
+        );
+    }
+    put_mend(
+        out,
+        told,
+        "compare {it} with null by icmp eq and branch before; use it where that is false",
+    )
+}
+
+/// What may be listed of the slot from which the value is loaded.
+fn put_slot_listed(out: &mut Vec<u8>, told: &Told, value: ValueId) -> Result<(), AllocError> {
+    let scene = told.scene;
+    if is_made_here(scene, value) {
+        let text =
+            "or list `slot {place} nonnull` under `block {here}`, where each edge into that implies it";
+        return put_or(out, told, text);
+    }
+    match definition_of(scene.context.function, value).block() {
+        Some(block) if block.number() != 0 => put_or(
+            out,
+            &told.with_block(block),
+            "or list `slot {place} nonnull` under `block {to}`, and {it} with `nonnull` under each block from there to {here}",
+        ),
+        _ => Ok(()),
+    }
+}
+
+/// What a block may list in place of that.
+fn put_listed(out: &mut Vec<u8>, told: &Told, value: ValueId) -> Result<(), AllocError> {
+    match slot_loaded(told.scene, value) {
+        Some(slot) => put_slot_listed(out, &told.with_place(slot), value),
+        None if is_made_here(told.scene, value) => Ok(()),
+        None => put_or(
+            out,
+            told,
+            "or list {it} with `nonnull` under `block {here}`, where each edge into that implies it",
+        ),
+    }
+}
+
+/// What the certificate may say in place of that.
+fn put_claimed(out: &mut Vec<u8>, told: &Told, value: ValueId) -> Result<(), AllocError> {
+    let scene = told.scene;
+    if scene.refusal.block.number() != 0 {
+        return put_listed(out, told, value);
+    }
+    match definition_of(scene.context.function, value) {
+        Definition::Parameter(_) => put_or(
+            out,
+            told,
+            "or add `nonnull` to the `param {it}` line of the certificate; each call then has to keep it",
+        ),
+        _ => Ok(()),
+    }
+}
+
+/// What shows that it is not null.
+pub fn put_shown(out: &mut Vec<u8>, told: &Told) -> Result<(), AllocError> {
+    put_test(out, told)?;
+    match told.it {
+        Some(Operand::Local(value)) => put_claimed(out, told, value),
+        _ => Ok(()),
+    }
+}

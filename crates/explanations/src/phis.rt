@@ -1,0 +1,83 @@
+//! K16: an entry of a phi that is missing, or one too many.
+use crate::told::Told;
+use ir_ast::{BlockId, Function, Incoming};
+use origins::{block_id, leads_to};
+use scenes::{Scene, There};
+use types::target_of;
+
+/// What is wrong with the entries of a phi.
+#[derive(Clone, Copy)]
+pub enum Entries {
+    Missing(BlockId),
+    Extra(BlockId),
+    /// Two of one block, or another fault.
+    Other,
+}
+
+fn is_from(function: &Function, entry: &Incoming, block: BlockId) -> bool {
+    match target_of(function, entry.from) {
+        Some(from) => from.number() == block.number(),
+        None => false,
+    }
+}
+
+/// Whether a phi has an entry of a block.
+fn has_entry(function: &Function, incoming: &[Incoming], block: BlockId) -> bool {
+    incoming.iter().any(|entry| is_from(function, entry, block))
+}
+
+/// The first block that leads to this one without an entry, or has one and does not lead here.
+fn first_wrong(function: &Function, incoming: &[Incoming], here: BlockId) -> Entries {
+    for (place, block) in function.blocks.as_slice().iter().enumerate() {
+        if let Some(id) = block_id(place) {
+            let leads = leads_to(function, &block.end, here);
+            let has = has_entry(function, incoming, id);
+            if leads != has {
+                return if leads {
+                    Entries::Missing(id)
+                } else {
+                    Entries::Extra(id)
+                };
+            }
+        }
+    }
+    Entries::Other
+}
+
+/// What is wrong with the entries of the refused phi.
+pub fn entries_of(scene: &Scene) -> Entries {
+    match scene.there() {
+        There::Phi(phi) => first_wrong(
+            scene.context.function,
+            phi.incoming.as_slice(),
+            scene.refusal.block,
+        ),
+        _ => Entries::Other,
+    }
+}
+
+/// The same text with the block.
+pub fn told_of<'a>(told: &Told<'a>, entries: &Entries) -> Told<'a> {
+    match entries {
+        Entries::Missing(block) | Entries::Extra(block) => told.with_block(*block),
+        Entries::Other => told.with_number(0),
+    }
+}
+
+/// K16 in one sentence.
+pub fn sentence_of(entries: &Entries) -> &'static str {
+    match entries {
+        Entries::Missing(_) => "{it} has no entry for {to}, which leads to {here}",
+        Entries::Extra(_) => "{it} has an entry for {to}, which does not lead to {here}",
+        Entries::Other => "{it} does not have one entry for each block that leads to {here}",
+    }
+}
+
+/// What mends it.
+pub fn mend_of(entries: &Entries) -> &'static str {
+    match entries {
+        Entries::Missing(_) => "add an entry `[ VALUE, {to} ]`",
+        Entries::Extra(_) => "take the entry for {to} out",
+        Entries::Other => "write one entry for each block that leads here, and none for another",
+    }
+}

@@ -1,0 +1,373 @@
+//! What is told of a refused instruction.
+use crate::cells::{
+    element_base, mistyped_in, operand_of, put_inside, put_outside, put_outside_line, put_types,
+    put_words_of,
+};
+use crate::edges::{learn_branch, put_edge};
+use crate::mismatches::{mismatch_of, put_mismatch};
+use crate::notes::{put_line, put_mend, put_or};
+use crate::nulls::{put_base_note, put_place_line, put_shown, put_source_note};
+use crate::promised::{
+    broken_promise, put_kept, put_mark, put_own_line, put_promise, returned, unkept_result,
+};
+use crate::rules::{Page, TYPED_ROOT, page_of};
+use crate::stale::{lost_before, put_reload, put_stale_since};
+use crate::told::{Told, put_text, value_in};
+use crate::write_barrier::{base_of, put_barrier, put_object, put_stored_line, put_unfresh};
+use crate::{cells, phis, promised, unknown};
+use block_rules::{Refusal, Rule, RuleContext};
+use certs::{Certs, is_opaque_text};
+use diagnosis::facts_before;
+use facts::Facts;
+use ir_ast::{Function, Operand};
+use layout::Program;
+use messages::{Ink, NamedText, Pen, begin_ink, end_ink, put, put_inked};
+use origins::{Sought, local};
+use scenes::{
+    Scene, Source, arguments_of, is_runtime_call, operands_of, place_of, put_known, put_spot,
+    subject_of,
+};
+use shadow_stack::slots_of;
+use std::alloc::AllocError;
+
+pub fn name_of(rule: Rule) -> &'static str {
+    match rule {
+        Rule::K1 => "K1",
+        Rule::K2 => "K2",
+        Rule::K3 => "K3",
+        Rule::K4 => "K4",
+        Rule::K5 => "K5",
+        Rule::K6 => "K6",
+        Rule::K7 => "K7",
+        Rule::K8 => "K8",
+        Rule::K9 => "K9",
+        Rule::K10 => "K10",
+        Rule::K11 => "K11",
+        Rule::K12 => "K12",
+        Rule::K13 => "K13",
+        Rule::K14 => "K14",
+        Rule::K15 => "K15",
+        Rule::K16 => "K16",
+        Rule::K17 => "K17",
+        Rule::K18 => "K18",
+        Rule::K19 => "K19",
+        Rule::K20 => "K20",
+    }
+}
+
+/// The place and the code: `plain.ll:23:7: K6: `.
+fn put_head(out: &mut Vec<u8>, scene: &Scene) -> Result<(), AllocError> {
+    begin_ink(out, scene.pen.look, Ink::Place)?;
+    let spot = scene.spot();
+    put_spot(out, scene, &spot)?;
+    end_ink(out, scene.pen.look)?;
+    put(out, ": ")?;
+    let name = name_of(scene.refusal.rule);
+    put_inked(out, scene.pen.look, Ink::Fault, name)?;
+    put(out, ": ")
+}
+
+/// The place of the refused instruction: of a load or a store, or the last argument of a barrier.
+fn place_in(scene: &Scene) -> Option<Operand> {
+    match (scene.refusal.rule, arguments_of(scene)) {
+        (Rule::K2 | Rule::K4 | Rule::K7, [_, .., place]) if is_runtime_call(scene) => {
+            Some(place.operand)
+        }
+        _ => place_of(scene),
+    }
+}
+
+/// What a text of the refused instruction speaks of.
+fn told_of<'a>(scene: &'a Scene<'a>, operands: &[Operand]) -> Told<'a> {
+    let place = place_in(scene);
+    let base = match base_of(scene, &place) {
+        Some(base) => Some(Operand::Local(base)),
+        None => None,
+    };
+    Told {
+        scene,
+        it: subject_of(scene, operands),
+        place,
+        base,
+        other: None,
+        number: 0,
+    }
+}
+
+/// K1.
+fn put_unavailable(out: &mut Vec<u8>, told: &Told) -> Result<(), AllocError> {
+    match value_in(told.it) {
+        Some(value) => unknown::put_unavailable(out, told, value),
+        None => put_by_page(out, told, page_of(Rule::K18)),
+    }
+}
+
+/// K2.
+fn put_mistyped(out: &mut Vec<u8>, told: &Told, operands: &[Operand]) -> Result<(), AllocError> {
+    let mistyped = mistyped_in(told.scene, operands, told.place);
+    let told = told.with_it(operand_of(&mistyped));
+    put_text(out, &told, cells::sentence_of(&mistyped))?;
+    put(out, "\n")?;
+    put_line(out, &told, told.it, "")?;
+    put_known(out, told.scene, operands)?;
+    put_types(out, &told, &mistyped)
+}
+
+/// K3.
+fn put_stale(out: &mut Vec<u8>, told: &Told, operands: &[Operand]) -> Result<(), AllocError> {
+    put_line(out, told, told.it, "")?;
+    let value = match told.it {
+        Some(operand) => local(operand),
+        None => None,
+    };
+    let scene = told.scene;
+    let spot = scene.spot();
+    let lost = lost_before(scene, &spot, value)?;
+    put_stale_since(out, told, &lost)?;
+    put_known(out, scene, operands)?;
+    put_reload(out, told, &lost)
+}
+
+/// K4.
+fn put_nullable(out: &mut Vec<u8>, told: &Told, operands: &[Operand]) -> Result<(), AllocError> {
+    put_place_line(out, told)?;
+    put_base_note(out, told)?;
+    if let Some(Operand::Local(value)) = told.it {
+        put_source_note(out, told, value)?;
+    }
+    put_known(out, told.scene, operands)?;
+    put_shown(out, told)
+}
+
+/// K5.
+fn put_out_of_cell(out: &mut Vec<u8>, told: &Told, operands: &[Operand]) -> Result<(), AllocError> {
+    let told = Told::of(told.scene, element_base(told.scene));
+    if let Some(mismatch) = mismatch_of(told.scene, told.it) {
+        return put_mismatch(out, &told, operands, &mismatch);
+    }
+    put_outside(out, &told)?;
+    put(out, "\n")?;
+    put_outside_line(out, &told)?;
+    put_known(out, told.scene, operands)?;
+    put_words_of(out, told.scene, told.it)?;
+    put_inside(out, &told)
+}
+
+/// K19.
+fn put_led(out: &mut Vec<u8>, told: &Told, operands: &[Operand]) -> Result<(), AllocError> {
+    match mismatch_of(told.scene, told.it) {
+        Some(mismatch) => put_mismatch(out, told, operands, &mismatch),
+        None => put_by_page(out, told, page_of(Rule::K19)),
+    }
+}
+
+/// K6.
+fn put_unbarred(out: &mut Vec<u8>, told: &Told, operands: &[Operand]) -> Result<(), AllocError> {
+    put_stored_line(out, told)?;
+    put_unfresh(out, told)?;
+    put_known(out, told.scene, operands)?;
+    put_barrier(out, told)
+}
+
+/// K7.
+fn put_other_object(
+    out: &mut Vec<u8>,
+    told: &Told,
+    operands: &[Operand],
+) -> Result<(), AllocError> {
+    let label = if told.base.is_some() {
+        "the place is in the cell of {base}"
+    } else {
+        "the place is in the cell of no object"
+    };
+    put_line(out, told, told.it, label)?;
+    put_known(out, told.scene, operands)?;
+    put_object(out, told)
+}
+
+/// K13.
+fn put_argument(out: &mut Vec<u8>, told: &Told) -> Result<(), AllocError> {
+    let Some(broken) = broken_promise(told.scene) else {
+        return put_by_page(out, told, page_of(Rule::K18));
+    };
+    let told = Told::of(told.scene, Some(broken.operand));
+    let word = Some(broken.word);
+    put_text(out, &told, promised::sentence_of(word))?;
+    put(out, " of this parameter of ")?;
+    put_text(out, &told, "{callee}\n")?;
+    put_line(out, &told, told.it, "")?;
+    put_promise(out, &told, broken.parameter)?;
+    put_known(out, told.scene, [broken.operand].as_slice())?;
+    put_kept(out, &told, word)
+}
+
+/// K14.
+fn put_result(out: &mut Vec<u8>, told: &Told) -> Result<(), AllocError> {
+    let told = Told::of(told.scene, returned(told.scene));
+    let word = unkept_result(told.scene);
+    put_text(out, &told, promised::sentence_of(word))?;
+    put(out, " of the result\n")?;
+    put_line(out, &told, told.it, "")?;
+    put_own_line(out, &told, &Sought::Result, "the promise")?;
+    put_known(out, told.scene, operands_of_result(told.it).as_slice())?;
+    put_kept(out, &told, word)
+}
+
+fn operands_of_result(operand: Option<Operand>) -> [Operand; 1] {
+    match operand {
+        Some(operand) => [operand],
+        None => [Operand::Constant(ir_ast::Constant::Null)],
+    }
+}
+
+/// K16.
+fn put_entries(out: &mut Vec<u8>, told: &Told) -> Result<(), AllocError> {
+    let entries = phis::entries_of(told.scene);
+    let told = phis::told_of(told, &entries);
+    put_text(out, &told, phis::sentence_of(&entries))?;
+    put(out, "\n")?;
+    put_line(out, &told, None, "")?;
+    put_mend(out, &told, phis::mend_of(&entries))
+}
+
+fn put_other_way(out: &mut Vec<u8>, told: &Told, text: &str) -> Result<(), AllocError> {
+    if text.is_empty() {
+        Ok(())
+    } else {
+        put_or(out, told, text)
+    }
+}
+
+/// What a page says of an instruction.
+fn put_by_page(out: &mut Vec<u8>, told: &Told, page: Page) -> Result<(), AllocError> {
+    put_text(out, told, page.sentence)?;
+    put(out, "\n")?;
+    put_line(out, told, told.it, page.label)?;
+    put_mend(out, told, page.mend)?;
+    put_other_way(out, told, page.other)
+}
+
+/// K17.
+fn put_unmarked(out: &mut Vec<u8>, told: &Told) -> Result<(), AllocError> {
+    put_line(out, told, None, "")?;
+    put_mark(out, told)
+}
+
+/// The sentence of a page, and the end of its line.
+fn put_sentence(out: &mut Vec<u8>, told: &Told) -> Result<(), AllocError> {
+    let scene = told.scene;
+    put_text(out, told, page_of(scene.refusal.rule).sentence)?;
+    put(out, "\n")
+}
+
+/// An instruction that breaks a rule on what is known of its operands.
+fn put_by_facts(out: &mut Vec<u8>, told: &Told, operands: &[Operand]) -> Result<(), AllocError> {
+    put_sentence(out, told)?;
+    let scene = told.scene;
+    match scene.refusal.rule {
+        Rule::K3 => put_stale(out, told, operands),
+        Rule::K4 => put_nullable(out, told, operands),
+        Rule::K6 => put_unbarred(out, told, operands),
+        Rule::K7 => put_other_object(out, told, operands),
+        _ => put_unmarked(out, told),
+    }
+}
+
+/// An instruction that breaks a rule by its operands.
+fn put_instruction(out: &mut Vec<u8>, told: &Told, operands: &[Operand]) -> Result<(), AllocError> {
+    let scene = told.scene;
+    match scene.refusal.rule {
+        Rule::K1 => put_unavailable(out, told),
+        Rule::K2 => put_mistyped(out, told, operands),
+        Rule::K5 => put_out_of_cell(out, told, operands),
+        Rule::K13 => put_argument(out, told),
+        Rule::K14 => put_result(out, told),
+        Rule::K16 => put_entries(out, told),
+        Rule::K19 => put_led(out, told, operands),
+        Rule::K3 | Rule::K4 | Rule::K6 | Rule::K7 | Rule::K17 => put_by_facts(out, told, operands),
+        Rule::K8 if !is_opaque_text(scene.context.module()) => {
+            put_by_page(out, told, TYPED_ROOT)
+        }
+        rule => put_by_page(out, told, page_of(rule)),
+    }
+}
+
+fn put_scene(out: &mut Vec<u8>, scene: &Scene) -> Result<(), AllocError> {
+    put_head(out, scene)?;
+    if let Some(detail) = &scene.refusal.detail {
+        return put_edge(out, scene, detail);
+    }
+    let operands = operands_of(scene.pen.alloc, scene.there())?;
+    let told = told_of(scene, operands.as_slice());
+    put_instruction(out, &told, operands.as_slice())
+}
+
+/// The texts of a module and its certificate.
+#[derive(Clone, Copy)]
+pub struct Texts<'a> {
+    pub source: Source<'a>,
+    pub certificate: NamedText<'a>,
+}
+
+/// What is known on the edge of a refusal, if it is of one.
+fn learn_edge(facts: &mut Facts, function: &Function, refusal: &Refusal) -> Result<(), AllocError> {
+    match &refusal.detail {
+        Some(detail) => learn_branch(facts, function, refusal.block, detail.target),
+        None => Ok(()),
+    }
+}
+
+/// What is told of an instruction of this function.
+fn put_refusal_in(
+    pen: Pen,
+    out: &mut Vec<u8>,
+    texts: Texts,
+    program: &Program,
+    certs: &Certs,
+    function: &Function,
+    refusal: Refusal,
+) -> Result<(), AllocError> {
+    let slots = slots_of(pen.alloc, program.module(), function)?;
+    let context = RuleContext {
+        program,
+        certs,
+        function,
+        slots: &slots,
+    };
+    let mut facts = facts_before(
+        pen.alloc,
+        &context,
+        refusal.func,
+        refusal.block,
+        refusal.instr,
+    )?;
+    learn_edge(&mut facts, function, &refusal)?;
+    let scene = Scene {
+        pen,
+        source: texts.source,
+        certificate: texts.certificate,
+        context,
+        facts: &facts,
+        refusal,
+    };
+    put_scene(out, &scene)
+}
+
+/// What is told of a refusal besides its line, by the texts of the module and of the certificate.
+pub fn put_refusal(
+    pen: Pen,
+    out: &mut Vec<u8>,
+    texts: Texts,
+    program: &Program,
+    certs: &Certs,
+    refusal: Refusal,
+) -> Result<(), AllocError> {
+    match program
+        .module()
+        .functions
+        .get(refusal.func.number() as usize)
+    {
+        Some(function) => put_refusal_in(pen, out, texts, program, certs, function, refusal),
+        None => Ok(()),
+    }
+}

@@ -1,0 +1,114 @@
+//! A reference that is stale: since which call, and how it is loaded again.
+use crate::notes::{put_mend, put_note};
+use crate::told::Told;
+use facts::{ClassId, Facts, Known};
+use ir_ast::{Instr, MemoryOp, Op, Operand, ValueId};
+use origins::{Lost, safepoint_before};
+use scenes::{Scene, Spot};
+use std::alloc::AllocError;
+
+fn class_of(facts: &Facts, value: ValueId) -> Option<ClassId> {
+    match facts.known(value) {
+        Known::Cell { class, .. } => Some(class),
+        _ => None,
+    }
+}
+
+/// The slot that an instruction makes, if it holds what is of this class.
+fn slot_with(scene: &Scene, facts: &Facts, instr: &Instr, class: ClassId) -> Option<ValueId> {
+    if !matches!(instr.op, Op::Memory(MemoryOp::Alloca(_))) {
+        return None;
+    }
+    let name = instr.result?;
+    let slot = scene.context.slots.slot_of(name)?;
+    let held = facts.slot(slot).holds?;
+    if held.number() == class.number() {
+        Some(name)
+    } else {
+        None
+    }
+}
+
+/// The root slot that holds what is of this class.
+fn slot_among(scene: &Scene, facts: &Facts, class: ClassId) -> Option<ValueId> {
+    let entry = scene.context.function.blocks.get(0)?;
+    for instr in entry.body.as_slice() {
+        let name = slot_with(scene, facts, instr, class);
+        if name.is_some() {
+            return name;
+        }
+    }
+    None
+}
+
+/// The root slot that holds a reference when a call may reach a safepoint.
+fn slot_at(scene: &Scene, lost: &Lost) -> Result<Option<ValueId>, AllocError> {
+    let facts = scene.facts_at(&lost.spot)?;
+    match class_of(&facts, lost.value) {
+        Some(class) => Ok(slot_among(scene, &facts, class)),
+        None => Ok(None),
+    }
+}
+
+/// The call since which a value is stale at an instruction.
+pub fn lost_before(
+    scene: &Scene,
+    spot: &Spot,
+    value: Option<ValueId>,
+) -> Result<Option<Lost>, AllocError> {
+    match value {
+        Some(value) => safepoint_before(scene, spot, value),
+        None => Ok(None),
+    }
+}
+
+/// The call after which a reference is stale.
+pub fn put_stale_at(out: &mut Vec<u8>, told: &Told, lost: &Lost) -> Result<(), AllocError> {
+    let told = told.with_it(Some(Operand::Local(lost.value)));
+    let text = "this call may reach a safepoint: {it} is stale from here on";
+    put_note(out, &told, &lost.spot, None, text)
+}
+
+/// The same, if there is one.
+pub fn put_stale_since(
+    out: &mut Vec<u8>,
+    told: &Told,
+    lost: &Option<Lost>,
+) -> Result<(), AllocError> {
+    match lost {
+        Some(lost) => put_stale_at(out, told, lost),
+        None => Ok(()),
+    }
+}
+
+/// How a stale reference is loaded again, where it was lost at a call.
+pub fn put_reload_after(out: &mut Vec<u8>, told: &Told, lost: &Lost) -> Result<(), AllocError> {
+    let told = told.with_it(Some(Operand::Local(lost.value)));
+    match slot_at(told.scene, lost)? {
+        Some(slot) => {
+            let told = told.with_place(Operand::Local(slot));
+            put_mend(
+                out,
+                &told,
+                "load {it} again from its root slot {place} after that call, and use what is loaded",
+            )
+        }
+        None => put_mend(
+            out,
+            &told,
+            "store {it} in a root slot before that call, load it again after the call, and use what is loaded",
+        ),
+    }
+}
+
+/// How a stale reference is loaded again.
+pub fn put_reload(out: &mut Vec<u8>, told: &Told, lost: &Option<Lost>) -> Result<(), AllocError> {
+    match lost {
+        Some(lost) => put_reload_after(out, told, lost),
+        None => put_mend(
+            out,
+            told,
+            "load {it} again from a root slot after the last safepoint, and use what is loaded",
+        ),
+    }
+}

@@ -1,0 +1,296 @@
+//! K1: why nothing is known of a value, and what makes it known.
+use crate::missing_blocks::put_missing;
+use crate::notes::{put_cert_note, put_line, put_mend, put_mend_word, put_note};
+use crate::stale::{lost_before, put_reload, put_stale_since};
+use crate::told::{Told, put_text};
+use certs::{Claim, Fact};
+use ir_ast::{BlockId, Instr, Op, ValueId};
+use messages::put;
+use origins::{Definition, Sought, cert_position, claim_after, definition_of, is_bypassed};
+use scenes::{Scene, Spot, put_claim};
+use std::alloc::AllocError;
+
+/// Why nothing is known of a value.
+#[derive(Clone, Copy)]
+pub enum Cause {
+    /// A parameter of which the certificate does not say to what it refers.
+    Parameter,
+    /// The result of a call of which the certificate of the callee does not say that.
+    Result,
+    /// It is defined after the instruction, or nowhere on a way to it.
+    NotYet,
+    /// It is defined here from what is not known, or from null.
+    FromNothing,
+    /// It is defined on one way to the instruction, and not on another.
+    OneWay(BlockId),
+    /// A block on the way does not list it.
+    Unlisted,
+    /// The same, and it would be stale.
+    Stale,
+}
+
+fn instr_at<'a>(scene: &Scene<'a>, spot: &Spot) -> Option<&'a Instr> {
+    let block = scene
+        .context
+        .function
+        .blocks
+        .get(spot.block.number() as usize)?;
+    block.body.get(spot.place.checked_sub(block.phis.len())?)
+}
+
+fn is_call(scene: &Scene, spot: &Spot) -> bool {
+    match instr_at(scene, spot) {
+        Some(instr) => matches!(instr.op, Op::Call(_)),
+        None => false,
+    }
+}
+
+/// The cause of a value of which nothing is known behind the instruction that defines it.
+fn unknown_at(scene: &Scene, spot: &Spot) -> Cause {
+    if is_call(scene, spot) {
+        Cause::Result
+    } else {
+        Cause::FromNothing
+    }
+}
+
+/// The cause of a value of which nothing is known where it is defined.
+fn unknown_from(scene: &Scene, definition: &Definition) -> Cause {
+    match definition {
+        Definition::Parameter(_) => Cause::Parameter,
+        Definition::At(spot) => unknown_at(scene, spot),
+        Definition::Nowhere => Cause::NotYet,
+    }
+}
+
+/// Whether an instruction of the refused one's block comes after it.
+fn is_below(scene: &Scene, definition: &Definition) -> bool {
+    match definition {
+        Definition::At(spot) => {
+            spot.block.number() == scene.refusal.block.number() && spot.place >= scene.refusal.instr
+        }
+        _ => false,
+    }
+}
+
+fn may_be_stale(fact: &Fact) -> bool {
+    matches!(fact, Fact::Reference { .. } | Fact::Address { .. })
+}
+
+/// The cause of a value that is known where it is defined.
+fn lost_on_the_way(scene: &Scene, value: ValueId, fact: Fact) -> Result<Cause, AllocError> {
+    if !may_be_stale(&fact) {
+        return Ok(Cause::Unlisted);
+    }
+    let spot = scene.spot();
+    match lost_before(scene, &spot, Some(value))? {
+        Some(_) => Ok(Cause::Stale),
+        None => Ok(Cause::Unlisted),
+    }
+}
+
+/// The block that defines a value, if another way leads to the refused instruction.
+fn one_way(scene: &Scene, definition: &Definition) -> Result<Option<BlockId>, AllocError> {
+    let from = definition.block();
+    if is_bypassed(scene, &from, scene.refusal.block)? {
+        Ok(from)
+    } else {
+        Ok(None)
+    }
+}
+
+/// Why nothing is known of a value at the refused instruction.
+pub fn cause_of(scene: &Scene, value: ValueId) -> Result<Cause, AllocError> {
+    let definition = definition_of(scene.context.function, value);
+    if is_below(scene, &definition) {
+        return Ok(Cause::NotYet);
+    }
+    if let Some(block) = one_way(scene, &definition)? {
+        return Ok(Cause::OneWay(block));
+    }
+    match claim_after(scene, &definition, value)? {
+        Some(_) if scene.refusal.block.number() == 0 => Ok(Cause::NotYet),
+        Some(Claim::Value { fact, .. }) => lost_on_the_way(scene, value, fact),
+        Some(Claim::Slot { .. }) | None => Ok(unknown_from(scene, &definition)),
+    }
+}
+
+/// The same text with the block that defines the value.
+fn told_of<'a>(told: &Told<'a>, cause: &Cause) -> Told<'a> {
+    match cause {
+        Cause::OneWay(block) => told.with_block(*block),
+        _ => told.with_it(told.it),
+    }
+}
+
+/// Why nothing is known of it, in one sentence.
+pub fn sentence_of(cause: &Cause) -> &'static str {
+    match cause {
+        Cause::Parameter => {
+            "{it} is not known here: the certificate does not say to which layout this parameter refers"
+        }
+        Cause::Result => {
+            "{it} is not known here: the certificate does not say to which layout the result of the call refers"
+        }
+        Cause::NotYet => "{it} is not known here: it is not defined on the way to this instruction",
+        Cause::OneWay(_) => {
+            "{it} is not known here: {to} defines it, and another way to {here} does not lead through {to}"
+        }
+        Cause::FromNothing =>
+            "{it} is not known here: it comes from a place that is not known, or from null",
+        Cause::Unlisted => "{it} is not known here: {here} does not list it",
+        Cause::Stale => "{it} is stale here, and {here} does not list it",
+    }
+}
+
+/// Where a value is defined, if an instruction does that, as this text says it.
+fn put_definition_as(
+    out: &mut Vec<u8>,
+    told: &Told,
+    value: ValueId,
+    text: &str,
+) -> Result<(), AllocError> {
+    let scene = told.scene;
+    let definition = definition_of(scene.context.function, value);
+    match &definition {
+        Definition::At(spot) => put_note(out, told, spot, None, text),
+        _ => Ok(()),
+    }
+}
+
+/// Where a value is defined, if an instruction does that.
+pub fn put_definition(out: &mut Vec<u8>, told: &Told, value: ValueId) -> Result<(), AllocError> {
+    put_definition_as(out, told, value, "{it} is defined here")
+}
+
+/// Where the certificate has the claims of the block.
+pub fn put_block_note(out: &mut Vec<u8>, told: &Told, text: &str) -> Result<(), AllocError> {
+    let scene = told.scene;
+    let line = Sought::Block(scene.refusal.block);
+    let function = scene.context.function;
+    match cert_position(scene, function.symbol, &line)? {
+        Some(position) => put_cert_note(out, told, position, text),
+        None => Ok(()),
+    }
+}
+
+/// The line to add, and the blocks to which it is to be added.
+pub fn put_listing(
+    out: &mut Vec<u8>,
+    told: &Told,
+    value: ValueId,
+    fact: Fact,
+) -> Result<(), AllocError> {
+    let scene = told.scene;
+    put_mend_word(out, scene)?;
+    put(out, "add `")?;
+    put_claim(out, scene, value, fact)?;
+    put(out, "` to the certificate under each of these blocks: ")?;
+    let definition = definition_of(scene.context.function, value);
+    put_missing(out, told, &definition, value)?;
+    put(out, "\n")
+}
+
+fn put_function_note(out: &mut Vec<u8>, told: &Told, text: &str) -> Result<(), AllocError> {
+    let scene = told.scene;
+    let function = scene.context.function;
+    match cert_position(scene, function.symbol, &Sought::Function)? {
+        Some(position) => put_cert_note(out, told, position, text),
+        None => Ok(()),
+    }
+}
+
+fn put_parameter(out: &mut Vec<u8>, told: &Told) -> Result<(), AllocError> {
+    put_function_note(out, told, "the certificate of {function}")?;
+    put_mend(
+        out,
+        told,
+        "add `param {it} ref L` below that line, where L is the layout to which {it} refers",
+    )
+}
+
+fn put_result(out: &mut Vec<u8>, told: &Told, value: ValueId) -> Result<(), AllocError> {
+    put_definition_as(out, told, value, "{it} is the result of this call")?;
+    put_mend(
+        out,
+        told,
+        "add `result ref L` to the certificate of the callee, after its `param` lines, where L is the layout to which the result refers",
+    )
+}
+
+/// It is defined on one way to the instruction, and not on another.
+fn put_one_way(out: &mut Vec<u8>, told: &Told, value: ValueId) -> Result<(), AllocError> {
+    put_definition_as(out, told, value, "{it} is defined here, in {to}")?;
+    put_mend(
+        out,
+        told,
+        "where the ways meet, write a phi of {it} on the way through {to} and of another value on each other way; use that",
+    )
+}
+
+/// A block on the way does not list it.
+fn put_unlisted(out: &mut Vec<u8>, told: &Told, value: ValueId) -> Result<(), AllocError> {
+    put_definition(out, told, value)?;
+    put_block_note(out, told, "what {here} lists comes after this line")?;
+    let scene = told.scene;
+    let definition = definition_of(scene.context.function, value);
+    match claim_after(scene, &definition, value)? {
+        Some(Claim::Value { fact, .. }) => put_listing(out, told, value, fact),
+        _ => Ok(()),
+    }
+}
+
+/// It would be stale.
+fn put_stale(out: &mut Vec<u8>, told: &Told, value: ValueId) -> Result<(), AllocError> {
+    let scene = told.scene;
+    let spot = scene.spot();
+    let lost = lost_before(scene, &spot, Some(value))?;
+    put_stale_since(out, told, &lost)?;
+    put_reload(out, told, &lost)
+}
+
+/// Why nothing is known of it, and what mends it.
+pub fn put_unknown(
+    out: &mut Vec<u8>,
+    told: &Told,
+    value: ValueId,
+    cause: &Cause,
+) -> Result<(), AllocError> {
+    match cause {
+        Cause::Parameter => put_parameter(out, told),
+        Cause::Result => put_result(out, told, value),
+        Cause::NotYet => put_mend(out, told, "define {it} on each way to this instruction"),
+        Cause::OneWay(block) => put_one_way(out, &told.with_block(*block), value),
+        Cause::FromNothing => {
+            put_definition(out, told, value)?;
+            put_mend(
+                out,
+                told,
+                "take it from a reference that is known where it is defined",
+            )
+        }
+        Cause::Unlisted => put_unlisted(out, told, value),
+        Cause::Stale => put_stale(out, told, value),
+    }
+}
+
+/// Why nothing is known of a value, and what mends it.
+pub fn put_cause(out: &mut Vec<u8>, told: &Told, value: ValueId) -> Result<(), AllocError> {
+    let cause = cause_of(told.scene, value)?;
+    put_unknown(out, told, value, &cause)
+}
+
+/// Whether nothing is known of a value since it would be stale.
+pub fn is_stale_cause(scene: &Scene, value: ValueId) -> Result<bool, AllocError> {
+    let cause = cause_of(scene, value)?;
+    Ok(matches!(cause, Cause::Stale))
+}
+
+/// K1: the sentence, the line, the cause, and what mends it.
+pub fn put_unavailable(out: &mut Vec<u8>, told: &Told, value: ValueId) -> Result<(), AllocError> {
+    let cause = cause_of(told.scene, value)?;
+    put_text(out, &told_of(told, &cause), sentence_of(&cause))?;
+    put(out, "\n")?;
+    put_line(out, told, told.it, "")?;
+    put_unknown(out, told, value, &cause)
+}
