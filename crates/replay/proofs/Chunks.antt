@@ -4,25 +4,29 @@ use Rattle.std.specs.Prelude.{min}
 use Rattle.layout.specs.Layouts.{LaidOut}
 use Rattle.trace_text.specs.declared.trace.Setup.{Setup}
 use Rattle.replay.specs.declared.outcome.SeedBreak.{SeedBreak}
-use Rattle.replay.specs.Soaks.{AreSoundBelow, IsLeastBreak, IsLeastFrom, IsSoundSeed}
+use Rattle.replay.specs.Soaks.{AreSoundFrom, IsLeastBreak, IsLeastFrom, IsSoundSeed}
 
 -- a seed lies before the chunk, or it does not
-before_or_after : (seed first : ℕ) → (seed < first) ⊎ (first ≤ seed)
-before_or_after seed first = grind arith
+before_or_after : (seed next : ℕ) → (seed < next) ⊎ (next ≤ seed)
+before_or_after seed next = grind arith
 
 -- a chunk ends within the seeds
-pub chunk_ends : (seeds first chunk size : ℕ) → first ≤ seeds → size ≡ min chunk (seeds - first) → first + size ≤ seeds
-chunk_ends seeds first chunk size within is = grind (arith, within, is)
+pub chunk_ends : (past next chunk size : ℕ) → next ≤ past → size ≡ min chunk (past - next) → next + size ≤ past
+chunk_ends past next chunk size within is = grind (arith, within, is)
+
+-- the seeds before a chunk and those of the chunk
+pub sound_on : (p : LaidOut) (setup : Setup) (steps first next end : ℕ) → AreSoundFrom p setup steps first next → AreSoundFrom p setup steps next end → AreSoundFrom p setup steps first end
+sound_on p setup steps first next end sound more seed low high = go (before_or_after seed next)
+  where
+    go : (seed < next) ⊎ (next ≤ seed) → IsSoundSeed p setup steps seed
+    go (inl early) = sound seed low early
+    go (inr late) = more seed late high
 
 -- the least seed of a chunk that ends within the seeds
-pub least_of_all : (p : LaidOut) (setup : Setup) (seeds steps first past : ℕ) (b : SeedBreak) → AreSoundBelow p setup steps first → past ≤ seeds
-    → IsLeastFrom p setup steps first past (Some b) → IsLeastBreak p setup seeds steps b
-least_of_all p setup seeds steps first past b sound within least = record {
-  is_seed = let high = least.1 in omega (arith, high, within);
-  before = λ seed below. sound_before seed below (before_or_after seed first);
+pub least_of_all : (p : LaidOut) (setup : Setup) (first past steps next end : ℕ) (b : SeedBreak) → first ≤ next → AreSoundFrom p setup steps first next → end ≤ past
+    → IsLeastFrom p setup steps next end (Some b) → IsLeastBreak p setup first past steps b
+least_of_all p setup first past steps next end b low sound within least = record {
+  is_seed = let after = least.0 in let high = least.1 in (omega (arith, low, after), omega (arith, high, within));
+  before = sound_on p setup steps first next b.seed sound least.2;
   breaks = least.3;
 }
-  where
-    sound_before : (seed : ℕ) → seed < b.seed → (seed < first) ⊎ (first ≤ seed) → IsSoundSeed p setup steps seed
-    sound_before seed below (inl early) = sound seed early
-    sound_before seed below (inr late) = least.2 seed late below

@@ -26,20 +26,20 @@ actors_drawn threads seed steps = map (actor_drawn threads) (drawn threads seed 
 abbrev pub IsSoundSeed : LaidOut → Setup → (steps seed : ℕ) → Type 0
 IsSoundSeed p setup steps seed = IsSoundList p setup (actors_drawn (length setup.starts) seed steps)
 
--- so is that of each lesser seed
-abbrev pub AreSoundBelow : LaidOut → Setup → (steps seeds : ℕ) → Type 0
-AreSoundBelow p setup steps seeds = (seed : ℕ) → seed < seeds → IsSoundSeed p setup steps seed
+-- so is that of each seed from the first one to one past the last
+abbrev pub AreSoundFrom : LaidOut → Setup → (steps first past : ℕ) → Type 0
+AreSoundFrom p setup steps first past = (seed : ℕ) → first ≤ seed → seed < past → IsSoundSeed p setup steps seed
 
--- the least seed whose list breaks its run, with the break
-pub record IsLeastBreak (p : LaidOut) (setup : Setup) (seeds steps : ℕ) (b : SeedBreak) : Type 0 where
-  pub is_seed : b.seed < seeds
-  pub before : AreSoundBelow p setup steps b.seed
+-- the least seed from the first one on whose list breaks its run, with the break
+pub record IsLeastBreak (p : LaidOut) (setup : Setup) (first past steps : ℕ) (b : SeedBreak) : Type 0 where
+  pub is_seed : (first ≤ b.seed) × (b.seed < past)
+  pub before : AreSoundFrom p setup steps first b.seed
   pub breaks : IsFirstBreak p setup (actors_drawn (length setup.starts) b.seed steps) b.broken
 
--- of the first n seeds, from 0: the least one whose list breaks its run, or that there is none
-abbrev pub IsSoakOutcome : LaidOut → Setup → (seeds steps : ℕ) → SoakOutcome → Type 0
-IsSoakOutcome p setup seeds steps (Broken b) = IsLeastBreak p setup seeds steps b
-IsSoakOutcome p setup seeds steps Sound = AreSoundBelow p setup steps seeds
+-- of the seeds from the first one to one past the last: the least one whose list breaks its run, or that there is none
+abbrev pub IsSoakOutcome : LaidOut → Setup → (first past steps : ℕ) → SoakOutcome → Type 0
+IsSoakOutcome p setup first past steps (Broken b) = IsLeastBreak p setup first past steps b
+IsSoakOutcome p setup first past steps Sound = AreSoundFrom p setup steps first past
 
 -- no seed's list breaks its run
 abbrev pub IsSoundSoak : SoakOutcome → Type 0
@@ -69,6 +69,6 @@ answer_in seed (Err fault) = Err fault
 
 -- of the seeds from the first one to one past the last: the least one whose list breaks its run, if there is one
 abbrev pub IsLeastFrom : LaidOut → Setup → (steps first past : ℕ) → Option SeedBreak → Type 0
-IsLeastFrom p setup steps first past None = (seed : ℕ) → first ≤ seed → seed < past → IsSoundSeed p setup steps seed
+IsLeastFrom p setup steps first past None = AreSoundFrom p setup steps first past
 IsLeastFrom p setup steps first past (Some b) =
-    (first ≤ b.seed) × (b.seed < past) × ((seed : ℕ) → first ≤ seed → seed < b.seed → IsSoundSeed p setup steps seed) × IsEndOfSeed p setup steps b.seed (Some b.broken)
+    (first ≤ b.seed) × (b.seed < past) × AreSoundFrom p setup steps first b.seed × IsEndOfSeed p setup steps b.seed (Some b.broken)

@@ -41,17 +41,19 @@ impl SeedEnd {
     }
 }
 
-/// Runs a schedule of each seed from 0 to below `seeds`: the least seed whose schedule breaks its run, whichever ended first.
+/// Runs a schedule of each seed from `first` to below `past`: the least seed whose schedule breaks its run, whichever ended first.
 pub fn soak(
     rt: &(impl Threads + Sync),
     alloc: Global,
     program: &Program,
     setup: &Setup,
-    seeds: u32,
+    first: u32,
+    past: u32,
     steps: u32,
 ) -> Result<SoakOutcome, SetupFault>
-    requires { IsSetupOf program.now setup.now }
-    ensures outcome { IfOk result (IsSoakOutcome program.now setup.now seeds steps) }
+    requires setup { IsSetupOf program.now setup.now }
+    requires range { first ≤ past }
+    ensures outcome { IfOk result (IsSoakOutcome program.now setup.now first past steps) }
     ensures no_fault { IfOk result (λ _. HasNoFault program.now setup.now) }
     ensures fault { IfErr result (λ e. e ≢ fault.Memory → IsSetupFault program.now setup.now e) }
     // Where the program is certified, and the threads begin with what its certificates promise, no schedule breaks its run.
@@ -59,13 +61,13 @@ pub fn soak(
 {
     setup_law();
     may_begin(alloc, program, setup)?;
-    let mut first = 0;
-    while first < seeds {
-        let past = first + CHUNK.min(seeds - first);
-        if let Some(broken) = least_broken(rt, alloc, program, setup, first, past, steps)? {
+    let mut next = first;
+    while next < past {
+        let end = next + CHUNK.min(past - next);
+        if let Some(broken) = least_broken(rt, alloc, program, setup, next, end, steps)? {
             return Ok(SoakOutcome::Broken(broken));
         }
-        first = past;
+        next = end;
     }
     Ok(SoakOutcome::Sound)
 }

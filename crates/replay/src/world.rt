@@ -12,7 +12,7 @@ ghost use Rattle.replay.specs.declared.thread_outcome.ThreadOutcome.TheVariants 
 use crate::thread_outcome::ThreadOutcome;
 use items::Items;
 use layout::Program;
-use machine::Ending;
+use machine::{Ending, Thread};
 use moves::{CallPhase, ThreadState};
 use program_runner::{ProgramThread, begun_law, program_law};
 use setups::{SetupFault, begun_threads, values_at_start};
@@ -118,6 +118,14 @@ impl<'a> World<'a> {
         ensures { result ≡ self.now.shared.posted }
     {
         self.actors.posted()
+    }
+
+    /// The thread with this number, if there is one, with its frames.
+    pub fn thread(&self, number: u32) -> Option<&Thread<'a>> {
+        match self.actors.thread(number as usize) {
+            Some(thread_state) => Some(thread_state.state.thread()),
+            None => None,
+        }
     }
 
     /// Where each thread is.

@@ -1,12 +1,13 @@
 use Rattle.std.proofs.Common.{◌-◌, ◌≤◌}
-use Rattle.replay.specs.Soaks.{AreSoundBelow}
+use Rattle.replay.specs.Soaks.{AreSoundFrom}
 use Rattle.replay.proofs.soaking.soak.Given as goal
 
-abbrev pub invariant-loop-first : goal.invariant-loop-first
-invariant-loop-first g l = record {
-  sound : AreSoundBelow l.program l.setup l.steps l.first;
-  within : l.first ≤ l.seeds;
+abbrev pub invariant-loop-next : goal.invariant-loop-next
+invariant-loop-next g l = record {
+  sound : AreSoundFrom l.program l.setup l.steps l.first l.next;
+  low : l.first ≤ l.next;
+  within : l.next ≤ l.past;
 }
 
-abbrev pub decreases-loop-first : goal.decreases-loop-first
-decreases-loop-first g l = l.seeds - l.first
+abbrev pub decreases-loop-next : goal.decreases-loop-next
+decreases-loop-next g l = l.past - l.next

@@ -1,0 +1,9 @@
+//! The steps of a run as JSON, a line for each, for programs that show them. docs/STEPS.md has the members. These are texts: no
+//! contract says more than that they are made.
+#![tactic(auto)]
+
+mod heads;
+mod steps;
+mod texts;
+
+pub use steps::put_json;

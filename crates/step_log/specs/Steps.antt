@@ -1,0 +1,26 @@
+-- The steps of a run, in their order, as a log has them.
+use Rattle.std.specs.Prelude.{◌≡◌, List, [], ◌∷◌, ◌++◌}
+use Rattle.layout.specs.Layouts.{LaidOut}
+use Rattle.moves.specs.declared.actor.Actor.{Actor}
+use Rattle.setups.specs.Setups.{starts_of}
+use Rattle.stepping.specs.Ends.{IsStepOrNone}
+use Rattle.trace_text.specs.declared.trace.Setup.{Setup}
+use Rattle.replay.specs.Runs.{heap_of, program_machine}
+use Rattle.replay.specs.Worlds.{IsAfter, actor_in, run_of}
+use Rattle.step_log.specs.declared.log.LogStep.{LogStep}
+use Rattle.step_log.specs.declared.recording.Recorder.{Recorder}
+
+-- the log has a step for each of these actors, the newest actor first: what it made after the run of those before it
+pub data AreSteps (p : LaidOut) (setup : Setup) : (actors : List Actor) → List LogStep → Type 0 where
+  NoStep : AreSteps p setup [] []
+  Further :
+      (before : List Actor) (steps : List LogStep) (step : LogStep) → AreSteps p setup before steps
+      → IsStepOrNone (heap_of p setup) program_machine (starts_of p setup) (run_of p setup before) (actor_in step.actor) step.made
+      → AreSteps p setup (actor_in step.actor ∷ before) (steps ++ step ∷ [])
+
+-- the world is the one after these actors, and their steps are logged
+pub record IsRecorded (p : LaidOut) (setup : Setup) (before : List Actor) (r : Recorder) : Type 0 where
+  pub program : r.world.program ≡ p
+  pub setup_is : r.world.setup ≡ setup
+  pub afterwards : IsAfter r.world before
+  pub steps : AreSteps p setup before r.steps

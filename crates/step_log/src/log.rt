@@ -1,0 +1,40 @@
+use ir_ast::FuncId;
+use items::Items;
+use machine::FramePlace;
+use stepping::MadeStep;
+use trace_text::Actor;
+
+/// A step of a run.
+#[derive(Clone, Copy)]
+pub struct LogStep {
+    pub actor: Actor,
+    /// Where the thread stands before the step. None of the collector, and of a thread that has ended.
+    pub place: Option<FramePlace>,
+    /// What the step does. None where the actor has no next step.
+    pub made: Option<MadeStep>,
+    /// How many notes of frames come before the step. If it changes the root slots, the next note is about that.
+    pub notes: usize,
+}
+
+/// The newest frame of a thread, as it is when it or its root slots have changed.
+#[derive(Clone, Copy)]
+pub struct FrameNote {
+    /// After how many steps.
+    pub steps: usize,
+    pub thread: u32,
+    /// How many frames the thread has. Without one it has ended.
+    pub frames: usize,
+    pub function: FuncId,
+    /// Where the cells of its root slots begin in the log, and how many these are.
+    pub first: usize,
+    pub roots: usize,
+}
+
+/// The steps of a run in their order, and how the root slots changed by them.
+#[derive(Drop)]
+pub struct StepLog {
+    pub steps: Items<LogStep>,
+    pub notes: Items<FrameNote>,
+    /// What the root slots of the notes refer to, one frame after the other. Null is 0.
+    pub cells: Items<u32>,
+}

@@ -1,0 +1,244 @@
+//! The path of references that leads from a global or a root slot to a cell.
+use crate::heap_view::HeapView;
+use crate::put_event::Names;
+use ir_ast::{Function, ValueId};
+use items::Items;
+use messages::put;
+use name_text::{Blank, put_global, put_local, put_number};
+use pools::WordKind;
+use shadow_stack::{SlotId, Slots, slots_of};
+use std::alloc::{AllocError, Global};
+use step_log::{FrameNote, StepLog};
+
+/// From where a cell was reached first.
+#[derive(Clone, Copy)]
+pub enum Hop {
+    /// From this root slot of the frame of this note.
+    Slot { note: usize, root: usize },
+    /// From this word of this cell. Cell 0 is that of the globals.
+    Word { cell: u64, word: u32 },
+}
+
+/// A walk from the roots, with the way by which each cell was reached.
+#[derive(Drop)]
+struct Search {
+    ways: Items<Option<Hop>>,
+    /// The cells that were reached, in order.
+    order: Items<u64>,
+}
+
+impl Search {
+    fn new(alloc: Global, cells: u32) -> Result<Self, AllocError> {
+        let ways: Vec<Option<Hop>> = vec![in alloc; None; cells as usize]?;
+        Ok(Search {
+            ways: Items::from_vec(ways),
+            order: Items::new(alloc),
+        })
+    }
+
+    /// A reference to a cell was found there.
+    fn meet(&mut self, cell: u64, hop: Hop) -> Result<(), AllocError> {
+        if cell == 0 || (cell as usize) >= self.ways.len() {
+            return Ok(());
+        }
+        if let Some(Some(_)) = self.ways.get(cell as usize) {
+            return Ok(());
+        }
+        self.ways.set(cell as usize, Some(hop));
+        self.order.push(cell)
+    }
+
+    /// What the reference words of a cell refer to.
+    fn look_into(&mut self, heap: &HeapView, cell: u64) -> Result<(), AllocError> {
+        for (word, kind) in heap.kinds(cell).iter().enumerate() {
+            if let WordKind::Reference(_) = kind {
+                let Ok(word) = u32::try_from(word) else {
+                    return Ok(());
+                };
+                self.meet(heap.word(cell, word), Hop::Word { cell, word })?;
+            }
+        }
+        Ok(())
+    }
+
+    /// What the root slots of the frame of a note refer to.
+    fn look_at(&mut self, log: &StepLog, at: usize, note: &FrameNote) -> Result<(), AllocError> {
+        for root in 0..note.roots {
+            if let Some(cell) = log.cells.get(note.first.saturating_add(root)).copied() {
+                self.meet(u64::from(cell), Hop::Slot { note: at, root })?;
+            }
+        }
+        Ok(())
+    }
+
+    /// What the root slots of all frames refer to, those of a thread's newest frame first. A frame is under way where no later note
+    /// of its thread has as few frames or fewer.
+    fn look_at_frames(
+        &mut self,
+        alloc: Global,
+        log: &StepLog,
+        threads: usize,
+    ) -> Result<(), AllocError> {
+        let fewest: Vec<usize> = vec![in alloc; usize::MAX; threads]?;
+        let mut fewest = Items::from_vec(fewest);
+        let count = log.notes.len();
+        for back in 0..count {
+            let at = count.saturating_sub(back).saturating_sub(1);
+            if let Some(note) = log.notes.get(at) {
+                if is_fewer(&mut fewest, note) {
+                    self.look_at(log, at, note)?;
+                }
+            }
+        }
+        Ok(())
+    }
+
+    /// All that those cells lead to which were reached so far.
+    fn go_on(&mut self, heap: &HeapView) -> Result<(), AllocError> {
+        for at in 0..heap.cells() {
+            let Some(cell) = self.order.get(at as usize).copied() else {
+                return Ok(());
+            };
+            self.look_into(heap, cell)?;
+        }
+        Ok(())
+    }
+}
+
+/// Whether a note has fewer frames than those of its thread so far, which has as many then.
+fn is_fewer(fewest: &mut Items<usize>, note: &FrameNote) -> bool {
+    let thread = note.thread as usize;
+    let Some(so_far) = fewest.get(thread).copied() else {
+        return false;
+    };
+    if note.frames >= so_far {
+        return false;
+    }
+    if thread < fewest.len() {
+        fewest.set(thread, note.frames);
+    }
+    true
+}
+
+/// The hops of a shortest path to a cell, the last one first; none where nothing leads to it.
+pub fn path_to(
+    alloc: Global,
+    heap: &HeapView,
+    log: &StepLog,
+    threads: usize,
+    target: u64,
+) -> Result<Items<Hop>, AllocError> {
+    let mut search = Search::new(alloc, heap.cells())?;
+    search.look_at_frames(alloc, log, threads)?;
+    search.look_into(heap, 0)?;
+    search.go_on(heap)?;
+    let mut path = Items::new(alloc);
+    let mut cell = target;
+    for _hop in 0..heap.cells() {
+        let Some(Some(hop)) = search.ways.get(cell as usize) else {
+            return Ok(path);
+        };
+        path.push(*hop)?;
+        match hop {
+            Hop::Word { cell: from, .. } => cell = *from,
+            Hop::Slot { .. } => cell = 0,
+        }
+    }
+    Ok(path)
+}
+
+/// The first name of a slot.
+fn name_of_slot(function: &Function, slots: &Slots, slot: SlotId) -> Option<ValueId> {
+    for number in 0..function.locals.count() {
+        let value = ValueId::new(number as u32);
+        if let Some(named) = slots.slot_of(value) {
+            if named.number() == slot.number() {
+                return Some(value);
+            }
+        }
+    }
+    None
+}
+
+/// The name of a root slot of a function, by its place among the root slots.
+pub fn put_root_name(
+    names: &Names,
+    out: &mut Vec<u8>,
+    function: &Function,
+    root: usize,
+) -> Result<(), AllocError> {
+    let slots = slots_of(names.alloc, names.module, function)?;
+    let Some(slot) = slots.root_slots().get(root).copied() else {
+        return Ok(());
+    };
+    match name_of_slot(function, &slots, slot) {
+        Some(value) => put_local(out, &function.locals, value, Blank::Kept),
+        None => Ok(()),
+    }
+}
+
+/// `slot %s of thread 0, frame @swap`
+fn put_slot(
+    names: &Names,
+    out: &mut Vec<u8>,
+    note: &FrameNote,
+    root: usize,
+) -> Result<(), AllocError> {
+    let Some(function) = names.module.functions.get(note.function.number() as usize) else {
+        return Ok(());
+    };
+    put(out, "slot ")?;
+    put_root_name(names, out, function, root)?;
+    put(out, " of thread ")?;
+    put_number(names.alloc, out, u64::from(note.thread))?;
+    put(out, ", frame ")?;
+    put_global(out, names.module, function.symbol, Blank::Kept)
+}
+
+/// From where a hop leads: a root, or a word of the cell before.
+fn put_hop(names: &Names, out: &mut Vec<u8>, log: &StepLog, hop: &Hop) -> Result<(), AllocError> {
+    match hop {
+        Hop::Slot { note, root } => match log.notes.get(*note) {
+            Some(note) => put_slot(names, out, note, *root),
+            None => Ok(()),
+        },
+        Hop::Word { cell: 0, word } => names.put_word(out, 0, *word),
+        Hop::Word { word, .. } => {
+            put(out, " word ")?;
+            put_number(names.alloc, out, u64::from(*word))
+        }
+    }
+}
+
+/// The cell from whose word the hop at this place of a path leads on; past the last hop it is the target.
+fn cell_before(path: &Items<Hop>, at: usize, target: u64) -> u64 {
+    match path.get(at) {
+        Some(Hop::Word { cell, .. }) => *cell,
+        _ => target,
+    }
+}
+
+/// A path: `@top -> cell 2 word 1 -> cell 3`.
+pub fn put_path_to(
+    names: &Names,
+    out: &mut Vec<u8>,
+    log: &StepLog,
+    path: &Items<Hop>,
+    target: u64,
+) -> Result<(), AllocError> {
+    let count = path.len();
+    for back in 0..count {
+        let at = count.saturating_sub(back).saturating_sub(1);
+        if let Some(hop) = path.get(at) {
+            put_hop(names, out, log, hop)?;
+            put(out, " -> ")?;
+            let to = if at == 0 {
+                target
+            } else {
+                cell_before(path, at.saturating_sub(1), target)
+            };
+            names.put_cell(out, to)?;
+        }
+    }
+    Ok(())
+}
