@@ -1,0 +1,12 @@
+use Rattle.std.proofs.Common.{arith}
+use Rattle.hunting.proofs.drawing.drawn_lines.Goals as goal
+
+pub loop-left-preserved : goal.loop-left-preserved
+loop-left-preserved c = record {
+  actors = c.in_ok-add_line.ensures.actors c.args.threads c.loop-left.invariant.actors c.actor_of-actor.ensures;
+  sum =
+      let more = c.in_ok-add_line.ensures.sum in
+      let before = c.loop-left.invariant.sum in
+      let few = c.run_length-count.ensures.few in
+      omega (arith, more, before, few);
+}

@@ -1,0 +1,2 @@
+mod Merges
+mod Drawn

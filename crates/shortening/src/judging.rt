@@ -1,0 +1,118 @@
+//! Whether a trace breaks its run by a kind of cause: it is replayed.
+ghost use Rattle.std.specs.Prelude.{◌≡◌, IfOk, IfSome};
+ghost use Rattle.trace_text.specs.Traces.{IsTraceOf};
+ghost use Rattle.replay.specs.Outcomes.{IsOutcome};
+ghost use Rattle.replay.specs.declared.outcome.Outcome.TheVariants as outcome;
+ghost use Rattle.shortening.specs.Shorter.{IsBreaking, kind_of};
+
+use crate::broken_trace::BrokenTrace;
+use crate::kind::{Kind, kind_of};
+use layout::Program;
+use replay::{Break, Outcome, replay};
+use schedules::in_fewer_lines;
+use setups::SetupFault;
+use std::alloc::{AllocError, Global};
+use trace_parts::{total, up_to};
+use trace_text::Trace;
+
+/// The trace up to its break, if it breaks its run.
+pub fn broken_trace_of(
+    alloc: Global,
+    program: &Program,
+    trace: &Trace,
+) -> Result<Option<BrokenTrace>, AllocError>
+    requires { IsTraceOf program.now trace.now }
+    ensures { IfOk result (λ found. IfSome found (λ f. IsBreaking program.now f.trace f.broken)) }
+{
+    match replay(alloc, program, trace) {
+        Ok(Outcome::Broken(broken)) => up_to_break(
+            alloc,
+            program,
+            kind_of(&broken.cause),
+            trace,
+            broken.step,
+        ),
+        Ok(Outcome::Sound(_report)) => Ok(None),
+        Err(SetupFault::Memory) => Err(AllocError),
+        Err(_) => Ok(None),
+    }
+}
+
+/// The break of a trace, if it is of this kind.
+fn break_of(
+    alloc: Global,
+    program: &Program,
+    kind: Kind,
+    trace: &Trace,
+) -> Result<Option<Break>, AllocError>
+    requires { IsTraceOf program.now trace.now }
+    ensures breaks { IfOk result (λ found. IfSome found (λ b. IsOutcome program.now trace.now (outcome.Broken b))) }
+    ensures kind { IfOk result (λ found. IfSome found (λ b. kind_of b.cause ≡ kind)) }
+{
+    match replay(alloc, program, trace) {
+        Ok(Outcome::Broken(broken)) => {
+            if kind_of(&broken.cause) == kind {
+                Ok(Some(broken))
+            } else {
+                Ok(None)
+            }
+        }
+        Ok(Outcome::Sound(_report)) => Ok(None),
+        Err(SetupFault::Memory) => Err(AllocError),
+        Err(_) => Ok(None),
+    }
+}
+
+/// The trace with its break, if its last step makes one of this kind.
+fn ended(
+    alloc: Global,
+    program: &Program,
+    kind: Kind,
+    trace: Trace,
+) -> Result<Option<BrokenTrace>, AllocError>
+    requires { IsTraceOf program.now trace }
+    ensures breaking { IfOk result (λ found. IfSome found (λ f. IsBreaking program.now f.trace f.broken)) }
+    ensures kind { IfOk result (λ found. IfSome found (λ f. kind_of f.broken.cause ≡ kind)) }
+{
+    let Some(broken) = break_of(alloc, program, kind, &trace)? else {
+        return Ok(None);
+    };
+    if broken.step != total(trace.steps.as_slice()) {
+        return Ok(None);
+    }
+    Ok(Some(BrokenTrace { trace, broken }))
+}
+
+/// The trace up to a step, if that then makes a break of this kind.
+fn up_to_break(
+    alloc: Global,
+    program: &Program,
+    kind: Kind,
+    trace: &Trace,
+    step: u64,
+) -> Result<Option<BrokenTrace>, AllocError>
+    requires { IsTraceOf program.now trace.now }
+    ensures breaking { IfOk result (λ found. IfSome found (λ f. IsBreaking program.now f.trace f.broken)) }
+    ensures kind { IfOk result (λ found. IfSome found (λ f. kind_of f.broken.cause ≡ kind)) }
+{
+    let shorter = up_to(alloc, program, trace, step)?;
+    let shorter = in_fewer_lines(alloc, shorter)?;
+    ended(alloc, program, kind, shorter)
+}
+
+/// The trace up to its break, if that is of this kind.
+pub(crate) fn judged(
+    alloc: Global,
+    program: &Program,
+    kind: Kind,
+    trace: &Trace,
+) -> Result<Option<BrokenTrace>, AllocError>
+    requires { IsTraceOf program.now trace.now }
+    ensures breaking { IfOk result (λ found. IfSome found (λ f. IsBreaking program.now f.trace f.broken)) }
+    ensures kind { IfOk result (λ found. IfSome found (λ f. kind_of f.broken.cause ≡ kind)) }
+{
+    match break_of(alloc, program, kind, trace)? {
+        Some(broken) => up_to_break(alloc, program, kind, trace, broken.step),
+        None => Ok(None),
+    }
+}
