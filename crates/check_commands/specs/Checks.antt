@@ -1,7 +1,9 @@
 -- What `check` and `make` say of their files.
-use Rattle.std.specs.Prelude.{◌≡◌, List, ℕ, Option, true, length}
+use Rattle.std.specs.Prelude.{◌≡◌, ◌++◌, List, [], ◌∷◌, ℕ, Option, true, length, take, codes}
+use Rattle.std.specs.Fmt.{decimal}
+use Rattle.std.specs.List.{flat_map}
 use Rattle.ir_ast.specs.declared.module.Module.{Module}
-use Rattle.layout.specs.Layouts.{IsLayoutFault}
+use Rattle.layout.specs.Layouts.{AreLayouts, AreSizes, IsLayoutFault, LaidOut}
 use Rattle.layout.specs.declared.fault.LayoutFault.{LayoutFault}
 use Rattle.certs.specs.Fits.{fits}
 use Rattle.certs.specs.declared.certs.Certs.{Certs}
@@ -10,19 +12,57 @@ use Rattle.certificate.specs.Print.{cert_text}
 use Rattle.cert_maker.specs.Plain.{plain}
 use Rattle.block_rules.specs.declared.block_fault.Refusal.{Refusal}
 use Rattle.module_check.specs.Accepted.{IsAccepted, IsFirstRefusal, shaped}
+use Rattle.command_line.specs.declared.asked.Refusals.{Refusals}
+use Rattle.command_line.specs.declared.asked.Refusals.TheVariants.{First, OfBlocks}
 use Rattle.command_line.specs.declared.asked.Why.{Why}
 use Rattle.command_line.specs.declared.asked.Why.TheVariants.{Wanted}
-use Rattle.reports.specs.Report.{line_of, made_text, no, no_answer, no_memory, of_layout_fault, yes}
+use Rattle.refusals.specs.Refusals.{AreOfFunctions}
+use Rattle.reports.specs.Report.{Answer, line_of, made_text, no, no_answer, no_memory, of_layout_fault, yes}
 use Rattle.reports.specs.Files.{HasShaped, IsNoShaped, of_unread}
 use Rattle.reports.specs.Said.{Said, OnOutput, OnError, OnBoth, OfVerdict}
 use Rattle.reports.specs.declared.files.Unread.{Unread}
 
 -- ---- check
 
+-- the line of a refusal
+abbrev pub line_of_no : Module → List Section → Refusal → List ℕ
+line_of_no m certs refusal = (no m (line_of certs m refusal.func refusal.detail) refusal).text
+
+-- the lines of refusals
+abbrev pub lines_of : Module → List Section → List Refusal → List ℕ
+lines_of m certs refusals = flat_map (line_of_no m certs) refusals
+
+-- the lines of the first refusals, up to the limit, and how many there are
+abbrev pub all_refused : Module → List Section → (limit : ℕ) → List Refusal → Answer
+all_refused m certs limit refusals = record {
+  text = lines_of m certs (take limit refusals) ++ codes "refusals " ++ decimal (length refusals) ++ 10 ∷ [];
+  status = 1;
+}
+
+-- what is said of a laid out program that is refused: the first refusal of each block that is not certified; or that memory was refused
+pub data OfRefusals (limit : ℕ) (program : LaidOut) (certs : List Section) : Said → Type 0 where
+  refusals_told : (refusals : List Refusal) → AreOfFunctions program certs (length program.of_module.functions) refusals
+      → OfRefusals limit program certs (OnOutput (all_refused program.of_module certs limit refusals))
+  refusals_not_told : OfRefusals limit program certs (OnError no_memory)
+
+-- what is said of a module and its certificates that are not accepted, where all blocks are asked for: the refusals of the program that it
+-- is with the shapes of the certificates; the fault of the layouts; or that memory was refused
+pub data OfAll (limit : ℕ) (m : Module) (certs : Certs) : Said → Type 0 where
+  all_told : (refusal : Refusal) (program : LaidOut) (said : Said) → IsFirstRefusal (shaped m certs) certs.sections refusal
+      → program.of_module ≡ shaped m certs → AreLayouts (shaped m certs) program.layouts → AreSizes (shaped m certs) program.sizes
+      → OfRefusals limit program certs.sections said → OfAll limit m certs said
+  all_not_laid_out : (fault : LayoutFault) → IsLayoutFault (shaped m certs) fault → OfAll limit m certs (OnError (of_layout_fault m fault))
+  all_not_checked : OfAll limit m certs (OnError no_memory)
+
+-- the same, where this many refusals are asked for
+abbrev pub OfUnaccepted : Refusals → Module → Certs → Said → Type 0
+OfUnaccepted First m certs said = OfVerdict m certs said
+OfUnaccepted (OfBlocks limit) m certs said = OfAll limit m certs said
+
 -- what is said of a module and its certificates: that it is accepted with their shapes, or why not
-pub data OfCerts (m : Module) (certs : Certs) : Said → Type 0 where
-  accepted : IsAccepted (shaped m certs) certs.sections → OfCerts m certs (OnOutput (yes (length m.functions)))
-  not_accepted : (said : Said) → OfVerdict m certs said → OfCerts m certs said
+pub data OfCerts (refusals : Refusals) (m : Module) (certs : Certs) : Said → Type 0 where
+  accepted : IsAccepted (shaped m certs) certs.sections → OfCerts refusals m certs (OnOutput (yes (length m.functions)))
+  not_accepted : (said : Said) → OfUnaccepted refusals m certs said → OfCerts refusals m certs said
 
 -- ---- make
 

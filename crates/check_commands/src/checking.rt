@@ -1,10 +1,13 @@
 //! The command `check`.
 ghost use Rattle.std.specs.Prelude.{◌≤◌, IfOk};
 ghost use Rattle.reports.specs.Said.{OfCertified, Says};
-ghost use Rattle.check_commands.specs.Checks.{OfCerts};
+ghost use Rattle.check_commands.specs.Checks.{OfCerts, OfUnaccepted};
+ghost use Rattle.module_check.specs.Accepted.{IsVerdictOf, shaped};
 ghost use Rattle.reports.specs.Files as spec;
 
-use command_line::CheckLine;
+use crate::refusing::report_all;
+use command_line::{CheckLine, Refusals};
+use module_check::NotAccepted;
 use parallel_check::{OpenGate, check_with};
 use reports::{Certified, read_certified, report_verdict, unread};
 use std::alloc::Global;
@@ -12,18 +15,40 @@ use std::io;
 use std::io::Write;
 use std::thread::Threads;
 
+/// Prints why a module is not accepted.
+fn print_unaccepted<O: Write, E: Write>(
+    alloc: Global,
+    answer: NotAccepted,
+    refusals: Refusals,
+    out: &mut O,
+    err: &mut E,
+) -> io::Result<u8>
+    requires { IsVerdictOf (shaped answer.of_module answer.certs) answer.certs.sections answer.verdict }
+    ensures { IfOk result (Says (OfUnaccepted refusals answer.of_module answer.certs) (O.contents out.old) (O.contents out.new) (E.contents err.old) (E.contents err.new)) }
+{
+    match refusals {
+        Refusals::First => {
+            let status = report_verdict(alloc, &answer, out, err);
+            drop(answer);
+            status
+        }
+        Refusals::OfBlocks(limit) => report_all(alloc, answer, limit, out, err),
+    }
+}
+
 /// Checks a module and its certificates.
 fn check_certified<O: Write, E: Write>(
     rt: &(impl Threads + Sync),
     alloc: Global,
     certified: Certified,
     workers: u32,
+    refusals: Refusals,
     out: &mut O,
     err: &mut E,
 ) -> io::Result<u8>
     requires some { 1 ≤ workers }
     requires few { workers ≤ 64 }
-    ensures { IfOk result (Says (OfCerts certified.of_module certified.certs) (O.contents out.old) (O.contents out.new) (E.contents err.old) (E.contents err.new)) }
+    ensures { IfOk result (Says (OfCerts refusals certified.of_module certified.certs) (O.contents out.old) (O.contents out.new) (E.contents err.old) (E.contents err.new)) }
 {
     match check_with(
         rt,
@@ -38,11 +63,7 @@ fn check_certified<O: Write, E: Write>(
             drop(accepted);
             reports::accepted(out, count)
         }
-        Err(answer) => {
-            let status = report_verdict(alloc, &answer, out, err);
-            drop(answer);
-            status
-        }
+        Err(answer) => print_unaccepted(alloc, answer, refusals, out, err),
     }
 }
 
@@ -58,10 +79,20 @@ pub fn check_files<O: Write, E: Write>(
 ) -> io::Result<u8>
     requires some { 1 ≤ asked.workers }
     requires few { asked.workers ≤ 64 }
-    ensures { IfOk result (Says (OfCertified OfCerts asked.entry.module_path.now asked.entry.certificate_path.now (spec.file_at files.now 0) (spec.file_at files.now 1)) (O.contents out.old) (O.contents out.new) (E.contents err.old) (E.contents err.new)) }
+    ensures { IfOk result (Says (OfCertified (OfCerts asked.entry.refusals) asked.entry.module_path.now asked.entry.certificate_path.now (spec.file_at files.now 0) (spec.file_at files.now 1)) (O.contents out.old) (O.contents out.new) (E.contents err.old) (E.contents err.new)) }
 {
     match read_certified(alloc, (asked.module_path, asked.certificate_path), files) {
-        Ok(certified) => check_certified(rt, alloc, certified, asked.workers, out, err),
+        Ok(certified) => {
+            check_certified(
+                rt,
+                alloc,
+                certified,
+                asked.workers,
+                asked.refusals,
+                out,
+                err,
+            )
+        }
         Err(fault) => unread(err, fault),
     }
 }

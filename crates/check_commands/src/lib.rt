@@ -4,6 +4,7 @@
 mod checking;
 mod explaining;
 mod making;
+mod refusing;
 
 pub use checking::check_files;
 pub use explaining::explain_code;

@@ -1,5 +1,5 @@
 -- The grammar of the command line, as `clap` has it, and what the words of a line ask for.
-use Rattle.std.specs.Prelude.{◌≡◌, ◌&&◌, ◌^◌, ℕ, pos, length, nat_lt, List, [], ◌∷◌, Option, Some, None, Bool, true, false, codes, option_map, option_and_then, if◌then◌else◌}
+use Rattle.std.specs.Prelude.{◌≡◌, ◌&&◌, ◌||◌, ◌^◌, ℕ, pos, length, nat_lt, List, [], ◌∷◌, Option, Some, None, is_some, unwrap_or, Bool, true, false, codes, option_map, option_and_then, if◌then◌else◌}
 use Rattle.std.specs.Option.{option_map_or}
 use Rattle.std.specs.Str.{all_ascii_digits, bytes_eq}
 use Rattle.std.specs.Str.Parse.{digits_value, without_leading_plus}
@@ -7,8 +7,14 @@ use Rattle.clap.specs.Words.{App, IsAmong, Row, Rule, Text, fault_of, first_of, 
 use Rattle.clap.specs.declared.builder.action.ArgAction.TheVariants.{SetTrue}
 use Rattle.clap.specs.declared.builder.value_parser.ValueParser.TheVariants.{Signed}
 use Rattle.command_line.specs.Asked.{Asked, check, make, recheck, replay, soak, run, explain, migrate}
+use Rattle.command_line.specs.declared.asked.Explained.{Explained}
+use Rattle.command_line.specs.declared.asked.Explained.TheVariants.{Always, OnTerminal, Never}
 use Rattle.command_line.specs.declared.asked.LineFault.{LineFault}
 use Rattle.command_line.specs.declared.asked.LineFault.TheVariants.{Memory, NoCommand, Words}
+use Rattle.command_line.specs.declared.asked.Refusals.{Refusals}
+use Rattle.command_line.specs.declared.asked.Refusals.TheVariants.{First, OfBlocks}
+use Rattle.command_line.specs.declared.asked.StepsTold.{StepsTold}
+use Rattle.command_line.specs.declared.asked.StepsTold.TheVariants.{NotTold, Last, Between}
 use Rattle.command_line.specs.declared.asked.Why.{Why}
 use Rattle.command_line.specs.declared.asked.Why.TheVariants.{Wanted, NotWanted}
 
@@ -34,12 +40,28 @@ workers_rule = record (new_rule (codes "workers")) {
   parser = Some (Signed (pos 1) (pos 64));
 }
 
--- an option that may be left out, and whose value is a number of 32 bits; then it is a million
-abbrev pub limit_rule : Text → Rule
-limit_rule name = record (new_rule name) {
+-- an option whose value says when a refusal is explained, and which may be left out
+abbrev pub explain_rule : Rule
+explain_rule = record (new_rule (codes "explain")) {
+  long = Some (codes "explain");
+  value_names = 1;
+  defaults = codes "auto" ∷ [];
+}
+
+-- an option that may be left out, and whose value is a number of 32 bits
+abbrev pub optional_rule : Text → Rule
+optional_rule name = record (new_rule name) {
   long = Some name;
   value_names = 1;
-  defaults = codes "1000000" ∷ [];
+  parser = Some (Signed (pos 0) (pos 4294967295));
+}
+
+-- the same; where it is left out it is this number
+abbrev pub default_rule : (name default : Text) → Rule
+default_rule name default = record (new_rule name) {
+  long = Some name;
+  value_names = 1;
+  defaults = default ∷ [];
   parser = Some (Signed (pos 0) (pos 4294967295));
 }
 
@@ -50,10 +72,10 @@ flag_rule name = record (new_rule name) {
   action = Some SetTrue;
 }
 
--- an option whose value is the path of the shapes, and which may be left out
-abbrev pub shapes_rule : Rule
-shapes_rule = record (new_rule (codes "shapes")) {
-  long = Some (codes "shapes");
+-- an option whose value is a file's path, and which may be left out
+abbrev pub path_rule : Text → Rule
+path_rule name = record (new_rule name) {
+  long = Some name;
   value_names = 1;
 }
 
@@ -65,33 +87,53 @@ module_app name = with_rule (new_app name) (file_rule (codes "MODULE"))
 abbrev pub files_app : (name second : Text) → App
 files_app name second = with_rule (module_app name) (file_rule second)
 
+-- NAME MODULE [--shapes FILE]: a command on a module and its shapes
+abbrev pub shaped_app : (name : Text) → App
+shaped_app name = with_rule (module_app name) (path_rule (codes "shapes"))
+
 -- NAME MODULE TRACE [--shapes FILE]: a command on a module and a trace
 abbrev pub traced_app : (name : Text) → App
-traced_app name = with_rule (files_app name (codes "TRACE")) shapes_rule
+traced_app name = with_rule (files_app name (codes "TRACE")) (path_rule (codes "shapes"))
 
--- check MODULE CERT --workers N
+-- check MODULE CERT [--workers N] [--explain WHEN]
+abbrev pub explained_check_app : App
+explained_check_app = with_rule (with_rule (files_app (codes "check") (codes "CERT")) workers_rule) explain_rule
+
+-- check MODULE CERT [--workers N] [--explain WHEN] [--all] [--limit N]
 abbrev pub check_app : App
-check_app = with_rule (files_app (codes "check") (codes "CERT")) workers_rule
+check_app = with_rule (with_rule explained_check_app (flag_rule (codes "all"))) (optional_rule (codes "limit"))
 
--- make MODULE [--shapes FILE] [--why]
+-- make MODULE [--shapes FILE] [--why] [--explain WHEN]
 abbrev pub make_app : App
-make_app = with_rule (with_rule (module_app (codes "make")) shapes_rule) (flag_rule (codes "why"))
+make_app = with_rule (with_rule (shaped_app (codes "make")) (flag_rule (codes "why"))) explain_rule
 
--- recheck MODULE CERT EDITS
+-- recheck MODULE CERT EDITS [--explain WHEN]
 abbrev pub recheck_app : App
-recheck_app = with_rule (files_app (codes "recheck") (codes "CERT")) (file_rule (codes "EDITS"))
+recheck_app = with_rule (with_rule (files_app (codes "recheck") (codes "CERT")) (file_rule (codes "EDITS"))) explain_rule
 
--- replay MODULE TRACE [--shapes FILE]
+-- replay MODULE TRACE [--shapes FILE] [--steps] [--from N]
+abbrev pub steps_app : App
+steps_app = with_rule (with_rule (traced_app (codes "replay")) (flag_rule (codes "steps"))) (optional_rule (codes "from"))
+
+-- replay MODULE TRACE [--shapes FILE] [--steps] [--from N] [--to M] [--json FILE] [--explain WHEN]
 abbrev pub replay_app : App
-replay_app = traced_app (codes "replay")
+replay_app = with_rule (with_rule (with_rule steps_app (optional_rule (codes "to"))) (path_rule (codes "json"))) explain_rule
 
 -- soak MODULE TRACE [--shapes FILE] --seeds N --steps S
-abbrev pub soak_app : App
-soak_app = with_rule (with_rule (traced_app (codes "soak")) (number_rule (codes "seeds"))) (number_rule (codes "steps"))
+abbrev pub seeds_app : App
+seeds_app = with_rule (with_rule (traced_app (codes "soak")) (number_rule (codes "seeds"))) (number_rule (codes "steps"))
 
--- run MODULE CERT TRACE [--turns N] [--steps S]
+-- soak MODULE TRACE [--shapes FILE] --seeds N --steps S [--first F] [--save FILE] [--explain WHEN]
+abbrev pub soak_app : App
+soak_app = with_rule (with_rule (with_rule seeds_app (default_rule (codes "first") (codes "0"))) (path_rule (codes "save"))) explain_rule
+
+-- run MODULE CERT TRACE
+abbrev pub run_files_app : App
+run_files_app = with_rule (files_app (codes "run") (codes "CERT")) (file_rule (codes "TRACE"))
+
+-- run MODULE CERT TRACE [--turns N] [--steps S] [--explain WHEN]
 abbrev pub run_app : App
-run_app = with_rule (with_rule (with_rule (files_app (codes "run") (codes "CERT")) (file_rule (codes "TRACE"))) (limit_rule (codes "turns"))) (limit_rule (codes "steps"))
+run_app = with_rule (with_rule (with_rule run_files_app (default_rule (codes "turns") (codes "1000000"))) (default_rule (codes "steps") (codes "1000000"))) explain_rule
 
 -- explain [CODE]
 abbrev pub explain_app : App
@@ -143,35 +185,85 @@ shapes_in given = first_of (codes "shapes") given
 abbrev pub workers_of : List Row → Option ℕ
 workers_of given = option_and_then (λ workers. if nat_lt 0 workers && nat_lt workers 65 then Some workers else None) (number_of (codes "workers") given)
 
--- `check` with what was given to it, if that is a module, a certificate and a number of workers
+-- when a refusal is explained, by its word
+abbrev pub explained_by : Text → Option Explained
+explained_by word =
+    if bytes_eq word (codes "always") then Some Always
+    else if bytes_eq word (codes "auto") then Some OnTerminal
+    else if bytes_eq word (codes "never") then Some Never
+    else None
+
+-- the same, by what was given
+abbrev pub explained_of : List Row → Option Explained
+explained_of given = option_and_then explained_by (first_of (codes "explain") given)
+
+-- how many refusals are told where no limit is given
+abbrev pub LIMIT : ℕ
+LIMIT = 20
+
+-- how many refusals are told: by the option `all` the first of each block, up to the limit, which may not stand without it
+abbrev pub refusals_of : List Row → Option Refusals
+refusals_of given =
+    let limit = number_of (codes "limit") given in
+    if flag_of (codes "all") given then Some (OfBlocks (unwrap_or limit LIMIT))
+    else if is_some limit then None
+    else Some First
+
+-- `check` with what was given to it, if that is a module, a certificate, a number of workers, when a refusal is explained, and how many are told
 abbrev pub check_of : List Row → Option Asked
 check_of given =
-    option_and_then (λ paths. option_map (λ workers. check paths.0 paths.1 workers) (workers_of given)) (paths_in (codes "CERT") given)
+    option_and_then (λ paths. option_and_then (λ workers. option_and_then (λ explained. option_map (λ refusals. check paths.0 paths.1 workers explained refusals)
+    (refusals_of given)) (explained_of given)) (workers_of given)) (paths_in (codes "CERT") given)
 
--- `make` with what was given to it, if that is a module
+-- `make` with what was given to it, if that is a module, and when a refusal is explained
 abbrev pub make_of : List Row → Option Asked
-make_of given = option_map (λ module_path. make module_path (shapes_in given) (why_of given)) (first_of (codes "MODULE") given)
+make_of given =
+    option_and_then (λ module_path. option_map (λ explained. make module_path (shapes_in given) (why_of given) explained)
+    (explained_of given)) (first_of (codes "MODULE") given)
 
--- `recheck` with what was given to it, if that is a module, a certificate and edits
+-- `recheck` with what was given to it, if that is a module, a certificate and edits, and when a refusal is explained
 abbrev pub recheck_of : List Row → Option Asked
 recheck_of given =
-    option_and_then (λ paths. option_map (λ edits_path. recheck paths.0 paths.1 edits_path) (first_of (codes "EDITS") given)) (paths_in (codes "CERT") given)
+    option_and_then (λ paths. option_and_then (λ edits_path. option_map (λ explained. recheck paths.0 paths.1 edits_path explained)
+    (explained_of given)) (first_of (codes "EDITS") given)) (paths_in (codes "CERT") given)
 
--- `replay` with what was given to it, if that is a module and a trace
+-- the steps between these numbers, if one of them is given; otherwise the last ones
+abbrev pub steps_between : (first last : Option ℕ) → StepsTold
+steps_between None None = Last
+steps_between first last = Between (unwrap_or first 1) (unwrap_or last 4294967295)
+
+-- which steps are told: none without the option `steps`, and then no numbers may be given
+abbrev pub steps_of : List Row → Option StepsTold
+steps_of given =
+    let first = number_of (codes "from") given in
+    let last = number_of (codes "to") given in
+    if flag_of (codes "steps") given then Some (steps_between first last)
+    else if is_some first || is_some last then None
+    else Some NotTold
+
+-- `replay` with what was given to it, if that is a module and a trace, and which steps are told, and when a refusal is explained
 abbrev pub replay_of : List Row → Option Asked
-replay_of given = option_map (λ paths. replay paths.0 paths.1 (shapes_in given)) (paths_in (codes "TRACE") given)
+replay_of given =
+    option_and_then (λ paths. option_and_then (λ steps. option_map (λ explained. replay paths.0 paths.1 (shapes_in given) steps (first_of (codes "json") given) explained)
+    (explained_of given)) (steps_of given)) (paths_in (codes "TRACE") given)
 
--- `soak` with what was given to it, if that is a module, a trace and both numbers
+-- the first seed, how many, and how many steps each makes
+abbrev pub seeds_of : List Row → Option (ℕ × ℕ × ℕ)
+seeds_of given =
+    option_and_then (λ seeds. option_and_then (λ steps. option_map (λ first. (first, seeds, steps))
+    (number_of (codes "first") given)) (number_of (codes "steps") given)) (number_of (codes "seeds") given)
+
+-- `soak` with what was given to it, if that is a module, a trace and three numbers, and when a refusal is explained
 abbrev pub soak_of : List Row → Option Asked
 soak_of given =
-    option_and_then (λ paths. option_and_then (λ seeds. option_map (λ steps. soak paths.0 paths.1 (shapes_in given) seeds steps)
-    (number_of (codes "steps") given)) (number_of (codes "seeds") given)) (paths_in (codes "TRACE") given)
+    option_and_then (λ paths. option_and_then (λ numbers. option_map (λ explained. soak paths.0 paths.1 (shapes_in given) numbers.0 numbers.1 numbers.2 (first_of (codes "save") given) explained)
+    (explained_of given)) (seeds_of given)) (paths_in (codes "TRACE") given)
 
--- `run` with what was given to it, if that is a module, a certificate, a trace and both limits
+-- `run` with what was given to it, if that is a module, a certificate, a trace and both limits, and when a refusal is explained
 abbrev pub run_of : List Row → Option Asked
 run_of given =
-    option_and_then (λ paths. option_and_then (λ trace_path. option_and_then (λ turns. option_map (λ steps. run paths.0 paths.1 trace_path turns steps)
-    (number_of (codes "steps") given)) (number_of (codes "turns") given)) (first_of (codes "TRACE") given)) (paths_in (codes "CERT") given)
+    option_and_then (λ paths. option_and_then (λ trace_path. option_and_then (λ turns. option_and_then (λ steps. option_map (λ explained. run paths.0 paths.1 trace_path turns steps explained)
+    (explained_of given)) (number_of (codes "steps") given)) (number_of (codes "turns") given)) (first_of (codes "TRACE") given)) (paths_in (codes "CERT") given)
 
 -- `explain` with what was given to it: a code, or nothing
 abbrev pub explain_of : List Row → Asked
@@ -203,4 +295,4 @@ asked_in words = asked_of (subcommand_of dgc_app words)
 abbrev pub IsRefusalOf : List Text → LineFault → Type 0
 IsRefusalOf words Memory = Unit
 IsRefusalOf words (Words error) = IsAmong (kind_of error) (fault_of dgc_app words)
-IsRefusalOf words NoCommand = asked_in words ≡ None
+IsRefusalOf words (NoCommand hint) = asked_in words ≡ None

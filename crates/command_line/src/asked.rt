@@ -1,11 +1,28 @@
 //! What a command line asks for, and why it may ask for nothing.
 ghost use Rattle.std.specs.Prelude.{◌≡◌, ◌∷◌, map, option_map, IfOk};
-ghost use Rattle.command_line.specs.Asked.{asked_by, fault_of_error, path_if, paths_of};
+ghost use Rattle.command_line.specs.Asked.{are_told, asked_by, fault_of_error, HasWorkers, is_wanted, on_terminal, path_if, paths_of, when_on_terminal};
 ghost use Rattle.command_line.specs.declared.asked.LineFault.TheVariants.{Memory};
 
 use clap::Error;
 use clap::error::ErrorKind;
 use std::alloc::{AllocError, Global};
+
+/// Whether a refusal is explained.
+#[derive(Clone, Copy)]
+pub enum Explained {
+    Always,
+    /// Where the standard error is a terminal.
+    OnTerminal,
+    Never,
+}
+
+/// How many refusals are told.
+#[derive(Clone, Copy)]
+pub enum Refusals {
+    First,
+    /// The first one of each block, at most this many.
+    OfBlocks(u32),
+}
 
 /// Check a module against a certificate, by `workers` workers.
 #[derive(Clone, Copy)]
@@ -13,6 +30,8 @@ pub struct CheckLine<'a> {
     pub module_path: &'a str,
     pub certificate_path: &'a str,
     pub workers: u32,
+    pub explained: Explained,
+    pub refusals: Refusals,
 }
 
 /// Whether to say what is refused where no certificate is made.
@@ -28,6 +47,7 @@ pub struct MakeLine<'a> {
     pub module_path: &'a str,
     pub shapes_path: Option<&'a str>,
     pub why: Why,
+    pub explained: Explained,
 }
 
 /// Check a module against a certificate, and again after each of some edits.
@@ -36,6 +56,17 @@ pub struct RecheckLine<'a> {
     pub module_path: &'a str,
     pub certificate_path: &'a str,
     pub edits_path: &'a str,
+    pub explained: Explained,
+}
+
+/// Which steps of a replay are told.
+#[derive(Clone, Copy)]
+pub enum StepsTold {
+    NotTold,
+    /// The last ones, and those that matter for the break.
+    Last,
+    /// Those whose numbers lie between these. Steps are counted from 1.
+    Between(u32, u32),
 }
 
 /// Make the steps of a trace of a module.
@@ -44,16 +75,24 @@ pub struct ReplayLine<'a> {
     pub module_path: &'a str,
     pub trace_path: &'a str,
     pub shapes_path: Option<&'a str>,
+    pub steps: StepsTold,
+    /// Where the steps are to be written as JSON.
+    pub json_path: Option<&'a str>,
+    pub explained: Explained,
 }
 
-/// From the start of a trace of a module, make `steps` steps by the schedule of each of `seeds` seeds.
+/// From the start of a trace of a module, make `steps` steps by the schedule of each of `seeds` seeds, from the first one on.
 #[derive(Clone, Copy)]
 pub struct SoakLine<'a> {
     pub module_path: &'a str,
     pub trace_path: &'a str,
     pub shapes_path: Option<&'a str>,
+    pub first: u32,
     pub seeds: u32,
     pub steps: u32,
+    /// Where the broken seed's steps are to be written.
+    pub save_path: Option<&'a str>,
+    pub explained: Explained,
 }
 
 /// Check a module against a certificate. Then run the threads of a trace on real threads for at most `steps` steps each, beside at
@@ -65,6 +104,7 @@ pub struct RunLine<'a> {
     pub trace_path: &'a str,
     pub turns: u32,
     pub steps: u32,
+    pub explained: Explained,
 }
 
 /// Tell of a code that is printed of a refusal or a fault; without one, list all codes.
@@ -99,8 +139,9 @@ pub enum LineFault {
     /// The words are no command line, or ask for help or the version.
     #[error(transparent)]
     Words(Error),
-    #[error("no command")]
-    NoCommand,
+    /// They ask for nothing, and this is the likeliest reason.
+    #[error("{0}")]
+    NoCommand(&'static str),
     #[error("out of memory")]
     Memory,
 }
@@ -155,7 +196,159 @@ fn traced_paths<'a>(
     Ok(paths)
 }
 
+impl StepsTold {
+    /// Whether any are.
+    pub fn is_wanted(self) -> bool
+        ensures { result ≡ are_told self }
+    {
+        !matches!(self, StepsTold::NotTold)
+    }
+}
+
+impl Explained {
+    /// The same where the standard error is a terminal.
+    fn on_terminal(self) -> Explained
+        ensures { result ≡ when_on_terminal self }
+    {
+        match self {
+            Explained::OnTerminal => Explained::Always,
+            when => when,
+        }
+    }
+
+    /// Whether a refusal is explained where nothing is known of the standard error.
+    pub fn is_wanted(self) -> bool
+        ensures { result ≡ is_wanted self }
+    {
+        matches!(self, Explained::Always)
+    }
+}
+
+/// A check where the standard error is a terminal.
+fn check_on_terminal(asked: CheckLine<'_>) -> CheckLine<'_>
+    ensures module_path { result.module_path ≡ asked.entry.module_path }
+    ensures certificate_path { result.certificate_path ≡ asked.entry.certificate_path }
+    ensures workers { result.workers ≡ asked.entry.workers }
+    ensures refusals { result.refusals ≡ asked.entry.refusals }
+    ensures explained { result.explained ≡ when_on_terminal asked.entry.explained }
+{
+    CheckLine {
+        module_path: asked.module_path,
+        certificate_path: asked.certificate_path,
+        workers: asked.workers,
+        explained: asked.explained.on_terminal(),
+        refusals: asked.refusals,
+    }
+}
+
+/// A making of a certificate where the standard error is a terminal.
+fn make_on_terminal(asked: MakeLine<'_>) -> MakeLine<'_>
+    ensures module_path { result.module_path ≡ asked.entry.module_path }
+    ensures shapes_path { result.shapes_path ≡ asked.entry.shapes_path }
+    ensures why { result.why ≡ asked.entry.why }
+    ensures explained { result.explained ≡ when_on_terminal asked.entry.explained }
+{
+    MakeLine {
+        module_path: asked.module_path,
+        shapes_path: asked.shapes_path,
+        why: asked.why,
+        explained: asked.explained.on_terminal(),
+    }
+}
+
+/// A check after edits where the standard error is a terminal.
+fn recheck_on_terminal(asked: RecheckLine<'_>) -> RecheckLine<'_>
+    ensures module_path { result.module_path ≡ asked.entry.module_path }
+    ensures certificate_path { result.certificate_path ≡ asked.entry.certificate_path }
+    ensures edits_path { result.edits_path ≡ asked.entry.edits_path }
+    ensures explained { result.explained ≡ when_on_terminal asked.entry.explained }
+{
+    RecheckLine {
+        module_path: asked.module_path,
+        certificate_path: asked.certificate_path,
+        edits_path: asked.edits_path,
+        explained: asked.explained.on_terminal(),
+    }
+}
+
+/// A replay where the standard error is a terminal.
+fn replay_on_terminal(asked: ReplayLine<'_>) -> ReplayLine<'_>
+    ensures module_path { result.module_path ≡ asked.entry.module_path }
+    ensures trace_path { result.trace_path ≡ asked.entry.trace_path }
+    ensures shapes_path { result.shapes_path ≡ asked.entry.shapes_path }
+    ensures steps { result.steps ≡ asked.entry.steps }
+    ensures json_path { result.json_path ≡ asked.entry.json_path }
+    ensures explained { result.explained ≡ when_on_terminal asked.entry.explained }
+{
+    ReplayLine {
+        module_path: asked.module_path,
+        trace_path: asked.trace_path,
+        shapes_path: asked.shapes_path,
+        steps: asked.steps,
+        json_path: asked.json_path,
+        explained: asked.explained.on_terminal(),
+    }
+}
+
+/// A soak where the standard error is a terminal.
+fn soak_on_terminal(asked: SoakLine<'_>) -> SoakLine<'_>
+    ensures module_path { result.module_path ≡ asked.entry.module_path }
+    ensures trace_path { result.trace_path ≡ asked.entry.trace_path }
+    ensures shapes_path { result.shapes_path ≡ asked.entry.shapes_path }
+    ensures first { result.first ≡ asked.entry.first }
+    ensures seeds { result.seeds ≡ asked.entry.seeds }
+    ensures steps { result.steps ≡ asked.entry.steps }
+    ensures save_path { result.save_path ≡ asked.entry.save_path }
+    ensures explained { result.explained ≡ when_on_terminal asked.entry.explained }
+{
+    SoakLine {
+        module_path: asked.module_path,
+        trace_path: asked.trace_path,
+        shapes_path: asked.shapes_path,
+        first: asked.first,
+        seeds: asked.seeds,
+        steps: asked.steps,
+        save_path: asked.save_path,
+        explained: asked.explained.on_terminal(),
+    }
+}
+
+/// A run where the standard error is a terminal.
+fn run_on_terminal(asked: RunLine<'_>) -> RunLine<'_>
+    ensures module_path { result.module_path ≡ asked.entry.module_path }
+    ensures certificate_path { result.certificate_path ≡ asked.entry.certificate_path }
+    ensures trace_path { result.trace_path ≡ asked.entry.trace_path }
+    ensures turns { result.turns ≡ asked.entry.turns }
+    ensures steps { result.steps ≡ asked.entry.steps }
+    ensures explained { result.explained ≡ when_on_terminal asked.entry.explained }
+{
+    RunLine {
+        module_path: asked.module_path,
+        certificate_path: asked.certificate_path,
+        trace_path: asked.trace_path,
+        turns: asked.turns,
+        steps: asked.steps,
+        explained: asked.explained.on_terminal(),
+    }
+}
+
 impl<'a> Line<'a> {
+    /// The line where the standard error is a terminal: what is left to that is explained.
+    pub fn on_terminal(self) -> Line<'a>
+        ensures asked { asked_by result ≡ on_terminal (asked_by self.entry) }
+        ensures workers { HasWorkers (asked_by self.entry) → HasWorkers (asked_by result) }
+    {
+        match self {
+            Line::Check(asked) => Line::Check(check_on_terminal(asked)),
+            Line::Make(asked) => Line::Make(make_on_terminal(asked)),
+            Line::Recheck(asked) => Line::Recheck(recheck_on_terminal(asked)),
+            Line::Replay(asked) => Line::Replay(replay_on_terminal(asked)),
+            Line::Soak(asked) => Line::Soak(soak_on_terminal(asked)),
+            Line::Run(asked) => Line::Run(run_on_terminal(asked)),
+            line => line,
+        }
+    }
+
     /// The paths of the command's files, in the line's order, that of an option last.
     pub fn paths(&self, alloc: Global) -> Result<Vec<&'a str>, AllocError>
         ensures { IfOk result (λ paths. map (λ path. path.now) paths.items ≡ paths_of (asked_by self.now)) }

@@ -17,12 +17,33 @@ pub(crate) const MODULE: &str =
 pub(crate) const SHAPES: &str =
     "The shapes of a module that writes `ptr`: what its pointers refer to (docs/CERTIFICATES.md)";
 
+pub(crate) const EXPLAIN_WHEN: &str =
+    "Explain a refusal on standard error: always, never, or auto, where that is a terminal";
+
+pub(crate) const ALL: &str = "Also print the first refusal of each other block";
+
+pub(crate) const LIMIT: &str = "With --all: how many refusals are printed at most [default: 20]";
+
 pub(crate) const WORKERS: &str =
     "How many threads check functions, from 1 to 64; the answer is the same";
 
-pub(crate) const SEEDS: &str = "How many seeds; the seeds are 0 to N-1";
+pub(crate) const SEEDS: &str = "How many seeds; without --first they are 0 to N-1";
 
 pub(crate) const STEPS: &str = "How many steps each seed makes";
+
+pub(crate) const REPLAY_STEPS: &str =
+    "Also tell the steps: the last 40, and those that matter for the break (docs/STEPS.md)";
+
+pub(crate) const FROM: &str = "With --steps: the first step that is told, from 1";
+
+pub(crate) const TO: &str = "With --steps: the last step that is told";
+
+pub(crate) const JSON: &str = "The file to which all steps are written as JSON, a line for each";
+
+pub(crate) const FIRST: &str = "The first seed";
+
+pub(crate) const SAVE: &str =
+    "The file to which the broken seed's steps up to its break are written, as a trace";
 
 pub(crate) const RUN_TRACE: &str =
     "A trace: how the run begins; its steps are ignored (docs/TRACES.md)";
@@ -41,7 +62,8 @@ pub(crate) const CHECK: CommandHelp = CommandHelp {
 Prints `yes F`, where F is the number of defined functions. Or prints `no @f %b I Kn`:
 the function, the block, the place of the instruction in its block (from 0), and the rule
 that it breaks (docs/RULES.md). After K15 come the target block and the line of the
-certificate that is not shown.
+certificate that is not shown. With --all such a line follows for the first refusal of each
+other block, in the module's order, and then `refusals N`: how many blocks have one.
 
 Of a text that is not read, one line goes to standard error, as `error L4 23:13` (a line
 and a column) or `error C5 @f`.
@@ -103,6 +125,8 @@ pub(crate) const REPLAY: CommandHelp = CommandHelp {
 Each step is one atomic step of a thread or of the collector. Prints the first step after
 which the run is broken, who made it, and why, as `broken 32 t 0 touch-blue 1`. Or prints
 `sound 35`, a line for each thread, and a line with the counts. docs/TRACES.md has each line.
+With --steps come a line for each step that is told, as `32  thread 0  ..`, the life of the
+cell that is gone, and the path that still leads to it.
 
 Of a text that is not read, one line goes to standard error, as `error L4 23:13` (a line
 and a column) or `error C6 @g`. A module that writes `ptr` needs its shapes: without --shapes
@@ -122,8 +146,9 @@ pub(crate) const SOAK: CommandHelp = CommandHelp {
     after: "\
 Each seed draws who makes the next step: a thread or the collector. Prints `sound N seeds`.
 Or prints the least seed whose run is broken, the first step after which it is broken, who
-made that step, and why, as `broken seed 103 221 c reach-blue 3`. N and S are decimal
-numbers from 0 to 4294967295.
+made that step, and why, as `broken seed 103 221 c reach-blue 3`. N, S and F are decimal
+numbers from 0 to 4294967295. No seed is above 4294967294. With --save the steps of the
+broken seed are written to FILE, and `dgc replay` of that trace breaks at the same step.
 
 Of a text that is not read, one line goes to standard error, as `error L4 23:13` (a line
 and a column) or `error C6 @g`. A module that writes `ptr` needs its shapes: without --shapes

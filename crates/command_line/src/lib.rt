@@ -2,11 +2,12 @@
 #![tactic(auto)]
 
 mod asked;
+mod grammar;
 mod help;
 mod reader;
 
 pub use asked::{
-    CheckLine, ExplainLine, Line, LineFault, MakeLine, MigrateLine, RecheckLine, ReplayLine,
-    RunLine, SoakLine, Why,
+    CheckLine, ExplainLine, Explained, Line, LineFault, MakeLine, MigrateLine, RecheckLine,
+    Refusals, ReplayLine, RunLine, SoakLine, StepsTold, Why,
 };
 pub use reader::line;

@@ -1,41 +1,257 @@
 //! The commands, from the bytes of their files to the printed lines and the status.
-ghost use Rattle.std.specs.Prelude.{IfOk};
-ghost use Rattle.command_line.specs.Asked.{asked_by, HasWorkers};
-ghost use Rattle.commands.specs.Commands.{OfCommand};
-ghost use Rattle.reports.specs.Said.{Says};
+ghost use Rattle.std.specs.Prelude.{◌≡◌, ℕ, List, is_some, false, IfOk, OnOk};
+ghost use Rattle.command_line.specs.Asked.{asked_by, asks_for_steps, save_of, HasWorkers, is_explained};
+ghost use Rattle.commands.specs.Commands.{GivesTextIf, OfCommand, SaysAndTells};
+ghost use Rattle.command_line.specs.declared.asked.Line.TheVariants.{Check, Make, Recheck, Replay, Soak, Run};
+ghost use Rattle.reports.specs.Said.{Said, Says};
 ghost use Rattle.reports.specs.Files as spec;
 
 use check_commands::{check_files, explain_code, make_file};
-use command_line::Line;
+use command_line::{CheckLine, Line, MakeLine, RecheckLine, ReplayLine, RunLine, SoakLine};
+use explained_checks::{
+    Look, explain_check, explain_make, explain_recheck, explain_run, explain_traced,
+};
 use migrate_command::migrate_files;
 use recheck_command::recheck_files;
+use reports::{STATUS_NO, STATUS_UNREADABLE, STATUS_YES};
 use run_commands::{replay_files, run_files, soak_files};
-use std::alloc::Global;
+use std::alloc::{AllocError, Global};
 use std::io;
 use std::io::Write;
 use std::thread::Threads;
+use step_commands::{save_steps, tell_steps};
 
-/// Does the command of a line on the bytes of its files, in the line's order; None is a file that cannot be read.
-/// Returns the status with which the program ends, or an error of a writer.
-pub fn work<O: Write, E: Write>(
+/// Does the command of a line, without explanations. What it asks to write to a file of its own is appended to `saved`.
+fn answer<O: Write, E: Write>(
     rt: &(impl Threads + Sync),
     alloc: Global,
     line: &Line<'_>,
     files: &[Option<Vec<u8>>],
+    saved: &mut Vec<u8>,
     out: &mut O,
     err: &mut E,
 ) -> io::Result<u8>
     requires { HasWorkers (asked_by line.now) }
-    ensures { IfOk result (Says (OfCommand (asked_by line.now) (spec.file_at files.now)) (O.contents out.old) (O.contents out.new) (E.contents err.old) (E.contents err.new)) }
+    ensures said { IfOk result (Says (OfCommand (asked_by line.now) (spec.file_at files.now) saved.old.items saved.new.items) (O.contents out.old) (O.contents out.new) (E.contents err.old) (E.contents err.new)) }
+    ensures kept { is_some (save_of (asked_by line.now)) ≡ false → saved.new.items ≡ saved.old.items }
 {
     match *line {
         Line::Check(asked) => check_files(rt, alloc, asked, files, out, err),
         Line::Make(asked) => make_file(alloc, asked, files, out, err),
         Line::Recheck(asked) => recheck_files(alloc, asked, files, out, err),
         Line::Replay(asked) => replay_files(alloc, asked, files, out, err),
-        Line::Soak(asked) => soak_files(rt, alloc, asked, files, out, err),
+        Line::Soak(asked) => soak_files(rt, alloc, asked, files, saved, out, err),
         Line::Run(asked) => run_files(rt, alloc, asked, files, out, err),
         Line::Explain(asked) => explain_code(asked, out, err),
         Line::Migrate(asked) => migrate_files(alloc, asked, files, out, err),
     }
+}
+
+/// Tells the steps of a replay, if its line asks for that.
+fn tell_replayed<O: Write>(
+    alloc: Global,
+    asked: ReplayLine<'_>,
+    files: &[Option<Vec<u8>>],
+    out: &mut O,
+) -> io::Result<()>
+    ensures { OnOk result (GivesTextIf (asks_for_steps (asked_by (Replay asked.entry))) (O.contents out.old) (O.contents out.new)) }
+{
+    if asked.steps.is_wanted() {
+        return tell_steps(alloc, asked, files, out);
+    }
+    Ok(())
+}
+
+/// Appends the steps of a replay as JSON, if its line asks for that.
+fn save_replayed(
+    alloc: Global,
+    asked: ReplayLine<'_>,
+    files: &[Option<Vec<u8>>],
+    saved: &mut Vec<u8>,
+) -> Result<(), AllocError>
+    ensures { is_some (save_of (asked_by (Replay asked.entry))) ≡ false → saved.new.items ≡ saved.old.items }
+{
+    if asked.json_path.is_some() {
+        return save_steps(alloc, asked, files, saved);
+    }
+    Ok(())
+}
+
+/// Tells and saves the steps of a command that answered with this status, if the line asks for that.
+fn tell<O: Write>(
+    alloc: Global,
+    line: &Line<'_>,
+    files: &[Option<Vec<u8>>],
+    status: u8,
+    saved: &mut Vec<u8>,
+    out: &mut O,
+) -> io::Result<()>
+    ensures told { OnOk result (GivesTextIf (asks_for_steps (asked_by line.now)) (O.contents out.old) (O.contents out.new)) }
+    ensures saved { (before : List ℕ) (said : Said) → OfCommand (asked_by line.now) (spec.file_at files.now) before saved.old.items said
+        → OfCommand (asked_by line.now) (spec.file_at files.now) before saved.new.items said }
+    ensures kept { is_some (save_of (asked_by line.now)) ≡ false → saved.new.items ≡ saved.old.items }
+{
+    if status != STATUS_YES && status != STATUS_NO {
+        return Ok(());
+    }
+    match *line {
+        Line::Replay(asked) => {
+            tell_replayed(alloc, asked, files, out)?;
+            save_replayed(alloc, asked, files, saved)?;
+            Ok(())
+        }
+        _ => Ok(()),
+    }
+}
+
+/// Explains what a check answered, if its line asks for that.
+fn explain_checked<E: Write>(
+    alloc: Global,
+    look: Look,
+    asked: CheckLine<'_>,
+    files: &[Option<Vec<u8>>],
+    err: &mut E,
+) -> io::Result<()>
+    ensures { OnOk result (GivesTextIf (is_explained (asked_by (Check asked.entry))) (E.contents err.old) (E.contents err.new)) }
+{
+    if asked.explained.is_wanted() {
+        let paths = (asked.module_path, asked.certificate_path);
+        return explain_check(alloc, look, paths, files, err);
+    }
+    Ok(())
+}
+
+/// Explains that no certificates were made, if the line asks for that.
+fn explain_made<E: Write>(
+    alloc: Global,
+    look: Look,
+    asked: MakeLine<'_>,
+    files: &[Option<Vec<u8>>],
+    err: &mut E,
+) -> io::Result<()>
+    ensures { OnOk result (GivesTextIf (is_explained (asked_by (Make asked.entry))) (E.contents err.old) (E.contents err.new)) }
+{
+    if asked.explained.is_wanted() {
+        let paths = (asked.module_path, asked.shapes_path);
+        return explain_make(alloc, look, paths, files, err);
+    }
+    Ok(())
+}
+
+/// Explains the verdicts of a check that is made again after edits, if its line asks for that.
+fn explain_rechecked<E: Write>(
+    alloc: Global,
+    look: Look,
+    asked: RecheckLine<'_>,
+    files: &[Option<Vec<u8>>],
+    err: &mut E,
+) -> io::Result<()>
+    ensures { OnOk result (GivesTextIf (is_explained (asked_by (Recheck asked.entry))) (E.contents err.old) (E.contents err.new)) }
+{
+    if asked.explained.is_wanted() {
+        let paths = (asked.module_path, asked.certificate_path, asked.edits_path);
+        return explain_recheck(alloc, look, paths, files, err);
+    }
+    Ok(())
+}
+
+/// Explains why the texts of a replay are not read, if its line asks for that.
+fn explain_replayed<E: Write>(
+    alloc: Global,
+    look: Look,
+    asked: ReplayLine<'_>,
+    files: &[Option<Vec<u8>>],
+    status: u8,
+    err: &mut E,
+) -> io::Result<()>
+    ensures { OnOk result (GivesTextIf (is_explained (asked_by (Replay asked.entry))) (E.contents err.old) (E.contents err.new)) }
+{
+    if asked.explained.is_wanted() && status == STATUS_UNREADABLE {
+        let paths = (asked.module_path, asked.trace_path, asked.shapes_path);
+        return explain_traced(alloc, look, paths, files, err);
+    }
+    Ok(())
+}
+
+/// Explains why the texts of a soak are not read, if its line asks for that.
+fn explain_soaked<E: Write>(
+    alloc: Global,
+    look: Look,
+    asked: SoakLine<'_>,
+    files: &[Option<Vec<u8>>],
+    status: u8,
+    err: &mut E,
+) -> io::Result<()>
+    ensures { OnOk result (GivesTextIf (is_explained (asked_by (Soak asked.entry))) (E.contents err.old) (E.contents err.new)) }
+{
+    if asked.explained.is_wanted() && status == STATUS_UNREADABLE {
+        let paths = (asked.module_path, asked.trace_path, asked.shapes_path);
+        return explain_traced(alloc, look, paths, files, err);
+    }
+    Ok(())
+}
+
+/// Explains why nothing is run, if the line asks for that.
+fn explain_unrun<E: Write>(
+    alloc: Global,
+    look: Look,
+    asked: RunLine<'_>,
+    files: &[Option<Vec<u8>>],
+    err: &mut E,
+) -> io::Result<()>
+    ensures { OnOk result (GivesTextIf (is_explained (asked_by (Run asked.entry))) (E.contents err.old) (E.contents err.new)) }
+{
+    if asked.explained.is_wanted() {
+        let paths = (asked.module_path, asked.certificate_path, asked.trace_path);
+        return explain_run(alloc, look, paths, files, err);
+    }
+    Ok(())
+}
+
+/// Explains what a command answered with this status, if the line asks for that.
+fn explain<E: Write>(
+    alloc: Global,
+    look: Look,
+    line: &Line<'_>,
+    files: &[Option<Vec<u8>>],
+    status: u8,
+    err: &mut E,
+) -> io::Result<()>
+    ensures { OnOk result (GivesTextIf (is_explained (asked_by line.now)) (E.contents err.old) (E.contents err.new)) }
+{
+    if status != STATUS_NO && status != STATUS_UNREADABLE {
+        return Ok(());
+    }
+    match *line {
+        Line::Check(asked) => explain_checked(alloc, look, asked, files, err),
+        Line::Make(asked) => explain_made(alloc, look, asked, files, err),
+        Line::Recheck(asked) => explain_rechecked(alloc, look, asked, files, err),
+        Line::Replay(asked) => explain_replayed(alloc, look, asked, files, status, err),
+        Line::Soak(asked) => explain_soaked(alloc, look, asked, files, status, err),
+        Line::Run(asked) => explain_unrun(alloc, look, asked, files, err),
+        Line::Explain(_) | Line::Migrate(_) => Ok(()),
+    }
+}
+
+/// Does the command of a line on the bytes of its files, in the line's order; None is a file that cannot be read.
+/// What the line asks to write to a file of its own is appended to `saved`.
+/// The steps of a replay are told after its answer. An explanation has this look. Returns the status with which the program ends, or an error of a writer.
+pub fn work<O: Write, E: Write>(
+    rt: &(impl Threads + Sync),
+    alloc: Global,
+    look: Look,
+    line: &Line<'_>,
+    files: &[Option<Vec<u8>>],
+    saved: &mut Vec<u8>,
+    out: &mut O,
+    err: &mut E,
+) -> io::Result<u8>
+    requires { HasWorkers (asked_by line.now) }
+    ensures said { IfOk result (SaysAndTells (asks_for_steps (asked_by line.now)) (is_explained (asked_by line.now)) (OfCommand (asked_by line.now) (spec.file_at files.now) saved.old.items saved.new.items) (O.contents out.old) (O.contents out.new) (E.contents err.old) (E.contents err.new)) }
+    ensures kept { is_some (save_of (asked_by line.now)) ≡ false → saved.new.items ≡ saved.old.items }
+{
+    let status = answer(rt, alloc, line, files, saved, out, err)?;
+    tell(alloc, line, files, status, saved, out)?;
+    explain(alloc, look, line, files, status, err)?;
+    Ok(status)
 }

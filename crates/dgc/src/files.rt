@@ -1,5 +1,6 @@
-//! The files of a command. Each is read up to its limit.
+//! The files of a command. Each is read up to its limit. One may be written.
 use crate::failure::Failure;
+use commands::Line;
 use ir_tokens::TEXT_LIMIT;
 use std::fs::OpenFile;
 use std::io::Read;
@@ -78,4 +79,28 @@ pub fn bytes_of(
             _ => Ok(None),
         },
     }
+}
+
+/// The file to which a line wants something written.
+fn save_path<'a>(line: &Line<'a>) -> Option<&'a str> {
+    match *line {
+        Line::Soak(asked) => asked.save_path,
+        Line::Replay(asked) => asked.json_path,
+        _ => None,
+    }
+}
+
+/// Writes what was saved to the file of the line, if there is anything.
+pub fn save(
+    rt: &(impl Runtime + AllocGlobal),
+    line: &Line<'_>,
+    saved: &[u8],
+) -> Result<(), Failure> {
+    if saved.is_empty() {
+        return Ok(());
+    }
+    if let Some(path) = save_path(line) {
+        fs::write(rt, path, saved)?;
+    }
+    Ok(())
 }

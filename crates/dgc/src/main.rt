@@ -6,18 +6,38 @@ mod files;
 
 ghost use Rattle.command_line.specs.Asked.{asked_by, HasWorkers};
 
-use commands::{Line, LineFault, STATUS_USAGE, STATUS_YES, line, memory, status_of, work};
+use commands::{Line, LineFault, Look, STATUS_USAGE, STATUS_YES, line, memory, status_of, work};
 use failure::Failure;
-use files::bytes_of;
-use std::io::Write;
+use files::{bytes_of, save};
+use std::env::VarError;
+use std::io::{IsTerminal, Write};
 use std::process::ExitCode;
 use std::rt::Runtime;
 use std::thread::Threads;
 use std::{env, io};
 
+/// Where the standard error goes.
+#[derive(Clone, Copy)]
+enum Errors {
+    Elsewhere,
+    /// To a terminal, on which text has this look.
+    Terminal(Look),
+}
+
+impl Errors {
+    /// How a text looks there.
+    fn look(self) -> Look {
+        match self {
+            Errors::Elsewhere => Look::Plain,
+            Errors::Terminal(look) => look,
+        }
+    }
+}
+
 /// Does what a line asks for.
 fn answer<O: Write, E: Write>(
     rt: &(impl Runtime + AllocGlobal + Threads + Sync),
+    errors: Errors,
     line: &Line<'_>,
     out: &mut O,
     err: &mut E,
@@ -29,7 +49,18 @@ fn answer<O: Write, E: Write>(
         let bytes = bytes_of(rt, path, files.len())?;
         files.push(bytes)?;
     }
-    let status = work(rt, rt.alloc(), line, files.as_slice(), out, err)?;
+    let mut saved = Vec::new(rt.alloc());
+    let status = work(
+        rt,
+        rt.alloc(),
+        errors.look(),
+        line,
+        files.as_slice(),
+        &mut saved,
+        out,
+        err,
+    )?;
+    save(rt, line, saved.as_slice())?;
     Ok(status)
 }
 
@@ -47,9 +78,20 @@ fn words_given(rt: &(impl Runtime + AllocGlobal)) -> Result<Vec<String>, Failure
     }
 }
 
+/// The line as it is where the standard error goes there.
+fn line_on(line: Line<'_>, errors: Errors) -> Line<'_>
+    ensures { HasWorkers (asked_by line.entry) → HasWorkers (asked_by result) }
+{
+    match errors {
+        Errors::Elsewhere => line,
+        Errors::Terminal(_) => line.on_terminal(),
+    }
+}
+
 /// Reads the command line and does what it asks for.
 fn run<O: Write, E: Write>(
     rt: &(impl Runtime + AllocGlobal + Threads + Sync),
+    errors: Errors,
     out: &mut O,
     err: &mut E,
 ) -> Result<u8, Failure> {
@@ -57,7 +99,7 @@ fn run<O: Write, E: Write>(
     let owned = words_given(rt)?;
     let words: Vec<&str> = owned.iter().map(|word| word.as_str()).collect(alloc)?;
     match line(alloc, words.as_slice()) {
-        Ok(line) => answer(rt, &line, out, err),
+        Ok(line) => answer(rt, errors, &line_on(line, errors), out, err),
         Err(LineFault::Words(error)) => {
             error.print(rt)?;
             Ok(if error.use_stderr() {
@@ -66,7 +108,10 @@ fn run<O: Write, E: Write>(
                 STATUS_YES
             })
         }
-        Err(LineFault::NoCommand) => Ok(STATUS_USAGE),
+        Err(LineFault::NoCommand(lack)) => {
+            writeln!(err, "error: {lack}")?;
+            Ok(STATUS_USAGE)
+        }
         Err(LineFault::Memory) => Err(Failure::Memory),
     }
 }
@@ -85,15 +130,31 @@ fn report<E: Write>(err: &mut E, failure: Failure) -> io::Result<u8> {
 /// The status with which the program ends.
 fn ended<O: Write, E: Write>(
     rt: &(impl Runtime + AllocGlobal + Threads + Sync),
+    errors: Errors,
     out: &mut O,
     err: &mut E,
 ) -> u8 {
-    match run(rt, out, err) {
+    match run(rt, errors, out, err) {
         Ok(status) => status,
         Err(failure) => status_of(report(err, failure)),
     }
 }
 
+/// How text looks on a terminal: in colours, if the variable NO_COLOR is not set, or is empty.
+fn look_on_terminal(rt: &(impl Runtime + AllocGlobal)) -> Look {
+    match env::var(rt, "NO_COLOR") {
+        Err(VarError::NotPresent) => Look::Coloured,
+        Ok(value) if value.is_empty() => Look::Coloured,
+        _ => Look::Plain,
+    }
+}
+
 fn main(rt: HostRuntime) -> ExitCode {
-    ExitCode::from(ended(&rt, &mut rt.stdout(), &mut rt.stderr()))
+    let mut err = rt.stderr();
+    let errors = if err.is_terminal() {
+        Errors::Terminal(look_on_terminal(&rt))
+    } else {
+        Errors::Elsewhere
+    };
+    ExitCode::from(ended(&rt, errors, &mut rt.stdout(), &mut err))
 }

@@ -3,8 +3,8 @@ use Rattle.std.proofs.lemmas.Result.{IfOk-weaker}
 use Rattle.certs.specs.declared.certs.Certs.{Certs}
 use Rattle.ir_ast.specs.declared.module.Module.{Module}
 use Rattle.reports.specs.Report.{IsTold, yes}
-use Rattle.reports.specs.Said.{OfVerdict, OnOutput}
-use Rattle.check_commands.specs.Checks.{accepted, not_accepted}
+use Rattle.reports.specs.Said.{OnOutput}
+use Rattle.check_commands.specs.Checks.{accepted, not_accepted, OfUnaccepted}
 use Rattle.check_commands.proofs.checking.check_certified.Goals as goal
 
 pub returns-in-Ok : goal.returns-in-Ok
@@ -18,6 +18,7 @@ pub returns-in-Err : goal.returns-in-Err
 returns-in-Err g c =
     let answer = c.in-Err.answer in
     let back = c.in-Err.ensures.given_back in
-    IfOk-weaker c.report_verdict-status.result _ _
-    (λ status told. (told.0, not_accepted told.0 (subst (λ (m : Module). OfVerdict m c.args.certified.certs told.0) back.0 (subst (λ (certs : Certs). OfVerdict answer.of_module certs told.0) back.1 told.1)), told.2))
-    c.report_verdict-status.ensures
+    let refusals = c.args.refusals in
+    IfOk-weaker c.print_unaccepted.result _ _
+    (λ status told. (told.0, not_accepted told.0 (subst (λ (m : Module). OfUnaccepted refusals m c.args.certified.certs told.0) back.0 (subst (λ (certs : Certs). OfUnaccepted refusals answer.of_module certs told.0) back.1 told.1)), told.2))
+    c.print_unaccepted.ensures

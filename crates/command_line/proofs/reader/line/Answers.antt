@@ -25,7 +25,7 @@ returns-in-Some-line-clause-found c =
     let app = c.in_ok-dgc_command.ensures.app in
     let parse = c.in_ok-matches.ensures.matches (ap is_simple app ∙ is_simple_dgc) in
     asked_from words c.in_ok-matches.matches c.in-Some.name.now (rows_of (found_of c.in-Some.given.now)) _
-    (parse.1 ∙ ap (λ a. subcommand_of a words) app) c.in-Some.ensures.name c.in-Some.ensures.rows c.in-Some-line.ensures
+    (parse.1 ∙ ap (λ a. subcommand_of a words) app) c.in-Some.ensures.name c.in-Some.ensures.rows c.in-Some-line.ensures.asked
 
 pub returns-in-None-clause-refused : goal.returns-in-None-clause-refused
 returns-in-None-clause-refused c =
@@ -33,4 +33,4 @@ returns-in-None-clause-refused c =
     let app = c.in_ok-dgc_command.ensures.app in
     let parse = c.in_ok-matches.ensures.matches (ap is_simple app ∙ is_simple_dgc) in
     asked_from words c.in_ok-matches.matches c.in-Some.name.now (rows_of (found_of c.in-Some.given.now)) _
-    (parse.1 ∙ ap (λ a. subcommand_of a words) app) c.in-Some.ensures.name c.in-Some.ensures.rows c.in-None.ensures
+    (parse.1 ∙ ap (λ a. subcommand_of a words) app) c.in-Some.ensures.name c.in-Some.ensures.rows c.in-None.ensures.asked

@@ -1,0 +1,7 @@
+//! What `replay` gives besides its answer: the steps of the run, in words and as JSON. The files are read and the trace is replayed
+//! once more.
+#![tactic(auto)]
+
+mod steps_told;
+
+pub use steps_told::{save_steps, tell_steps};
