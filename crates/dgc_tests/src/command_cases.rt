@@ -3,7 +3,7 @@ use crate::printed::Printed;
 use crate::row::printed_of;
 use crate::row_failure::RowFailure;
 use crate::texts::files_of;
-use commands::{CheckLine, Line, status_of, work};
+use commands::{CheckLine, Explained, Line, Look, Refusals, status_of, work};
 use std::alloc::{AllocError, Global};
 use std::io;
 use std::io::Write;
@@ -14,6 +14,8 @@ const CHECK: Line<'static> = Line::Check(CheckLine {
     module_path: "module.ll",
     certificate_path: "module.cert",
     workers: 1,
+    explained: Explained::Never,
+    refusals: Refusals::First,
 });
 
 /// Spaces, one more than a module may have bytes, and no certificate.
@@ -49,7 +51,16 @@ fn status_without_error(rt: &(impl Runtime + AllocGlobal + Threads + Sync)) -> u
     let alloc = rt.alloc();
     let files: Vec<Option<Vec<u8>>> = Vec::new(alloc);
     let mut out = Vec::new(alloc);
-    let printed = work(rt, alloc, &CHECK, files.as_slice(), &mut out, &mut Full);
+    let printed = work(
+        rt,
+        alloc,
+        Look::Plain,
+        &CHECK,
+        files.as_slice(),
+        &mut Vec::new(alloc),
+        &mut out,
+        &mut Full,
+    );
     status_of(printed)
 }
 
@@ -60,7 +71,16 @@ fn status_without_output(
     let alloc = rt.alloc();
     let files = files_of(alloc, [[""].as_slice(), ["cert 1"].as_slice()].as_slice())?;
     let mut err = Vec::new(alloc);
-    let printed = work(rt, alloc, &CHECK, files.as_slice(), &mut Full, &mut err);
+    let printed = work(
+        rt,
+        alloc,
+        Look::Plain,
+        &CHECK,
+        files.as_slice(),
+        &mut Vec::new(alloc),
+        &mut Full,
+        &mut err,
+    );
     Ok(status_of(printed))
 }
 

@@ -1,9 +1,9 @@
 //! Replays of traces that are made here: one that a seed draws, and those in which an actor stops for good.
 use crate::printed::write_front;
-use crate::row::printed_of;
+use crate::row::{printed_and_saved, printed_of};
 use crate::row_failure::RowFailure;
 use crate::texts::{FOUR, HEAD, PUBLISHER_AND_CLEARER, joined, text_of, two_files};
-use commands::{Line, ReplayLine};
+use commands::{Explained, Line, ReplayLine, SoakLine, StepsTold};
 use ir_text::read;
 use layout::Program;
 use replay::drawn_trace;
@@ -17,6 +17,21 @@ const REPLAY: Line<'static> = Line::Replay(ReplayLine {
     module_path: "module.ll",
     trace_path: "module.trace",
     shapes_path: None,
+    steps: StepsTold::NotTold,
+    json_path: None,
+    explained: Explained::Never,
+});
+
+/// By the row `register_kept_for_ever` seed 50 breaks the run of the keeper at step 45.
+const SOAK: Line<'static> = Line::Soak(SoakLine {
+    module_path: "module.ll",
+    trace_path: "module.trace",
+    shapes_path: None,
+    first: 40,
+    seeds: 20,
+    steps: 45,
+    save_path: Some("saved.trace"),
+    explained: Explained::Never,
 });
 
 /// The functions of a module and a trace of them.
@@ -96,6 +111,21 @@ fn drawn_answer(
     seed: u32,
 ) -> Result<String, AllocError> {
     let text = drawn_text(rt.alloc(), seed)?;
+    answer_to(rt, KEEPER, text.as_str())
+}
+
+/// What a soak of the keeper saves.
+fn saved_text(rt: &(impl Runtime + AllocGlobal + Threads + Sync)) -> Result<String, AllocError> {
+    let files = two_files(rt.alloc(), KEEPER, KEPT)?;
+    let mut saved = Vec::new(rt.alloc());
+    let printed = printed_and_saved(rt, &SOAK, files.as_slice(), &mut saved);
+    drop(printed);
+    text_of(rt.alloc(), saved.as_slice())
+}
+
+/// What a replay prints of what a soak of the keeper saves.
+fn saved_answer(rt: &(impl Runtime + AllocGlobal + Threads + Sync)) -> Result<String, AllocError> {
+    let text = saved_text(rt)?;
     answer_to(rt, KEEPER, text.as_str())
 }
 
@@ -259,6 +289,8 @@ pub fn write_cases<O: Write>(
     // By the row `register_kept_for_ever` 50 is the least seed whose run is broken.
     write!(out, "replays_what_a_broken_seed_draws: '")?;
     write_front(out, drawn_answer(rt, 50)?.as_str().as_bytes())?;
+    write!(out, "'\nsaves_what_a_broken_seed_draws: '")?;
+    write_front(out, saved_answer(rt)?.as_str().as_bytes())?;
     write!(out, "'\nlets_actors_stop_for_good:")?;
     for case in CASES {
         let (steps, sound) = sound_stops(rt, case)?;

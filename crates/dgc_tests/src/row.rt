@@ -5,8 +5,8 @@ ghost use Rattle.command_line.specs.Asked.{asked_by, HasWorkers};
 use crate::printed::Printed;
 use crate::row_failure::RowFailure;
 use commands::{
-    CheckLine, Line, LineFault, MakeLine, MigrateLine, STATUS_USAGE, STATUS_YES, Why, line,
-    status_of, work,
+    CheckLine, Explained, Line, LineFault, Look, MakeLine, MigrateLine, Refusals, STATUS_YES, Why,
+    line, status_of, work,
 };
 use ir_print::print;
 use ir_text::read;
@@ -154,11 +154,10 @@ impl CommandRow {
                 let text = format!(in alloc; "{error}")?;
                 Ok(Printed::of_clap(alloc, text.into_bytes(), error.use_stderr()))
             }
-            Err(LineFault::NoCommand) => Ok(Printed {
-                status: STATUS_USAGE,
-                out: Vec::new(alloc),
-                err: Vec::new(alloc),
-            }),
+            Err(LineFault::NoCommand(lack)) => {
+                let text = format!(in alloc; "error: {lack}\n")?;
+                Ok(Printed::of_clap(alloc, text.into_bytes(), true))
+            }
             Err(LineFault::Memory) => Err(RowFailure::Memory),
         }
     }
@@ -186,6 +185,7 @@ impl CommandRow {
             module_path,
             shapes_path,
             why: Why::NotWanted,
+            explained: Explained::Never,
         });
         Ok(printed_of(rt, &line, files.as_slice()))
     }
@@ -301,6 +301,8 @@ fn checked(
         module_path: "module.ll",
         certificate_path: "module.cert",
         workers: 1,
+        explained: Explained::Never,
+        refusals: Refusals::First,
     });
     Ok(printed_of(rt, &line, files.as_slice()))
 }
@@ -313,10 +315,34 @@ pub fn printed_of(
 ) -> Printed
     requires { HasWorkers (asked_by line.now) }
 {
+    let mut saved = Vec::new(rt.alloc());
+    let printed = printed_and_saved(rt, line, files, &mut saved);
+    drop(saved);
+    printed
+}
+
+/// What the command of a line prints of the bytes of its files. What it saves is appended.
+pub fn printed_and_saved(
+    rt: &(impl Runtime + AllocGlobal + Threads + Sync),
+    line: &Line<'_>,
+    files: &[Option<Vec<u8>>],
+    saved: &mut Vec<u8>,
+) -> Printed
+    requires { HasWorkers (asked_by line.now) }
+{
     let alloc = rt.alloc();
     let mut out = Vec::new(alloc);
     let mut err = Vec::new(alloc);
-    let answered = work(rt, alloc, line, files, &mut out, &mut err);
+    let answered = work(
+        rt,
+        alloc,
+        Look::Plain,
+        line,
+        files,
+        saved,
+        &mut out,
+        &mut err,
+    );
     let status = status_of(answered);
     Printed { status, out, err }
 }

@@ -5,7 +5,7 @@ use crate::row::printed_of;
 use crate::row_failure::RowFailure;
 use crate::texts::{FOUR, HEAD, PUBLISHER_AND_CLEARER, joined, text_of, two_files};
 use certificate::read_cert;
-use commands::{Line, RunLine, STATUS_YES};
+use commands::{Explained, Line, RunLine, STATUS_YES};
 use ir_text::read;
 use module_check::{Accepted, check};
 use mutators::{Limits, RunReport, ThreadEnd, run};
@@ -62,6 +62,7 @@ fn printed_within(
         trace_path: "module.trace",
         turns: limits.turns,
         steps: limits.steps,
+        explained: Explained::Never,
     });
     let mut files = two_files(rt.alloc(), functions, certificates)?;
     files.push(Some(Vec::from_slice(rt.alloc(), trace.as_bytes())?))?;

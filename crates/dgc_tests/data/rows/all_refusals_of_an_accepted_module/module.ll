@@ -1,0 +1,4 @@
+define void @g() {
+entry:
+  ret void
+}

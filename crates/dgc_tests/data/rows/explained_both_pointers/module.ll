@@ -1,0 +1,2 @@
+%Node = type { i64, %Node* }
+declare ptr @dg_alloc(i32)

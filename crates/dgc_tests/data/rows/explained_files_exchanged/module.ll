@@ -1,0 +1,3 @@
+cert 2
+function @f none
+end

@@ -1,0 +1,9 @@
+%Node = type { i64, ptr }
+define i64 @value(ptr %n) gc "shadow-stack" {
+entry:
+  br label %next
+next:
+  %p = getelementptr %Node, ptr %n, i32 0, i32 0
+  %v = load i64, ptr %p
+  ret i64 %v
+}

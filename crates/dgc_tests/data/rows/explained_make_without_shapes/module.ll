@@ -1,0 +1,5 @@
+%Node = type { i64, ptr }
+define void @g(ptr %n) {
+entry:
+  ret void
+}

@@ -1,0 +1,6 @@
+declare void @other()
+define void @ask() {
+entry:
+  call void @other()
+  ret void
+}

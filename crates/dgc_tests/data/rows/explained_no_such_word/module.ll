@@ -1,0 +1,7 @@
+%Node = type { i64, ptr }
+define i64 @third(ptr %n) gc "shadow-stack" {
+entry:
+  %p = getelementptr %Node, ptr %n, i32 0, i32 2
+  %v = load i64, ptr %p
+  ret i64 %v
+}

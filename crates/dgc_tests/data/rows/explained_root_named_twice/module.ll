@@ -1,0 +1,9 @@
+%Node = type { i64, ptr }
+declare void @llvm.gcroot(ptr, ptr)
+define void @late(ptr %n) gc "shadow-stack" {
+entry:
+  %s = alloca ptr
+  call void @llvm.gcroot(ptr %s, ptr null)
+  call void @llvm.gcroot(ptr %s, ptr null)
+  ret void
+}

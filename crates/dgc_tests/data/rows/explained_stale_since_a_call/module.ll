@@ -1,0 +1,18 @@
+%Node = type { i64, ptr }
+declare void @dg_safepoint()
+declare void @llvm.gcroot(ptr, ptr)
+define void @wait() {
+entry:
+  call void @dg_safepoint()
+  ret void
+}
+define i64 @first(ptr %n) gc "shadow-stack" {
+entry:
+  %s = alloca ptr
+  call void @llvm.gcroot(ptr %s, ptr null)
+  store ptr %n, ptr %s
+  call void @wait()
+  %p = getelementptr %Node, ptr %n, i32 0, i32 0
+  %v = load i64, ptr %p
+  ret i64 %v
+}
