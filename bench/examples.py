@@ -7,7 +7,8 @@
 The gate runs each row and compares what it prints. So an example that equals a row is one that the program prints.
 Checked are docs/HELP.md, docs/FRONT_ENDS.md, docs/WALKTHROUGH.md, README.md, the files of examples/swap, and the certificates, edits and
 printed lines that stand as blocks in docs/CERTIFICATES.md, docs/EDITS.md, docs/TRACES.md and docs/TEXT.md. Not checked are lines within
-a paragraph, and blocks that show a form. Those of docs/RULES.md are made from the rows (bench/rules.py).
+a paragraph, and blocks that show a form. Those of docs/RULES.md are made from the rows (bench/rules.py). An explanation, which goes to
+standard error, stands in the documents after the line that goes to standard output.
 
 docs/FRONT_ENDS.md is written in one form. An example is three blocks: the functions, the certificate, the printed line. After it sentences may say what is printed of a changed example, each thing in backquotes:
 
@@ -89,8 +90,15 @@ def status_of(printed):
 
 
 def prints(row, printed):
-    """Whether a row prints this, and ends with its status."""
-    return row.out == printed + "\n" and not row.err and row.status == status_of(printed)
+    """Whether a row prints this, and ends with its status. An explanation, on standard error, stands after the printed line."""
+    err = row.err if "--explain" in row.args else ""
+    return row.out + err == printed + "\n" and row.err == err and row.status == status_of(printed)
+
+
+def is_explained(text):
+    """Whether a block is the line of a refusal, and its explanation."""
+    lines = text.split("\n")
+    return lines[0].startswith("no @") and len(lines) > 1 and re.match(r"\S+:\d+:\d+: K\d+: ", lines[1]) is not None
 
 
 def same_help(words):
@@ -274,6 +282,8 @@ def story_places(rows, page):
                     places.append(command_place(rows, where, line, printed))
                 elif "MODULE" not in line:
                     command = line
+        elif kind == "block" and is_explained(text):
+            places.append(Place(where, any(prints(row, text) for row in rows), "no row prints this"))
         elif kind == "block" and text.startswith("cert ") and swap_file(named or "") is None:
             places.append(Place(where, is_file(rows, text), "no row has this certificate"))
         elif kind == "block" and not text.startswith(("cd ", "rt ", "error ")):
@@ -303,7 +313,8 @@ def form_places(rows, page):
     """Pages of forms: their blocks that are a certificate, edits or what is printed."""
     places = []
     for number, kind, text in pieces(page):
-        if kind == "block" and (text.startswith("cert ") or "\nfunction @" in text):
+        whole_trace = text.startswith("trace ") and text.endswith("\nend") and ";" not in text
+        if kind == "block" and (text.startswith("cert ") or "\nfunction @" in text or whole_trace):
             places.append(Place(f"{page}:{number}", is_file(rows, text), "no row has this file"))
         elif kind == "block" and (text.startswith(PRINTED) or re.search(r" \d+$", text)):
             found = any(prints(row, text) for row in rows)

@@ -7,15 +7,17 @@ Each doubt is settled for the certificate: promises of parameters and results ar
 instruction is refused with every certificate where, even so,
 - an index is not below the length of its array (K5),
 - the base of a place may be null (K4),
-- or the result is an address that a phi or a select chooses (K2, or K1 where the address is not even known).
-A module with such an instruction has no certificate.
+- or the result is an address that a phi or a select chooses (K2, or K1 where the address is not even known),
+- or a getelementptr names a place by its bytes, or an element without its array (K5).
+A module with such an instruction has no certificate. The text has typed pointers or opaque ones.
 """
 import re
 
 NAME = r"%[-\w.$]+"
 TESTS = {("ult", True): 0, ("ule", True): 1, ("eq", True): 1, ("uge", False): 0, ("ugt", False): 1, ("ne", False): 1}
 INTEGER = re.compile(r"i\d+$")
-REFERENCE = re.compile(r"(%struct\.\w+|i8)\*$")
+REFERENCE = re.compile(r"((%struct\.\w+|i8)\*|ptr)$")
+FLAGS = re.compile(r"(?<=icmp )samesign |(?<=zext )nneg ")
 
 
 class Types:
@@ -126,9 +128,22 @@ class Reader:
 
     def __init__(self, function, types):
         self.f, self.types, self.refused = function, types, {}
+        for block in function.blocks.values():
+            block[:] = [FLAGS.sub("", line) for line in block]
         self.made = {line.split(" = ")[0]: line.split(" = ", 1)[1] for block in function.blocks.values() for line in block if re.match(rf"{NAME} = ", line)}
         self.slots = {name for name, rest in self.made.items() if rest.startswith("alloca")}
+        self.addresses = self.found_addresses()
         self.entries = self.carried()
+
+    def found_addresses(self):
+        """The registers that name places in cells: those of getelementptrs, and what is cast or chosen from them."""
+        found, before = {name for name, rest in self.made.items() if rest.startswith("getelementptr")}, None
+        while found != before:
+            before = set(found)
+            for name, rest in self.made.items():
+                if rest.split()[0] in ("bitcast", "select", "phi") and found & set(re.findall(NAME, rest)):
+                    found.add(name)
+        return found
 
     def carried(self):
         """For each block that a way enters, the most that any certificate can claim there."""
@@ -237,27 +252,25 @@ class Reader:
 
     def base_of(self, place):
         """The register whose cell a place is in, if it is in one."""
-        rest = self.made.get(place, "")
-        while rest.startswith(("getelementptr", "bitcast")):
-            place = re.search(rf"\* ({NAME}|@\S+?)(,| to)", rest)[1]
-            if place in self.slots or place[0] == "@" or REFERENCE.match(self.kind_of(rest)):
-                return place if place[0] == "%" and place not in self.slots else None
-            rest = self.made.get(place, "")
-        return None
-
-    def kind_of(self, rest):
-        """The written type of what a getelementptr or a bitcast begins with."""
-        return parts(rest.split(" ", 1)[1])[1].rsplit(" ", 1)[0] if rest.startswith("getelementptr") else rest.split()[1]
+        while place in self.addresses:
+            rest = self.made[place]
+            if not rest.startswith(("getelementptr", "bitcast")):
+                return None
+            place = re.search(rf"(?:\*|\bptr) ({NAME}|@\S+?)(,| to)", rest)[1]
+        return place if place[0] == "%" and place not in self.slots else None
 
     def look(self, label, place, word, rest, state):
         """Keeps the reason if the instruction is refused with every certificate."""
         self.refused.pop((label, place), None)
         if word in ("select", "phi"):
             kind = re.match(r"(?:select i1 [^,]+, |phi )(\S+) ", rest)[1]
-            if kind.endswith("*") and not REFERENCE.match(kind):
+            if kind[-1] == "*" and not REFERENCE.match(kind) or kind == "ptr" and self.addresses & set(re.findall(NAME, rest)):
                 self.refused[label, place] = "K2", "an address is chosen"
         elif word == "getelementptr":
-            head, _, *indices = parts(rest.removeprefix("getelementptr ").removeprefix("inbounds "))
+            head, _, *indices = parts(re.sub(r"getelementptr (inbounds |nuw |nusw )*", "", rest))
+            if not re.match(r"[%\[{]", head) or len(indices) < 2:
+                self.refused[label, place] = "K5", "a place is named by its bytes" if head == "i8" else "an element is named without its array"
+                return
             index = self.types.unbounded(head, [it.split()[-1] for it in indices], state.bounds)
             if index:
                 self.refused[label, place] = "K5", self.why_unbounded(index)
@@ -339,7 +352,7 @@ class Reader:
         """Pairs of registers and slots that a line may give one reference."""
         load = re.match(rf"({NAME}) = load \S+, \S+ ({NAME})$", line)
         store = re.match(rf"store \S+ ({NAME}), \S+ ({NAME})$", line)
-        choice = re.match(rf"({NAME}) = (?:phi|bitcast|select i1 \S+,) (?:%struct\.\w+|i8)\* (.*)", line)
+        choice = re.match(rf"({NAME}) = (?:phi|bitcast|select i1 \S+,) (?:(?:%struct\.\w+|i8)\*|ptr) (.*)", line)
         for found in (load, store):
             if found and found[2] in self.slots:
                 yield found.groups()

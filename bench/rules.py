@@ -12,6 +12,8 @@ The other lines are `field: text`, and a text goes on to the next field:
     more                when exactly (may be left out)
     why                 why the collector, or the check, needs it
     refused, accepted   a row of crates/dgc_tests: the files and what is printed of them are the example
+    explained           a row with the files of the first refused example and --explain always (may be left out); docs/RULES.md has
+                        what it prints on standard error, and `dgc explain` has not
     again               words before a further example; docs/RULES.md has these and `dgc explain` has not
     see                 what else to read
 
@@ -29,7 +31,7 @@ TEXTS = os.path.join("crates", "explain", "src")
 DATA = os.path.join("crates", "dgc_tests", "data")
 COLUMNS, LINES = 80, 60
 
-FIELDS = ("short", "rule", "more", "why", "again", "refused", "accepted", "see")
+FIELDS = ("short", "rule", "more", "why", "again", "refused", "accepted", "explained", "see")
 
 Entry = collections.namedtuple("Entry", "code fields examples")
 Example = collections.namedtuple("Example", "kind words row again")
@@ -59,7 +61,7 @@ The collector runs while threads run. It marks what it can reach from the global
 
 Of a text that is not read the first fault is printed, with its place: a line and a column, in bytes from 1. docs/TEXT.md, docs/CERTIFICATES.md, docs/TRACES.md and docs/EDITS.md have the forms.
 
-Each example is a row of crates/dgc_tests, which the gate runs: the files, and what is printed of them. The number after a block is the instruction's place in it, from 0.
+Each example is a row of crates/dgc_tests, which the gate runs: the files, and what is printed of them. The number after a block is the instruction's place in it, from 0. With `--explain always` a refusal is also explained, on standard error: its place in the text, what is known there, and what mends it. Some examples show that. docs/WALKTHROUGH.md has more of them.
 """
 
 LIST_HEAD = "The codes that dgc prints of refusals and faults. `dgc explain K6` tells of one."
@@ -197,6 +199,18 @@ def list_of(families):
     return "\n".join(lines) + "\n"
 
 
+def explanation_of(entry):
+    """What is printed on standard error of the first refused example with --explain always, as paragraphs; none without such a row."""
+    name = entry.fields.get("explained")
+    if name is None:
+        return []
+    refused, row = row_of(entry.examples[0].row), row_of(name)
+    if row.command != refused.command + " --explain" or row.files[: len(refused.files)] != refused.files:
+        fail(f"{name}: not {entry.examples[0].row} with --explain always")
+    printed = text_of(os.path.join(DATA, "rows", name, "stderr")).rstrip("\n")
+    return ["`--explain always` adds, on standard error:", "\n".join("    " + line for line in printed.split("\n"))]
+
+
 def told(entry):
     """What docs/RULES.md has of a code."""
     fields = entry.fields
@@ -206,6 +220,8 @@ def told(entry):
         paragraphs += [example.words] if example.words else []
         before, sentence, lines = example_of(example, before)
         paragraphs += [sentence, "\n".join(lines)]
+        if example is entry.examples[0]:
+            paragraphs += explanation_of(entry)
     return paragraphs + ["See also: " + fields["see"] + "."]
 
 

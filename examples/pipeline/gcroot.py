@@ -28,8 +28,9 @@ declare ptr @llvm.gcread(ptr, ptr)
 declare void @llvm.gcwrite(ptr, ptr, ptr)
 """
 OPAQUE = re.compile(r"(?<![\w%@.$-])ptr\b(?!:)")
-DECORATIONS = re.compile(r"\b(noundef|nonnull|nocapture|readonly|readnone|writeonly|noalias|signext|zeroext|returned|dso_local|internal|"
-                         r"local_unnamed_addr|unnamed_addr|fastcc|tail|notail|dereferenceable(_or_null)?\(\d+\)|align \d+(?=[ ,)])) ?")
+DECORATIONS = re.compile(r"(?<![\w%@.$-])(noundef|nonnull|nocapture|readonly|readnone|writeonly|noalias|signext|zeroext|returned|dso_local|internal|"
+                         r"local_unnamed_addr|unnamed_addr|fastcc|tail|notail|dereferenceable(_or_null)?\(\d+\)|align \d+(?=[ ,)])|dead_on_return|"
+                         r"(captures|range|initializes|memory|nofpclass)\(([^()]|\([^()]*\))*\))(?![\w.$:-]) ?")
 NAME = r"%[-\w.$]+"
 REFERENCE = re.compile(r"%struct\.\w+\*$|i8\*$|ptr$")
 SAFEPOINT = "call void @dg_safepoint()"
@@ -96,7 +97,7 @@ class Function:
                 cast = re.match(rf"bitcast (\S+) ({NAME}) to (\S+)", rest)
                 if rest.startswith("alloca"):
                     found[name] = ("slot", rest.split()[1])
-                elif rest.startswith("getelementptr") and re.search(rf"(?:\*|ptr) ({NAME}),", rest):
+                elif rest.startswith("getelementptr") and re.search(rf"(?:\*|\bptr) ({NAME}),", rest):
                     found[name] = ("address", line)
                 elif cast and found.get(cast[2], ("",))[0] == "address":
                     found[name] = ("address", line)
@@ -277,7 +278,7 @@ class Lowering:
     def base_of(self, made, place):
         """The reference whose cell an address lies in."""
         while made.get(place, ("",))[0] == "address":
-            place = re.search(rf"(?:\*|ptr) ({NAME})", made[place][1].split(" = ", 1)[1])[1]
+            place = re.search(rf"(?:\*|\bptr) ({NAME})", made[place][1].split(" = ", 1)[1])[1]
         return place
 
     def add_barriers(self):
@@ -361,6 +362,12 @@ def functions_of(text):
 def code_of(text):
     """The lines of types and functions."""
     return "\n".join(plain(line) for line in text.split("\n") if not re.match(r"source_filename|target |attributes |!|;|@", line))
+
+
+def plain_text(text):
+    """The text without decorations and metadata, each switch on one line."""
+    whole = re.sub(r"\[\n(.*?)\n *\]", lambda cases: "[ " + cases[1].replace("\n", " ") + " ]", text, flags=re.S)
+    return "\n".join(map(plain, whole.split("\n")))
 
 
 def is_opaque(text):

@@ -5,6 +5,7 @@
 #
 # Without arguments it takes trees.c, replay.trace and run.trace. Without a trace, replay and run are left out.
 # LLVM is the version of clang and opt: 14 where it is not set. Version 14 prints typed pointers, and later ones opaque pointers.
+# LEVEL, such as -O2, takes what clang makes at that level in place of the text after mem2reg and jump-threading.
 # DGC, CLANG and OPT name the programs. They are crates/dgc/out/dgc, clang-LLVM and opt-LLVM where they are not set.
 # OUT names a folder to keep what is made. Ends with 0 where each step succeeds, and otherwise with 1.
 
@@ -71,8 +72,20 @@ fi
 echo "1. clang: $(basename "$1") to LLVM IR, without passes"
 "$clang" -O1 -Xclang -disable-llvm-passes -fno-discard-value-names -emit-llvm -S -o "$out/1.ll" "$1" || fail "clang failed"
 
-echo "2. opt: mem2reg and jump-threading; instnamer gives names"
-"$opt" -S -passes=mem2reg,jump-threading,instnamer -o "$out/2.ll" "$out/1.ll" || fail "opt failed"
+if [ -z "$LEVEL" ]; then
+    echo "2. opt: mem2reg and jump-threading; instnamer gives names"
+    "$opt" -S -passes=mem2reg,jump-threading,instnamer -o "$out/2.ll" "$out/1.ll" || fail "opt failed"
+else
+    echo "2. clang $LEVEL; instnamer gives names"
+    "$clang" "$LEVEL" -fno-discard-value-names -emit-llvm -S -o "$out/2.level.ll" "$1" || fail "clang $LEVEL failed"
+    "$opt" -S -passes=instnamer -o "$out/2.ll" "$out/2.level.ll" || fail "opt failed"
+fi
+if [ -n "$LEVEL" ] && grep -qw ptr "$out/2.ll"; then
+    echo "   fields.py: byte offsets to fields"
+    mv "$out/2.ll" "$out/2.bytes.ll"
+    python3 "$here/fields.py" "$out/1.ll" "$out/2.bytes.ll" >"$out/2.ll" 2>"$out/3.txt" || stop "$(cat "$out/3.txt")"
+    show "$out/3.txt"
+fi
 
 echo "3. gcroot.py: claims, safepoints, roots, barriers"
 python3 "$here/gcroot.py" "$out/2.ll" >"$out/3.ll" 2>"$out/3.txt" || stop "$(cat "$out/3.txt")"
