@@ -1,4 +1,4 @@
-/* A library to be loaded before a program (LD_PRELOAD): it shortens the file SHORTEN behind the first read of more than one byte of it. */
+/* A library to be loaded before a program (LD_PRELOAD): it shortens the file SHORTEN after the first read of more than one byte of it. */
 #define _GNU_SOURCE
 #include <dlfcn.h>
 #include <stdlib.h>

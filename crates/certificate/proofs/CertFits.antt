@@ -28,13 +28,13 @@ sections_fine : (m : Module) (i : Input) (u : Unit {0}) (o : Input) → (text.se
 unfolding text.sections
 sections_fine m i u o h start = subst (Fine m) h.3.1 (sections_are m i h.0 h.1 h.2 start)
 
--- so they do behind the first line
-behind_fits : (m : Module) (shaped : Bool) (i : Input) (certs : Certs) (o : Input) → (text.certs_by m shaped).says i certs o → Fine m i → fits m certs.sections ≡ true
+-- so they do after the first line
+first_line_fits : (m : Module) (shaped : Bool) (i : Input) (certs : Certs) (o : Input) → (text.certs_by m shaped).says i certs o → Fine m i → fits m certs.sections ≡ true
 unfolding text.without_shapes text.with_shapes taken_shapes unshaped
-behind_fits m false i certs o h start =
+first_line_fits m false i certs o h start =
     let b = h.3 in
     subst (λ (x : Certs). fits m x.sections ≡ true) b.3.0 (finished_is m h.1 b.0 b.1 b.2 (sections_fine m i h.0 h.1 h.2 start))
-behind_fits m true i certs o h start =
+first_line_fits m true i certs o h start =
     let b = h.3 in
     let c = b.3 in
     let d = c.3 in
@@ -54,4 +54,4 @@ cert_fits bytes m certs h =
     let c = b.3 in
     let same = still_expect (codes "cert") (start_of m h.0 bytes) a.0 a.1 a.2 ∙ still_version m a.1 b.0 b.1 b.2 ∙ still_line_end b.1 c.0 c.1 c.2 in
     let start : Fine m c.1 = subst (λ (x : Input). Fine m x) same (none_kept m m.functions) in
-    behind_fits m b.0 c.1 certs h.2 c.3 start
+    first_line_fits m b.0 c.1 certs h.2 c.3 start

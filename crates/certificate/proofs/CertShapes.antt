@@ -303,10 +303,10 @@ fit_if m shapes false e all = ap not e
 pub opaque_begun : (m : Module) (shapes : ShapeDraft) → is_opaque_text m ≡ true → AreStart m shapes → AreBegun m shapes
 opaque_begun m shapes e start = let may : may_be_shaped m ≡ true = ap (λ b. b || not (has_typed m.types)) e in subst (λ b. are_begun_if b m shapes) may start
 
--- the shapes behind the first line fit, if they were begun where the text is opaque
-behind_shaped : (m : Module) (i : Input) (certs : Certs) (o : Input) → HasGlobals m → (is_opaque_text m ≡ true → AreBegun m i.read.shapes) → (text.with_shapes m).says i certs o → shapes_fit m certs.shapes ≡ true
+-- the shapes after the first line fit, if they were begun where the text is opaque
+first_line_shaped : (m : Module) (i : Input) (certs : Certs) (o : Input) → HasGlobals m → (is_opaque_text m ≡ true → AreBegun m i.read.shapes) → (text.with_shapes m).says i certs o → shapes_fit m certs.shapes ≡ true
 unfolding text.with_shapes taken_shapes
-behind_shaped m i certs o named begun h =
+first_line_shaped m i certs o named begun h =
     let b = h.3 in
     let c = b.3 in
     let d = c.3 in
@@ -331,5 +331,5 @@ cert_shaped bytes m certs named h =
     by b.0 c.1 (λ is. version_one m a.1 b.0 b.1 b.2 is) (λ opaque. subst (AreBegun m) start (opaque_begun m h.0 opaque h.1)) c.3
   where
     by : (shaped : Bool) (i : Input) → (shaped ≡ false → is_opaque_text m ≡ false) → (is_opaque_text m ≡ true → AreBegun m i.read.shapes) → (text.certs_by m shaped).says i certs h.2 → shapes_fit m certs.shapes ≡ true
-    by true i typed begun says = behind_shaped m i certs h.2 named begun says
+    by true i typed begun says = first_line_shaped m i certs h.2 named begun says
     by false i typed begun says = subst (λ (x : Certs). shapes_fit m x.shapes ≡ true) says.3.3.0 (ap not (typed refl))

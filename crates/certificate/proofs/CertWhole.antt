@@ -119,9 +119,9 @@ whole_if : (m : Module) (shapes : Shapes) (opaque : Bool) → is_opaque_text m �
 whole_if m shapes true e all = let both = all refl in (e, both.0, both.1, both.2)
 whole_if m shapes false e all = e
 
-behind_whole : (m : Module) (i : Input) (certs : Certs) (o : Input) → HasGlobals m → HasStructs m → (is_opaque_text m ≡ true → AreBegun m i.read.shapes) → (text.with_shapes m).says i certs o → are_whole m certs.shapes
+first_line_whole : (m : Module) (i : Input) (certs : Certs) (o : Input) → HasGlobals m → HasStructs m → (is_opaque_text m ≡ true → AreBegun m i.read.shapes) → (text.with_shapes m).says i certs o → are_whole m certs.shapes
 unfolding text.with_shapes taken_shapes
-behind_whole m i certs o globals structs begun h =
+first_line_whole m i certs o globals structs begun h =
     let b = h.3 in
     let c = b.3 in
     let d = c.3 in
@@ -149,5 +149,5 @@ cert_whole bytes m certs globals structs h =
     by b.0 c.1 (λ is. version_one m a.1 b.0 b.1 b.2 is) (λ opaque. subst (AreBegun m) start (opaque_begun m h.0 opaque h.1)) c.3
   where
     by : (shaped : Bool) (i : Input) → (shaped ≡ false → is_opaque_text m ≡ false) → (is_opaque_text m ≡ true → AreBegun m i.read.shapes) → (text.certs_by m shaped).says i certs h.2 → are_whole m certs.shapes
-    by true i typed begun says = behind_whole m i certs h.2 globals structs begun says
+    by true i typed begun says = first_line_whole m i certs h.2 globals structs begun says
     by false i typed begun says = subst (λ (x : Certs). are_whole m x.shapes) says.3.3.0 (typed refl)

@@ -44,7 +44,7 @@ listed_of : (m : Module) (i : Input) (xs : List (Unit {0})) (o : Input) → Befo
 listed_of m i [] o a stop = (ap past_shapes a ∙ stop, a)
 listed_of m i (u ∷ xs) o a stop = (a.0, a.1, a.2, listed_of m a.1 xs o a.3 stop)
 
--- shapes behind which no other comes
+-- shapes after which no other comes
 pub chain_ends : (m : Module) (i o : Input) (text t : Text) → Chain m i text t o → past_shapes (at o t) ≡ true → (shape_lines m).says (at i (text ++ t)) tt (at o t)
 unfolding shape_lines
 chain_ends m i o text t a stop = (a.0, at o t, listed_of m (at i (text ++ t)) a.0 (at o t) a.1 stop, (refl, refl))

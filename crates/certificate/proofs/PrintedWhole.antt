@@ -83,7 +83,7 @@ module _ (m : Module) (named : IsNamed m) (globals : HasGlobals m) (structs : Ha
       (tt, j, (ap is_number one, refl), (tt, j, (goes, refl), subst (λ (x : Bool). (taken {M = Mistake} x).says j true (at i (10 ∷ rest))) (sym two) (taken_on true i (codes "2") (10 ∷ rest) (10 ∷ rest) refl (refl, refl)))) in
       let again : Certs = record { sections = ss; shapes = shapes_of m draft.shapes } in
       let none : (none_missing m draft).says (at o []) tt (at o []) = subst (λ x. (whole_by x).says (at o []) tt (at o [])) (sym s.whole) (refl, refl) in
-      let behind : (text.with_shapes m).says (at i rest) again out = (tt, at s.out sect, s.read, (draft, at p sect, (refl, refl), (tt, at o [], read.1, (tt, at o [], none, (ss, out, read.2, (refl, refl)))))) in (
+      let from_there : (text.with_shapes m).says (at i rest) again out = (tt, at s.out sect, s.read, (draft, at p sect, (refl, refl), (tt, at o [], read.1, (tt, at o [], none, (ss, out, read.2, (refl, refl)))))) in (
         again,
         (
           begun,
@@ -93,7 +93,7 @@ module _ (m : Module) (named : IsNamed m) (globals : HasGlobals m) (structs : Ha
             tt,
             j,
             expect_on i (codes "cert") (32 ∷ (codes "2" ++ 10 ∷ rest)) (codes "2" ++ 10 ∷ rest) refl afterwards,
-            (true, at i (10 ∷ rest), number, (tt, at i rest, line_end_on i rest rest (begins_shapes m shapes sect (sections_begin m named m.functions ss)), behind)),
+            (true, at i (10 ∷ rest), number, (tt, at i rest, line_end_on i rest rest (begins_shapes m shapes sect (sections_begin m named m.functions ss)), from_there)),
           ),
         ),
         refl,

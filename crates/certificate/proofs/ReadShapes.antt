@@ -171,7 +171,7 @@ line_gives m i u o h = by (begins (codes "layout") i) h
     by true h = inl (word_gives m i u o h)
     by false h = by_other (begins (codes "global") i) h
 
--- what holds before the lines, and stays where one gives something, holds behind them
+-- what holds before the lines, and stays where one gives something, holds after them
 listed_hold : (m : Module) (P : Progress → Type 0) → ((p q : Progress) → Gives m p q → P p → P q) → (i : Input) (xs : List (Unit {0})) (o : Input) → Listed past_shapes (shape_line m).says i xs o → P i.read → P o.read
 listed_hold m P stays i [] o h start = subst (λ (x : Input). P x.read) h.1 start
 listed_hold m P stays i (u ∷ xs) o h start = listed_hold m P stays h.1 xs o h.3 (stays i.read h.1.read (line_gives m i u h.1 h.2) start)

@@ -204,14 +204,14 @@ finished = look (λ i. first_gap 0 i.read.sections) finished_by
 abbrev pub shapes_of : Module → Shapes → Option Shapes
 shapes_of m shapes = if is_opaque_text m then Some shapes else None
 
--- certificates behind the first line, without shapes
+-- certificates after the first line, without shapes
 unfoldable pub without_shapes : Module → Form Certs
 without_shapes m = do
   sections m
   own ← finished
   pure (record { sections = own; shapes = None })
 
--- certificates behind the first line, with shapes, of which none is missing
+-- certificates after the first line, with shapes, of which none is missing
 unfoldable pub with_shapes : Module → Form Certs
 with_shapes m = do
   shape_lines m

@@ -364,7 +364,7 @@ fn finished(alloc: Global, input: &mut Input<'_>) -> Result<Items<Section>, Word
     Ok(sections_in(alloc, kept)?)
 }
 
-/// Certificates behind the first line, without shapes.
+/// Certificates after the first line, without shapes.
 #[tactic(auto, unfolding(crate::specs::Text::without_shapes))]
 fn without_shapes(alloc: Global, input: &mut Input<'_>, module: &Module) -> Result<Certs, WordFault>
     ensures { Reads ((text.without_shapes «module».now).read input.old) result input.new }
@@ -388,7 +388,7 @@ fn shapes_of(module: &Module, shapes: Shapes) -> Option<Shapes>
     }
 }
 
-/// Certificates behind the first line, with shapes.
+/// Certificates after the first line, with shapes.
 #[tactic(auto, unfolding(crate::specs::Text::with_shapes, crate::specs::ShapeForms::taken_shapes))]
 fn with_shapes(alloc: Global, input: &mut Input<'_>, module: &Module) -> Result<Certs, WordFault>
     ensures { Reads ((text.with_shapes «module».now).read input.old) result input.new }

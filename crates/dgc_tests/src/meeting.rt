@@ -8,7 +8,7 @@ const TURNS: u32 = 100_000_000;
 /// What is counted of a piece that began and then left.
 const LEFT: u32 = 2;
 
-/// What is counted of a call behind no beginning, or behind another one.
+/// What is counted of a call after no beginning, or after another one.
 const OUT_OF_TURN: u32 = 10;
 
 /// Holds up each piece until all have come. Pieces that are done one after the other never meet.

@@ -494,8 +494,8 @@ fn read_of_two_cells(rt: &impl Threads, alloc: Global) -> Result<LateRead, Fail>
     read_on_a_new_heap(rt, alloc, &layouts, &pools)
 }
 
-/// The cell, what was read, and the stages of the threads, where the late one has begun at one that was posted behind a whole cycle.
-fn read_behind_a_cycle(read: LateRead) -> Option<(u32, u64, [u64; 2])> {
+/// The cell, what was read, and the stages of the threads, where the late one has begun at one that was posted after a whole cycle.
+fn read_after_a_cycle(read: LateRead) -> Option<(u32, u64, [u64; 2])> {
     let ((cell, seen), (posted, stages)) = read;
     let (stage, found) = seen?;
     // A cycle takes 23 turns before the late thread has begun, and the next one posts stage 4.
@@ -508,7 +508,7 @@ fn read_behind_a_cycle(read: LateRead) -> Option<(u32, u64, [u64; 2])> {
 #[test]
 fn a_late_thread_reads_what_another_one_wrote(rt: HostRuntime) -> Result<(), Fail> {
     assert_eq!(rt;
-        read_behind_a_cycle(read_of_two_cells(&rt, rt.alloc())?),
+        read_after_a_cycle(read_of_two_cells(&rt, rt.alloc())?),
         Some((1, 1, [DONE, DONE]))
     );
     Ok(())

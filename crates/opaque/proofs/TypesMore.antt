@@ -17,7 +17,7 @@ drop_next types n written at =
     ∙ ap (λ w. w ∷ drop (suc n) types) (get_or_from_slice_get types n written written at)
     ∙ ap (λ k. written ∷ drop k types) next
 
--- the others come behind the one
+-- the others come after the one
 pub one_more : (types : List IrType) (n : ℕ) (written : IrType) (before after : List IrType) (numbers more : List ℕ) (all : Renumbered) → slice_get types n ≡ Some written
     → after ≡ (with_type written (table before numbers)).types → more ≡ (with_type written (table before numbers)).numbers
     → with_types (drop n types) (table before numbers) ≡ all → with_types (drop (n + 1) types) (table after more) ≡ all

@@ -41,7 +41,7 @@ from_line s first second number begins (byte ∷ bytes) =
 abbrev pub from_opening : (first second text : Text) → Text
 from_opening first second text = from_line sought.Opens first second 0 true text
 
--- the text from a line of the section of a function on; the claims of a block are the lines behind its own that have a word
+-- the text from a line of the section of a function on; the claims of a block are the lines after its own that have a word
 abbrev pub from_cert_line : (text function name : Text) → CertLine → Text
 from_cert_line text function name line.Mark = from_opening (codes "function") function text
 from_cert_line text function name line.Parameter = from_opening (codes "param") name (from_opening (codes "function") function text)

@@ -15,7 +15,7 @@ use Rattle.function_text.specs.Anew.{anew}
 abbrev pub word : Kind → Token
 word kind = record { kind = kind; begins_line = true; start = 0; length = 0 }
 
--- these tokens, with `unreachable }` behind them: the function ends there
+-- these tokens, with `unreachable }` after them: the function ends there
 abbrev pub ended : List Token → List Token
 ended tokens = tokens ++ word k.Unreachable ∷ word k.CloseBrace ∷ []
 
@@ -33,7 +33,7 @@ begins_inner _ = false
 abbrev pub begins : Kind → Bool
 begins kind = begins_inner kind || ends_block kind
 
--- a function has this block for its last, with so many phis and instructions before the end
+-- a function has this block for its last, with this many phis and instructions before the end
 pub record StopsAt (f : Function) (block place : ℕ) : Type 0 where
   pub last : Block
   pub there : slice_get f.blocks block ≡ Some last
@@ -46,7 +46,7 @@ pub record FirstStopsAt (functions : List Function) (block place : ℕ) : Type 0
   pub there : slice_get functions 0 ≡ Some function
   pub stops : StopsAt function block place
 
--- these tokens of a function, ended behind them, are read as the function of this name up to there
+-- these tokens of a function, ended after them, are read as the function of this name up to there
 pub record IsReadUpTo (text name : Text) (tokens : List Token) (block place : ℕ) : Type 0 where
   pub after : Input
   pub read : (anew 0 name).says (start_of (record { text = text; rest = ended tokens; bad = None })) tt after

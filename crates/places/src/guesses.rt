@@ -83,7 +83,7 @@ fn numbered(sought: Sought, number: usize, tokens: &[Token], from: usize) -> Opt
     None
 }
 
-/// Where the block with this number seems to begin in a function: behind the end of the block before it.
+/// Where the block with this number seems to begin in a function: after the end of the block before it.
 fn block_start(tokens: &[Token], function: usize, block: usize) -> Option<usize> {
     match block.checked_sub(1) {
         Some(before) => {

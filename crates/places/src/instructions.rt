@@ -32,7 +32,7 @@ fn word(kind: Kind) -> Token
     }
 }
 
-/// These tokens, with `unreachable }` behind them.
+/// These tokens, with `unreachable }` after them.
 fn ended(alloc: Global, tokens: &[Token]) -> Result<Vec<Token>, AllocError>
     ensures { IfOk result (λ list. list.items ≡ spec.ended tokens.now) }
 {
@@ -83,7 +83,7 @@ fn function_named(alloc: Global, input: &mut Input<'_>, name: &[u8]) -> Result<(
     ends(input)
 }
 
-/// Whether a function has this block for its last, with so many phis and instructions before the end.
+/// Whether a function has this block for its last, with this many phis and instructions before the end.
 fn stops_at(function: &Function, block: usize, place: usize) -> bool
     ensures { result ≡ true → StopsAt function.now block place }
 {
@@ -94,7 +94,7 @@ fn stops_at(function: &Function, block: usize, place: usize) -> bool
     }
 }
 
-/// Whether a block has so many phis and instructions before its end.
+/// Whether a block has this many phis and instructions before its end.
 fn has_before_end(block: &Block, place: usize) -> bool
     ensures { result ≡ true → length block.now.phis + length block.now.body ≡ place }
 {

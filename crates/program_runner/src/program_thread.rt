@@ -26,7 +26,7 @@ pub struct ProgramThread<'a> {
     program: &'a Program,
     setup: &'a Setup,
     thread: Thread<'a>,
-    /// What the thread asks for. Its instruction is looked at once, when the thread comes to it.
+    /// What the thread asks for. Its instruction is looked at once, when the thread reaches it.
     asked: Action,
     /// What its newest frames' roots were before the last answer; here, so that an answer seldom takes memory for it.
     before: Vec<WordValue>,

@@ -111,7 +111,7 @@ fn in_functions(
 }
 
 /// The first refusal of each block that is not certified, each by the lines of its own block alone, in the order of functions and blocks.
-/// A function whose blocks are certified takes the time of its check. Any other one takes that time for each block behind its first
+/// A function whose blocks are certified takes the time of its check. Any other one takes that time for each block after its first
 /// refusal.
 pub fn first_refusals(
     alloc: Global,

@@ -128,7 +128,7 @@ pub fn edits_in<'a>(
     }
 }
 
-/// A module with shapes that were read for it. They count where it writes `ptr`, and are left aside otherwise.
+/// A module with shapes that were read for it. They count where it writes `ptr`, and are ignored otherwise.
 fn with_read(of_module: Module, shapes: Shapes) -> Module
     ensures { result ≡ with_read of_module shapes }
 {

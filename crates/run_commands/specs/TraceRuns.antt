@@ -48,7 +48,7 @@ pub record IsSaved (p : LaidOut) (t : Trace) (b : Break) (before after : List �
   pub breaks : IsOutcome p trace (Broken b)
   pub text : after ≡ before ++ trace_shown p trace
 
--- what is saved of the outcome of a search, where that is wanted: the broken seed's steps, if a trace may list so many
+-- what is saved of the outcome of a search, where that is wanted: the broken seed's steps, if a trace may list that many
 abbrev pub IsSavedOf : (wanted : Bool) → LaidOut → Trace → SoakOutcome → (before after : List ℕ) → Type 0
 IsSavedOf true p t (soak.Broken at) before after = IsSaved p t at.broken before after
 IsSavedOf wanted p t outcome before after = after ≡ before

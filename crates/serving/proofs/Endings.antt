@@ -75,9 +75,9 @@ module _ (m : Machine) (start : m.State) (moves : ℕ) (t : Holder) (state : m.S
   pub cut_off : Left t.setup m t.thread start (StoreStage done [] ∷ t.log)
   cut_off = finished t.log state v.real ready
 
--- a thread that could not take the answer stays behind its call
-pub stays_behind : (m : Machine) (heap : Shared) (t : Holder) (state : m.State) (after : Holder) (answer : Answer) → IsServed m heap t state after answer → StaysReady m heap t state after
-stays_behind m heap t state after answer served = record {
+-- a thread that could not take the answer stays at its call
+pub stays_at_call : (m : Machine) (heap : Shared) (t : Holder) (state : m.State) (after : Holder) (answer : Answer) → IsServed m heap t state after answer → StaysReady m heap t state after
+stays_at_call m heap t state after answer served = record {
   token = served.token;
   ready = served.ready;
   reached = m.after_answer state answer;
