@@ -5,5 +5,5 @@ mod drawing;
 mod searching;
 mod starts;
 
-pub use searching::{HuntLimits, HuntReport, Hunted, hunt};
+pub use searching::{ALIKE, HuntLimits, HuntReport, Hunted, hunt};
 pub use shortening::{BrokenTrace, ShorterTrace};

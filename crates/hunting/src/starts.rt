@@ -3,7 +3,8 @@ ghost use Rattle.std.specs.Prelude.{◌≡◌, ◌<◌, ◌≤◌, ◌+◌, ◌^
 ghost use Rattle.std.specs.List.{AllByRecursion};
 ghost use Rattle.trace_text.specs.Traces.{IsTraceOf, IsStartOf};
 
-use crate::drawing::{below, bits_of, integer};
+use crate::drawing::{bits_of, integer};
+use biased::below;
 use certs::Section;
 use ir_ast::{FuncId, Function, Module};
 use items::Items;

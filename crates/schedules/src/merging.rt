@@ -99,7 +99,8 @@ pub fn merged(alloc: Global, steps: &[Steps]) -> Result<Items<Steps>, AllocError
 
 /// The trace with one line for the steps of an actor that come one after the other.
 pub fn in_fewer_lines(alloc: Global, trace: Trace) -> Result<Trace, AllocError>
-    ensures { (p : LaidOut) → IsTraceOf p trace → IfOk result (IsTraceOf p) }
+    ensures is_trace { (p : LaidOut) → IsTraceOf p trace → IfOk result (IsTraceOf p) }
+    ensures setup { IfOk result (λ merged. merged.setup ≡ trace.setup) }
 {
     let Trace { setup, steps } = trace;
     match merged(alloc, steps.as_slice()) {

@@ -1,6 +1,8 @@
 //! Whether a trace breaks its run by a kind of cause: it is replayed.
-ghost use Rattle.std.specs.Prelude.{◌≡◌, IfOk, IfSome};
+ghost use Rattle.std.specs.Prelude.{◌≡◌, None, List, IfOk, IfSome};
+ghost use Rattle.certs.specs.declared.section.Section.{Section};
 ghost use Rattle.trace_text.specs.Traces.{IsTraceOf};
+ghost use Rattle.setups.specs.Setups.{IsCertifiedSetup};
 ghost use Rattle.replay.specs.Outcomes.{IsOutcome};
 ghost use Rattle.replay.specs.declared.outcome.Outcome.TheVariants as outcome;
 ghost use Rattle.shortening.specs.Shorter.{IsBreaking, kind_of};
@@ -22,7 +24,10 @@ pub fn broken_trace_of(
     trace: &Trace,
 ) -> Result<Option<BrokenTrace>, AllocError>
     requires { IsTraceOf program.now trace.now }
-    ensures { IfOk result (λ found. IfSome found (λ f. IsBreaking program.now f.trace f.broken)) }
+    ensures breaking { IfOk result (λ found. IfSome found (λ f. IsBreaking program.now f.trace f.broken)) }
+    ensures setup { IfOk result (λ found. IfSome found (λ f. f.trace.setup ≡ trace.now.setup)) }
+    // Where the program is certified, and the threads begin with what its certificates promise, there is none.
+    ensures safe { (certs : List Section) → IsCertifiedSetup program.now trace.now.setup certs → IfOk result (λ found. found ≡ None) }
 {
     match replay(alloc, program, trace) {
         Ok(Outcome::Broken(broken)) => up_to_break(
@@ -73,6 +78,7 @@ fn ended(
     requires { IsTraceOf program.now trace }
     ensures breaking { IfOk result (λ found. IfSome found (λ f. IsBreaking program.now f.trace f.broken)) }
     ensures kind { IfOk result (λ found. IfSome found (λ f. kind_of f.broken.cause ≡ kind)) }
+    ensures setup { IfOk result (λ found. IfSome found (λ f. f.trace.setup ≡ trace.setup)) }
 {
     let Some(broken) = break_of(alloc, program, kind, &trace)? else {
         return Ok(None);
@@ -94,6 +100,7 @@ fn up_to_break(
     requires { IsTraceOf program.now trace.now }
     ensures breaking { IfOk result (λ found. IfSome found (λ f. IsBreaking program.now f.trace f.broken)) }
     ensures kind { IfOk result (λ found. IfSome found (λ f. kind_of f.broken.cause ≡ kind)) }
+    ensures setup { IfOk result (λ found. IfSome found (λ f. f.trace.setup ≡ trace.now.setup)) }
 {
     let shorter = up_to(alloc, program, trace, step)?;
     let shorter = in_fewer_lines(alloc, shorter)?;

@@ -33,6 +33,7 @@ pub fn with_steps(
     requires actors { AreOfActors (length trace.now.setup.starts) steps }
     requires few { step_sum steps ≤ 10000000 }
     ensures is_trace { IfOk result (IsTraceOf program.now) }
+    ensures setup { IfOk result (λ made. made.setup ≡ trace.now.setup) }
 {
     match setup_copied(alloc, program, &trace.setup) {
         Ok(setup) => Ok(Trace { setup, steps }),
@@ -53,6 +54,7 @@ fn replaced(
     requires actors { AreOfActors (length trace.now.setup.starts) others.now }
     requires few { step_sum others.now ≤ step_sum (between places.0 places.1 trace.now.steps) }
     ensures is_trace { IfOk result (IsTraceOf program.now) }
+    ensures setup { IfOk result (λ made. made.setup ≡ trace.now.setup) }
 {
     let lines = trace.steps.as_slice();
     let steps = joined(alloc, front(lines, places.0), others, back(lines, places.1))?;
@@ -70,6 +72,7 @@ pub fn without_lines(
     requires is_trace { IsTraceOf program.now trace.now }
     requires order { from ≤ to }
     ensures is_trace { IfOk result (IsTraceOf program.now) }
+    ensures setup { IfOk result (λ made. made.setup ≡ trace.now.setup) }
 {
     replaced(alloc, program, trace, (from, to), &[])
 }
@@ -86,6 +89,7 @@ fn with_line_cut(
     requires order { places.0 < places.1 }
     requires place { places.0 < length trace.now.steps }
     ensures is_trace { IfOk result (IsTraceOf program.now) }
+    ensures setup { IfOk result (λ made. made.setup ≡ trace.now.setup) }
 {
     let line = trace.steps.as_slice()[places.0];
     let shorter = Steps {
@@ -161,6 +165,7 @@ pub fn up_to(
 ) -> Result<Trace, AllocError>
     requires is_trace { IsTraceOf program.now trace.now }
     ensures is_trace { IfOk result (IsTraceOf program.now) }
+    ensures setup { IfOk result (λ made. made.setup ≡ trace.now.setup) }
 {
     let lines = trace.steps.as_slice();
     match place_of_step(lines, step) {

@@ -5,8 +5,8 @@ use Rattle.hunting.proofs.searching.hunt.Given as goal
 abbrev pub invariant-loop-first : goal.invariant-loop-first
 invariant-loop-first l = record {
   starts : l.starts ≤ l.first;
-  within : l.first ≤ l.far.seeds;
+  within : l.first ≤ l.far.past;
 }
 
 abbrev pub decreases-loop-first : goal.decreases-loop-first
-decreases-loop-first l = l.far.seeds - l.first
+decreases-loop-first l = l.far.past - l.first

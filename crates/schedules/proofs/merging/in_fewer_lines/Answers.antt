@@ -6,8 +6,8 @@ use Rattle.replay.specs.Lists.{actors_of}
 use Rattle.schedules.proofs.Merges.{same_trace}
 use Rattle.schedules.proofs.merging.in_fewer_lines.Goals as goal
 
-pub returns-in-Ok : goal.returns-in-Ok
-returns-in-Ok c p is =
+pub returns-in-Ok-clause-is_trace : goal.returns-in-Ok-clause-is_trace
+returns-in-Ok-clause-is_trace c p is =
     let trace = c.args.trace in
     let lines = c.in-Ok.ensures in
     let same = c.as_slice.ensures in

@@ -2,12 +2,13 @@
 use Rattle.std.proofs.Common.{◌≡◌, ◌+◌}
 use Rattle.trace_text.specs.Traces.{step_sum}
 use Rattle.trace_parts.specs.Parts.{AreOfActors}
-use Rattle.hunting.proofs.drawing.drawn_lines.Given as goal
+use Rattle.biased.proofs.drawing.drawn_steps.Given as goal
 
 abbrev pub invariant-loop-left : goal.invariant-loop-left
 invariant-loop-left l = record {
   actors : AreOfActors l.threads l.lines;
   sum : step_sum l.lines + l.left ≡ l.steps;
+  setup : l.run.world.setup ≡ l.setup;
 }
 
 abbrev pub decreases-loop-left : goal.decreases-loop-left

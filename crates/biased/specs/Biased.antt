@@ -1,0 +1,18 @@
+-- What comes of schedules that seeds draw.
+use Rattle.std.specs.Prelude.{ℕ, ◌≡◌, ◌<◌, ◌≤◌}
+use Rattle.layout.specs.Layouts.{LaidOut}
+use Rattle.trace_text.specs.declared.trace.Setup.{Setup}
+use Rattle.shortening.specs.Shorter.{IsBreaking}
+use Rattle.biased.specs.declared.searching.BiasedOutcome.{BiasedOutcome}
+use Rattle.biased.specs.declared.searching.BiasedOutcome.TheVariants.{Broken, Sound}
+
+-- of the seeds from the first one to one past the last: a trace of one of them, from this setup, whose last step is the first that breaks its run. Where none is found, nothing is said
+abbrev pub IsBiasedOutcome : LaidOut → Setup → (first past : ℕ) → BiasedOutcome → Type 0
+IsBiasedOutcome p setup first past (Broken b) =
+    (first ≤ b.seed) × (b.seed < past) × IsBreaking p b.found.trace b.found.broken × (b.found.trace.setup ≡ setup)
+IsBiasedOutcome p setup first past Sound = Unit {0}
+
+-- none was found
+abbrev pub IsSoundOutcome : BiasedOutcome → Type 0
+IsSoundOutcome (Broken b) = ⊥
+IsSoundOutcome Sound = Unit {0}

@@ -1,0 +1,96 @@
+//! The search for a seed whose schedule breaks its run.
+ghost use Rattle.std.specs.Prelude.{◌≡◌, ◌≢◌, None, List, IfOk, IfErr, IfSome};
+ghost use Rattle.certs.specs.declared.section.Section.{Section};
+ghost use Rattle.trace_text.specs.Traces.{IsTraceOf};
+ghost use Rattle.setups.specs.Setups.{IsSetupFault, HasNoFault, IsCertifiedSetup};
+ghost use Rattle.setups.specs.declared.setup_fault.SetupFault.TheVariants as fault;
+ghost use Rattle.shortening.specs.Shorter.{IsBreaking};
+ghost use Rattle.biased.specs.Biased.{IsBiasedOutcome, IsSoundOutcome};
+
+use crate::drawing::drawn_steps;
+use items::Items;
+use layout::Program;
+use replay::replay;
+use setups::SetupFault;
+use shortening::{BrokenTrace, broken_trace_of};
+use std::alloc::Global;
+use trace_parts::with_steps;
+use trace_text::{STEP_LIMIT, Trace};
+
+/// A seed whose schedule breaks its run.
+#[derive(Drop)]
+pub struct BrokenSeed {
+    pub seed: u32,
+    /// The schedule up to its break.
+    pub found: BrokenTrace,
+}
+
+/// The outcome of many seeds: the first one whose schedule breaks its run, or that none was found.
+#[derive(Drop)]
+pub enum BiasedOutcome {
+    Broken(BrokenSeed),
+    Sound,
+}
+
+/// The schedule that a seed draws, up to its break, if it breaks its run.
+fn broken_by_seed(
+    alloc: Global,
+    program: &Program,
+    start: &Trace,
+    seed: u32,
+    steps: u32,
+) -> Result<Option<BrokenTrace>, SetupFault>
+    requires { IsTraceOf program.now start.now }
+    ensures breaking { IfOk result (λ found. IfSome found (λ f. IsBreaking program.now f.trace f.broken)) }
+    ensures setup { IfOk result (λ found. IfSome found (λ f. f.trace.setup ≡ start.now.setup)) }
+    ensures safe { (certs : List Section) → IsCertifiedSetup program.now start.now.setup certs → IfOk result (λ found. found ≡ None) }
+    ensures fault { IfErr result (λ e. e ≢ fault.Memory → IsSetupFault program.now start.now.setup e) }
+{
+    let steps = steps.min(STEP_LIMIT as u32);
+    let drawn = drawn_steps(alloc, program, &start.setup, seed, steps)?;
+    if !drawn.may_break {
+        return Ok(None);
+    }
+    let trace = with_steps(alloc, program, start, drawn.lines)?;
+    let found = broken_trace_of(alloc, program, &trace)?;
+    Ok(found)
+}
+
+/// Whether the threads of a trace may begin.
+fn may_begin(alloc: Global, program: &Program, start: &Trace) -> Result<(), SetupFault>
+    requires { IsTraceOf program.now start.now }
+    ensures no_fault { IfOk result (λ _. HasNoFault program.now start.now.setup) }
+    ensures fault { IfErr result (λ e. e ≢ fault.Memory → IsSetupFault program.now start.now.setup e) }
+{
+    let before = with_steps(alloc, program, start, Items::new(alloc))?;
+    let _outcome = replay(alloc, program, &before)?;
+    Ok(())
+}
+
+/// Draws a schedule with few switches for each seed from `first` to below `past`, with this number of steps from the start of a trace: the
+/// first one that breaks its run, up to the break. It was replayed. Steps past a trace's limit are left out.
+pub fn first_broken(
+    alloc: Global,
+    program: &Program,
+    start: &Trace,
+    first: u32,
+    past: u32,
+    steps: u32,
+) -> Result<BiasedOutcome, SetupFault>
+    requires { IsTraceOf program.now start.now }
+    ensures outcome { IfOk result (IsBiasedOutcome program.now start.now.setup first past) }
+    ensures no_fault { IfOk result (λ _. HasNoFault program.now start.now.setup) }
+    ensures fault { IfErr result (λ e. e ≢ fault.Memory → IsSetupFault program.now start.now.setup e) }
+    // Where the program is certified, and the threads begin with what its certificates promise, there is none.
+    ensures safe { (certs : List Section) → IsCertifiedSetup program.now start.now.setup certs → IfOk result IsSoundOutcome }
+{
+    may_begin(alloc, program, start)?;
+    for seed in first..past {
+        match broken_by_seed(alloc, program, start, seed, steps) {
+            Ok(Some(found)) => return Ok(BiasedOutcome::Broken(BrokenSeed { seed, found })),
+            Ok(None) => {}
+            Err(fault) => return Err(fault),
+        }
+    }
+    Ok(BiasedOutcome::Sound)
+}

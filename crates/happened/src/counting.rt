@@ -1,0 +1,139 @@
+ghost use Rattle.std.specs.Prelude.{◌≡◌, ◌≢◌, ◌+◌, ◌≤◌, length, min, IfOk, IfErr, IfSome};
+ghost use Rattle.trace_text.specs.Traces.{IsTraceOf};
+ghost use Rattle.setups.specs.Setups.{IsSetupFault};
+ghost use Rattle.setups.specs.declared.setup_fault.SetupFault.TheVariants as fault;
+ghost use Rattle.happened.specs.Happened.{IsCounted, IsReportOfSeed, is_ended, ends_in, cycles_in, nothing, with_report};
+
+use items::Items;
+use layout::Program;
+use replay::{Outcome, Report, ThreadOutcome, drawn_trace, replay};
+use setups::SetupFault;
+use std::alloc::Global;
+use trace_parts::with_steps;
+use trace_text::{STEP_LIMIT, Trace};
+
+/// How much happened in the runs of some seeds.
+#[derive(Clone, Copy)]
+pub struct Happened {
+    /// How many seeds this was counted of.
+    pub seeds: u32,
+    /// Cells that were claimed, and cells that were freed.
+    pub claims: u64,
+    pub frees: u64,
+    /// Cycles of the collector that ended: after each it has asked for the first stage of the next one.
+    pub cycles: u64,
+    /// Threads that ended.
+    pub ends: u64,
+}
+
+/// Whether a thread has ended.
+fn is_ended(outcome: &ThreadOutcome) -> bool
+    ensures { result ≡ is_ended outcome.now }
+{
+    match outcome {
+        ThreadOutcome::Returned(_) | ThreadOutcome::Ended => true,
+        ThreadOutcome::Absent | ThreadOutcome::Running(_) => false,
+    }
+}
+
+/// How many threads of a run ended.
+fn ends_in(report: &Report) -> usize
+    ensures { result ≡ ends_in report.now }
+{
+    report
+        .threads
+        .as_slice()
+        .iter()
+        .filter(|outcome| is_ended(outcome))
+        .count()
+}
+
+/// How many cycles of the collector ended in a run. Each has three stages.
+fn cycles_in(report: &Report) -> u64
+    ensures { result ≡ cycles_in report.now }
+{
+    report.posted.saturating_sub(1) / 3
+}
+
+impl Happened {
+    /// What happened in no run.
+    fn nothing() -> Self
+        ensures { result ≡ nothing }
+    {
+        Happened {
+            seeds: 0,
+            claims: 0,
+            frees: 0,
+            cycles: 0,
+            ends: 0,
+        }
+    }
+
+    /// What happened in one more run too, if the counts have room for it.
+    fn with(self, report: &Report) -> Option<Happened>
+        ensures { IfSome result (λ more. more ≡ with_report self report.now) }
+    {
+        Some(Happened {
+            seeds: self.seeds.checked_add(1)?,
+            claims: self.claims.checked_add(report.claims)?,
+            frees: self.frees.checked_add(report.frees)?,
+            cycles: self.cycles.checked_add(cycles_in(report))?,
+            ends: self.ends.checked_add(ends_in(report) as u64)?,
+        })
+    }
+}
+
+/// Where the actors are after the steps that a seed draws, if no step breaks the run.
+fn report_of_seed(
+    alloc: Global,
+    program: &Program,
+    start: &Trace,
+    seed: u32,
+    steps: u32,
+) -> Result<Option<Report>, SetupFault>
+    requires is_trace { IsTraceOf program.now start.now }
+    requires few { steps ≤ 10000000 }
+    ensures report { IfOk result (λ report. IfSome report (IsReportOfSeed program.now start.now.setup steps seed)) }
+    ensures fault { IfErr result (λ e. e ≢ fault.Memory → IsSetupFault program.now start.now.setup e) }
+{
+    let before = with_steps(alloc, program, start, Items::new(alloc))?;
+    let trace = drawn_trace(alloc, before, seed, steps)?;
+    match replay(alloc, program, &trace)? {
+        Outcome::Sound(report) => Ok(Some(report)),
+        Outcome::Broken(_) => Ok(None),
+    }
+}
+
+/// Counts what happens in the steps that seeds draw from the start of a trace, from `first` on. It ends before `past`, once `budget` steps
+/// are made, or at a seed whose schedule breaks its run. A seed's steps past a trace's limit are left out.
+pub fn counted(
+    alloc: Global,
+    program: &Program,
+    start: &Trace,
+    first: u32,
+    past: u32,
+    steps: u32,
+    budget: u64,
+) -> Result<Happened, SetupFault>
+    requires { IsTraceOf program.now start.now }
+    ensures counted { IfOk result (IsCounted program.now start.now.setup (min steps 10000000) first) }
+    ensures fault { IfErr result (λ e. e ≢ fault.Memory → IsSetupFault program.now start.now.setup e) }
+{
+    let steps = steps.min(STEP_LIMIT as u32);
+    let mut happened = Happened::nothing();
+    let mut spent: u64 = 0;
+    for seed in first..past {
+        if spent >= budget {
+            return Ok(happened);
+        }
+        let Some(report) = report_of_seed(alloc, program, start, seed, steps)? else {
+            return Ok(happened);
+        };
+        let Some(more) = happened.with(&report) else {
+            return Ok(happened);
+        };
+        happened = more;
+        spent = spent.saturating_add(u64::from(steps));
+    }
+    Ok(happened)
+}

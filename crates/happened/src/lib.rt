@@ -1,0 +1,7 @@
+//! How much happened in the runs of seeds that break none: cells that were claimed and freed, cycles of the collector, and threads that
+//! ended.
+#![tactic(auto)]
+
+mod counting;
+
+pub use counting::{Happened, counted};
