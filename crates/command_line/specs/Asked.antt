@@ -7,10 +7,12 @@ use Rattle.clap.specs.declared.error.kind.ErrorKind.TheVariants.{OutOfMemory}
 use Rattle.command_line.specs.declared.asked.Explained.{Explained}
 use Rattle.command_line.specs.declared.asked.Explained.TheVariants as when
 use Rattle.command_line.specs.declared.asked.Line.{Line}
-use Rattle.command_line.specs.declared.asked.Line.TheVariants.{Check, Make, Recheck, Replay, Soak, Run, Explain, Migrate}
+use Rattle.command_line.specs.declared.asked.Line.TheVariants.{Check, Make, Recheck, Replay, Soak, Hunt, Run, Explain, Migrate}
 use Rattle.command_line.specs.declared.asked.LineFault.{LineFault}
 use Rattle.command_line.specs.declared.asked.LineFault.TheVariants.{Memory, Words}
 use Rattle.command_line.specs.declared.asked.Refusals.{Refusals}
+use Rattle.command_line.specs.declared.asked.Search.{Search}
+use Rattle.command_line.specs.declared.asked.Shrink.{Shrink}
 use Rattle.command_line.specs.declared.asked.StepsTold.{StepsTold}
 use Rattle.command_line.specs.declared.asked.StepsTold.TheVariants.{NotTold}
 use Rattle.command_line.specs.declared.asked.Why.{Why}
@@ -30,7 +32,8 @@ pub data Asked : Type 0 where
   make : (module_path : Text) (shapes_path : Option Text) (why : Why) (explained : Explained) → Asked
   recheck : (module_path certificate_path edits_path : Text) (explained : Explained) → Asked
   replay : (module_path trace_path : Text) (shapes_path : Option Text) (steps : StepsTold) (json_path : Option Text) (explained : Explained) → Asked
-  soak : (module_path trace_path : Text) (shapes_path : Option Text) (first seeds steps : ℕ) (save_path : Option Text) (explained : Explained) → Asked
+  soak : (module_path trace_path : Text) (shapes_path : Option Text) (search : Search) (shrink : Shrink) (save_path : Option Text) (explained : Explained) → Asked
+  hunt : (module_path : Text) (certificate_path shapes_path : Option Text) (seeds steps tries : ℕ) (seconds : Option ℕ) (save_path : Option Text) → Asked
   run : (module_path certificate_path trace_path : Text) (turns steps : ℕ) (explained : Explained) → Asked
   explain : (code : Option Text) → Asked
   migrate : (module_path : Text) (certificate_path : Option Text) → Asked
@@ -43,7 +46,10 @@ asked_by (Recheck line) = recheck line.module_path.now line.certificate_path.now
 asked_by (Replay line) =
     replay line.module_path.now line.trace_path.now (option_map (λ path. path.now) line.shapes_path) line.steps (option_map (λ path. path.now) line.json_path) line.explained
 asked_by (Soak line) =
-    soak line.module_path.now line.trace_path.now (option_map (λ path. path.now) line.shapes_path) line.first line.seeds line.steps (option_map (λ path. path.now) line.save_path) line.explained
+    soak line.module_path.now line.trace_path.now (option_map (λ path. path.now) line.shapes_path) line.search line.shrink (option_map (λ path. path.now) line.save_path) line.explained
+asked_by (Hunt line) =
+    hunt line.module_path.now (option_map (λ path. path.now) line.certificate_path) (option_map (λ path. path.now) line.shapes_path) line.seeds line.steps line.tries line.seconds
+    (option_map (λ path. path.now) line.save_path)
 asked_by (Run line) = run line.module_path.now line.certificate_path.now line.trace_path.now line.turns line.steps line.explained
 asked_by (Explain line) = explain (option_map (λ code. code.now) line.code)
 asked_by (Migrate line) = migrate line.module_path.now (option_map (λ path. path.now) line.certificate_path)
@@ -53,13 +59,19 @@ abbrev pub path_if : Option Text → List Text
 path_if None = []
 path_if (Some path) = path ∷ []
 
+-- the path of the certificate, if it is given, or else that of the shapes
+abbrev pub known_path : (certificate_path shapes_path : Option Text) → Option Text
+known_path (Some path) shapes_path = Some path
+known_path None shapes_path = shapes_path
+
 -- the paths of the command's files, in the line's order, the option's last
 abbrev pub paths_of : Asked → List Text
 paths_of (check module_path certificate_path workers explained refusals) = module_path ∷ certificate_path ∷ []
 paths_of (make module_path shapes_path why explained) = module_path ∷ path_if shapes_path
 paths_of (recheck module_path certificate_path edits_path explained) = module_path ∷ certificate_path ∷ edits_path ∷ []
 paths_of (replay module_path trace_path shapes_path steps json_path explained) = module_path ∷ trace_path ∷ path_if shapes_path
-paths_of (soak module_path trace_path shapes_path first seeds steps save_path explained) = module_path ∷ trace_path ∷ path_if shapes_path
+paths_of (soak module_path trace_path shapes_path search shrink save_path explained) = module_path ∷ trace_path ∷ path_if shapes_path
+paths_of (hunt module_path certificate_path shapes_path seeds steps tries seconds save_path) = module_path ∷ path_if (known_path certificate_path shapes_path)
 paths_of (run module_path certificate_path trace_path turns steps explained) = module_path ∷ certificate_path ∷ trace_path ∷ []
 paths_of (explain code) = []
 paths_of (migrate module_path certificate_path) = module_path ∷ path_if certificate_path
@@ -67,7 +79,8 @@ paths_of (migrate module_path certificate_path) = module_path ∷ path_if certif
 -- where the command is to write besides, if the line says so
 abbrev pub save_of : Asked → Option Text
 save_of (replay module_path trace_path shapes_path steps json_path explained) = json_path
-save_of (soak module_path trace_path shapes_path first seeds steps save_path explained) = save_path
+save_of (soak module_path trace_path shapes_path search shrink save_path explained) = save_path
+save_of (hunt module_path certificate_path shapes_path seeds steps tries seconds save_path) = save_path
 save_of _ = None
 
 -- a check has from 1 to 64 workers
@@ -91,8 +104,8 @@ on_terminal (check module_path certificate_path workers explained refusals) = ch
 on_terminal (make module_path shapes_path why explained) = make module_path shapes_path why (when_on_terminal explained)
 on_terminal (recheck module_path certificate_path edits_path explained) = recheck module_path certificate_path edits_path (when_on_terminal explained)
 on_terminal (replay module_path trace_path shapes_path steps json_path explained) = replay module_path trace_path shapes_path steps json_path (when_on_terminal explained)
-on_terminal (soak module_path trace_path shapes_path first seeds steps save_path explained) =
-    soak module_path trace_path shapes_path first seeds steps save_path (when_on_terminal explained)
+on_terminal (soak module_path trace_path shapes_path search shrink save_path explained) =
+    soak module_path trace_path shapes_path search shrink save_path (when_on_terminal explained)
 on_terminal (run module_path certificate_path trace_path turns steps explained) = run module_path certificate_path trace_path turns steps (when_on_terminal explained)
 on_terminal asked = asked
 
@@ -102,7 +115,7 @@ is_explained (check module_path certificate_path workers explained refusals) = i
 is_explained (make module_path shapes_path why explained) = is_wanted explained
 is_explained (recheck module_path certificate_path edits_path explained) = is_wanted explained
 is_explained (replay module_path trace_path shapes_path steps json_path explained) = is_wanted explained
-is_explained (soak module_path trace_path shapes_path first seeds steps save_path explained) = is_wanted explained
+is_explained (soak module_path trace_path shapes_path search shrink save_path explained) = is_wanted explained
 is_explained (run module_path certificate_path trace_path turns steps explained) = is_wanted explained
 is_explained _ = false
 

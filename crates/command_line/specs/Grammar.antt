@@ -6,13 +6,18 @@ use Rattle.std.specs.Str.Parse.{digits_value, without_leading_plus}
 use Rattle.clap.specs.Words.{App, IsAmong, Row, Rule, Text, fault_of, first_of, kind_of, new_app, new_rule, one_of, subcommand_of, with_rule, with_subcommand}
 use Rattle.clap.specs.declared.builder.action.ArgAction.TheVariants.{SetTrue}
 use Rattle.clap.specs.declared.builder.value_parser.ValueParser.TheVariants.{Signed}
-use Rattle.command_line.specs.Asked.{Asked, check, make, recheck, replay, soak, run, explain, migrate}
+use Rattle.command_line.specs.Asked.{Asked, check, make, recheck, replay, soak, hunt, run, explain, migrate}
 use Rattle.command_line.specs.declared.asked.Explained.{Explained}
 use Rattle.command_line.specs.declared.asked.Explained.TheVariants.{Always, OnTerminal, Never}
 use Rattle.command_line.specs.declared.asked.LineFault.{LineFault}
 use Rattle.command_line.specs.declared.asked.LineFault.TheVariants.{Memory, NoCommand, Words}
+use Rattle.command_line.specs.declared.asked.Draws.{Draws}
+use Rattle.command_line.specs.declared.asked.Draws.TheVariants.{Uniform, Biased}
 use Rattle.command_line.specs.declared.asked.Refusals.{Refusals}
 use Rattle.command_line.specs.declared.asked.Refusals.TheVariants.{First, OfBlocks}
+use Rattle.command_line.specs.declared.asked.Search.{Search}
+use Rattle.command_line.specs.declared.asked.Shrink.{Shrink}
+use Rattle.command_line.specs.declared.asked.Shrink.TheVariants.{AsDrawn, WithTries}
 use Rattle.command_line.specs.declared.asked.StepsTold.{StepsTold}
 use Rattle.command_line.specs.declared.asked.StepsTold.TheVariants.{NotTold, Last, Between}
 use Rattle.command_line.specs.declared.asked.Why.{Why}
@@ -123,9 +128,29 @@ replay_app = with_rule (with_rule (with_rule steps_app (optional_rule (codes "to
 abbrev pub seeds_app : App
 seeds_app = with_rule (with_rule (traced_app (codes "soak")) (number_rule (codes "seeds"))) (number_rule (codes "steps"))
 
--- soak MODULE TRACE [--shapes FILE] --seeds N --steps S [--first F] [--save FILE] [--explain WHEN]
+-- soak MODULE TRACE [--shapes FILE] --seeds N --steps S [--first F] [--save FILE]
+abbrev pub saved_soak_app : App
+saved_soak_app = with_rule (with_rule seeds_app (default_rule (codes "first") (codes "0"))) (path_rule (codes "save"))
+
+-- soak MODULE TRACE [--shapes FILE] --seeds N --steps S [--first F] [--save FILE] [--bias] [--seconds N]
+abbrev pub searching_soak_app : App
+searching_soak_app = with_rule (with_rule saved_soak_app (flag_rule (codes "bias"))) (optional_rule (codes "seconds"))
+
+-- soak MODULE TRACE [--shapes FILE] --seeds N --steps S [--first F] [--save FILE] [--bias] [--seconds N] [--shrink] [--tries N] [--explain WHEN]
 abbrev pub soak_app : App
-soak_app = with_rule (with_rule (with_rule seeds_app (default_rule (codes "first") (codes "0"))) (path_rule (codes "save"))) explain_rule
+soak_app = with_rule (with_rule (with_rule searching_soak_app (flag_rule (codes "shrink"))) (optional_rule (codes "tries"))) explain_rule
+
+-- hunt MODULE [--shapes FILE] [--cert FILE] [--seeds N]
+abbrev pub hunted_app : App
+hunted_app = with_rule (with_rule (shaped_app (codes "hunt")) (path_rule (codes "cert"))) (default_rule (codes "seeds") (codes "10000"))
+
+-- hunt MODULE [--shapes FILE] [--cert FILE] [--seeds N] [--steps S] [--tries N]
+abbrev pub tried_hunt_app : App
+tried_hunt_app = with_rule (with_rule hunted_app (default_rule (codes "steps") (codes "1000"))) (default_rule (codes "tries") (codes "10000"))
+
+-- hunt MODULE [--shapes FILE] [--cert FILE] [--seeds N] [--steps S] [--tries N] [--seconds N] [--save FILE]
+abbrev pub hunt_app : App
+hunt_app = with_rule (with_rule tried_hunt_app (optional_rule (codes "seconds"))) (path_rule (codes "save"))
 
 -- run MODULE CERT TRACE
 abbrev pub run_files_app : App
@@ -150,8 +175,8 @@ with_version_and_commands app = record app { top = record app.top { has_version 
 -- the whole grammar
 abbrev pub dgc_app : App
 dgc_app =
-    with_subcommand (with_subcommand (with_subcommand (with_subcommand (with_subcommand (with_subcommand (with_subcommand (with_subcommand (with_version_and_commands (new_app (codes "dgc"))) check_app.top)
-    make_app.top) recheck_app.top) replay_app.top) soak_app.top) run_app.top) explain_app.top) migrate_app.top
+    with_subcommand (with_subcommand (with_subcommand (with_subcommand (with_subcommand (with_subcommand (with_subcommand (with_subcommand (with_subcommand (with_version_and_commands (new_app (codes "dgc"))) check_app.top)
+    make_app.top) recheck_app.top) replay_app.top) soak_app.top) hunt_app.top) run_app.top) explain_app.top) migrate_app.top
 
 -- the number that a text of decimal digits writes, where it is below 2 to the 32; a plus may come first
 abbrev pub number_in : Text → Option ℕ
@@ -247,17 +272,45 @@ replay_of given =
     option_and_then (λ paths. option_and_then (λ steps. option_map (λ explained. replay paths.0 paths.1 (shapes_in given) steps (first_of (codes "json") given) explained)
     (explained_of given)) (steps_of given)) (paths_in (codes "TRACE") given)
 
--- the first seed, how many, and how many steps each makes
-abbrev pub seeds_of : List Row → Option (ℕ × ℕ × ℕ)
-seeds_of given =
-    option_and_then (λ seeds. option_and_then (λ steps. option_map (λ first. (first, seeds, steps))
+-- how a seed draws, by the option `bias`
+abbrev pub draws_of : List Row → Draws
+draws_of given = if flag_of (codes "bias") given then Biased else Uniform
+
+-- the first seed, how many, how many steps each draws and how, and after how many seconds the search ends
+abbrev pub search_of : List Row → Option Search
+search_of given =
+    option_and_then (λ seeds. option_and_then (λ steps. option_map (λ first. record { first = first; seeds = seeds; steps = steps; draws = draws_of given; seconds = number_of (codes "seconds") given })
     (number_of (codes "first") given)) (number_of (codes "steps") given)) (number_of (codes "seeds") given)
 
--- `soak` with what was given to it, if that is a module, a trace and three numbers, and when a refusal is explained
+-- how many traces are replayed at most for a shorter one where no limit is given
+abbrev pub TRIES : ℕ
+TRIES = 10000
+
+-- whether the schedule of a broken seed is made shorter: by the option `shrink`, up to the limit of tries, which may not stand without it
+abbrev pub shrink_of : List Row → Option Shrink
+shrink_of given =
+    let tries = number_of (codes "tries") given in
+    if flag_of (codes "shrink") given then Some (WithTries (unwrap_or tries TRIES))
+    else if is_some tries then None
+    else Some AsDrawn
+
+-- `soak` with what was given to it, if that is a module, a trace and a search, whether a schedule is made shorter, and when a refusal is explained
 abbrev pub soak_of : List Row → Option Asked
 soak_of given =
-    option_and_then (λ paths. option_and_then (λ numbers. option_map (λ explained. soak paths.0 paths.1 (shapes_in given) numbers.0 numbers.1 numbers.2 (first_of (codes "save") given) explained)
-    (explained_of given)) (seeds_of given)) (paths_in (codes "TRACE") given)
+    option_and_then (λ paths. option_and_then (λ search. option_and_then (λ shrink. option_map (λ explained. soak paths.0 paths.1 (shapes_in given) search shrink (first_of (codes "save") given) explained)
+    (explained_of given)) (shrink_of given)) (search_of given)) (paths_in (codes "TRACE") given)
+
+-- how many seeds, how many steps each makes, and how many tries a shorter schedule is sought with
+abbrev pub hunted_of : List Row → Option (ℕ × ℕ × ℕ)
+hunted_of given =
+    option_and_then (λ seeds. option_and_then (λ steps. option_map (λ tries. (seeds, steps, tries))
+    (number_of (codes "tries") given)) (number_of (codes "steps") given)) (number_of (codes "seeds") given)
+
+-- `hunt` with what was given to it, if that is a module and three numbers
+abbrev pub hunt_of : List Row → Option Asked
+hunt_of given =
+    option_and_then (λ module_path. option_map (λ numbers. hunt module_path (first_of (codes "cert") given) (shapes_in given) numbers.0 numbers.1 numbers.2 (number_of (codes "seconds") given) (first_of (codes "save") given))
+    (hunted_of given)) (first_of (codes "MODULE") given)
 
 -- `run` with what was given to it, if that is a module, a certificate, a trace and both limits, and when a refusal is explained
 abbrev pub run_of : List Row → Option Asked
@@ -282,6 +335,7 @@ asked_of (Some found) =
     else if bytes_eq found.0 (codes "recheck") then recheck_of found.1
     else if bytes_eq found.0 (codes "replay") then replay_of found.1
     else if bytes_eq found.0 (codes "soak") then soak_of found.1
+    else if bytes_eq found.0 (codes "hunt") then hunt_of found.1
     else if bytes_eq found.0 (codes "run") then run_of found.1
     else if bytes_eq found.0 (codes "explain") then Some (explain_of found.1)
     else if bytes_eq found.0 (codes "migrate") then migrate_of found.1

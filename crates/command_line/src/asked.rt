@@ -1,6 +1,6 @@
 //! What a command line asks for, and why it may ask for nothing.
 ghost use Rattle.std.specs.Prelude.{◌≡◌, ◌∷◌, map, option_map, IfOk};
-ghost use Rattle.command_line.specs.Asked.{are_told, asked_by, fault_of_error, HasWorkers, is_wanted, on_terminal, path_if, paths_of, when_on_terminal};
+ghost use Rattle.command_line.specs.Asked.{are_told, asked_by, fault_of_error, HasWorkers, is_wanted, known_path, on_terminal, path_if, paths_of, when_on_terminal};
 ghost use Rattle.command_line.specs.declared.asked.LineFault.TheVariants.{Memory};
 
 use clap::Error;
@@ -81,18 +81,65 @@ pub struct ReplayLine<'a> {
     pub explained: Explained,
 }
 
-/// From the start of a trace of a module, make `steps` steps by the schedule of each of `seeds` seeds, from the first one on.
+/// Whether the schedule of a broken seed is made shorter.
+#[derive(Clone, Copy)]
+pub enum Shrink {
+    AsDrawn,
+    /// At most this many traces are replayed for it.
+    WithTries(u32),
+}
+
+/// How a seed draws who makes the next step.
+#[derive(Clone, Copy)]
+pub enum Draws {
+    /// Each actor is as likely as any other one.
+    Uniform,
+    /// With few switches between actors.
+    Biased,
+}
+
+/// Which schedules are drawn.
+#[derive(Clone, Copy)]
+pub struct Search {
+    /// The first seed.
+    pub first: u32,
+    /// How many seeds are tried at most.
+    pub seeds: u32,
+    /// How many steps each draws.
+    pub steps: u32,
+    pub draws: Draws,
+    /// After how many seconds no further seeds are tried.
+    pub seconds: Option<u32>,
+}
+
+/// From the start of a trace of a module, make the steps that each seed of a search draws.
 #[derive(Clone, Copy)]
 pub struct SoakLine<'a> {
     pub module_path: &'a str,
     pub trace_path: &'a str,
     pub shapes_path: Option<&'a str>,
-    pub first: u32,
-    pub seeds: u32,
-    pub steps: u32,
+    pub search: Search,
+    pub shrink: Shrink,
     /// Where the broken seed's steps are to be written.
     pub save_path: Option<&'a str>,
     pub explained: Explained,
+}
+
+/// Search for a schedule of a module that breaks its run: `seeds` seeds draw `steps` steps each. A schedule that does is made shorter by
+/// `tries` tries. A module that writes `ptr` has the shapes of its certificate or of a file.
+#[derive(Clone, Copy)]
+pub struct HuntLine<'a> {
+    pub module_path: &'a str,
+    pub certificate_path: Option<&'a str>,
+    /// Where there is a certificate this file is not read.
+    pub shapes_path: Option<&'a str>,
+    pub seeds: u32,
+    pub steps: u32,
+    pub tries: u32,
+    /// After how many seconds no further seeds are tried.
+    pub seconds: Option<u32>,
+    /// Where the steps that break a run are to be written.
+    pub save_path: Option<&'a str>,
 }
 
 /// Check a module against a certificate. Then run the threads of a trace on real threads for at most `steps` steps each, beside at
@@ -128,6 +175,7 @@ pub enum Line<'a> {
     Recheck(RecheckLine<'a>),
     Replay(ReplayLine<'a>),
     Soak(SoakLine<'a>),
+    Hunt(HuntLine<'a>),
     Run(RunLine<'a>),
     Explain(ExplainLine<'a>),
     Migrate(MigrateLine<'a>),
@@ -295,9 +343,8 @@ fn soak_on_terminal(asked: SoakLine<'_>) -> SoakLine<'_>
     ensures module_path { result.module_path ≡ asked.entry.module_path }
     ensures trace_path { result.trace_path ≡ asked.entry.trace_path }
     ensures shapes_path { result.shapes_path ≡ asked.entry.shapes_path }
-    ensures first { result.first ≡ asked.entry.first }
-    ensures seeds { result.seeds ≡ asked.entry.seeds }
-    ensures steps { result.steps ≡ asked.entry.steps }
+    ensures search { result.search ≡ asked.entry.search }
+    ensures shrink { result.shrink ≡ asked.entry.shrink }
     ensures save_path { result.save_path ≡ asked.entry.save_path }
     ensures explained { result.explained ≡ when_on_terminal asked.entry.explained }
 {
@@ -305,9 +352,8 @@ fn soak_on_terminal(asked: SoakLine<'_>) -> SoakLine<'_>
         module_path: asked.module_path,
         trace_path: asked.trace_path,
         shapes_path: asked.shapes_path,
-        first: asked.first,
-        seeds: asked.seeds,
-        steps: asked.steps,
+        search: asked.search,
+        shrink: asked.shrink,
         save_path: asked.save_path,
         explained: asked.explained.on_terminal(),
     }
@@ -329,6 +375,18 @@ fn run_on_terminal(asked: RunLine<'_>) -> RunLine<'_>
         turns: asked.turns,
         steps: asked.steps,
         explained: asked.explained.on_terminal(),
+    }
+}
+
+impl<'a> HuntLine<'a> {
+    /// The file that says what the pointers of the module refer to, if one is given.
+    fn known_path(&self) -> Option<&'a str>
+        ensures { option_map (λ path. path.now) result ≡ known_path (option_map (λ path. path.now) self.now.certificate_path) (option_map (λ path. path.now) self.now.shapes_path) }
+    {
+        match self.certificate_path {
+            Some(path) => Some(path),
+            None => self.shapes_path,
+        }
     }
 }
 
@@ -375,6 +433,7 @@ impl<'a> Line<'a> {
                     asked.shapes_path,
                 )?
             }
+            Line::Hunt(asked) => paths_with(alloc, asked.module_path, asked.known_path())?,
             Line::Run(asked) => {
                 vec![in alloc; asked.module_path, asked.certificate_path, asked.trace_path]?
             }

@@ -2,13 +2,14 @@
 ghost use Rattle.std.specs.Prelude.{◌≡◌, IfOk, false, codes};
 ghost use Rattle.clap.specs.Words.{app_of, new_app, new_rule, rule_of};
 ghost use Rattle.clap.specs.declared.builder.command.Command.TheViews.{out-Command};
-ghost use Rattle.command_line.specs.Grammar.{check_app, default_rule, dgc_app, explain_app, explain_rule, explained_check_app, file_rule, files_app, flag_rule, make_app, migrate_app, module_app, number_rule, optional_rule, path_rule, recheck_app, replay_app, run_app, run_files_app, seeds_app, shaped_app, soak_app, steps_app, traced_app, with_version_and_commands, workers_rule};
+ghost use Rattle.command_line.specs.Grammar.{check_app, default_rule, dgc_app, explain_app, explain_rule, explained_check_app, file_rule, files_app, flag_rule, hunt_app, hunted_app, make_app, migrate_app, module_app, number_rule, optional_rule, path_rule, recheck_app, replay_app, run_app, run_files_app, saved_soak_app, searching_soak_app, seeds_app, shaped_app, soak_app, steps_app, traced_app, tried_hunt_app, with_version_and_commands, workers_rule};
 
 use crate::help::{
-    ALL, CHECK, CODE, CommandHelp, DGC_ABOUT, DGC_AFTER, EDITS, EXPLAIN_ABOUT, EXPLAIN_AFTER,
-    EXPLAIN_WHEN, FIRST, FROM, JSON, LIMIT, MAKE_ABOUT, MAKE_AFTER, MIGRATE_ABOUT, MIGRATE_AFTER,
-    MIGRATED, MODULE, RECHECK, REPLAY, REPLAY_STEPS, RUN, RUN_STEPS, RUN_TRACE, SAVE, SEEDS,
-    SHAPES, SOAK, STEPS, TO, TURNS, WHY, WORKERS,
+    ALL, BIAS, CHECK, CODE, CommandHelp, DGC_ABOUT, DGC_AFTER, EDITS, EXPLAIN_ABOUT, EXPLAIN_AFTER,
+    EXPLAIN_WHEN, FIRST, FROM, HUNT_ABOUT, HUNT_AFTER, HUNT_CERT, HUNT_SAVE, HUNT_SEEDS,
+    HUNT_TRIES, JSON, LIMIT, MAKE_ABOUT, MAKE_AFTER, MIGRATE_ABOUT, MIGRATE_AFTER, MIGRATED,
+    MODULE, RECHECK, REPLAY, REPLAY_STEPS, RUN, RUN_STEPS, RUN_TRACE, SAVE, SECONDS, SEEDS, SHAPES,
+    SHRINK, SHRINK_TRIES, SOAK, STEPS, TO, TURNS, WHY, WORKERS,
 };
 use clap::{Arg, ArgAction, Command, value_parser};
 use std::alloc::{AllocError, Global};
@@ -246,14 +247,63 @@ fn seeds_command<'a>(alloc: Global) -> Result<Command<'a>, AllocError>
         .arg(number(alloc, "steps", "S", STEPS))
 }
 
-fn soak_command<'a>(alloc: Global) -> Result<Command<'a>, AllocError>
-    ensures app { IfOk result (λ command. app_of command ≡ soak_app) }
+/// `soak` with its files, its numbers, and the file to which a broken seed is saved.
+fn saved_soak_command<'a>(alloc: Global) -> Result<Command<'a>, AllocError>
+    ensures app { IfOk result (λ command. app_of command ≡ saved_soak_app) }
     ensures own { IfOk result (λ command. (out-Command command).has_globals ≡ false) }
 {
     seeds_command(alloc)?
         .arg(number_or(alloc, "first", "0", "F", FIRST))?
-        .arg(path(alloc, "save", SAVE))?
+        .arg(path(alloc, "save", SAVE))
+}
+
+/// `soak` with all that says which schedules are drawn.
+fn searching_soak_command<'a>(alloc: Global) -> Result<Command<'a>, AllocError>
+    ensures app { IfOk result (λ command. app_of command ≡ searching_soak_app) }
+    ensures own { IfOk result (λ command. (out-Command command).has_globals ≡ false) }
+{
+    saved_soak_command(alloc)?
+        .arg(flag(alloc, "bias", BIAS))?
+        .arg(optional(alloc, "seconds", "N", SECONDS))
+}
+
+fn soak_command<'a>(alloc: Global) -> Result<Command<'a>, AllocError>
+    ensures app { IfOk result (λ command. app_of command ≡ soak_app) }
+    ensures own { IfOk result (λ command. (out-Command command).has_globals ≡ false) }
+{
+    searching_soak_command(alloc)?
+        .arg(flag(alloc, "shrink", SHRINK))?
+        .arg(optional(alloc, "tries", "N", SHRINK_TRIES))?
         .arg(explain_when(alloc))
+}
+
+/// `hunt` with its files and the number of seeds.
+fn hunted_command<'a>(alloc: Global) -> Result<Command<'a>, AllocError>
+    ensures app { IfOk result (λ command. app_of command ≡ hunted_app) }
+    ensures own { IfOk result (λ command. (out-Command command).has_globals ≡ false) }
+{
+    shaped_command(alloc, "hunt", HUNT_ABOUT, HUNT_AFTER)?
+        .arg(path(alloc, "cert", HUNT_CERT))?
+        .arg(number_or(alloc, "seeds", "10000", "N", HUNT_SEEDS))
+}
+
+/// `hunt` with its files and the numbers of seeds, steps and tries.
+fn tried_hunt_command<'a>(alloc: Global) -> Result<Command<'a>, AllocError>
+    ensures app { IfOk result (λ command. app_of command ≡ tried_hunt_app) }
+    ensures own { IfOk result (λ command. (out-Command command).has_globals ≡ false) }
+{
+    hunted_command(alloc)?
+        .arg(number_or(alloc, "steps", "1000", "S", STEPS))?
+        .arg(number_or(alloc, "tries", "10000", "N", HUNT_TRIES))
+}
+
+fn hunt_command<'a>(alloc: Global) -> Result<Command<'a>, AllocError>
+    ensures app { IfOk result (λ command. app_of command ≡ hunt_app) }
+    ensures own { IfOk result (λ command. (out-Command command).has_globals ≡ false) }
+{
+    tried_hunt_command(alloc)?
+        .arg(optional(alloc, "seconds", "N", SECONDS))?
+        .arg(path(alloc, "save", HUNT_SAVE))
 }
 
 /// `run` with its files.
@@ -330,6 +380,11 @@ pub(crate) fn dgc_command<'a>(alloc: Global) -> Result<Command<'a>, AllocError>
         return Err(AllocError);
     };
     let command = command.subcommand(soak)?;
+    let Ok(hunt) = hunt_command(alloc) else {
+        drop(command);
+        return Err(AllocError);
+    };
+    let command = command.subcommand(hunt)?;
     let Ok(run) = run_command(alloc) else {
         drop(command);
         return Err(AllocError);

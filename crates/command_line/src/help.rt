@@ -45,6 +45,25 @@ pub(crate) const FIRST: &str = "The first seed";
 pub(crate) const SAVE: &str =
     "The file to which the broken seed's steps up to its break are written, as a trace";
 
+pub(crate) const BIAS: &str = "Draw schedules with few switches between threads and the collector";
+
+pub(crate) const SECONDS: &str = "After how many seconds no further seeds are tried";
+
+pub(crate) const SHRINK: &str = "Make the broken seed's steps fewer, by replaying shorter traces";
+
+pub(crate) const SHRINK_TRIES: &str =
+    "With --shrink: how many traces are replayed for that at most [default: 10000]";
+
+pub(crate) const HUNT_CERT: &str =
+    "A certificate, which then has the shapes; arguments keep what it promises of parameters";
+
+pub(crate) const HUNT_SEEDS: &str = "How many seeds";
+
+pub(crate) const HUNT_TRIES: &str =
+    "How many traces are replayed at most to make a broken one shorter";
+
+pub(crate) const HUNT_SAVE: &str = "The file to which a broken trace is written";
+
 pub(crate) const RUN_TRACE: &str =
     "A trace: how the run begins; its steps are ignored (docs/TRACES.md)";
 
@@ -150,6 +169,14 @@ made that step, and why, as `broken seed 103 221 c reach-blue 3`. N, S and F are
 numbers from 0 to 4294967295. No seed is above 4294967294. With --save the steps of the
 broken seed are written to FILE, and `dgc replay` of that trace breaks at the same step.
 
+With --bias the schedules have few switches between actors, and the lines say so: `sound N
+biased seeds`, or `broken biased seed 12 80 c reach-blue 2`. With --seconds no further seeds
+are tried once that time is over, and the line says how many were.
+
+With --shrink threads, cells, steps and switches are left out as long as the run breaks by
+the same kind of cause. Then `shorter 60 c reach-blue 2` follows, with the last step of the
+shorter trace, and `tries 412`: how many traces were replayed. --save writes that trace.
+
 Of a text that is not read, one line goes to standard error, as `error L4 23:13` (a line
 and a column) or `error C6 @g`. A module that writes `ptr` needs its shapes: without --shapes
 that line is `error Y5`.
@@ -161,6 +188,29 @@ Exit status:
   3  memory was refused
   4  the command line is refused, a file cannot be read, or a write failed",
 };
+
+pub(crate) const HUNT_ABOUT: &str = "Searches for a short schedule that breaks a run of a module";
+
+pub(crate) const HUNT_AFTER: &str = "\
+Needs no trace. Every 64 seeds the next one draws a start: one to three threads at functions
+that take no reference, with integers of their types, and pools of one to four cells. Each
+seed draws S steps, many of them with few switches between threads and the collector. The
+first schedule that breaks its run is made shorter, as by `dgc soak --shrink`. Prints
+`broken 60 c reach-blue 2` and what was tried, as `starts 3 seeds 192 tries 412`.
+`dgc replay` of what --save writes prints that first line. Or prints `sound 10000 seeds` and
+`starts 157`: none of these schedules breaks its run. With --seconds no further seeds are
+tried once that time is over, and the line says how many were.
+
+Of a text that is not read, one line goes to standard error, as `error L4 23:13` (a line
+and a column) or `error C6 @g`. A module that writes `ptr` needs its shapes: without --shapes
+and --cert that line is `error Y5`.
+
+Exit status:
+  0  sound
+  1  broken
+  2  a text is not read, or the module has no layouts
+  3  memory was refused
+  4  the command line is refused, a file cannot be read, or a write failed";
 
 pub(crate) const RUN: CommandHelp = CommandHelp {
     about: "Runs a checked module on real threads, beside the collector",

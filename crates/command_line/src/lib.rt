@@ -7,7 +7,7 @@ mod help;
 mod reader;
 
 pub use asked::{
-    CheckLine, ExplainLine, Explained, Line, LineFault, MakeLine, MigrateLine, RecheckLine,
-    Refusals, ReplayLine, RunLine, SoakLine, StepsTold, Why,
+    CheckLine, Draws, ExplainLine, Explained, HuntLine, Line, LineFault, MakeLine, MigrateLine,
+    RecheckLine, Refusals, ReplayLine, RunLine, Search, Shrink, SoakLine, StepsTold, Why,
 };
 pub use reader::line;

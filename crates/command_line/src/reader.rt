@@ -2,11 +2,11 @@
 ghost use Rattle.std.specs.Prelude.{◌≡◌, ◌≤◌, IfOk, IfErr, IfSome, IsOk, [], map, option_map, false};
 ghost use Rattle.clap.specs.Words.{fault_of, first_of, found_of, rows_of};
 ghost use Rattle.command_line.specs.Asked.{asked_by, HasWorkers};
-ghost use Rattle.command_line.specs.Grammar.{asked_in, asked_of, check_of, dgc_app, explain_of, explained_by, explained_of, flag_of, IsRefusalOf, make_of, migrate_of, number_of, paths_in, recheck_of, refusals_of, replay_of, run_of, seeds_of, soak_of, steps_between, steps_of, why_of, workers_of};
+ghost use Rattle.command_line.specs.Grammar.{asked_in, asked_of, check_of, dgc_app, draws_of, explain_of, explained_by, explained_of, flag_of, hunt_of, hunted_of, IsRefusalOf, make_of, migrate_of, number_of, paths_in, recheck_of, refusals_of, replay_of, run_of, search_of, shrink_of, soak_of, steps_between, steps_of, why_of, workers_of};
 
 use crate::asked::{
-    CheckLine, ExplainLine, Explained, Line, LineFault, MakeLine, MigrateLine, RecheckLine,
-    Refusals, ReplayLine, RunLine, SoakLine, StepsTold, Why,
+    CheckLine, Draws, ExplainLine, Explained, HuntLine, Line, LineFault, MakeLine, MigrateLine,
+    RecheckLine, Refusals, ReplayLine, RunLine, Search, Shrink, SoakLine, StepsTold, Why,
 };
 use crate::grammar::dgc_command;
 use clap::ArgMatches;
@@ -206,14 +206,47 @@ fn replay_line<'a>(given: &ArgMatches<'a>) -> Option<Line<'a>>
     }))
 }
 
-/// The first seed, how many, and how many steps each makes.
-fn seeds_given(given: &ArgMatches<'_>) -> Option<(u32, u32, u32)>
-    ensures { result ≡ seeds_of (rows_of (found_of given.now)) }
+/// How a seed draws, by the option `bias`.
+fn draws_given(given: &ArgMatches<'_>) -> Draws
+    ensures { result ≡ draws_of (rows_of (found_of given.now)) }
 {
+    if flag_given(given, "bias") {
+        Draws::Biased
+    } else {
+        Draws::Uniform
+    }
+}
+
+/// Which schedules are drawn.
+fn search_given(given: &ArgMatches<'_>) -> Option<Search>
+    ensures { result ≡ search_of (rows_of (found_of given.now)) }
+{
+    let draws = draws_given(given);
+    let seconds = number_given(given, "seconds");
     let seeds = number_given(given, "seeds")?;
     let steps = number_given(given, "steps")?;
     let first = number_given(given, "first")?;
-    Some((first, seeds, steps))
+    Some(Search {
+        first,
+        seeds,
+        steps,
+        draws,
+        seconds,
+    })
+}
+
+/// Whether the schedule of a broken seed is made shorter, by the options `shrink` and `tries`.
+fn shrink_given(given: &ArgMatches<'_>) -> Option<Shrink>
+    ensures { result ≡ shrink_of (rows_of (found_of given.now)) }
+{
+    let tries = number_given(given, "tries");
+    if flag_given(given, "shrink") {
+        Some(Shrink::WithTries(tries.unwrap_or(10_000)))
+    } else if tries.is_some() {
+        None
+    } else {
+        Some(Shrink::AsDrawn)
+    }
 }
 
 /// The line of `soak`, from what was given to it.
@@ -224,17 +257,50 @@ fn soak_line<'a>(given: &ArgMatches<'a>) -> Option<Line<'a>>
     let (module_path, trace_path) = paths_given(given, "TRACE")?;
     let shapes_path = text_given(given, "shapes");
     let save_path = text_given(given, "save");
-    let (first, seeds, steps) = seeds_given(given)?;
+    let search = search_given(given)?;
+    let shrink = shrink_given(given)?;
     let explained = explained_given(given)?;
     Some(Line::Soak(SoakLine {
         module_path,
         trace_path,
         shapes_path,
-        first,
-        seeds,
-        steps,
+        search,
+        shrink,
         save_path,
         explained,
+    }))
+}
+
+/// How many seeds, how many steps each makes, and how many tries a shorter schedule is sought with.
+fn hunted_given(given: &ArgMatches<'_>) -> Option<(u32, u32, u32)>
+    ensures { result ≡ hunted_of (rows_of (found_of given.now)) }
+{
+    let seeds = number_given(given, "seeds")?;
+    let steps = number_given(given, "steps")?;
+    let tries = number_given(given, "tries")?;
+    Some((seeds, steps, tries))
+}
+
+/// The line of `hunt`, from what was given to it.
+fn hunt_line<'a>(given: &ArgMatches<'a>) -> Option<Line<'a>>
+    ensures asked { option_map asked_by result ≡ hunt_of (rows_of (found_of given.now)) }
+    ensures workers { IfSome result (λ line. HasWorkers (asked_by line)) }
+{
+    let module_path = text_given(given, "MODULE")?;
+    let certificate_path = text_given(given, "cert");
+    let shapes_path = text_given(given, "shapes");
+    let seconds = number_given(given, "seconds");
+    let save_path = text_given(given, "save");
+    let (seeds, steps, tries) = hunted_given(given)?;
+    Some(Line::Hunt(HuntLine {
+        module_path,
+        certificate_path,
+        shapes_path,
+        seeds,
+        steps,
+        tries,
+        seconds,
+        save_path,
     }))
 }
 
@@ -292,6 +358,7 @@ fn line_of<'a>(name: &str, given: &ArgMatches<'a>) -> Option<Line<'a>>
         "recheck" => recheck_line(given),
         "replay" => replay_line(given),
         "soak" => soak_line(given),
+        "hunt" => hunt_line(given),
         "run" => run_line(given),
         "explain" => Some(explain_line(given)),
         "migrate" => migrate_line(given),
@@ -313,6 +380,7 @@ fn hint_of(name: &str, given: &ArgMatches<'_>) -> &'static str {
     match name {
         "check" => hint_of_check(given),
         "replay" => "--from and --to need --steps",
+        "soak" => "--tries needs --shrink",
         _ => EXPLAIN_HINT,
     }
 }

@@ -1,13 +1,14 @@
 -- What each command says of the files of its line.
 use Rattle.std.specs.Prelude.{◌≡◌, ◌⊎◌, ℕ, Bool, true, false, List, Option, is_some}
-use Rattle.command_line.specs.Asked.{Asked, check, make, recheck, replay, soak, run, explain, migrate}
+use Rattle.command_line.specs.Asked.{Asked, check, make, recheck, replay, soak, hunt, run, explain, migrate}
 use Rattle.explained_checks.specs.Explained.{GivesText}
 use Rattle.reports.specs.Said.{Said, OfCertified, Says}
 use Rattle.check_commands.specs.Checks.{OfCerts, OfMake}
 use Rattle.check_commands.specs.Explained.{OfExplain}
 use Rattle.migrate_command.specs.Migrating.{OfMigrate}
 use Rattle.recheck_command.specs.EditedFiles.{OfEditsFile}
-use Rattle.run_commands.specs.TraceRuns.{OfRun, OfRunCerts, OfSeeds, OfTrace}
+use Rattle.run_commands.specs.TraceRuns.{OfRun, OfRunCerts, OfTrace}
+use Rattle.search_commands.specs.Searches.{OfHuntFiles, OfSeeds}
 
 -- what a command says of its files, each at its place in the line's order; before and after it these bytes are saved
 abbrev pub OfCommand : Asked → (file_at : ℕ → Option (List ℕ)) → (before after : List ℕ) → Said → Type 0
@@ -16,8 +17,10 @@ OfCommand (make module_path shapes_path why explained) file_at before after = Of
 OfCommand (recheck module_path cert_path edits_path explained) file_at before after =
     OfCertified (OfEditsFile edits_path (file_at 2)) module_path cert_path (file_at 0) (file_at 1)
 OfCommand (replay module_path trace_path shapes_path steps json_path explained) file_at before after = OfRun OfTrace module_path trace_path shapes_path file_at
-OfCommand (soak module_path trace_path shapes_path first seeds steps save_path explained) file_at before after =
-    OfRun (OfSeeds first seeds steps (is_some save_path) before after) module_path trace_path shapes_path file_at
+OfCommand (soak module_path trace_path shapes_path search shrink save_path explained) file_at before after =
+    OfRun (OfSeeds search shrink (is_some save_path) before after) module_path trace_path shapes_path file_at
+OfCommand (hunt module_path cert_path shapes_path seeds steps tries seconds save_path) file_at before after =
+    OfHuntFiles (is_some save_path) before after module_path shapes_path cert_path (file_at 0) (file_at 1)
 OfCommand (run module_path cert_path trace_path turns steps explained) file_at before after =
     OfCertified (OfRunCerts (record { turns = turns; steps = steps }) trace_path (file_at 2)) module_path cert_path (file_at 0) (file_at 1)
 OfCommand (explain code) file_at before after = OfExplain code

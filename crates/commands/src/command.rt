@@ -7,29 +7,35 @@ ghost use Rattle.reports.specs.Said.{Said, Says};
 ghost use Rattle.reports.specs.Files as spec;
 
 use check_commands::{check_files, explain_code, make_file};
-use command_line::{CheckLine, Line, MakeLine, RecheckLine, ReplayLine, RunLine, SoakLine};
+use command_line::{
+    CheckLine, Line, MakeLine, RecheckLine, Refusals, ReplayLine, RunLine, SoakLine,
+};
 use explained_checks::{
-    Look, explain_check, explain_make, explain_recheck, explain_run, explain_traced,
+    Look, explain_check, explain_check_of_blocks, explain_make, explain_recheck, explain_run,
+    explain_traced,
 };
 use migrate_command::migrate_files;
 use recheck_command::recheck_files;
 use reports::{STATUS_NO, STATUS_UNREADABLE, STATUS_YES};
-use run_commands::{replay_files, run_files, soak_files};
+use run_commands::{replay_files, run_files};
+use search_commands::{Onlooker, hunt_files, soak_files, tell_happened};
 use std::alloc::{AllocError, Global};
 use std::io;
 use std::io::Write;
 use std::thread::Threads;
+use std::time::Clock;
 use step_commands::{save_steps, tell_steps};
 
 /// Does the command of a line, without explanations. What it asks to write to a file of its own is appended to `saved`.
 fn answer<O: Write, E: Write>(
-    rt: &(impl Threads + Sync),
+    rt: &(impl Threads + Clock + Sync),
     alloc: Global,
     line: &Line<'_>,
     files: &[Option<Vec<u8>>],
     saved: &mut Vec<u8>,
     out: &mut O,
     err: &mut E,
+    onlooker: &mut impl Onlooker,
 ) -> io::Result<u8>
     requires { HasWorkers (asked_by line.now) }
     ensures said { IfOk result (Says (OfCommand (asked_by line.now) (spec.file_at files.now) saved.old.items saved.new.items) (O.contents out.old) (O.contents out.new) (E.contents err.old) (E.contents err.new)) }
@@ -40,7 +46,8 @@ fn answer<O: Write, E: Write>(
         Line::Make(asked) => make_file(alloc, asked, files, out, err),
         Line::Recheck(asked) => recheck_files(alloc, asked, files, out, err),
         Line::Replay(asked) => replay_files(alloc, asked, files, out, err),
-        Line::Soak(asked) => soak_files(rt, alloc, asked, files, saved, out, err),
+        Line::Soak(asked) => soak_files(rt, alloc, asked, files, saved, out, err, onlooker),
+        Line::Hunt(asked) => hunt_files(rt, alloc, asked, files, saved, out, err, onlooker),
         Line::Run(asked) => run_files(rt, alloc, asked, files, out, err),
         Line::Explain(asked) => explain_code(asked, out, err),
         Line::Migrate(asked) => migrate_files(alloc, asked, files, out, err),
@@ -116,7 +123,12 @@ fn explain_checked<E: Write>(
 {
     if asked.explained.is_wanted() {
         let paths = (asked.module_path, asked.certificate_path);
-        return explain_check(alloc, look, paths, files, err);
+        return match asked.refusals {
+            Refusals::First => explain_check(alloc, look, paths, files, err),
+            Refusals::OfBlocks(limit) => {
+                explain_check_of_blocks(alloc, look, paths, limit, files, err)
+            }
+        };
     }
     Ok(())
 }
@@ -173,7 +185,7 @@ fn explain_replayed<E: Write>(
     Ok(())
 }
 
-/// Explains why the texts of a soak are not read, if its line asks for that.
+/// Explains why the texts of a soak are not read, or says how much happens in the runs of sound seeds, if its line asks for that.
 fn explain_soaked<E: Write>(
     alloc: Global,
     look: Look,
@@ -184,9 +196,15 @@ fn explain_soaked<E: Write>(
 ) -> io::Result<()>
     ensures { OnOk result (GivesTextIf (is_explained (asked_by (Soak asked.entry))) (E.contents err.old) (E.contents err.new)) }
 {
-    if asked.explained.is_wanted() && status == STATUS_UNREADABLE {
+    if !asked.explained.is_wanted() {
+        return Ok(());
+    }
+    if status == STATUS_UNREADABLE {
         let paths = (asked.module_path, asked.trace_path, asked.shapes_path);
         return explain_traced(alloc, look, paths, files, err);
+    }
+    if status == STATUS_YES {
+        return tell_happened(alloc, asked, files, err);
     }
     Ok(())
 }
@@ -219,6 +237,9 @@ fn explain<E: Write>(
 ) -> io::Result<()>
     ensures { OnOk result (GivesTextIf (is_explained (asked_by line.now)) (E.contents err.old) (E.contents err.new)) }
 {
+    if let Line::Soak(asked) = *line {
+        return explain_soaked(alloc, look, asked, files, status, err);
+    }
     if status != STATUS_NO && status != STATUS_UNREADABLE {
         return Ok(());
     }
@@ -227,17 +248,16 @@ fn explain<E: Write>(
         Line::Make(asked) => explain_made(alloc, look, asked, files, err),
         Line::Recheck(asked) => explain_rechecked(alloc, look, asked, files, err),
         Line::Replay(asked) => explain_replayed(alloc, look, asked, files, status, err),
-        Line::Soak(asked) => explain_soaked(alloc, look, asked, files, status, err),
         Line::Run(asked) => explain_unrun(alloc, look, asked, files, err),
-        Line::Explain(_) | Line::Migrate(_) => Ok(()),
+        Line::Soak(_) | Line::Hunt(_) | Line::Explain(_) | Line::Migrate(_) => Ok(()),
     }
 }
 
 /// Does the command of a line on the bytes of its files, in the line's order; None is a file that cannot be read.
-/// What the line asks to write to a file of its own is appended to `saved`.
+/// What the line asks to write to a file of its own is appended to `saved`. A search is told of to the onlooker while it works.
 /// The steps of a replay are told after its answer. An explanation has this look. Returns the status with which the program ends, or an error of a writer.
 pub fn work<O: Write, E: Write>(
-    rt: &(impl Threads + Sync),
+    rt: &(impl Threads + Clock + Sync),
     alloc: Global,
     look: Look,
     line: &Line<'_>,
@@ -245,12 +265,13 @@ pub fn work<O: Write, E: Write>(
     saved: &mut Vec<u8>,
     out: &mut O,
     err: &mut E,
+    onlooker: &mut impl Onlooker,
 ) -> io::Result<u8>
     requires { HasWorkers (asked_by line.now) }
     ensures said { IfOk result (SaysAndTells (asks_for_steps (asked_by line.now)) (is_explained (asked_by line.now)) (OfCommand (asked_by line.now) (spec.file_at files.now) saved.old.items saved.new.items) (O.contents out.old) (O.contents out.new) (E.contents err.old) (E.contents err.new)) }
     ensures kept { is_some (save_of (asked_by line.now)) ≡ false → saved.new.items ≡ saved.old.items }
 {
-    let status = answer(rt, alloc, line, files, saved, out, err)?;
+    let status = answer(rt, alloc, line, files, saved, out, err, onlooker)?;
     tell(alloc, line, files, status, saved, out)?;
     explain(alloc, look, line, files, status, err)?;
     Ok(status)

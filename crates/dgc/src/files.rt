@@ -86,6 +86,7 @@ fn save_path<'a>(line: &Line<'a>) -> Option<&'a str> {
     match *line {
         Line::Soak(asked) => asked.save_path,
         Line::Replay(asked) => asked.json_path,
+        Line::Hunt(asked) => asked.save_path,
         _ => None,
     }
 }

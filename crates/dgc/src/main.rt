@@ -3,12 +3,16 @@
 
 mod failure;
 mod files;
+mod progress;
 
 ghost use Rattle.command_line.specs.Asked.{asked_by, HasWorkers};
 
-use commands::{Line, LineFault, Look, STATUS_USAGE, STATUS_YES, line, memory, status_of, work};
+use commands::{
+    Line, LineFault, Look, Onlooker, STATUS_USAGE, STATUS_YES, line, memory, status_of, work,
+};
 use failure::Failure;
 use files::{bytes_of, save};
+use progress::Progress;
 use std::env::VarError;
 use std::io::{IsTerminal, Write};
 use std::process::ExitCode;
@@ -41,6 +45,7 @@ fn answer<O: Write, E: Write>(
     line: &Line<'_>,
     out: &mut O,
     err: &mut E,
+    onlooker: &mut impl Onlooker,
 ) -> Result<u8, Failure>
     requires { HasWorkers (asked_by line.now) }
 {
@@ -59,6 +64,7 @@ fn answer<O: Write, E: Write>(
         &mut saved,
         out,
         err,
+        onlooker,
     )?;
     save(rt, line, saved.as_slice())?;
     Ok(status)
@@ -94,12 +100,13 @@ fn run<O: Write, E: Write>(
     errors: Errors,
     out: &mut O,
     err: &mut E,
+    onlooker: &mut impl Onlooker,
 ) -> Result<u8, Failure> {
     let alloc = rt.alloc();
     let owned = words_given(rt)?;
     let words: Vec<&str> = owned.iter().map(|word| word.as_str()).collect(alloc)?;
     match line(alloc, words.as_slice()) {
-        Ok(line) => answer(rt, errors, &line_on(line, errors), out, err),
+        Ok(line) => answer(rt, errors, &line_on(line, errors), out, err, onlooker),
         Err(LineFault::Words(error)) => {
             error.print(rt)?;
             Ok(if error.use_stderr() {
@@ -133,8 +140,9 @@ fn ended<O: Write, E: Write>(
     errors: Errors,
     out: &mut O,
     err: &mut E,
+    onlooker: &mut impl Onlooker,
 ) -> u8 {
-    match run(rt, errors, out, err) {
+    match run(rt, errors, out, err, onlooker) {
         Ok(status) => status,
         Err(failure) => status_of(report(err, failure)),
     }
@@ -156,5 +164,6 @@ fn main(rt: HostRuntime) -> ExitCode {
     } else {
         Errors::Elsewhere
     };
-    ExitCode::from(ended(&rt, errors, &mut rt.stdout(), &mut err))
+    let mut progress = Progress::new(rt.stderr(), matches!(errors, Errors::Terminal(_)));
+    ExitCode::from(ended(&rt, errors, &mut rt.stdout(), &mut err, &mut progress))
 }

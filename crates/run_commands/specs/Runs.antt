@@ -1,4 +1,4 @@
--- The lines that the outcome of a trace or of many seeds is printed as, and the status that the program then ends with.
+-- The lines that the outcome of a trace is printed as, and the status that the program then ends with.
 use Rattle.std.specs.Prelude.{◌++◌, ℕ, List, [], ◌∷◌, Option, Some, None, codes}
 use Rattle.std.specs.Fmt.{decimal}
 use Rattle.std.specs.List.{enumerate_from, flat_map}
@@ -14,9 +14,6 @@ use Rattle.replay.specs.declared.outcome.Break.{Break}
 use Rattle.replay.specs.declared.outcome.Outcome.{Outcome}
 use Rattle.replay.specs.declared.outcome.Outcome.TheVariants as outcome
 use Rattle.replay.specs.declared.outcome.Report.{Report}
-use Rattle.replay.specs.declared.outcome.SeedBreak.{SeedBreak}
-use Rattle.replay.specs.declared.outcome.SoakOutcome.{SoakOutcome}
-use Rattle.replay.specs.declared.outcome.SoakOutcome.TheVariants as soak
 use Rattle.replay.specs.CauseNames.{cause_name}
 use Rattle.reports.specs.Report.{Answer, no_memory, unread}
 
@@ -75,12 +72,3 @@ report_text report = codes "sound " ++ decimal report.steps ++ 10 ∷ [] ++ flat
 abbrev pub of_outcome : Outcome → Answer
 of_outcome (outcome.Broken at) = record { text = codes "broken " ++ break_text at; status = 1 }
 of_outcome (outcome.Sound report) = record { text = report_text report; status = 0 }
-
--- a seed whose schedule breaks its run, with the break
-abbrev pub seed_text : SeedBreak → List ℕ
-seed_text at = codes "broken seed " ++ decimal at.seed ++ codes " " ++ break_text at.broken
-
--- the outcome of this number of seeds
-abbrev pub of_soak : (seeds : ℕ) → SoakOutcome → Answer
-of_soak seeds soak.Sound = record { text = codes "sound " ++ decimal seeds ++ codes " seeds" ++ 10 ∷ []; status = 0 }
-of_soak seeds (soak.Broken at) = record { text = seed_text at; status = 1 }

@@ -1,65 +1,32 @@
--- What `replay`, `soak` and `run` say of their files.
-use Rattle.std.specs.Prelude.{◌≡◌, ◌≢◌, ◌<◌, ◌+◌, ◌-◌, min, ℕ, Bool, true, List, [], ◌∷◌, ◌++◌, codes, Option}
+-- What `replay` and `run` say of their files.
+use Rattle.std.specs.Prelude.{◌≡◌, ◌≢◌, ℕ, List, Option}
 use Rattle.ir_ast.specs.declared.module.Module.{Module}
 use Rattle.layout.specs.Layouts.{LaidOut}
 use Rattle.certs.specs.declared.certs.Certs.{Certs}
 use Rattle.certs.specs.declared.section.Section.{Section}
 use Rattle.module_check.specs.Accepted.{IsProgramCertified, shaped}
-use Rattle.trace_text.specs.Print.{trace_shown}
-use Rattle.trace_text.specs.Traces.{IsTraceOf}
 use Rattle.trace_text.specs.declared.trace.Trace.{Trace}
 use Rattle.setups.specs.Setups.{HasNoFault, IsSetupFault}
 use Rattle.setups.specs.declared.setup_fault.SetupFault.{SetupFault}
 use Rattle.setups.specs.declared.setup_fault.SetupFault.TheVariants as setup
 use Rattle.replay.specs.Outcomes.{IsOutcome}
-use Rattle.replay.specs.Soaks.{IsSoakOutcome}
 use Rattle.replay.specs.declared.outcome.Outcome.{Outcome}
-use Rattle.replay.specs.declared.outcome.Outcome.TheVariants.{Broken}
-use Rattle.replay.specs.declared.outcome.Break.{Break}
-use Rattle.replay.specs.declared.outcome.SeedBreak.{SeedBreak}
-use Rattle.replay.specs.declared.outcome.SoakOutcome.{SoakOutcome}
-use Rattle.replay.specs.declared.outcome.SoakOutcome.TheVariants as soak
 use Rattle.serving.specs.declared.beside.Limits.{Limits}
 use Rattle.mutators.specs.Faults.{HasNoRunFault, IsRunFault}
 use Rattle.mutators.specs.Reports.{IsReport}
 use Rattle.mutators.specs.declared.report.RunReport.{RunReport}
 use Rattle.reports.specs.Files.{HasProgram, HasTrace, IsNoTrace, IsUntraced, of_unread}
-use Rattle.reports.specs.Said.{Said, OnOutput, OnError, OnBoth, OfVerdict}
+use Rattle.reports.specs.Said.{Said, OnOutput, OnError, OfVerdict}
 use Rattle.reports.specs.declared.files.Unread.{Unread}
-use Rattle.run_commands.specs.Runs.{of_outcome, of_setup_fault, of_soak}
+use Rattle.run_commands.specs.Runs.{of_outcome, of_setup_fault}
 use Rattle.run_commands.specs.RunReport.{of_report}
 
--- ---- replay and soak
+-- ---- replay
 
 -- what `replay` says of a program and its trace: the outcome of the trace, the first thread that may not begin, or out of memory
 pub data OfTrace (p : LaidOut) (t : Trace) : Said → Type 0 where
   came : (outcome : Outcome) → HasNoFault p t.setup → IsOutcome p t outcome → OfTrace p t (OnOutput (of_outcome outcome))
   not_begun : (fault : SetupFault) → (fault ≢ setup.Memory → IsSetupFault p t.setup fault) → OfTrace p t (OnError (of_setup_fault fault))
-
--- one past the last seed of a search; there is no seed past the numbers of 32 bits, and none is the greatest of these
-abbrev pub past_seed : (first seeds : ℕ) → ℕ
-past_seed first seeds = min (first + seeds) 4294967295
-
--- after these bytes comes the text of a trace that begins as this one, and whose first broken step is this one
-pub record IsSaved (p : LaidOut) (t : Trace) (b : Break) (before after : List ℕ) : Type 0 where
-  pub trace : Trace
-  pub begins : trace.setup ≡ t.setup
-  pub is_trace : IsTraceOf p trace
-  pub breaks : IsOutcome p trace (Broken b)
-  pub text : after ≡ before ++ trace_shown p trace
-
--- what is saved of the outcome of a search, where that is wanted: the broken seed's steps, if a trace may list that many
-abbrev pub IsSavedOf : (wanted : Bool) → LaidOut → Trace → SoakOutcome → (before after : List ℕ) → Type 0
-IsSavedOf true p t (soak.Broken at) before after = IsSaved p t at.broken before after
-IsSavedOf wanted p t outcome before after = after ≡ before
-
--- what `soak` says of them: the outcome of `seeds` seeds from the first one on with `steps` steps each. Before and after it these bytes are saved
-pub data OfSeeds (first seeds steps : ℕ) (wanted : Bool) (before after : List ℕ) (p : LaidOut) (t : Trace) : Said → Type 0 where
-  soaked : (outcome : SoakOutcome) → HasNoFault p t.setup → IsSoakOutcome p t.setup first (past_seed first seeds) steps outcome → IsSavedOf wanted p t outcome before after
-      → OfSeeds first seeds steps wanted before after p t (OnOutput (of_soak (past_seed first seeds - first) outcome))
-  too_long : (at : SeedBreak) → HasNoFault p t.setup → IsSoakOutcome p t.setup first (past_seed first seeds) steps (soak.Broken at) → 10000000 < at.broken.step → after ≡ before
-      → OfSeeds first seeds steps wanted before after p t (OnBoth (of_soak (past_seed first seeds - first) (soak.Broken at)) (codes "error P3" ++ 10 ∷ []))
-  not_started : (fault : SetupFault) → (fault ≢ setup.Memory → IsSetupFault p t.setup fault) → after ≡ before → OfSeeds first seeds steps wanted before after p t (OnError (of_setup_fault fault))
 
 -- what is said of the files of a program, its trace and its shapes, which have these paths, where this is said of program and trace once
 -- they are read; of the files the second is the trace's and the third the shapes'

@@ -1,13 +1,11 @@
-//! The commands `replay`, `soak` and `run`, and how what comes of them is printed.
+//! The commands `replay` and `run`, and how the outcome of a trace is printed.
 #![tactic(auto)]
 
 mod outcomes;
 mod replaying;
 mod run_report;
 mod running;
-mod soaking;
 
-pub use outcomes::{replayed, soaked};
+pub use outcomes::{no_threads, replayed, write_break};
 pub use replaying::replay_files;
 pub use running::run_files;
-pub use soaking::soak_files;

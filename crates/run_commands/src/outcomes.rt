@@ -1,4 +1,4 @@
-//! How the outcome of a trace or of many seeds is printed: an answer goes to the standard output, a fault to the standard error.
+//! How the outcome of a trace is printed: an answer goes to the standard output, a fault to the standard error.
 ghost use Rattle.std.specs.Prelude.{IfOk, OnOk};
 ghost use Rattle.std.specs.Io.KnownBytes.{Appends};
 ghost use Rattle.std.specs.List.{enumerate_from, flat_map};
@@ -6,7 +6,7 @@ ghost use Rattle.reports.specs.Report.{IsTold};
 ghost use Rattle.run_commands.specs.Runs as spec;
 
 use machine::Value;
-use replay::{Break, Outcome, ReplayFault, Report, SeedBreak, SoakOutcome, ThreadOutcome};
+use replay::{Break, Outcome, ReplayFault, Report, ThreadOutcome};
 use reports::{STATUS_NO, STATUS_UNREADABLE, STATUS_YES, memory};
 use std::io;
 use std::io::Write;
@@ -25,7 +25,7 @@ pub fn no_threads<W: Write>(err: &mut W, fault: ReplayFault) -> io::Result<u8>
 }
 
 /// Writes the first step after which a run is broken: `32 t 0 touch-blue 1`.
-fn write_break<W: Write>(out: &mut W, broken: &Break) -> io::Result<()>
+pub fn write_break<W: Write>(out: &mut W, broken: &Break) -> io::Result<()>
     ensures { OnOk result (Appends (W.contents out.old) (W.contents out.new) (spec.break_text broken.now)) }
 {
     let Break { step, actor, cause } = *broken;
@@ -126,30 +126,5 @@ pub fn replayed<W: Write>(out: &mut W, outcome: &Outcome) -> io::Result<u8>
             Ok(STATUS_NO)
         }
         Outcome::Sound(report) => sound(out, report),
-    }
-}
-
-/// Writes the least seed whose run is broken, with the break: `broken seed 103 221 c reach-blue 3`.
-fn write_seed_break<W: Write>(out: &mut W, at: &SeedBreak) -> io::Result<()>
-    ensures { OnOk result (Appends (W.contents out.old) (W.contents out.new) (spec.seed_text at.now)) }
-{
-    write!(out, "broken seed {} ", at.seed)?;
-    write_break(out, &at.broken)?;
-    Ok(())
-}
-
-/// The outcome of this number of seeds: `sound 20 seeds`, or the least broken one: `broken seed 103 221 c reach-blue 3`.
-pub fn soaked<W: Write>(out: &mut W, seeds: u32, outcome: SoakOutcome) -> io::Result<u8>
-    ensures { IfOk result (λ status. IsTold (W.contents out.old) (W.contents out.new) status (spec.of_soak seeds outcome)) }
-{
-    match outcome {
-        SoakOutcome::Sound => {
-            writeln!(out, "sound {seeds} seeds")?;
-            Ok(STATUS_YES)
-        }
-        SoakOutcome::Broken(at) => {
-            write_seed_break(out, &at)?;
-            Ok(STATUS_NO)
-        }
     }
 }

@@ -1,0 +1,5 @@
+use Rattle.std.proofs.KnownBytes.{Appends-trans}
+use Rattle.search_commands.proofs.shorter.write_shorter.Goals as goal
+
+pub returns : goal.returns
+returns g c = Appends-trans _ _ _ _ _ (Appends-trans _ _ _ _ _ c.in_ok-write.ensures.bytes c.in_ok-write_break.ensures) c.in_ok-write_tries.ensures

@@ -1,0 +1,80 @@
+//! Seeds by uniform draws, some at a time.
+ghost use Rattle.std.specs.Prelude.{◌≡◌, ◌≢◌, IfOk, IfErr};
+ghost use Rattle.setups.specs.Setups.{IsSetupOf, IsSetupFault, HasNoFault};
+ghost use Rattle.setups.specs.declared.setup_fault.SetupFault.TheVariants as fault;
+ghost use Rattle.search_commands.specs.Searches.{IsSoaked, past_seed};
+
+use crate::onlooker::{Onlooker, SoFar};
+use crate::pace::Pace;
+use command_line::Search;
+use layout::Program;
+use replay::{ReplayFault, SeedBreak, SoakOutcome, soak};
+use std::alloc::Global;
+use std::thread::Threads;
+use std::time::Clock;
+use trace_text::Setup;
+
+/// How many seeds are tried first.
+pub(crate) const FIRST: u32 = 16;
+
+/// What comes of the seeds of a search.
+#[derive(Clone, Copy)]
+pub(crate) enum Soaked {
+    /// No schedule of the seeds below this one breaks its run. These were tried.
+    SoundBelow(u32),
+    /// The least seed whose schedule does.
+    BrokenAt(SeedBreak),
+}
+
+/// One past the last seed of a search.
+pub(crate) fn past_seed(search: Search) -> u32
+    ensures { result ≡ past_seed search }
+{
+    search.first.saturating_add(search.seeds)
+}
+
+/// Tries the seeds of a search, some at a time, until one breaks its run or the time is over.
+pub(crate) fn soak_for<P: Onlooker>(
+    rt: &(impl Threads + Clock + Sync),
+    alloc: Global,
+    program: &Program,
+    setup: &Setup,
+    search: Search,
+    onlooker: &mut P,
+) -> Result<Soaked, ReplayFault>
+    requires { IsSetupOf program.now setup.now }
+    ensures soaked { IfOk result (IsSoaked program.now setup.now search) }
+    ensures no_fault { IfOk result (λ _. HasNoFault program.now setup.now) }
+    ensures fault { IfErr result (λ e. e ≢ fault.Memory → IsSetupFault program.now setup.now e) }
+{
+    let past = past_seed(search);
+    let _none = soak(
+        rt,
+        alloc,
+        program,
+        setup,
+        search.first,
+        search.first,
+        search.steps,
+    )?;
+    let mut pace = Pace::start(rt, FIRST);
+    let mut next = search.first;
+    while next < past {
+        if pace.is_over(search.seconds) {
+            return Ok(Soaked::SoundBelow(next));
+        }
+        let end = next + pace.size().min(past - next);
+        if let SoakOutcome::Broken(at) = soak(rt, alloc, program, setup, next, end, search.steps)? {
+            return Ok(Soaked::BrokenAt(at));
+        }
+        next = end;
+        pace = pace.tried(rt);
+        onlooker.goes_on(SoFar {
+            tried: next - search.first,
+            seeds: past - search.first,
+            elapsed: pace.elapsed(),
+            seconds: search.seconds,
+        });
+    }
+    Ok(Soaked::SoundBelow(next))
+}

@@ -1,0 +1,118 @@
+//! How much happens in the runs of sound seeds.
+ghost use Rattle.std.specs.Prelude.{OnOk};
+ghost use Rattle.search_commands.specs.Searches.{MayTell};
+ghost use Rattle.trace_text.specs.Traces.{IsTraceOf};
+
+use crate::chunks::past_seed;
+use command_line::{Draws, Search, SoakLine};
+use happened::{Happened, counted};
+use layout::Program;
+use reports::{Traced, read_traced};
+use std::alloc::Global;
+use std::io;
+use std::io::Write;
+use trace_text::Trace;
+
+/// How many seeds are looked at.
+const SEEDS: u32 = 16;
+
+/// After how many steps no further seeds are.
+const STEPS: u64 = 1_000_000;
+
+/// Writes what happened in the runs of some seeds from this one on.
+fn write_counts<E: Write>(
+    err: &mut E,
+    first: u32,
+    threads: u64,
+    happened: Happened,
+) -> io::Result<()>
+    ensures { OnOk result (MayTell (E.contents err.old) (E.contents err.new)) }
+{
+    let Happened {
+        seeds,
+        claims,
+        frees,
+        cycles,
+        ends,
+    } = happened;
+    writeln!(
+        err,
+        "the runs of {seeds} seeds from {first} on: {claims} cells claimed, {frees} freed, {cycles} cycles over, {ends} of {threads} threads ended"
+    )
+}
+
+/// Says that a search shows little of the collector.
+fn write_little<E: Write>(err: &mut E) -> io::Result<()>
+    ensures { OnOk result (MayTell (E.contents err.old) (E.contents err.new)) }
+{
+    writeln!(
+        err,
+        "  mend:  nothing was freed, so this shows nothing: make more steps"
+    )
+}
+
+/// Says what happened in the runs of some seeds from this one on.
+fn tell_counts<E: Write>(
+    err: &mut E,
+    first: u32,
+    threads: u64,
+    happened: Happened,
+) -> io::Result<()>
+    ensures { OnOk result (MayTell (E.contents err.old) (E.contents err.new)) }
+{
+    write_counts(err, first, threads, happened)?;
+    if happened.frees == 0 {
+        return write_little(err);
+    }
+    Ok(())
+}
+
+/// Says what happens in the runs of the first seeds of a search, from the start of a trace.
+fn tell_traced<E: Write>(
+    alloc: Global,
+    program: &Program,
+    start: &Trace,
+    search: Search,
+    err: &mut E,
+) -> io::Result<()>
+    requires { IsTraceOf program.now start.now }
+    ensures { OnOk result (MayTell (E.contents err.old) (E.contents err.new)) }
+{
+    let first = search.first;
+    let past = past_seed(search).min(first.saturating_add(SEEDS));
+    let threads = start.setup.starts.len() as u64;
+    let counts = counted(alloc, program, start, first, past, search.steps, STEPS);
+    let Ok(happened) = counts else {
+        return Ok(());
+    };
+    if happened.seeds == 0 {
+        return Ok(());
+    }
+    let threads = threads.saturating_mul(u64::from(happened.seeds));
+    tell_counts(err, first, threads, happened)
+}
+
+/// Says how much happens in the runs of the first seeds of a line, where draws are uniform.
+pub fn tell_happened<E: Write>(
+    alloc: Global,
+    asked: SoakLine<'_>,
+    files: &[Option<Vec<u8>>],
+    err: &mut E,
+) -> io::Result<()>
+    ensures { OnOk result (MayTell (E.contents err.old) (E.contents err.new)) }
+{
+    if matches!(asked.search.draws, Draws::Biased) {
+        return Ok(());
+    }
+    let paths = (asked.module_path, asked.trace_path, asked.shapes_path);
+    match read_traced(alloc, paths, files) {
+        Ok(traced) => {
+            let Traced { program, trace } = traced;
+            let told = tell_traced(alloc, &program, &trace, asked.search, err);
+            drop(trace);
+            drop(program);
+            told
+        }
+        Err(_) => Ok(()),
+    }
+}
