@@ -178,7 +178,7 @@ pub(crate) const C6: &str = "\
 C6  The shapes name the layout of each `ptr` word, each `ptr` global and each
     root slot.
 
-They stand behind the line `cert 2`, or in a file that begins with `shapes 1`.
+They stand after the line `cert 2`, or in a file that begins with `shapes 1`.
 The struct with the number of the word is printed, or the global, or the
 function with the slot. The first that is missing is named: words first, then
 globals, then slots. It is looked for only in a text without a fault of C1 to

@@ -24,6 +24,8 @@ const EDITED_MODULE: &str = "edited module";
 /// How certificates are named that stand in no file.
 const EDITED_CERTS: &str = "edited certificate";
 
+const NO_SUCH_FUNCTION: &str = "the edit names a function that the module does not define";
+
 /// The code in an edit, empty where there is none.
 fn code_in(edit: &Edit) -> &[u8] {
     match edit {
@@ -96,6 +98,44 @@ fn put_section_fault(
     }
 }
 
+/// Explains why a section of an edit, or the one that stands, does not fit the code.
+fn put_cert_fault_of(
+    pen: Pen,
+    out: &mut Vec<u8>,
+    session: &Session,
+    path: &str,
+    edit: &Edit,
+    fault: &CertFault,
+) -> Result<(), AllocError> {
+    if matches!(edit, Edit::Code { .. }) {
+        return put_kept_fault(pen, out, path, fault);
+    }
+    let texts = CheckedTexts {
+        of_module: NamedText {
+            path,
+            text: code_in(edit),
+        },
+        of_certs: NamedText {
+            path,
+            text: section_in(edit),
+        },
+    };
+    put_section_fault(pen, out, session, texts, fault)
+}
+
+/// The code of an edit that is refused as a whole, and what mends it.
+fn whole_fault_of(fault: &EditFault) -> Option<(Code, &'static str)> {
+    match fault {
+        EditFault::NoFunction => Some((Code::L5, NO_SUCH_FUNCTION)),
+        EditFault::NoSection => Some((Code::C3, NO_SUCH_FUNCTION)),
+        EditFault::ShapesWanted => Some((
+            Code::C2,
+            "begin the certificate with `cert 2` and its shapes: this code writes `ptr`",
+        )),
+        _ => None,
+    }
+}
+
 /// Explains why an edit of this name is refused.
 fn put_edit_fault(
     pen: Pen,
@@ -105,48 +145,16 @@ fn put_edit_fault(
     edit: &Edit,
     fault: &EditFault,
 ) -> Result<(), AllocError> {
-    let of_module = NamedText {
-        path,
-        text: code_in(edit),
-    };
     match fault {
-        EditFault::NoFunction => put_fault_of(
-            pen,
-            out,
-            path,
-            Code::L5,
-            "the edit names a function that the module does not define",
-        ),
-        EditFault::NoSection => put_fault_of(
-            pen,
-            out,
-            path,
-            Code::C3,
-            "the edit names a function that the module does not define",
-        ),
-        EditFault::ShapesWanted => put_fault_of(
-            pen,
-            out,
-            path,
-            Code::C2,
-            "begin the certificate with `cert 2` and its shapes: this code writes `ptr`",
-        ),
-        EditFault::Code(fault) => put_read_fault(pen, out, of_module, fault),
-        EditFault::Cert(fault) if matches!(edit, Edit::Code { .. }) => {
-            put_kept_fault(pen, out, path, fault)
+        EditFault::Code(fault) => {
+            let text = code_in(edit);
+            put_read_fault(pen, out, NamedText { path, text }, fault)
         }
-        EditFault::Cert(fault) => {
-            let of_certs = NamedText {
-                path,
-                text: section_in(edit),
-            };
-            let texts = CheckedTexts {
-                of_module,
-                of_certs,
-            };
-            put_section_fault(pen, out, session, texts, fault)
-        }
-        EditFault::Memory => Err(AllocError),
+        EditFault::Cert(fault) => put_cert_fault_of(pen, out, session, path, edit, fault),
+        fault => match whole_fault_of(fault) {
+            Some((code, mend)) => put_fault_of(pen, out, path, code, mend),
+            None => Err(AllocError),
+        },
     }
 }
 
@@ -262,7 +270,7 @@ fn put_begun(
         }
         Err(answer) => {
             let told = match answer.verdict {
-                Reason::Layout(fault) => put_layout_fault(pen, out, texts.of_module.path, fault),
+                Reason::Layout(fault) => put_layout_fault(pen, out, texts.of_module, fault),
                 _ => Err(AllocError),
             };
             drop(answer);

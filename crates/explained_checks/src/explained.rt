@@ -10,18 +10,30 @@ use fault_texts::{CheckedTexts, TracedTexts, put_cert_fault, put_layout_fault, p
 use ir_ast::Module;
 use ir_tokens::{TEXT_LIMIT, read_tokens};
 use layout::Program;
-use messages::{Look, NamedText, Pen};
+use messages::{Look, NamedText, Pen, put};
 use module_check::{UnderCheck, fault_in_module};
+use refusals::first_refusals;
 use reports::{Certified, Unread, read_certified};
 use std::alloc::{AllocError, Global};
 use std::io;
 use std::io::Write;
 
-/// The texts of a check, and of the trace that is to be run after it.
+/// The texts of a check, and what is done after it.
 #[derive(Clone, Copy)]
-struct RunTexts<'a> {
+struct AskedTexts<'a> {
     checked: CheckedTexts<'a>,
-    of_trace: Option<NamedText<'a>>,
+    asked: Asked<'a>,
+}
+
+/// What is asked of a check.
+#[derive(Clone, Copy)]
+enum Asked<'a> {
+    /// The first refusal.
+    First,
+    /// The first refusal of each block, at most this many.
+    OfBlocks(u32),
+    /// The first refusal; if there is none, this trace is to be run.
+    Run(NamedText<'a>),
 }
 
 /// A file of the line, with its path.
@@ -37,14 +49,30 @@ pub(crate) fn named<'a>(
     NamedText { path, text }
 }
 
-/// Explains a refusal in a program, by the tokens of its text.
-pub(crate) fn put_in_program(
+/// Explains each of some refusals in a program, with a blank line between.
+fn put_refusals(
+    pen: Pen,
+    out: &mut Vec<u8>,
+    texts: Texts,
+    program: &Program,
+    certs: &Certs,
+    refusals: &[Refusal],
+) -> Result<(), AllocError> {
+    for (number, refusal) in refusals.iter().enumerate() {
+        put(out, if number == 0 { "" } else { "\n" })?;
+        put_refusal(pen, out, texts, program, certs, *refusal)?;
+    }
+    Ok(())
+}
+
+/// Explains each of some refusals in a program, by the tokens of its text.
+fn put_each(
     pen: Pen,
     out: &mut Vec<u8>,
     texts: CheckedTexts,
     program: &Program,
     certs: &Certs,
-    refusal: Refusal,
+    refusals: &[Refusal],
 ) -> Result<(), AllocError> {
     let NamedText { path, text } = texts.of_module;
     if text.len() > TEXT_LIMIT {
@@ -59,37 +87,92 @@ pub(crate) fn put_in_program(
         },
         certificate: texts.of_certs,
     };
-    put_refusal(pen, out, texts, program, certs, refusal)
+    let told = put_refusals(pen, out, texts, program, certs, refusals);
+    drop(lexed);
+    told
 }
 
-/// Explains the first refusal in a program, or the first fault of its trace if it is accepted.
-fn put_refused(
+/// Explains a refusal in a program.
+pub(crate) fn put_in_program(
     pen: Pen,
     out: &mut Vec<u8>,
-    texts: RunTexts,
+    texts: CheckedTexts,
+    program: &Program,
+    certs: &Certs,
+    refusal: Refusal,
+) -> Result<(), AllocError> {
+    put_each(pen, out, texts, program, certs, [refusal].as_slice())
+}
+
+/// Explains the first fault of a trace of a program, if one is to be run.
+fn put_asked_trace(
+    pen: Pen,
+    out: &mut Vec<u8>,
+    texts: CheckedTexts,
+    of_trace: Option<NamedText>,
+    program: &Program,
+) -> Result<(), AllocError> {
+    let of_module = texts.of_module;
+    match of_trace {
+        Some(of_trace) => {
+            let texts = TracedTexts {
+                of_module,
+                of_trace,
+            };
+            put_trace(pen, out, texts, program)
+        }
+        None => Ok(()),
+    }
+}
+
+/// Explains the first refusal in a program. Where there is none, explains the first fault of a trace.
+fn put_first(
+    pen: Pen,
+    out: &mut Vec<u8>,
+    texts: CheckedTexts,
+    of_trace: Option<NamedText>,
     program: &Program,
     certs: &Certs,
 ) -> Result<(), AllocError> {
     match fault_in_module(pen.alloc, program, certs) {
         Some(BlockFault::Refused(refusal)) => {
-            put_in_program(pen, out, texts.checked, program, certs, refusal)
+            put_in_program(pen, out, texts, program, certs, refusal)
         }
         Some(BlockFault::Memory) => Err(AllocError),
-        None => match texts.of_trace {
-            Some(of_trace) => {
-                let of_module = texts.checked.of_module;
-                put_trace(
-                    pen,
-                    out,
-                    TracedTexts {
-                        of_module,
-                        of_trace,
-                    },
-                    program,
-                )
-            }
-            None => Ok(()),
-        },
+        None => put_asked_trace(pen, out, texts, of_trace, program),
+    }
+}
+
+/// Explains the first refusal of each block of a program, at most this many.
+fn put_of_blocks(
+    pen: Pen,
+    out: &mut Vec<u8>,
+    texts: CheckedTexts,
+    limit: u32,
+    program: &Program,
+    certs: &Certs,
+) -> Result<(), AllocError> {
+    let refusals = first_refusals(pen.alloc, program, certs)?;
+    let each = refusals.up_to(limit as usize);
+    let told = put_each(pen, out, texts, program, certs, each);
+    drop(refusals);
+    told
+}
+
+/// Explains what is refused in a program, or the first fault of its trace if it is accepted.
+fn put_refused(
+    pen: Pen,
+    out: &mut Vec<u8>,
+    texts: AskedTexts,
+    program: &Program,
+    certs: &Certs,
+) -> Result<(), AllocError> {
+    match texts.asked {
+        Asked::First => put_first(pen, out, texts.checked, None, program, certs),
+        Asked::Run(of_trace) => {
+            put_first(pen, out, texts.checked, Some(of_trace), program, certs)
+        }
+        Asked::OfBlocks(limit) => { put_of_blocks(pen, out, texts.checked, limit, program, certs) }
     }
 }
 
@@ -97,7 +180,7 @@ fn put_refused(
 fn put_checked(
     pen: Pen,
     out: &mut Vec<u8>,
-    texts: RunTexts,
+    texts: AskedTexts,
     of_module: Module,
     certs: &Certs,
 ) -> Result<(), AllocError> {
@@ -110,7 +193,7 @@ fn put_checked(
         Err(refused) => {
             let fault = refused.fault;
             drop(refused);
-            put_layout_fault(pen, out, texts.checked.of_module.path, fault)
+            put_layout_fault(pen, out, texts.checked.of_module, fault)
         }
     }
 }
@@ -119,7 +202,7 @@ fn put_checked(
 fn put_certified(
     pen: Pen,
     out: &mut Vec<u8>,
-    texts: RunTexts,
+    texts: AskedTexts,
     certified: Certified,
 ) -> Result<(), AllocError> {
     let Certified { of_module, certs } = certified;
@@ -149,7 +232,7 @@ fn put_files(
     pen: Pen,
     out: &mut Vec<u8>,
     paths: (&str, &str),
-    of_trace: Option<NamedText>,
+    asked: Asked,
     files: &[Option<Vec<u8>>],
 ) -> Result<(), AllocError> {
     let checked = CheckedTexts {
@@ -157,7 +240,7 @@ fn put_files(
         of_certs: named(paths.1, files, 1),
     };
     match read_certified(pen.alloc, paths, files) {
-        Ok(certified) => put_certified(pen, out, RunTexts { checked, of_trace }, certified),
+        Ok(certified) => put_certified(pen, out, AskedTexts { checked, asked }, certified),
         Err(unread) => {
             let told = put_unread(pen, out, checked, &unread);
             drop(unread);
@@ -170,11 +253,11 @@ fn put_files(
 fn text_of_check(
     pen: Pen,
     paths: (&str, &str),
-    of_trace: Option<NamedText>,
+    asked: Asked,
     files: &[Option<Vec<u8>>],
 ) -> Result<Vec<u8>, AllocError> {
     let mut out = Vec::new(pen.alloc);
-    put_files(pen, &mut out, paths, of_trace, files)?;
+    put_files(pen, &mut out, paths, asked, files)?;
     Ok(out)
 }
 
@@ -188,7 +271,25 @@ pub fn explain_check<E: Write>(
 ) -> io::Result<()>
     ensures { OnOk result (GivesText (E.contents err.old) (E.contents err.new)) }
 {
-    match text_of_check(Pen { alloc, look }, paths, None, files) {
+    match text_of_check(Pen { alloc, look }, paths, Asked::First, files) {
+        Ok(text) => err.write_all(text.as_slice()),
+        Err(_) => writeln!(err, "no memory to explain it"),
+    }
+}
+
+/// Explains the first refusal of each block of the module of the first path with the certificate of the second, at most this many, with a
+/// blank line between. Nothing is told where it is accepted.
+pub fn explain_check_of_blocks<E: Write>(
+    alloc: Global,
+    look: Look,
+    paths: (&str, &str),
+    limit: u32,
+    files: &[Option<Vec<u8>>],
+    err: &mut E,
+) -> io::Result<()>
+    ensures { OnOk result (GivesText (E.contents err.old) (E.contents err.new)) }
+{
+    match text_of_check(Pen { alloc, look }, paths, Asked::OfBlocks(limit), files) {
         Ok(text) => err.write_all(text.as_slice()),
         Err(_) => writeln!(err, "no memory to explain it"),
     }
@@ -204,8 +305,8 @@ pub fn explain_run<E: Write>(
 ) -> io::Result<()>
     ensures { OnOk result (GivesText (E.contents err.old) (E.contents err.new)) }
 {
-    let of_trace = Some(named(paths.2, files, 2));
-    match text_of_check(Pen { alloc, look }, (paths.0, paths.1), of_trace, files) {
+    let asked = Asked::Run(named(paths.2, files, 2));
+    match text_of_check(Pen { alloc, look }, (paths.0, paths.1), asked, files) {
         Ok(text) => err.write_all(text.as_slice()),
         Err(_) => writeln!(err, "no memory to explain it"),
     }

@@ -100,11 +100,11 @@ fn with_shapes(tried: Refused, shapes: Option<Shapes>) -> Refused {
 fn put_untried(
     pen: Pen,
     out: &mut Vec<u8>,
-    path: &str,
+    of_file: NamedText,
     fault: &MakeFault,
 ) -> Result<(), AllocError> {
     match fault {
-        MakeFault::Layout(fault) => put_layout_fault(pen, out, path, *fault),
+        MakeFault::Layout(fault) => put_layout_fault(pen, out, of_file, *fault),
         _ => Ok(()),
     }
 }
@@ -125,7 +125,7 @@ fn put_unmade(
         Some(tried) => put_shaped(pen, out, of_file, of_module, tried),
         None => {
             drop(of_module);
-            put_untried(pen, out, of_file.path, &fault)
+            put_untried(pen, out, of_file, &fault)
         }
     }
 }

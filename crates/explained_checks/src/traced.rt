@@ -38,9 +38,7 @@ fn put_untraced(
 ) -> Result<(), AllocError> {
     match unread {
         Unread::NoTrace(fault) => put_trace_fault(pen, out, texts, fault),
-        Unread::NoLayouts(refused) => {
-            put_layout_fault(pen, out, texts.of_module.path, refused.fault)
-        }
+        Unread::NoLayouts(refused) => { put_layout_fault(pen, out, texts.of_module, refused.fault) }
         unread => put_unread(pen, out, of_shapes, unread),
     }
 }

@@ -460,47 +460,55 @@ pub fn sentence_of(mistyped: &Mistyped) -> &'static str {
     }
 }
 
+/// The numbers that an allocation may write.
+fn put_numbered(out: &mut Vec<u8>, told: &Told) -> Result<(), AllocError> {
+    put_mend(
+        out,
+        told,
+        "write the number of a layout, which are the named structs in the order of the text:",
+    )?;
+    put(out, MARGIN)?;
+    put_layouts(out, told.scene)?;
+    put(out, "\n")
+}
+
+/// The words of a cell, and a way that mends what is read there or stored.
+fn put_word_types(
+    out: &mut Vec<u8>,
+    told: &Told,
+    cell: Option<Operand>,
+    text: &str,
+) -> Result<(), AllocError> {
+    put_words_of(out, told.scene, cell)?;
+    put_mend(out, told, text)?;
+    put_numbers(out, told.scene)
+}
+
+/// What mends an operand that is of the wrong type where it stands.
+fn mend_of(mistyped: &Mistyped) -> &'static str {
+    match mistyped {
+        Mistyped::Address(_) | Mistyped::Slot(_) => "load from {it} first, and use what is loaded",
+        Mistyped::Argument(_) => "give a value of the type that the parameter has",
+        _ => "write the type that the value has",
+    }
+}
+
 /// What mends K2.
 pub fn put_types(out: &mut Vec<u8>, told: &Told, mistyped: &Mistyped) -> Result<(), AllocError> {
     match mistyped {
-        Mistyped::Layout(_) => {
-            put_mend(
-                out,
-                told,
-                "write the number of a layout, which are the named structs in the order of the text:",
-            )?;
-            put(out, MARGIN)?;
-            put_layouts(out, told.scene)?;
-            put(out, "\n")
-        }
-        Mistyped::Place(_) => {
-            put_words_of(out, told.scene, told.it)?;
-            put_mend(
-                out,
-                told,
-                "write the type of the word, or lead to the right one; a reference is of one layout",
-            )?;
-            put_numbers(out, told.scene)
-        }
-        Mistyped::Stored(_) => {
-            put_words_of(out, told.scene, told.place)?;
-            put_mend(
-                out,
-                told,
-                "store a reference to the layout of that word, which the certificate or the type of {place} says",
-            )?;
-            put_numbers(out, told.scene)
-        }
-        Mistyped::Address(_) | Mistyped::Slot(_) => {
-            put_mend(out, told, "load from {it} first, and use what is loaded")
-        }
-        Mistyped::Argument(_) => {
-            put_mend(out, told, "give a value of the type that the parameter has")
-        }
-        Mistyped::Only(_) | Mistyped::Other => put_mend(
+        Mistyped::Layout(_) => put_numbered(out, told),
+        Mistyped::Place(_) => put_word_types(
             out,
             told,
-            "write the type that the value has",
+            told.it,
+            "write the type of the word, or lead to the right one; a reference is of one layout",
         ),
+        Mistyped::Stored(_) => put_word_types(
+            out,
+            told,
+            told.place,
+            "store a reference to the layout of that word, which the certificate or the type of {place} says",
+        ),
+        mistyped => put_mend(out, told, mend_of(mistyped)),
     }
 }

@@ -61,7 +61,7 @@ fn before_edge(scene: &Scene, target: BlockId, value: ValueId) -> Option<Operand
 }
 
 /// The condition of a branch, and whether it is true on the edge to this block. Where both edges lead there, that is not said.
-fn decided(function: &Function, end: &End, target: BlockId) -> Option<(ValueId, bool)> {
+pub fn decided(function: &Function, end: &End, target: BlockId) -> Option<(ValueId, bool)> {
     let End::Branch {
         condition,
         taken,

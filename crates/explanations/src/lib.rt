@@ -2,12 +2,14 @@
 //! These are texts: no contract says more than that they are made.
 #![tactic(auto)]
 
+mod barrier_lines;
 mod cells;
 mod edges;
 mod mismatches;
 mod missing;
 mod missing_blocks;
 mod notes;
+mod null_tests;
 mod nulls;
 mod phis;
 mod promised;
@@ -15,7 +17,9 @@ mod refusals;
 mod rules;
 mod stale;
 mod told;
+mod unfresh;
 mod unknown;
+mod unrooted;
 mod write_barrier;
 
 pub use refusals::{Texts, put_refusal};

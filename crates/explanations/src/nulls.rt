@@ -1,12 +1,15 @@
 //! K4: a base that may be null, where it came in, and what would show that it is not.
 use crate::notes::{put_line, put_mend, put_note, put_or};
 use crate::told::{Told, value_in};
+use crate::unknown::instr_in;
 use crate::write_barrier::spot_of;
-use certs::is_opaque_text;
-use ir_ast::{MemoryOp, Op, Operand, ValueId};
-use origins::{Definition, definition_of};
-use scenes::Scene;
+use ir_ast::{Instr, MemoryOp, Op, Operand, ValueId};
+use origins::{Definition, definition_of, local};
+use scenes::{Scene, Spot};
 use std::alloc::AllocError;
+
+/// Over how many instructions a place is followed back at most.
+const STEPS: usize = 64;
 
 /// Whether an instruction of the body of the refused one's block defines a value.
 pub fn is_made_here(scene: &Scene, value: ValueId) -> bool {
@@ -42,38 +45,57 @@ pub fn put_place_line(out: &mut Vec<u8>, told: &Told) -> Result<(), AllocError> 
     put_line(out, told, told.place, "a place in the cell of {it}")
 }
 
+/// Of which value an instruction gives a place in its cell, or another name.
+fn led_from(instr: &Instr) -> Option<ValueId> {
+    match &instr.op {
+        Op::Element(element) => local(element.base),
+        Op::Cast(cast) => local(cast.operand),
+        _ => None,
+    }
+}
+
+/// A value, and the instruction that makes it.
+#[derive(Clone, Copy)]
+struct Made {
+    value: ValueId,
+    spot: Spot,
+}
+
+/// The value that is made of a base on the way to a place: over casts back to the getelementptr of the base.
+fn made_of(scene: &Scene, base: ValueId, place: ValueId) -> Option<Made> {
+    let mut value = place;
+    for _step in 0..STEPS {
+        let spot = spot_of(scene, value)?;
+        let from = led_from(instr_in(scene.context.function, &spot)?)?;
+        if from.number() == base.number() {
+            return Some(Made { value, spot });
+        }
+        value = from;
+    }
+    None
+}
+
 /// Where the base came in.
 pub fn put_base_note(out: &mut Vec<u8>, told: &Told) -> Result<(), AllocError> {
-    let Some(Operand::Local(place)) = told.place else {
+    let (Some(place), Some(base)) = (value_in(told.place), value_in(told.it)) else {
         return Ok(());
     };
-    let scene = told.scene;
-    if is_same(told.it, told.place) {
-        return Ok(());
-    }
-    match spot_of(scene, place) {
-        Some(spot) => {
-            put_note(
-                out,
-                told,
-                &spot,
-                told.it,
-                "{it} is the base of {place} from here on",
-            )
-        }
-        _ => Ok(()),
+    match made_of(told.scene, base, place) {
+        Some(made) => put_note(
+            out,
+            &told.with_place(Operand::Local(made.value)),
+            &made.spot,
+            told.it,
+            "{it} is the base of {place} from here on",
+        ),
+        None => Ok(()),
     }
 }
 
 /// The slot from which a value is loaded.
-fn slot_loaded(scene: &Scene, value: ValueId) -> Option<Operand> {
+pub fn slot_loaded(scene: &Scene, value: ValueId) -> Option<Operand> {
     let spot = spot_of(scene, value)?;
-    let block = scene
-        .context
-        .function
-        .blocks
-        .get(spot.block.number() as usize)?;
-    let instr = block.body.get(spot.place.checked_sub(block.phis.len())?)?;
+    let instr = instr_in(scene.context.function, &spot)?;
     match &instr.op {
         Op::Memory(MemoryOp::Load { place, .. }) => match place {
             Operand::Local(slot) => {
@@ -104,18 +126,10 @@ pub fn put_source_note(out: &mut Vec<u8>, told: &Told, value: ValueId) -> Result
 
 /// The comparison that shows that it is not null.
 fn put_test(out: &mut Vec<u8>, told: &Told) -> Result<(), AllocError> {
-    let scene = told.scene;
-    if is_opaque_text(scene.context.module()) {
-        return put_mend(
-            out,
-            told,
-            "compare and branch before: icmp eq ptr {it}, null; use it where that is false",
-        );
-    }
     put_mend(
         out,
         told,
-        "compare {it} with null by icmp eq and branch before; use it where that is false",
+        "compare and branch before: icmp eq {type} {it}, null; use it where that is false",
     )
 }
 

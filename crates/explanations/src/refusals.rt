@@ -5,23 +5,26 @@ use crate::cells::{
 };
 use crate::edges::{learn_branch, put_edge};
 use crate::mismatches::{mismatch_of, put_mismatch};
-use crate::notes::{put_line, put_mend, put_or};
+use crate::notes::{put_line, put_mend, put_mend_word, put_or};
 use crate::nulls::{put_base_note, put_place_line, put_shown, put_source_note};
 use crate::promised::{
-    broken_promise, put_kept, put_mark, put_own_line, put_promise, returned, unkept_result,
+    broken_promise, call_of, put_kept, put_mark, put_own_line, put_promise, returned, unkept_result,
 };
-use crate::rules::{Page, TYPED_ROOT, page_of};
+use crate::rules::{Page, page_of};
 use crate::stale::{lost_before, put_reload, put_stale_since};
 use crate::told::{Told, put_text, value_in};
-use crate::write_barrier::{base_of, put_barrier, put_object, put_stored_line, put_unfresh};
+use crate::unfresh::put_unfresh;
+use crate::unrooted::put_unrooted;
+use crate::write_barrier::{base_of, put_barrier, put_object, put_stored_line};
 use crate::{cells, phis, promised, unknown};
 use block_rules::{Refusal, Rule, RuleContext};
-use certs::{Certs, is_opaque_text};
+use certs::Certs;
 use diagnosis::facts_before;
 use facts::Facts;
-use ir_ast::{Function, Operand};
+use ir_ast::{Function, Operand, Runtime};
 use layout::Program;
 use messages::{Ink, NamedText, Pen, begin_ink, end_ink, put, put_inked};
+use offered_lines::{Pointers, declare_of};
 use origins::{Sought, local};
 use scenes::{
     Scene, Source, arguments_of, is_runtime_call, operands_of, place_of, put_known, put_spot,
@@ -247,6 +250,36 @@ fn put_by_page(out: &mut Vec<u8>, told: &Told, page: Page) -> Result<(), AllocEr
     put_other_way(out, told, page.other)
 }
 
+/// The function of the runtime whose name is called.
+fn runtime_named(scene: &Scene) -> Option<Runtime> {
+    let call = call_of(scene)?;
+    let name = scene
+        .context
+        .module()
+        .symbols
+        .name_at(call.callee.number() as usize);
+    Runtime::of(name)
+}
+
+/// The line that declares a function of the runtime.
+fn put_declared(out: &mut Vec<u8>, scene: &Scene, runtime: &Runtime) -> Result<(), AllocError> {
+    put_mend_word(out, scene)?;
+    put(out, "declare it so, and call it with these types: ")?;
+    let pointers = Pointers::of_module(scene.context.module());
+    put(out, declare_of(runtime, pointers))?;
+    put(out, "\n")
+}
+
+/// K18.
+fn put_unknown_callee(out: &mut Vec<u8>, told: &Told) -> Result<(), AllocError> {
+    let Some(runtime) = runtime_named(told.scene) else {
+        return put_by_page(out, told, page_of(Rule::K18));
+    };
+    put_sentence(out, told)?;
+    put_line(out, told, told.it, "")?;
+    put_declared(out, told.scene, &runtime)
+}
+
 /// K17.
 fn put_unmarked(out: &mut Vec<u8>, told: &Told) -> Result<(), AllocError> {
     put_line(out, told, None, "")?;
@@ -285,9 +318,9 @@ fn put_instruction(out: &mut Vec<u8>, told: &Told, operands: &[Operand]) -> Resu
         Rule::K16 => put_entries(out, told),
         Rule::K19 => put_led(out, told, operands),
         Rule::K3 | Rule::K4 | Rule::K6 | Rule::K7 | Rule::K17 => put_by_facts(out, told, operands),
-        Rule::K8 if !is_opaque_text(scene.context.module()) => {
-            put_by_page(out, told, TYPED_ROOT)
-        }
+        Rule::K8 => put_unrooted(out, told),
+        Rule::K12 => put_by_page(out, &told.with_it(returned(scene)), page_of(Rule::K12)),
+        Rule::K18 => put_unknown_callee(out, told),
         rule => put_by_page(out, told, page_of(rule)),
     }
 }

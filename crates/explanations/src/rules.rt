@@ -13,16 +13,10 @@ pub struct Page {
 
 fn of_slots(rule: Rule) -> Page {
     match rule {
-        Rule::K8 => Page {
-            sentence: "{it} holds references, and no llvm.gcroot names it",
-            label: "the collector does not look here: at a safepoint it may free what only this slot holds",
-            mend: "name it behind the allocas of the entry: call void @llvm.gcroot(ptr {it}, ptr null)",
-            other: "and give its shape in the certificate: root {function} {it} ref L",
-        },
         Rule::K9 => Page {
             sentence: "this llvm.gcroot may not be here",
             label: "",
-            mend: "call llvm.gcroot once for each slot, in the entry block behind the allocas and before all else",
+            mend: "call llvm.gcroot once for each slot, in the entry block after the allocas and before all else",
             other: "its first argument is the slot, and its second one null",
         },
         Rule::K10 => Page {
@@ -45,7 +39,7 @@ fn of_functions(rule: Rule) -> Page {
         Rule::K12 => Page {
             sentence: "{function} has references, and no `gc \"shadow-stack\"`",
             label: "",
-            mend: "write `gc \"shadow-stack\"` behind the parameters of {function}",
+            mend: "write `gc \"shadow-stack\"` after the parameters of {function}",
             other: "",
         },
         Rule::K17 => Page {
@@ -58,7 +52,7 @@ fn of_functions(rule: Rule) -> Page {
             sentence: "{callee} is no function of the module or of the runtime with these types",
             label: "",
             mend: "define {callee} in the module, or call it with the types that it is defined or declared with",
-            other: "`dgc explain K18` names the functions of the runtime with their types",
+            other: "`dgc explain K18` names the functions of the runtime",
         },
         _ => Page {
             sentence: "a thread starts at a function that takes a reference",
@@ -68,14 +62,6 @@ fn of_functions(rule: Rule) -> Page {
         },
     }
 }
-
-/// What is told of a slot that is no root, in a text with typed pointers.
-pub const TYPED_ROOT: Page = Page {
-    sentence: "{it} holds references, and no llvm.gcroot names it",
-    label: "the collector does not look here: at a safepoint it may free what only this slot holds",
-    mend: "name it behind the allocas of the entry: %r = bitcast T* {it} to i8**, where T is the type of the alloca,",
-    other: "and call void @llvm.gcroot(i8** %r, i8* null)",
-};
 
 /// What is told of a rule where nothing more depends on its instruction.
 pub fn page_of(rule: Rule) -> Page {
@@ -110,7 +96,7 @@ pub fn page_of(rule: Rule) -> Page {
             mend: "cast {it} to i8* and back to the same struct only",
             other: "",
         },
-        Rule::K8 | Rule::K9 | Rule::K10 | Rule::K11 => of_slots(rule),
+        Rule::K9 | Rule::K10 | Rule::K11 => of_slots(rule),
         rule => of_functions(rule),
     }
 }

@@ -1,9 +1,14 @@
 //! A reference that is stale: since which call, and how it is loaded again.
-use crate::notes::{put_mend, put_note};
+use crate::cells::cell_layout;
+use crate::notes::{put_mend, put_note, put_or};
 use crate::told::Told;
+use crate::unrooted::{put_shape_layout, put_shape_words};
+use certs::is_opaque_text;
 use facts::{ClassId, Facts, Known};
-use ir_ast::{Instr, MemoryOp, Op, Operand, ValueId};
+use ir_ast::{Instr, MemoryOp, Op, Operand, Runtime, ValueId};
+use offered_lines::{Unheld, put_new_root_lines, put_slot_name, put_wanted_declare};
 use origins::{Lost, safepoint_before};
+use pools::LayoutId;
 use scenes::{Scene, Spot};
 use std::alloc::AllocError;
 
@@ -81,6 +86,52 @@ pub fn put_stale_since(
     }
 }
 
+/// The layout of a reference before the call at which it is lost.
+fn layout_at(scene: &Scene, lost: &Lost) -> Result<Option<LayoutId>, AllocError> {
+    let facts = scene.facts_at(&lost.spot)?;
+    Ok(cell_layout(&facts.known(lost.value)))
+}
+
+/// The line of the shapes that says to which layout a new slot refers.
+fn put_new_shape(out: &mut Vec<u8>, told: &Told, unheld: &Unheld) -> Result<(), AllocError> {
+    put_shape_words(out, told)?;
+    put_slot_name(told.scene.pen.alloc, out, unheld)?;
+    put_shape_layout(out, told.scene, unheld.layout)
+}
+
+/// The lines that make a root slot for a reference.
+fn put_new_slot(out: &mut Vec<u8>, told: &Told, lost: &Lost) -> Result<(), AllocError> {
+    let scene = told.scene;
+    let of_module = scene.context.module();
+    let unheld = Unheld {
+        of_module,
+        function: scene.context.function,
+        value: lost.value,
+        layout: layout_at(scene, lost)?,
+    };
+    put_or(
+        out,
+        told,
+        "a root slot is made at the head of the entry block:",
+    )?;
+    put_new_root_lines(scene.pen.alloc, out, &unheld)?;
+    put_wanted_declare(out, of_module, &Runtime::GcRoot)?;
+    if is_opaque_text(of_module) {
+        return put_new_shape(out, told, &unheld);
+    }
+    Ok(())
+}
+
+/// How a reference is held over a call, where no root slot holds it.
+fn put_unheld(out: &mut Vec<u8>, told: &Told, lost: &Lost) -> Result<(), AllocError> {
+    put_mend(
+        out,
+        told,
+        "store {it} in a root slot before that call, load it again after the call, and use what is loaded",
+    )?;
+    put_new_slot(out, told, lost)
+}
+
 /// How a stale reference is loaded again, where it was lost at a call.
 pub fn put_reload_after(out: &mut Vec<u8>, told: &Told, lost: &Lost) -> Result<(), AllocError> {
     let told = told.with_it(Some(Operand::Local(lost.value)));
@@ -93,11 +144,7 @@ pub fn put_reload_after(out: &mut Vec<u8>, told: &Told, lost: &Lost) -> Result<(
                 "load {it} again from its root slot {place} after that call, and use what is loaded",
             )
         }
-        None => put_mend(
-            out,
-            &told,
-            "store {it} in a root slot before that call, load it again after the call, and use what is loaded",
-        ),
+        None => put_unheld(out, &told, lost),
     }
 }
 

@@ -1,7 +1,8 @@
 //! Texts with holes, which names of the refused instruction fill: `{it} is stored into {place}`.
-use ir_ast::{BlockId, Op, Operand, ValueId};
+use ir_ast::{BlockId, LocalSort, Op, Operand, TypeId, ValueId};
 use messages::put;
 use name_text::put_number;
+use offered_lines::put_type;
 use origins::local;
 use scenes::{Scene, There, put_block, put_function, put_operand, put_symbol};
 use std::alloc::AllocError;
@@ -130,10 +131,31 @@ fn put_count(out: &mut Vec<u8>, scene: &Scene, number: u64) -> Result<(), AllocE
     put_number(scene.pen.alloc, out, number)
 }
 
+/// The type of the value that an operand names.
+pub fn type_of(scene: &Scene, operand: Option<Operand>) -> Option<TypeId> {
+    let value = value_in(operand)?;
+    match scene.context.function.sorts.get(value.number() as usize) {
+        Some(LocalSort::Value(written)) => Some(*written),
+        _ => None,
+    }
+}
+
+fn put_type_of(
+    out: &mut Vec<u8>,
+    scene: &Scene,
+    operand: Option<Operand>,
+) -> Result<(), AllocError> {
+    match type_of(scene, operand) {
+        Some(written) => put_type(scene.pen.alloc, out, scene.context.module(), written),
+        None => put(out, "T"),
+    }
+}
+
 /// What stands at a hole.
 fn put_hole(out: &mut Vec<u8>, told: &Told, hole: &str) -> Result<(), AllocError> {
     match hole {
         "it" => put_named(out, told.scene, told.it, "it"),
+        "type" => put_type_of(out, told.scene, told.it),
         "place" => put_named(out, told.scene, told.place, "the place"),
         "base" => put_named(out, told.scene, told.base, "the object"),
         "object" => put_named(out, told.scene, told.base, "null"),

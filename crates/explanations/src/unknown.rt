@@ -1,13 +1,13 @@
 //! K1: why nothing is known of a value, and what makes it known.
 use crate::missing_blocks::put_missing;
-use crate::notes::{put_cert_note, put_line, put_mend, put_mend_word, put_note};
+use crate::notes::{put_cert_note, put_line, put_mend, put_note};
 use crate::stale::{lost_before, put_reload, put_stale_since};
 use crate::told::{Told, put_text};
 use certs::{Claim, Fact};
-use ir_ast::{BlockId, Instr, Op, ValueId};
+use ir_ast::{BlockId, Function, Instr, Op, ValueId};
 use messages::put;
 use origins::{Definition, Sought, cert_position, claim_after, definition_of, is_bypassed};
-use scenes::{Scene, Spot, put_claim};
+use scenes::{Scene, Spot};
 use std::alloc::AllocError;
 
 /// Why nothing is known of a value.
@@ -29,23 +29,20 @@ pub enum Cause {
     Stale,
 }
 
-fn instr_at<'a>(scene: &Scene<'a>, spot: &Spot) -> Option<&'a Instr> {
-    let block = scene
-        .context
-        .function
-        .blocks
-        .get(spot.block.number() as usize)?;
+/// The instruction of a body at a place of a function.
+pub fn instr_in<'a>(function: &'a Function, spot: &Spot) -> Option<&'a Instr> {
+    let block = function.blocks.get(spot.block.number() as usize)?;
     block.body.get(spot.place.checked_sub(block.phis.len())?)
 }
 
 fn is_call(scene: &Scene, spot: &Spot) -> bool {
-    match instr_at(scene, spot) {
+    match instr_in(scene.context.function, spot) {
         Some(instr) => matches!(instr.op, Op::Call(_)),
         None => false,
     }
 }
 
-/// The cause of a value of which nothing is known behind the instruction that defines it.
+/// The cause of a value of which nothing is known after the instruction that defines it.
 fn unknown_at(scene: &Scene, spot: &Spot) -> Cause {
     if is_call(scene, spot) {
         Cause::Result
@@ -182,13 +179,8 @@ pub fn put_listing(
     fact: Fact,
 ) -> Result<(), AllocError> {
     let scene = told.scene;
-    put_mend_word(out, scene)?;
-    put(out, "add `")?;
-    put_claim(out, scene, value, fact)?;
-    put(out, "` to the certificate under each of these blocks: ")?;
     let definition = definition_of(scene.context.function, value);
-    put_missing(out, told, &definition, value)?;
-    put(out, "\n")
+    put_missing(out, told, &definition, value, &fact)
 }
 
 fn put_function_note(out: &mut Vec<u8>, told: &Told, text: &str) -> Result<(), AllocError> {

@@ -2,19 +2,24 @@
 use crate::forms::{cert_form_of, form_before, lexed_of};
 use crate::left_out::advice_on;
 use crate::near::{near, put_like};
+use crate::structs::struct_position;
+use crate::unrooted::put_unrooted;
 use certificate::CertFault;
 use explain::Code;
-use ir_ast::{Function, Module, SymbolId, ValueId};
+use ir_ast::{Function, Module, Runtime, SymbolId, ValueId};
 use ir_text::ReadFault;
 use ir_tokens::Position;
 use layout::LayoutFault;
 use messages::{
     Ink, NamedText, Pen, begin_ink, end_ink, put, put_inked, put_path_at, put_position_line,
 };
-use name_text::{Blank, past_blanks, put_global, put_layout, put_local, put_number, word};
+use name_text::{
+    Blank, past_blanks, past_word, put_global, put_layout, put_local, put_number, word,
+};
+use offered_lines::{Pointers, declare_of};
 use places::line_numbered;
 use pools::LayoutId;
-use std::alloc::AllocError;
+use std::alloc::{AllocError, Global};
 
 /// The rule on a page: its first lines, without the code and the blanks after it.
 fn rule_on(page: &'static str) -> &'static str {
@@ -219,6 +224,48 @@ fn name_at(text: &[u8], position: Position) -> &[u8] {
     rest.get(..length).unwrap_or(rest)
 }
 
+/// The kind of pointers of a text.
+fn pointers_of(alloc: Global, named: NamedText) -> Result<Pointers, AllocError> {
+    match lexed_of(alloc, named)? {
+        Some(lexed) => Ok(Pointers::of_tokens(lexed.tokens.as_slice())),
+        None => Ok(Pointers::Opaque),
+    }
+}
+
+/// The function of the runtime that has a name with its sign.
+fn runtime_named(name: &[u8]) -> Option<Runtime> {
+    match name {
+        [b'@', name @ ..] => Runtime::of(name),
+        _ => None,
+    }
+}
+
+/// The line that declares a function of the runtime.
+fn put_undeclared(
+    pen: Pen,
+    out: &mut Vec<u8>,
+    named: NamedText,
+    runtime: &Runtime,
+) -> Result<(), AllocError> {
+    put_inked(out, pen.look, Ink::Mend, "  mend:  ")?;
+    put(out, "add this line outside the functions: ")?;
+    put(out, declare_of(runtime, pointers_of(pen.alloc, named)?))?;
+    put(out, "\n")
+}
+
+/// How to go on where a name is not defined.
+fn put_not_defined(
+    pen: Pen,
+    out: &mut Vec<u8>,
+    named: NamedText,
+    name: &[u8],
+) -> Result<(), AllocError> {
+    match runtime_named(name) {
+        Some(runtime) => put_undeclared(pen, out, named, &runtime),
+        None => put_meant(pen, out, named, name, ""),
+    }
+}
+
 /// What was expected, or how to go on.
 fn put_expected(
     pen: Pen,
@@ -239,7 +286,7 @@ fn put_expected(
             let form = form_before(pen.alloc, named, offset_of(named.text, position))?;
             put_told(out, pen, Ink::Mend, "  form:  ", form)
         }
-        Code::L5 => put_meant(pen, out, named, name_at(named.text, position), ""),
+        Code::L5 => put_not_defined(pen, out, named, name_at(named.text, position)),
         code => put_told(out, pen, Ink::Mend, "  mend:  ", advice_of(code)),
     }
 }
@@ -329,13 +376,16 @@ fn put_cert_form(
     put_told(out, pen, Ink::Mend, "  form:  ", form)
 }
 
-/// What is said of a name on a line of slots that is none of a root slot.
+/// The second word of a line.
+pub(crate) fn word_after(line: &[u8]) -> &[u8] {
+    word(past_blanks(past_word(past_blanks(line))))
+}
+
+/// What is said of a name on a line of slots that is none of a slot.
 fn advice_on_line(text: &[u8], position: Position) -> &'static str {
     let line = line_numbered(text, position.line.saturating_sub(1));
     match word(past_blanks(line)) {
-        b"root" | b"slot" => {
-            "a root slot is an alloca that llvm.gcroot names: call void @llvm.gcroot(ptr SLOT, ptr null) behind the allocas of the entry"
-        }
+        b"root" | b"slot" => "a root slot is an alloca of the function that llvm.gcroot names",
         _ => "",
     }
 }
@@ -347,27 +397,36 @@ pub struct CheckedTexts<'a> {
     pub of_certs: NamedText<'a>,
 }
 
+/// How to go on where a certificate names what is not there.
+fn put_unknown_name(
+    pen: Pen,
+    out: &mut Vec<u8>,
+    texts: CheckedTexts,
+    of_module: &Module,
+    position: Position,
+) -> Result<(), AllocError> {
+    let named = texts.of_certs;
+    let name = name_at(named.text, position);
+    if put_unrooted(pen, out, of_module, named, position, name)? {
+        return Ok(());
+    }
+    let advice = advice_on_line(named.text, position);
+    put_meant(pen, out, texts.of_module, name, advice)
+}
+
 /// A fault at a place of a certificate.
 fn put_cert_fault_at(
     pen: Pen,
     out: &mut Vec<u8>,
     texts: CheckedTexts,
+    of_module: &Module,
     position: Position,
     code: Code,
 ) -> Result<(), AllocError> {
     let named = texts.of_certs;
     put_fault_at(pen, out, named, position, code)?;
     match code {
-        Code::C3 => {
-            let name = name_at(named.text, position);
-            put_meant(
-                pen,
-                out,
-                texts.of_module,
-                name,
-                advice_on_line(named.text, position),
-            )
-        }
+        Code::C3 => put_unknown_name(pen, out, texts, of_module, position),
         Code::C4 => put_told(
             out,
             pen,
@@ -490,20 +549,26 @@ fn put_shape(
     )
 }
 
-/// What is told of a text that is no certificate of its module.
-pub fn put_cert_fault(
+/// The place of a fault of a certificate, with its code.
+fn cert_place_of(fault: CertFault) -> Option<(Position, Code)> {
+    match fault {
+        CertFault::Syntax(position) => Some((position, Code::C1)),
+        CertFault::Version(position) => Some((position, Code::C2)),
+        CertFault::UnknownName(position) => Some((position, Code::C3)),
+        CertFault::ListedTwice(position) => Some((position, Code::C4)),
+        _ => None,
+    }
+}
+
+/// What is told of what a certificate lacks.
+fn put_lacking(
     pen: Pen,
     out: &mut Vec<u8>,
-    texts: CheckedTexts,
+    path: &str,
     of_module: &Module,
     fault: CertFault,
 ) -> Result<(), AllocError> {
-    let path = texts.of_certs.path;
     match fault {
-        CertFault::Syntax(position) => put_cert_fault_at(pen, out, texts, position, Code::C1),
-        CertFault::Version(position) => put_cert_fault_at(pen, out, texts, position, Code::C2),
-        CertFault::UnknownName(position) => put_cert_fault_at(pen, out, texts, position, Code::C3),
-        CertFault::ListedTwice(position) => put_cert_fault_at(pen, out, texts, position, Code::C4),
         CertFault::Missing(function) => {
             put_whole_fault(out, pen, path, Code::C5)?;
             put_section(pen, out, of_module, function, None)
@@ -516,28 +581,98 @@ pub fn put_cert_fault(
             put_whole_fault(out, pen, path, Code::C6)?;
             put_shape(pen, out, of_module, fault)
         }
-        CertFault::Memory => Ok(()),
+        _ => Ok(()),
     }
+}
+
+/// What is told of a text that is no certificate of its module.
+pub fn put_cert_fault(
+    pen: Pen,
+    out: &mut Vec<u8>,
+    texts: CheckedTexts,
+    of_module: &Module,
+    fault: CertFault,
+) -> Result<(), AllocError> {
+    match cert_place_of(fault) {
+        Some((position, code)) => { put_cert_fault_at(pen, out, texts, of_module, position, code) }
+        None => put_lacking(pen, out, texts.of_certs.path, of_module, fault),
+    }
+}
+
+/// A struct at fault, with the code and what mends it.
+#[derive(Clone, Copy)]
+struct StructFault {
+    number: usize,
+    code: Code,
+    mend: &'static str,
+}
+
+fn struct_fault_of(fault: LayoutFault) -> Option<StructFault> {
+    match fault {
+        LayoutFault::HoldsItself(number) => Some(StructFault {
+            number,
+            code: Code::Y1,
+            mend: "let a field point to the struct in place of holding it",
+        }),
+        LayoutFault::TooManyWords(number) => Some(StructFault {
+            number,
+            code: Code::Y2,
+            mend: "put some of its fields into a further struct, and let a field point to that",
+        }),
+        LayoutFault::NoSuchLayout(number) => Some(StructFault {
+            number,
+            code: Code::Y3,
+            mend: "let each pointer among its fields point to a named struct",
+        }),
+        _ => None,
+    }
+}
+
+/// Where a struct is defined in the text.
+fn position_of_struct(
+    alloc: Global,
+    named: NamedText,
+    number: usize,
+) -> Result<Option<Position>, AllocError> {
+    match lexed_of(alloc, named)? {
+        Some(lexed) => Ok(struct_position(named.text, lexed.tokens.as_slice(), number)),
+        None => Ok(None),
+    }
+}
+
+/// What is told of a struct that is at fault.
+fn put_struct_fault(
+    pen: Pen,
+    out: &mut Vec<u8>,
+    named: NamedText,
+    fault: &StructFault,
+) -> Result<(), AllocError> {
+    match position_of_struct(pen.alloc, named, fault.number)? {
+        Some(position) => put_fault_at(pen, out, named, position, fault.code)?,
+        None => put_whole_fault(out, pen, named.path, fault.code)?,
+    }
+    put_told(out, pen, Ink::Mend, "  mend:  ", fault.mend)
 }
 
 /// What is told of a module that has no layouts.
 pub fn put_layout_fault(
     pen: Pen,
     out: &mut Vec<u8>,
-    path: &str,
+    named: NamedText,
     fault: LayoutFault,
 ) -> Result<(), AllocError> {
+    let of_struct = struct_fault_of(fault);
+    if let Some(of_struct) = &of_struct {
+        return put_struct_fault(pen, out, named, of_struct);
+    }
     match fault {
-        LayoutFault::HoldsItself(_) => put_whole_fault(out, pen, path, Code::Y1),
-        LayoutFault::TooManyWords(_) => put_whole_fault(out, pen, path, Code::Y2),
-        LayoutFault::NoSuchLayout(_) => put_whole_fault(out, pen, path, Code::Y3),
         LayoutFault::ShapesWanted => put_fault_of(
             pen,
             out,
-            path,
+            named.path,
             Code::Y5,
             "--shapes FILE gives them: a text that begins with `shapes 1` (docs/CERTIFICATES.md)",
         ),
-        LayoutFault::Memory => Ok(()),
+        _ => Ok(()),
     }
 }

@@ -1,6 +1,7 @@
 //! What was expected where a text goes on with no form: the form that its line begins.
 use ir_tokens::{Kind, Lexed, TEXT_LIMIT, Token, read_tokens};
 use messages::NamedText;
+use offered_lines::Pointers;
 use std::alloc::{AllocError, Global};
 
 /// The form of an item of the module.
@@ -29,13 +30,24 @@ fn number_of(kind: Kind) -> &'static str {
     }
 }
 
+/// The form of an instruction that writes the type of a place.
+fn of_place(kind: Kind, pointers: Pointers) -> &'static str {
+    match (kind, pointers) {
+        (Kind::Load, Pointers::Opaque) => "%v = load T, ptr V",
+        (Kind::Load, Pointers::Typed) => "%v = load T, T* V",
+        (Kind::Store, Pointers::Opaque) => "store T V, ptr W",
+        (Kind::Store, Pointers::Typed) => "store T V, T* W",
+        (Kind::Getelementptr, Pointers::Opaque) => "%v = getelementptr T, ptr V, i32 0, T W, ..",
+        (Kind::Getelementptr, Pointers::Typed) => "%v = getelementptr T, T* V, i32 0, T W, ..",
+        _ => "",
+    }
+}
+
 /// The form of an instruction on memory, of a call, or of the end of a block.
-fn other_of(kind: Kind) -> &'static str {
+fn other_of(kind: Kind, pointers: Pointers) -> &'static str {
     match kind {
+        Kind::Load | Kind::Store | Kind::Getelementptr => of_place(kind, pointers),
         Kind::Alloca => "%v = alloca T",
-        Kind::Load => "%v = load T, ptr V",
-        Kind::Store => "store T V, ptr W",
-        Kind::Getelementptr => "%v = getelementptr T, ptr V, i32 0, T W, ..",
         Kind::Bitcast => "%v = bitcast T V to U",
         Kind::Call | Kind::Tail | Kind::Notail => "call T @f(T V, ..)",
         Kind::Br => "br label %b, or br i1 V, label %a, label %b",
@@ -45,12 +57,12 @@ fn other_of(kind: Kind) -> &'static str {
     }
 }
 
-fn form_of(kind: Kind) -> &'static str {
+fn form_of(kind: Kind, pointers: Pointers) -> &'static str {
     let number = number_of(kind);
     if !number.is_empty() {
         return number;
     }
-    other_of(kind)
+    other_of(kind, pointers)
 }
 
 /// The form of an item of the module that begins with these two, or of an instruction that gives a value.
@@ -62,17 +74,17 @@ fn item_before(first: Kind, word: Kind) -> &'static str {
 }
 
 /// The form that is begun by these tokens of a line.
-fn form_of_line(tokens: &[Token]) -> &'static str {
+fn form_of_line(tokens: &[Token], pointers: Pointers) -> &'static str {
     let [first, rest @ ..] = tokens else {
         return "";
     };
-    let of_first = form_of(first.kind);
+    let of_first = form_of(first.kind, pointers);
     if !of_first.is_empty() {
         return of_first;
     }
     match rest {
         [_, word, ..] => {
-            let of_word = form_of(word.kind);
+            let of_word = form_of(word.kind, pointers);
             if of_word.is_empty() {
                 item_before(first.kind, word.kind)
             } else {
@@ -115,7 +127,10 @@ pub fn form_before(
         return Ok("");
     };
     match lexed_of(alloc, named)? {
-        Some(lexed) => Ok(form_of_line(from_line(lexed.tokens.as_slice(), place))),
+        Some(lexed) => {
+            let tokens = lexed.tokens.as_slice();
+            Ok(form_of_line(from_line(tokens, place), Pointers::of_tokens(tokens)))
+        }
         None => Ok(""),
     }
 }

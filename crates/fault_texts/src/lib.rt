@@ -6,7 +6,9 @@ mod faults;
 mod forms;
 mod left_out;
 mod near;
+mod structs;
 mod traces;
+mod unrooted;
 
 pub use faults::{
     CheckedTexts, put_cert_fault, put_edits_fault, put_fault_of, put_layout_fault, put_read_fault,

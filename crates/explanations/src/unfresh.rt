@@ -1,0 +1,167 @@
+//! K6: where the cell in which a reference is stored lost `fresh`.
+use crate::notes::put_note;
+use crate::nulls::slot_loaded;
+use crate::told::{Told, value_in};
+use crate::write_barrier::spot_of;
+use diagnosis::{Change, last_change};
+use facts::{ClassId, Facts, Known};
+use ir_ast::{Operand, ValueId};
+use origins::safepoint_before;
+use scenes::{Scene, Spot};
+use shadow_stack::SlotId;
+use std::alloc::AllocError;
+
+/// How many calls are gone back over at most.
+const CALLS: usize = 16;
+
+/// Where a reference lost `fresh` in the block of the refused instruction.
+fn unfresh_at(scene: &Scene, value: ValueId) -> Result<Option<Spot>, AllocError> {
+    let refusal = scene.refusal;
+    let index = last_change(
+        scene.pen.alloc,
+        &scene.context,
+        refusal.func,
+        refusal.block,
+        refusal.instr,
+        value,
+        Change::Unfresh,
+    )?;
+    match index {
+        Some(index) => Ok(Some(scene.spot_in(refusal.block, index))),
+        None => Ok(None),
+    }
+}
+
+/// A name of a cell, and where the cell lost `fresh` under this name.
+#[derive(Clone, Copy)]
+struct Unfresh {
+    name: ValueId,
+    spot: Spot,
+}
+
+fn class_of(facts: &Facts, value: ValueId) -> Option<ClassId> {
+    match facts.known(value) {
+        Known::Cell { class, .. } => Some(class),
+        _ => None,
+    }
+}
+
+fn is_of_class(facts: &Facts, value: ValueId, class: &Option<ClassId>) -> bool {
+    match (class_of(facts, value), class) {
+        (Some(own), Some(class)) => own.number() == class.number(),
+        _ => false,
+    }
+}
+
+/// Where a cell lost `fresh` in the block under a name, if that is one of its names.
+fn unfresh_under(
+    scene: &Scene,
+    name: ValueId,
+    class: &Option<ClassId>,
+) -> Result<Option<Unfresh>, AllocError> {
+    if !is_of_class(scene.facts, name, class) {
+        return Ok(None);
+    }
+    match unfresh_at(scene, name)? {
+        Some(spot) => Ok(Some(Unfresh { name, spot })),
+        None => Ok(None),
+    }
+}
+
+/// Where the cell of a reference lost `fresh` in the block, under its own name or another one.
+fn unfresh_here(scene: &Scene, value: ValueId) -> Result<Option<Unfresh>, AllocError> {
+    let class = class_of(scene.facts, value);
+    let mut found = unfresh_under(scene, value, &class)?;
+    for number in 0..scene.context.function.locals.count() {
+        if let (None, Ok(number)) = (found, u32::try_from(number)) {
+            found = unfresh_under(scene, ValueId::new(number), &class)?;
+        }
+    }
+    Ok(found)
+}
+
+/// Whether a slot holds a fresh cell.
+fn is_fresh_in(facts: &Facts, slot: SlotId) -> bool {
+    match facts.slot(slot).holds {
+        Some(class) => facts.class(class).fresh,
+        None => false,
+    }
+}
+
+/// Whether a slot holds a fresh cell before an instruction.
+fn holds_fresh(scene: &Scene, spot: &Spot, slot: ValueId) -> Result<bool, AllocError> {
+    let Some(number) = scene.context.slots.slot_of(slot) else {
+        return Ok(false);
+    };
+    let facts = scene.facts_at(spot)?;
+    Ok(is_fresh_in(&facts, number))
+}
+
+/// The call up to which a slot held a fresh cell, going back from an instruction.
+fn unfresh_in_slot(
+    scene: &Scene,
+    from: &Spot,
+    slot: ValueId,
+) -> Result<Option<Unfresh>, AllocError> {
+    let mut spot = *from;
+    for _call in 0..CALLS {
+        let Some(lost) = safepoint_before(scene, &spot, slot)? else {
+            return Ok(None);
+        };
+        if holds_fresh(scene, &lost.spot, slot)? {
+            return Ok(Some(Unfresh {
+                name: slot,
+                spot: lost.spot,
+            }));
+        }
+        spot = lost.spot;
+    }
+    Ok(None)
+}
+
+/// The call up to which the slot held a fresh cell from which a reference is loaded.
+fn unfresh_before_load(scene: &Scene, value: ValueId) -> Result<Option<Unfresh>, AllocError> {
+    match (spot_of(scene, value), value_in(slot_loaded(scene, value))) {
+        (Some(spot), Some(slot)) => unfresh_in_slot(scene, &spot, slot),
+        _ => Ok(None),
+    }
+}
+
+/// Where the cell of a reference lost `fresh`.
+fn unfresh_of(scene: &Scene, value: ValueId) -> Result<Option<Unfresh>, AllocError> {
+    match unfresh_here(scene, value)? {
+        Some(unfresh) => Ok(Some(unfresh)),
+        None => unfresh_before_load(scene, value),
+    }
+}
+
+fn put_lost(
+    out: &mut Vec<u8>,
+    told: &Told,
+    value: ValueId,
+    unfresh: &Unfresh,
+) -> Result<(), AllocError> {
+    if unfresh.name.number() == value.number() {
+        let text = "{base} is fresh up to here, and not after it";
+        return put_note(out, told, &unfresh.spot, None, text);
+    }
+    let scene = told.scene;
+    let told = told.with_it(Some(Operand::Local(unfresh.name)));
+    let text = if scene.context.slots.slot_of(unfresh.name).is_some() {
+        "what {it} holds is fresh up to here, and not after it; {base} is loaded from there"
+    } else {
+        "{it} is fresh up to here, and not after it; {base} is the same cell"
+    };
+    put_note(out, &told, &unfresh.spot, None, text)
+}
+
+/// Where the base of the place lost `fresh`.
+pub fn put_unfresh(out: &mut Vec<u8>, told: &Told) -> Result<(), AllocError> {
+    let Some(value) = value_in(told.base) else {
+        return Ok(());
+    };
+    match unfresh_of(told.scene, value)? {
+        Some(unfresh) => put_lost(out, told, value, &unfresh),
+        None => Ok(()),
+    }
+}
