@@ -1,0 +1,17 @@
+pub mod Seats
+pub mod Tables
+pub mod Sim
+pub mod Steps
+pub mod Names
+pub mod Decorations
+pub mod Types
+pub mod Again
+pub mod Operands
+pub mod Ops
+pub mod Bodies
+pub mod Function
+pub mod Late
+pub mod Law
+pub mod Passed
+pub mod Meaning
+pub mod Alone
