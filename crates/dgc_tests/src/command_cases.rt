@@ -3,7 +3,7 @@ use crate::printed::Printed;
 use crate::row::printed_of;
 use crate::row_failure::RowFailure;
 use crate::texts::files_of;
-use commands::{CheckLine, Explained, Line, Look, Refusals, status_of, work};
+use commands::{CheckLine, Explained, Line, Look, Nobody, Refusals, status_of, work};
 use std::alloc::{AllocError, Global};
 use std::io;
 use std::io::Write;
@@ -60,6 +60,7 @@ fn status_without_error(rt: &(impl Runtime + AllocGlobal + Threads + Sync)) -> u
         &mut Vec::new(alloc),
         &mut out,
         &mut Full,
+        &mut Nobody,
     );
     status_of(printed)
 }
@@ -80,6 +81,7 @@ fn status_without_output(
         &mut Vec::new(alloc),
         &mut Full,
         &mut err,
+        &mut Nobody,
     );
     Ok(status_of(printed))
 }

@@ -3,7 +3,7 @@ use crate::printed::write_front;
 use crate::row::{printed_and_saved, printed_of};
 use crate::row_failure::RowFailure;
 use crate::texts::{FOUR, HEAD, PUBLISHER_AND_CLEARER, joined, text_of, two_files};
-use commands::{Explained, Line, ReplayLine, SoakLine, StepsTold};
+use commands::{Draws, Explained, Line, ReplayLine, Search, Shrink, SoakLine, StepsTold};
 use ir_text::read;
 use layout::Program;
 use replay::drawn_trace;
@@ -27,9 +27,14 @@ const SOAK: Line<'static> = Line::Soak(SoakLine {
     module_path: "module.ll",
     trace_path: "module.trace",
     shapes_path: None,
-    first: 40,
-    seeds: 20,
-    steps: 45,
+    search: Search {
+        first: 40,
+        seeds: 20,
+        steps: 45,
+        draws: Draws::Uniform,
+        seconds: None,
+    },
+    shrink: Shrink::AsDrawn,
     save_path: Some("saved.trace"),
     explained: Explained::Never,
 });

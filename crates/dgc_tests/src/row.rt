@@ -5,8 +5,8 @@ ghost use Rattle.command_line.specs.Asked.{asked_by, HasWorkers};
 use crate::printed::Printed;
 use crate::row_failure::RowFailure;
 use commands::{
-    CheckLine, Explained, Line, LineFault, Look, MakeLine, MigrateLine, Refusals, STATUS_YES, Why,
-    line, status_of, work,
+    CheckLine, Explained, Line, LineFault, Look, MakeLine, MigrateLine, Nobody, Refusals,
+    STATUS_YES, Why, line, status_of, work,
 };
 use ir_print::print;
 use ir_text::read;
@@ -342,6 +342,7 @@ pub fn printed_and_saved(
         saved,
         &mut out,
         &mut err,
+        &mut Nobody,
     );
     let status = status_of(answered);
     Printed { status, out, err }

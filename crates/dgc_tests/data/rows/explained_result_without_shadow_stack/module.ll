@@ -1,0 +1,5 @@
+%Node = type { i64, ptr }
+define ptr @same(ptr %n) {
+entry:
+  ret ptr %n
+}

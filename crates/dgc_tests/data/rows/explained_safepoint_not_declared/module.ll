@@ -1,0 +1,5 @@
+define void @poll() {
+entry:
+  call void @dg_safepoint()
+  ret void
+}

@@ -1,0 +1,7 @@
+source_filename = "list.c"
+%Node = type { i64, ptr }
+%List = type { i64, %List }
+define void @idle() {
+entry:
+  ret void
+}
