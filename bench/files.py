@@ -22,16 +22,40 @@ SWAP = os.path.join(HERE, "..", "examples", "swap", "typed")
 TEXT_LIMIT, FILE_LIMIT = 16777216, 1 << 30
 NOBODY = 65534
 MOST_SECONDS = 120
-# each command with its files, the module first
+# each command; what has a point is a file, the first one a module
 COMMANDS = {
-    "check": ["barrier.ll", "swap.cert"],
-    "make": ["barrier.ll"],
-    "recheck": ["barrier.ll", "swap.cert", "none.edits"],
-    "replay": ["barrier.ll", "two.trace"],
-    "soak": ["barrier.ll", "two.trace"],
-    "run": ["barrier.ll", "swap.cert", "two.trace"],
+    "check": "check barrier.ll swap.cert",
+    "make": "make barrier.ll",
+    "make, shapes": "make opaque.ll --shapes swap.shapes",
+    "recheck": "recheck barrier.ll swap.cert none.edits",
+    "replay": "replay barrier.ll two.trace",
+    "replay, shapes": "replay opaque.ll two.trace --shapes swap.shapes",
+    "soak": "soak barrier.ll two.trace --seeds 2 --steps 20",
+    "soak, shapes": "soak opaque.ll two.trace --shapes swap.shapes --seeds 2 --steps 20",
+    "hunt": "hunt barrier.ll --seeds 2 --steps 20",
+    "hunt, certificate": "hunt barrier.ll --cert swap.cert --seeds 2 --steps 20",
+    "run": "run barrier.ll swap.cert two.trace --steps 5 --turns 5",
+    "migrate": "migrate barrier.ll",
+    "migrate, certificate": "migrate barrier.ll swap.cert",
 }
-OPTIONS = {"soak": ["--seeds", "2", "--steps", "20"], "run": ["--steps", "5", "--turns", "5"]}
+# commands that write a file, whose name is the last word
+SAVES = {
+    "replay, JSON": "replay barrier.ll two.trace --json saved",
+    "hunt, saved": "hunt kept.ll --seeds 64 --steps 200 --tries 9 --save saved",
+    "soak, saved": "soak kept.ll kept.trace --seeds 60 --steps 45 --save saved",
+}
+KEPT = os.path.join(HERE, "..", "crates", "dgc_tests", "data", "rows", "register_kept_for_ever")
+
+
+def file_places(line):
+    """The places of the files among the words of a line."""
+    return [place for place, word in enumerate(line.split()) if "." in word]
+
+
+def with_file(line, place, path):
+    """The words of a line with another file at this place."""
+    words = line.split()
+    return [*words[:place], path, *words[place + 1:]]
 
 
 class Ended:
@@ -77,16 +101,19 @@ class Cases:
     def at_each_place(self, told, path, before=(), **streams):
         """Puts this path in the place of each file of each command; it cannot be read."""
         shown = b"error file " + os.fsencode(path) + b"\n"
-        for command, files in COMMANDS.items():
-            for place in range(len(files)):
-                words = [command, *files[:place], path, *files[place + 1:], *OPTIONS.get(command, [])]
-                self.look(f"{told}: {command}, file {place}", words, (4, b"", shown), before=before, **streams)
+        for command, line in COMMANDS.items():
+            for place in file_places(line):
+                self.look(f"{told}: {command}, word {place}", with_file(line, place, path), (4, b"", shown), before=before, **streams)
 
 
 def write_files(folder):
     """Writes the files of the commands, and those that cannot be read."""
-    for name in ("barrier.ll", "swap.cert", "two.trace"):
+    for name in ("barrier.ll", "plain.ll", "swap.cert", "two.trace"):
         shutil.copy(os.path.join(SWAP, name), folder)
+    for name, there in (("opaque.ll", "../barrier.ll"), ("swap.shapes", "../swap.shapes")):
+        shutil.copy(os.path.join(SWAP, there), os.path.join(folder, name))
+    for end in ("ll", "trace"):
+        shutil.copy(os.path.join(KEPT, f"module.{end}"), os.path.join(folder, f"kept.{end}"))
     with open("none.edits", "w"):
         pass
     os.mkdir("folder")
@@ -119,30 +146,30 @@ def unread_files(cases):
         cases.at_each_place("no permission", "closed.ll", user=NOBODY)
     library = os.path.join(cases.folder, "shorten.so")
     subprocess.run(["cc", "-O2", "-shared", "-fPIC", "-o", library, os.path.join(HERE, "shorten.c"), "-ldl"], check=True)
-    for command, files in COMMANDS.items():
-        for place in range(len(files)):
+    for command, line in COMMANDS.items():
+        for place in file_places(line):
             with open("shrinks", "wb") as out:
                 out.write(b"; a comment\n" * 100000)
-            words = [command, *files[:place], "shrinks", *files[place + 1:], *OPTIONS.get(command, [])]
-            cases.look(f"a file that shrinks: {command}, file {place}", words, (4, b"", b"error file shrinks\n"),
+            cases.look(f"a file that shrinks: {command}, word {place}", with_file(line, place, "shrinks"), (4, b"", b"error file shrinks\n"),
                        env={**os.environ, "LD_PRELOAD": library, "SHORTEN": "shrinks"})
 
 
 def words_that_are_no_text(cases):
     """Words of the command line that are not UTF-8."""
     refused = b"error: the command line is not UTF-8\n"
-    for command, files in COMMANDS.items():
-        for place in range(len(files)):
-            words = [command, *files[:place], b"\xff.ll", *files[place + 1:], *OPTIONS.get(command, [])]
-            cases.look(f"a name that is not UTF-8: {command}, file {place}", words, (4, b"", refused))
+    for command, line in COMMANDS.items():
+        for place in file_places(line):
+            cases.look(f"a name that is not UTF-8: {command}, word {place}", with_file(line, place, b"\xff.ll"), (4, b"", refused))
+    for command, line in SAVES.items():
+        cases.look(f"a name that is not UTF-8: {command}", [*line.split()[:-1], b"\xff"], (4, b"", refused))
     cases.look("a command that is not UTF-8", [b"\xc3\x28"], (4, b"", refused))
 
 
 def limits(cases, is_large):
     """Files of the size of a limit, and past it. A text without end is refused at once, in 40 MB."""
     within = ["prlimit", f"--data={40 << 20}"]
-    for command, files in COMMANDS.items():
-        words = [command, "/dev/zero", *files[1:], *OPTIONS.get(command, [])]
+    for command, line in COMMANDS.items():
+        words = with_file(line, file_places(line)[0], "/dev/zero")
         cases.look(f"a device without end: {command}", words, (2, b"", b"error L8 1:16777217\n"), 2.0, within)
     for name in ("long.ll", "huge.ll", "spaces_more.ll"):
         cases.look(f"a text past its limit: {name}", ["check", name, "swap.cert"], (2, b"", b"error L8 1:16777217\n"), 2.0, within)
@@ -151,17 +178,19 @@ def limits(cases, is_large):
     cases.look("an empty device", ["check", "/dev/null", "empty.cert"], (0, b"yes 0\n", b""))
     if is_large:
         cases.look("a certificate of 1 GiB", ["check", "barrier.ll", "file"], (2, b"", b"error C1 1:1\n"), MOST_SECONDS)
-        for command, files in COMMANDS.items():
-            for place in range(1, len(files)):
+        for command, line in COMMANDS.items():
+            for place in file_places(line)[1:]:
                 for path in ("long", "/dev/zero"):
-                    words = [command, *files[:place], path, *files[place + 1:], *OPTIONS.get(command, [])]
-                    cases.look(f"past 1 GiB, {path}: {command}, file {place}", words, (4, b"", b"error file %s\n" % path.encode()), MOST_SECONDS)
+                    shown = b"error file %s\n" % path.encode()
+                    cases.look(f"past 1 GiB, {path}: {command}, word {place}", with_file(line, place, path), (4, b"", shown), MOST_SECONDS)
 
 
 def outputs(cases):
     """Outputs that take nothing: closed ones, a full disk, and pipes that nobody reads."""
-    said = {command: [command, *files, *OPTIONS.get(command, [])] for command, files in COMMANDS.items()}
+    said = {command: line.split() for command, line in {**COMMANDS, **SAVES}.items()}
     said |= {"help": ["--help"], "help of check": ["check", "--help"], "version": ["--version"]}
+    said |= {"explain": ["explain"], "explain K6": ["explain", "K6"]}
+    said |= {"replay, its steps": [*COMMANDS["replay"].split(), "--steps"], "check, all": ["check", "plain.ll", "swap.cert", "--all"]}
     broken = (4, None, b"error output\n")
     for name, words in said.items():
         closed = [sys.executable, "-c", "import os, sys; os.close(1); os.execv(sys.argv[1], sys.argv[1:])"]
@@ -173,6 +202,18 @@ def outputs(cases):
         cases.look(f"a pipe that nobody reads: {name}", words, broken, stdout=writer)
         os.close(writer)
     errors(cases)
+    saves(cases)
+
+
+def saves(cases):
+    """Files that cannot be written. What was printed before that is no answer: the status is 4."""
+    broken = (4, None, b"error output\n")
+    for command, line in SAVES.items():
+        unwritten = {"a folder": "folder", "no folder": "missing/file", "a full disk": "/dev/full", "a file in a file": "barrier.ll/file", "no name": ""}
+        for told, path in unwritten.items():
+            cases.look(f"a file to write, {told}: {command}", [*line.split()[:-1], path], broken)
+        if os.getuid() == 0:
+            cases.look(f"a file to write, no permission: {command}", [*line.split()[:-1], "closed.ll"], broken, user=NOBODY)
 
 
 def errors(cases):
@@ -187,7 +228,10 @@ def errors(cases):
         with open("/dev/full", "wb") as full:
             cases.look(f"errors to a full disk: {name}", words, (status, b""), stderr=full)
     closed = [sys.executable, "-c", "import os, sys; os.close(2); os.execv(sys.argv[1], sys.argv[1:])"]
-    cases.look("closed errors, and yes", ["check", *COMMANDS["check"]], (0, b"yes 1\n"), before=closed)
+    cases.look("closed errors, and yes", COMMANDS["check"].split(), (0, b"yes 1\n"), before=closed)
+    for command in ("check plain.ll swap.cert", "make --why plain.ll"):
+        with open("/dev/full", "wb") as full:
+            cases.look(f"an explanation to a full disk: {command}", [*command.split(), "--explain", "always"], (4, None), stderr=full)
     cases.look("closed errors, and no file", ["check", "missing", "swap.cert"], (4, b""), before=closed)
 
 

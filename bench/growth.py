@@ -1,17 +1,20 @@
 #!/usr/bin/env python3
-"""Measures how the time of `dgc check` and `dgc replay` grows with the number of each kind of thing in their texts.
+"""Measures how the time of a command of `dgc` grows with the number of each kind of thing in its texts.
 
-    growth.py DGC [--only WORD ..] [--least N] [--runs R] [--seconds S] [--beside OPT] [--make] [--instructions] [--keep FOLDER] [--all] [--full]
+    growth.py DGC [--only WORD ..] [--least N] [--runs R] [--seconds S] [--beside OPT] [--make] [--opaque] [--instructions] [--keep FOLDER]
+              [--all] [--full]
 
-For each kind (growth_modules.py, growth_bodies.py, growth_pairs.py, growth_traces.py) it writes texts with 1,000 things,
-then about three times as many, up to 100,000 or the limit of the program, and runs the command on each. Prints the
-processor time of the largest and its memory, and the exponent: how the time grows with the size of the texts, where twice the text takes
-2^exponent the time. The size is in bytes, and in steps or things where a kind's text does not grow. It is measured from the last size to the one that is about ten times smaller, less the time that an
-empty module takes. A kind ends early at the first run of more than S seconds. A time under 5 ms says nothing: then the
-exponent is `-`. A kind whose exponent is over 1.1 is marked. With `--beside opt-14` the last column says how many times longer
-the check takes than that program's reader and verifier on the same module, `-` where that refuses the module. With --make it times
-`dgc make` on the modules of `check` instead. With --instructions it counts, in place of the time, the instructions that the
-program makes, in thousand millions, by valgrind's callgrind. That number is the same in each run, and does not depend on caches.
+For each kind (growth_modules.py, growth_bodies.py, growth_pairs.py, growth_traces.py, growth_others.py) it writes texts with 1,000 things,
+then about three times as many, up to 100,000 or the limit of the program, and runs the kind's command on each. Prints the
+processor time of the largest and its memory, and the exponent: how the time grows with the size of the texts, where twice the text
+takes 2^exponent the time. The size is in bytes, and in steps or things where a kind's text does not grow. The exponent is measured
+from the last size to the one that is about ten times smaller, less the time that an empty module takes. A kind ends early at the
+first run of more than S seconds. A time under 5 ms says nothing: then the exponent is `-`. A kind whose exponent is over 1.1 is marked.
+
+With `--beside opt-14` the last column says how many times longer the check takes than that program's reader and verifier on the same
+module, `-` where that refuses the module. With --make it times `dgc make` on the modules of `check` instead. With --opaque these
+modules have opaque pointers, as `dgc migrate` makes them. With --instructions it counts, in place of the time, the instructions that
+the program makes, in thousand millions, by valgrind's callgrind. That number is the same in each run, and does not depend on caches.
 With --all the cost of each size is printed. With --full it makes one text of each kind, with as many things as 16 MiB or the program
 allow, and there is no exponent. FOLDER keeps the texts. For use by hand.
 """
@@ -27,9 +30,10 @@ import tempfile
 
 import growth_bodies
 import growth_modules
+import growth_others
 import growth_pairs
 import growth_traces
-from growth_kinds import KINDS
+from growth_kinds import KINDS, WORDS
 
 MOST_BYTES = 16777216
 # a kind that may have so many things, the default, has no limit but that of its text
@@ -37,7 +41,7 @@ MANY = 100000
 STEP = math.sqrt(10)
 SMALL = 0.005
 BOUND = 1.1
-assert all([growth_modules, growth_bodies, growth_pairs, growth_traces])
+assert all([growth_modules, growth_bodies, growth_pairs, growth_traces, growth_others])
 
 
 def run(command, runs, limit):
@@ -81,13 +85,21 @@ def sizes(least, most):
     yield most
 
 
+def made(it, count):
+    """The texts of a kind with so many things, and how large they are."""
+    *texts, last = it.make(count)
+    if isinstance(last, str):
+        return [*texts, last], sum(map(len, [*texts, last]))
+    return texts, last
+
+
 def largest(it):
     """The largest number of things that a text within the limit can have, to a hundredth."""
     count = 1000
     for _ in range(20):
-        module, other, *given = it.make(count)
-        size = max(len(module), len(other))
-        if given or it.most != MANY and count >= it.most:
+        texts, told = made(it, count)
+        size = max(map(len, texts))
+        if told != sum(map(len, texts)) or it.most != MANY and count >= it.most:
             return it.most
         if 0.98 * MOST_BYTES < size <= MOST_BYTES:
             break
@@ -95,20 +107,29 @@ def largest(it):
     return count
 
 
+def migrate(dgc, paths):
+    """Turns a module and its certificate into those with opaque pointers."""
+    for path, words in reversed([(paths[0], paths[:1]), (paths[1], paths)]):
+        told = subprocess.run([dgc, "migrate", *words], capture_output=True, check=True).stdout
+        with open(path, "wb") as out:
+            out.write(told)
+
+
 def measure(dgc, it, options, folder):
     """The rows of a kind: how many things, how many bytes, how long and how much memory. And what is wrong, if it was refused."""
     rows = []
     for count in [largest(it)] if options.full else sizes(options.least, it.most):
-        module, other, *given = it.make(count)
-        size = given[0] if given else len(module) + len(other)
-        if max(len(module), len(other)) > MOST_BYTES:
+        texts, size = made(it, count)
+        if max(map(len, texts)) > MOST_BYTES:
             break
         base = os.path.join(folder, it.name.replace(" ", "_").replace(",", "") + f"_{count}")
-        paths = [base + ".ll", base + (".trace" if it.command == "replay" else ".cert")]
-        for path, text in zip(paths, (module, other)):
+        paths = [f"{base}.{number}" for number in range(len(texts))]
+        for path, text in zip(paths, texts):
             with open(path, "w") as out:
                 out.write(text)
-        words = ["make", paths[0]] if options.make else [it.command, *paths]
+        if options.opaque:
+            migrate(dgc, paths)
+        words = ["make", paths[0]] if options.make else WORDS[it.command].format(*paths, count=count).split()
         took, said, memory = cost([dgc, *words], options)
         other_took = beside(options, it, paths[0])
         if not options.keep:
@@ -154,6 +175,7 @@ def asked():
     parser.add_argument("--seconds", type=float, default=10)
     parser.add_argument("--beside", default=None, help="a program `opt` of LLVM 14 or older")
     parser.add_argument("--make", action="store_true", help="times `dgc make` on the modules of `check`")
+    parser.add_argument("--opaque", action="store_true", help="the modules of `check` as `dgc migrate` makes them")
     parser.add_argument("--instructions", action="store_true", help="counts instructions, by valgrind, in place of the time")
     parser.add_argument("--keep", default=None)
     parser.add_argument("--full", action="store_true", help="only the largest text of each kind that is within the limit")
@@ -179,7 +201,7 @@ def main():
         for it in KINDS:
             if options.only and not any(word in it.name for word in options.only):
                 continue
-            if options.make and it.command != "check":
+            if (options.make or options.opaque) and it.command != "check" or options.opaque and it.says != "yes":
                 continue
             rows, wrong = measure(options.dgc, it, options, folder)
             if options.all:

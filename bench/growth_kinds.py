@@ -5,11 +5,26 @@ from typing import Callable
 from generate import HEAD
 
 KINDS = []
+# the words of each command, with the files in the order in which a kind writes them and the number of things, and how its output begins
+WORDS = {
+    "check": "check {0} {1}",
+    "recheck": "recheck {0} {1} {2}",
+    "migrate": "migrate {0} {1}",
+    "replay": "replay {0} {1}",
+    "replay, shapes": "replay {0} {1} --shapes {2}",
+    "soak": "soak {0} {1} --seeds {count} --steps 100",
+    "check, explained": "check {0} {1} --explain always",
+    "check, not read": "check {0} {1} --explain always",
+    "check, all": "check {0} {1} --all --explain always",
+    "recheck, explained": "recheck {0} {1} {2} --explain always",
+}
+SAYS = {"check": "yes", "recheck": "yes", "migrate": "cert 2", "replay": "sound", "replay, shapes": "sound", "soak": "sound",
+        "check, explained": "no", "check, not read": "error L5", "check, all": "no", "recheck, explained": "no"}
 
 
 @dataclass
 class Kind:
-    """A kind of thing that a text can have many of: `make` writes a text with n of it, and a second text."""
+    """A kind of thing that a text can have many of: `make` writes the texts of a command of which one has n of it."""
     name: str
     command: str
     most: int
@@ -20,11 +35,11 @@ class Kind:
 def kind(name, most=100000, command="check", says=None):
     """Records a function of n as the kind with this name.
 
-    The function returns the module's text and the other one's, and how large they are if that is not their bytes. What
+    The function returns the texts of the command's files, the module first, and how large they are if that is not their bytes. What
     the command prints begins with `says`.
     """
     def noted(make):
-        KINDS.append(Kind(name, command, most, says or ("yes" if command == "check" else "sound"), make))
+        KINDS.append(Kind(name, command, most, says or SAYS[command], make))
         return make
     return noted
 

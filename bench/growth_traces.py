@@ -9,7 +9,7 @@ def trace(steps, pools="pool Node 100\n", starts="start @spin\n"):
     return f"trace 1\n{pools}{starts}steps\n{steps}end\n"
 
 
-@kind("pools", command="replay")
+@kind("pools", 500000, "replay")
 def pools(n):
     """Layouts with a pool each."""
     module = lines(n, lambda i: f"%T{i} = type {{ i64 }}") + MODULE

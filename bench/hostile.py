@@ -3,16 +3,19 @@
 
     hostile.py DGC [--seed S] [--cases N] [--first N] [--minutes M] [--only WORD ..] [--keep FOLDER]
 
-Takes the rows of crates/dgc_tests/data (hostile_texts.py), changes one file of one row, and runs the row's command on it. A change
-is one or a few of these: other bytes, a cut, lines that are moved, left out or written again, a token of any file in the place of
-one, a number at a limit, the front of one text with the back of another. The same seed draws the same cases. A run is wrong that
+Takes the rows of crates/dgc_tests/data (hostile_texts.py), changes one file of one row, and runs the row's command on it, in every third
+case with one more option, as `--explain always`. A change is one or a few of these: other bytes, a cut, lines that are moved, left out or
+written again, a token of any file in the place of one, a number at a limit, the front of one text with the back of another. The same
+seed draws the same cases. A run is wrong that
 
     ends by a signal, or with a status that is none of 0 to 4, or takes more than 2 s of a processor or more than 1 GB;
-    prints what its command does not print with that status;
+    prints what its command does not print with that status, or no explanation where one was asked for;
     says yes of a module whose threads break in a soak of 20 seeds.
 
-Each wrong case is kept in FOLDER (by default out/hostile) with its command. Ends with status 1 where there is one. Prints how many cases
-ended with which status, the longest and the largest, and how many cases were run a second. For use by hand.
+First it makes such soaks of the modules that rows refuse, and prints how many break: so much a soak finds. Many cases are run in one
+process (cases.c). A case that ends it is run once more in a process of its own. Each wrong case is kept in FOLDER (by default
+out/hostile) with its command. Prints how many cases ended with which status, the longest and the largest, and how many cases were
+run a second. Ends with status 1 where a case is wrong. For use by hand.
 """
 import argparse
 import collections
@@ -23,8 +26,9 @@ import re
 import sys
 import tempfile
 import time
+from dataclasses import dataclass
 
-from hostile_runs import Runner
+from cases import Case, Runner
 from hostile_texts import changed, read_rows, tokens_of
 
 TOP = os.path.dirname(os.path.dirname(os.path.abspath(__file__)))
@@ -34,28 +38,55 @@ SECONDS, KILOBYTES = 2.0, 1 << 20
 MOST_SECONDS = 60.0
 SEEDS, STEPS = 20, 400
 NAME = rb'(?:[-a-zA-Z$._0-9]+|"[^"]*")'
+# how many cases are drawn before they are run
+BATCH = 200
 THREAD = rb"t \d+ (?:absent|ended|stopped|memory|running \d+|returned(?: \d+| null| ref \d+)?)\n"
-# what a run may print on the standard output, by its status
+CAUSE = rb"(?:t \d+|c) (?:wrong|(?:touch|reach)-(?:blue|birth) \d+)\n"
+REFUSED = rb"no @(?s:.*) K\d+(?s:.*)\n"
+# what `check --all` says where it does not say yes
+COUNTED = re.compile(rb"(?:" + REFUSED + rb")?refusals \d+\n")
+FAULT = rb"error (?:[LCP]\d+ \d+:\d+(?: (?s:.*?))?|C[56] (?s:.*?)|Y\d(?: (?s:.*?))?|K(?:13|20) t \d+)\n"
+# what a run may print on the standard output, by its status; after it come the steps that --steps asks for
 PRINTED = {
-    "check": {0: rb"yes \d+\n", 1: rb"no @(?s:.*) K\d+(?s:.*)\n"},
+    "check": {0: rb"yes \d+\n", 1: REFUSED},
     "make": {0: rb"cert [12]\n(?s:.*)", 1: rb"no answer\n"},
     "migrate": {0: rb"(?s:.*)"},
-    "recheck": {0: rb"(?s:.*)", 1: rb"(?s:.*)"},
-    "replay": {0: rb"sound \d+\n(?:" + THREAD + rb")*claims \d+ frees \d+ posted \d+\n",
-               1: rb"broken \d+ (?:t \d+|c) (?:wrong|(?:touch|reach)-(?:blue|birth) \d+)\n"},
-    "soak": {0: rb"sound \d+ seeds\n", 1: rb"broken seed \d+ \d+ (?:t \d+|c) (?:wrong|(?:touch|reach)-(?:blue|birth) \d+)\n"},
-    "run": {0: rb"(?:" + THREAD + rb")*collector turns \d+ cycles \d+\n", 1: rb"no @(?s:.*) K\d+(?s:.*)\n"},
+    "recheck": {0: rb"(?:(?s:.*)\n)?(?:\d+ rechecked \d+ )?yes \d+\n(?:\d+ refused [LC]\d+\n)*",
+                1: rb"(?:(?s:.*)\n)?(?:\d+ rechecked \d+ )?no @(?s:.*) K\d+(?s:.*)\n"},
+    "replay": {0: rb"sound \d+\n(?:" + THREAD + rb")*claims \d+ frees \d+ posted \d+\n", 1: rb"broken \d+ " + CAUSE},
+    "soak": {0: rb"sound \d+ seeds\n", 1: rb"broken seed \d+ \d+ " + CAUSE},
+    "run": {0: rb"(?:" + THREAD + rb")*collector turns \d+ cycles \d+\n", 1: REFUSED},
 }
-FAULT = {
-    2: re.compile(rb"error (?:[LCP]\d+ \d+:\d+(?: (?s:.*))?|C[56] (?s:.*)|Y\d(?: (?s:.*))?|K(?:13|20) t \d+)\n"),
-    3: re.compile(rb"error memory\n"),
-    4: re.compile(rb"(?s:error.*)\n"),
-}
+# what it may print on the standard error where there is no answer; an explanation may come after it
+FAULTS = {2: FAULT, 3: rb"error memory\n", 4: rb"(?s:error.*)\n"}
 PRINTED = {command: {status: re.compile(text) for status, text in by_status.items()} for command, by_status in PRINTED.items()}
+FAULTS = {status: re.compile(text) for status, text in FAULTS.items()}
+# of how many cases in a hundred this is the command
+SHARES = {"check": 42, "recheck": 14, "replay": 14, "make": 10, "run": 8, "soak": 6, "migrate": 6}
+# options that a case may have beside those of its row
+OPTIONS = {
+    "check": [["--explain", "always"], ["--explain", "always"], ["--workers", "4"], ["--all"]],
+    "make": [["--explain", "always"], ["--why"]],
+    "recheck": [["--explain", "always"]],
+    "replay": [["--explain", "always"], ["--steps"], ["--json", "steps.json"]],
+    "soak": [["--save", "saved.trace"]],
+    "run": [["--explain", "always"]],
+}
 
 
-def fault_of(command, ended):
-    """Why a run may not end so, or nothing."""
+def with_option(draw, words):
+    """The words of a row's command, in every third case with one more option."""
+    more = draw.choice(OPTIONS.get(words[0], [[]]))
+    return words + more if draw.random() < 0.33 and more and more[0] not in words else words
+
+
+def is_form(text, form, may_go_on):
+    """Whether a text is of this form, or goes on after it where it may."""
+    return bool(form.match(text) if may_go_on else form.fullmatch(text))
+
+
+def fault_of(words, ended):
+    """Why a run of a command may not end so, or nothing."""
     if ended.signal:
         return f"signal {ended.signal}"
     if ended.seconds > SECONDS:
@@ -64,11 +95,23 @@ def fault_of(command, ended):
         return f"{ended.kilobytes // 1024} MB"
     if ended.status not in range(5):
         return f"status {ended.status}"
-    said, other = (ended.stdout, ended.stderr) if ended.status < 2 else (ended.stderr, ended.stdout)
-    form = PRINTED[command].get(ended.status) or FAULT.get(ended.status)
-    if other and not (command == "make" and ended.status == 1):
-        return "both outputs"
-    return "" if form and form.fullmatch(said) else "another text"
+    is_explained, command = "always" in words, words[0]
+    if ended.status > 1:
+        is_wanted = is_form(ended.stderr, FAULTS[ended.status], is_explained) and not ended.stdout
+    else:
+        form = COUNTED if "--all" in words and ended.status == 1 else PRINTED[command].get(ended.status)
+        may_say_more = is_explained or command == "make" and ended.status == 1
+        is_wanted = form and is_form(ended.stdout, form, "--steps" in words) and (may_say_more or not ended.stderr)
+    if is_wanted and is_explained and not is_told(command, ended):
+        return "no explanation"
+    return "" if is_wanted else "another text"
+
+
+def is_told(command, ended):
+    """Whether an explanation came with an answer that wants one. A thread that may not begin is not explained, and a soak says nothing more."""
+    if ended.status == 1:
+        return command in ("replay", "soak") or bool(ended.stderr)
+    return ended.status != 2 or ended.stderr.startswith(b"error K") or ended.stderr.count(b"\n") > 1
 
 
 def shapes_in(certificate):
@@ -80,102 +123,141 @@ def shapes_in(certificate):
     return b"\n".join([b"shapes 1", *lines[1:sections[0] if sections else None], b""])
 
 
+def trace_of(module, times):
+    """A trace with each layout's pool and each function that integers start, this often; None where no function is."""
+    starts = []
+    for name, parameters in re.findall(rb"^\s*define [^@\n]*@(" + NAME + rb")\(([^)\n]*)\)", module, re.M):
+        kinds = [one.strip().split(b" ")[0] for one in parameters.split(b",")] if parameters.strip() else []
+        if all(re.fullmatch(rb"i\d+", kind) for kind in kinds):
+            starts.append(b"start @" + name + b" 0" * len(kinds) + b"\n")
+    pools = [b"pool " + name + b" 3\n" for name in re.findall(rb"^%(" + NAME + rb") = type", module, re.M)]
+    starts = (starts * times)[:6]
+    return b"trace 1\n" + b"".join(pools) + b"".join(starts) + b"steps\nend\n" if starts else None
+
+
 class Soaks:
-    """Soaks of modules that are accepted: each starts every function that integers can start."""
+    """Soaks of modules that are accepted: each starts every function that integers can start, once and twice."""
 
     def __init__(self, runner):
-        self.runner, self.known, self.made = runner, {}, 0
+        self.runner, self.known, self.made, self.begun, self.unread, self.seconds = runner, set(), 0, 0, 0, 0.0
 
-    def fault(self, module, shapes):
-        """Why an accepted module with these shapes is not as it may be, or nothing."""
-        key = hashlib.sha256(module + b"\0" + shapes).digest()
-        if key not in self.known:
-            self.known[key] = self.look(module, shapes)
-        return self.known[key]
-
-    def look(self, module, shapes):
-        """Makes a soak of the module. A function that no integers start is left out."""
-        traces = [trace for trace in (self.trace(module, count) for count in (1, 2)) if trace]
-        given = ["--shapes", "shapes"] if shapes else []
-        for trace in traces:
-            self.made += 1
-            ended = self.runner.run(["soak", "module.ll", "trace", *given, "--seeds", str(SEEDS), "--steps", str(STEPS)],
-                                    {"module.ll": module, "trace": trace, "shapes": shapes})
+    def faults(self, accepted):
+        """Which of these modules with these shapes are not as they may be, each with why. A module that was looked at is left out."""
+        cases, soaked = [], []
+        for number, (module, shapes) in enumerate(accepted):
+            key = hashlib.sha256(module + b"\0" + shapes).digest()
+            if key in self.known:
+                continue
+            self.known.add(key)
+            given = ["--shapes", "shapes"] if shapes else []
+            words = ["soak", "module.ll", "trace", *given, "--seeds", str(SEEDS), "--steps", str(STEPS)]
+            traces = [trace for trace in (trace_of(module, times) for times in (1, 2)) if trace]
+            cases += [Case(words, {"module.ll": module, "trace": trace, "shapes": shapes}) for trace in traces]
+            soaked += [number] * len(traces)
+            self.begun += bool(traces)
+        self.made += len(cases)
+        found = {}
+        for number, ended in zip(soaked, self.runner.run_all(cases)):
+            self.unread += ended.status not in (0, 1)
+            self.seconds += ended.seconds
             if ended.status == 1:
-                return "yes, and " + ended.stdout.decode(errors="replace").strip()
+                found.setdefault(number, "yes, and " + ended.stdout.decode(errors="replace").strip())
             if ended.signal or ended.status > 4:
-                return f"soak: signal {ended.signal} status {ended.status}"
-        return ""
+                found.setdefault(number, f"soak: signal {ended.signal} status {ended.status}")
+        return found
 
-    def trace(self, module, times):
-        """A trace with each layout's pool and each function that integers start, this often; None where no function is."""
-        starts = []
-        for name, parameters in re.findall(rb"^\s*define [^@\n]*@(" + NAME + rb")\(([^)\n]*)\)", module, re.M):
-            kinds = [one.strip().split(b" ")[0] for one in parameters.split(b",")] if parameters.strip() else []
-            if all(re.fullmatch(rb"i\d+", kind) for kind in kinds):
-                starts.append(b"start @" + name + b" 0" * len(kinds) + b"\n")
-        pools = [b"pool " + name + b" 3\n" for name in re.findall(rb"^%(" + NAME + rb") = type", module, re.M)]
-        starts = (starts * times)[:6]
-        return b"trace 1\n" + b"".join(pools) + b"".join(starts) + b"steps\nend\n" if starts else None
+
+@dataclass
+class Drawn:
+    """A case, and the row and the file from which it was made."""
+    told: str
+    case: Case
 
 
 class Search:
     """Draws cases, runs them, and counts how they end."""
 
     def __init__(self, runner, rows, options):
-        self.runner, self.rows, self.options = runner, rows, options
+        self.runner, self.options = runner, options
+        self.rows = {command: [row for row in rows if row.words[0] == command] for command in SHARES}
+        self.shares = {command: share for command, share in SHARES.items() if self.rows[command]}
         self.tokens = tokens_of(rows)
         self.soaks = Soaks(runner)
         self.counts, self.wrong = collections.Counter(), 0
         self.longest, self.largest, self.accepted = (0.0, ""), (0, ""), 0
+        self.seconds = 0.0
 
     def case(self, number):
-        """Makes the case with this number, which depends on the seed and on nothing before it."""
+        """Draws the case with this number, which depends on the seed and on nothing before it."""
         draw = random.Random(f"{self.options.seed} {number}")
-        row = draw.choice(self.rows)
+        row = draw.choice(self.rows[draw.choices(list(self.shares), self.shares.values())[0]])
         name = draw.choice(list(row.texts))
         texts = {**row.texts, name: changed(draw, row.texts[name], name, self.tokens)}
-        ended = self.runner.run(row.words, texts)
-        self.counts[row.words[0], ended.status if not ended.signal else -ended.signal] += 1
-        told = f"case {number}: {row.name} {name}"
-        self.longest = max(self.longest, (ended.seconds, told))
-        self.largest = max(self.largest, (ended.kilobytes, told))
-        fault = fault_of(row.words[0], ended) or self.fault_of_yes(row, texts, ended)
-        if fault:
-            self.note(told, fault, row, texts, ended)
+        return Drawn(f"case {number}: {row.name} {name}", Case(with_option(draw, row.words), texts))
 
-    def fault_of_yes(self, row, texts, ended):
-        """Why a module that was accepted may not be, or nothing."""
-        if row.words[0] != "check" or ended.status != 0:
-            return ""
-        self.accepted += 1
-        return self.soaks.fault(texts[row.words[1]], shapes_in(texts[row.words[2]]))
+    def look(self, drawn):
+        """Runs these cases, and looks at how each ends."""
+        accepted = []
+        for one, ended in zip(drawn, self.runner.run_all([one.case for one in drawn])):
+            command = one.case.words[0]
+            self.counts[command, ended.status if not ended.signal else -ended.signal] += 1
+            self.seconds += ended.seconds
+            self.longest = max(self.longest, (ended.seconds, one.told))
+            self.largest = max(self.largest, (ended.kilobytes, one.told))
+            if fault := fault_of(one.case.words, ended):
+                self.note(one, fault, ended)
+            elif command == "check" and ended.status == 0:
+                accepted.append((one, ended))
+        self.accepted += len(accepted)
+        cases = [one.case for one, _ in accepted]
+        modules = [(case.texts[case.words[1]], shapes_in(case.texts[case.words[2]])) for case in cases]
+        for number, fault in self.soaks.faults(modules).items():
+            self.note(accepted[number][0], fault, accepted[number][1])
 
-    def note(self, told, fault, row, texts, ended):
+    def note(self, one, fault, ended):
         """Keeps a wrong case."""
         self.wrong += 1
-        print(f"{told}: {fault}", flush=True)
-        folder = os.path.join(self.options.keep, f"{self.options.seed}-{self.wrong}")
+        print(f"{one.told}: {fault}", flush=True)
+        folder = os.path.join(self.options.keep, f"{self.options.seed}-{self.options.first}-{self.wrong}")
         os.makedirs(folder, exist_ok=True)
-        for name, text in texts.items():
+        for name, text in one.case.texts.items():
             with open(os.path.join(folder, name), "wb") as out:
                 out.write(text)
         with open(os.path.join(folder, "case"), "w") as out:
-            out.write(f"{told}\n{fault}\ndgc {' '.join(row.words)}\n{ended}\n")
+            out.write(f"{one.told}\n{fault}\ndgc {' '.join(one.case.words)}\n{ended}\n")
+
+    def soak_refused(self):
+        """Prints of how many modules that rows refuse a soak breaks."""
+        cases = [Case(row.words, row.texts) for row in self.rows.get("check", []) if len(row.texts) > 1]
+        refused = [case for case, ended in zip(cases, self.runner.run_all(cases)) if ended.status == 1]
+        soaks = Soaks(self.runner)
+        broken = soaks.faults([(case.texts[case.words[1]], shapes_in(case.texts[case.words[2]])) for case in refused])
+        print(f"of {len(soaks.known)} modules that rows refuse {soaks.begun} have a function that can begin, and {len(broken)} break in a soak",
+              flush=True)
 
     def run(self):
         """Runs the cases, until there are enough or the time is over."""
-        start, number = time.monotonic(), self.options.first
-        while number < self.options.first + self.options.cases and time.monotonic() - start < 60 * self.options.minutes:
-            self.case(number)
-            number += 1
-        took = time.monotonic() - start
+        start, first, last = time.monotonic(), self.options.first, self.options.first + self.options.cases
+        number, told = first, first
+        while number < last and time.monotonic() - start < 60 * self.options.minutes:
+            numbers = range(number, min(number + BATCH, last))
+            self.look([self.case(one) for one in numbers])
+            number = numbers.stop
+            if number - told >= self.options.tell:
+                self.tell(number - first, time.monotonic() - start)
+                told = number
+        self.tell(number - first, time.monotonic() - start)
+
+    def tell(self, made, took):
+        """Prints what has come of the cases so far."""
         for command in sorted({command for command, _ in self.counts}):
             by_status = sorted((status, count) for (other, status), count in self.counts.items() if other == command)
             print(f"{command:8} " + "  ".join(f"status {status}: {count:,}" for status, count in by_status))
-        print(f"{self.accepted:,} accepted, {self.soaks.made:,} soaks of {len(self.soaks.known):,} modules")
+        print(f"{self.accepted:,} accepted, {self.soaks.made:,} soaks of {len(self.soaks.known):,} modules, {self.soaks.unread:,} not made")
         print(f"longest {self.longest[0]:.3f} s ({self.longest[1]}), largest {self.largest[0] // 1024} MB ({self.largest[1]})")
-        print(f"seed {self.options.seed}: {number - self.options.first:,} cases in {took:.0f} s, {(number - self.options.first) / took:.0f} a second, {self.wrong} wrong")
+        print(f"seed {self.options.seed}: {made:,} cases from {self.options.first:,} on in {took:.0f} s, {made / took:.0f} a second, "
+              f"{self.seconds:.0f} s of a processor for them, {self.soaks.seconds:.0f} s for soaks, {time.process_time():.0f} s for the script, "
+              f"{self.wrong} wrong", flush=True)
 
 
 def main():
@@ -185,14 +267,17 @@ def main():
     parser.add_argument("--cases", type=int, default=1000000)
     parser.add_argument("--first", type=int, default=0, help="the number of the first case")
     parser.add_argument("--minutes", type=float, default=1e9)
+    parser.add_argument("--tell", type=int, default=50000, help="after how many cases the counts are printed")
     parser.add_argument("--only", nargs="+", default=[""], help="rows whose command or name has one of these words")
     parser.add_argument("--keep", default=os.path.join(TOP, "out", "hostile"))
     options = parser.parse_args()
     with tempfile.TemporaryDirectory(dir="/dev/shm" if os.path.isdir("/dev/shm") else None) as folder:
         runner = Runner(os.path.abspath(options.dgc), folder, MOST_SECONDS)
         rows = [row for row in read_rows(ROWS) if any(word in f"{row.words[0]} {row.name}" for word in options.only)]
-        rows = [row for row in rows if runner.run(row.words, row.texts).seconds < SECONDS / 8]
+        ends = runner.run_all([Case(row.words, row.texts) for row in rows])
+        rows = [row for row, ended in zip(rows, ends) if ended.seconds < SECONDS / 8]
         search = Search(runner, rows, options)
+        search.soak_refused()
         search.run()
     sys.exit(1 if search.wrong else 0)
 

@@ -1,10 +1,13 @@
 """The rows of crates/dgc_tests as commands and texts, and changes of such a text, for hostile.py."""
+import functools
 import os
 import re
 from dataclasses import dataclass
 
 COMMANDS = ("check", "make", "recheck", "replay", "soak", "run", "migrate")
 TOKEN = re.compile(rb'"[^"\n]*"|[%@!#]?[-a-zA-Z$._0-9]+|\s+|.', re.S)
+NUMBER, NAME = re.compile(rb"(?<![-a-zA-Z$._0-9])-?\d+"), re.compile(rb"[%@][-a-zA-Z$._0-9]+")
+WORD = re.compile(rb"(?<![-%@!#$._0-9a-zA-Z])[a-z][a-z0-9]*\*{0,2}")
 NUMBERS = [b"0", b"1", b"2", b"63", b"64", b"65", b"255", b"65535", b"65536", b"1048576", b"2147483647", b"2147483648", b"4294967295",
            b"4294967296", b"9223372036854775807", b"9223372036854775808", b"-9223372036854775808", b"18446744073709551615",
            b"18446744073709551616", b"99999999999999999999999999", b"-1", b"00", b"10000001"]
@@ -105,10 +108,41 @@ def with_lines(draw, text, _name, _tokens):
     return b"\n".join(lines)
 
 
+@functools.lru_cache(2000)
+def parts_of(text):
+    """The tokens and blanks of a text, and the places of the tokens."""
+    parts = TOKEN.findall(text)
+    return parts, [place for place, part in enumerate(parts) if not part.isspace()]
+
+
+@functools.lru_cache(6000)
+def found_in(pattern, text):
+    """Where a pattern is found in a text."""
+    return list(pattern.finditer(text))
+
+
+def with_steps(draw, text, _name, _tokens):
+    """A safepoint is put in, or a line that gives no value a name is left out or moved: a store, a call, a claim."""
+    lines = text.split(b"\n")
+    steps = [number for number, line in enumerate(lines) if line.startswith(b"  ") or line.startswith(b"%") and b"=" not in line]
+    if not steps:
+        return text + b"\n"
+    here, there, how = draw.choice(steps), draw.choice(steps), draw.randrange(4)
+    if how == 0 and lines[here].startswith(b"  "):
+        lines.insert(here, b"  call void @dg_safepoint()")
+    elif how == 1 and b"=" not in lines[here]:
+        lines.insert(there, lines[here])
+    elif b"=" not in lines[here]:
+        line = lines.pop(here)
+        if how == 2:
+            lines.insert(there, line)
+    return b"\n".join(lines)
+
+
 def with_tokens(draw, text, name, tokens):
     """Tokens are left out, written again, swapped, or another text's."""
-    parts = TOKEN.findall(text)
-    places = [place for place, part in enumerate(parts) if not part.isspace()]
+    parts, places = parts_of(text)
+    parts = list(parts)
     for _ in range(draw.randrange(1, 4)):
         if not places:
             break
@@ -129,7 +163,7 @@ def with_tokens(draw, text, name, tokens):
 
 def with_numbers(draw, text, _name, _tokens):
     """A number is another one, mostly one at a limit."""
-    found = list(re.finditer(rb"(?<![-a-zA-Z$._0-9])-?\d+", text))
+    found = found_in(NUMBER, text)
     if not found:
         return text + b"0"
     place = draw.choice(found)
@@ -139,7 +173,7 @@ def with_numbers(draw, text, _name, _tokens):
 
 def with_names(draw, text, _name, _tokens):
     """One name is another one of the text, of its kind."""
-    found = list(re.finditer(rb"[%@][-a-zA-Z$._0-9]+", text))
+    found = found_in(NAME, text)
     if not found:
         return text + b"%"
     place = draw.choice(found)
@@ -149,7 +183,7 @@ def with_names(draw, text, _name, _tokens):
 
 def with_words(draw, text, name, tokens):
     """One word is another one of such texts."""
-    found = list(re.finditer(rb"(?<![-%@!#$._0-9a-zA-Z])[a-z][a-z0-9]*\*{0,2}", text))
+    found = found_in(WORD, text)
     if not found:
         return text + b"i64"
     place = draw.choice(found)
@@ -169,7 +203,7 @@ def with_other(draw, text, name, tokens):
 
 def with_many(draw, text, _name, _tokens):
     """A line or a token is written many times."""
-    parts = text.splitlines(True) if draw.random() < 0.5 else TOKEN.findall(text)
+    parts = text.splitlines(True) if draw.random() < 0.5 else parts_of(text)[0]
     if not parts:
         return text
     at = draw.randrange(len(parts))
@@ -177,8 +211,8 @@ def with_many(draw, text, _name, _tokens):
     return b"".join(parts[:at]) + parts[at] * times + b"".join(parts[at + 1:])
 
 
-# how a text is changed, and how often in this way
-WAYS = [with_bytes, with_cut, with_tokens, with_other, with_many] + 2 * [with_lines, with_numbers, with_words] + 4 * [with_names]
+# how a text is changed, and how often in this way; the last ones leave the most texts that are read
+WAYS = [with_bytes, with_cut, with_tokens, with_other, with_many] + 2 * [with_lines] + 3 * [with_numbers, with_words] + 6 * [with_names, with_steps]
 
 
 def changed(draw, text, name, tokens):

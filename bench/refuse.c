@@ -1,5 +1,5 @@
 /* A library to be loaded before a program (LD_PRELOAD): it refuses requests for memory.
-   REFUSE_AT=7 refuses the 7th request, REFUSE_FROM=7 the 7th and all after it.
+   REFUSE_AT=7 refuses the 7th request, REFUSE_FROM=7 the 7th and all after it, and so does a call of refuse_requests (cases.c).
    It makes the file MARK where it refuses one. */
 #define _GNU_SOURCE
 #include <dlfcn.h>
@@ -14,7 +14,7 @@ static void *(*real_malloc)(size_t), *(*real_calloc)(size_t, size_t), *(*real_re
 static void *(*real_aligned_alloc)(size_t, size_t);
 static int (*real_posix_memalign)(void **, size_t, size_t);
 static void (*real_free)(void *);
-static atomic_ulong made;
+static atomic_ulong made, refused;
 static unsigned long at, from;
 
 /* What is asked for before the real functions are found. */
@@ -47,15 +47,29 @@ __attribute__((constructor)) static void begin(void) {
     atomic_store(&made, 0);
 }
 
+/* From now on the request with the one number is refused, or all from the other number on; 0 is none. */
+void refuse_requests(unsigned long one, unsigned long first) {
+    at = one;
+    from = first;
+    atomic_store(&made, 0);
+    atomic_store(&refused, 0);
+}
+
+/* How many were refused since then; no more are. */
+unsigned long refused_requests(void) {
+    at = from = 0;
+    return atomic_load(&refused);
+}
+
 static int is_refused(void) {
     unsigned long number = atomic_fetch_add(&made, 1) + 1;
-    int refused = (at && number == at) || (from && number >= from);
-    if (refused) {
-        int file = open(getenv("MARK"), O_CREAT | O_WRONLY, 0600);
-        if (file >= 0) close(file);
-        errno = ENOMEM;
-    }
-    return refused;
+    if (!(at && number == at) && !(from && number >= from)) return 0;
+    const char *mark = getenv("MARK");
+    int file = mark && !atomic_load(&refused) ? open(mark, O_CREAT | O_WRONLY, 0600) : -1;
+    if (file >= 0) close(file);
+    atomic_fetch_add(&refused, 1);
+    errno = ENOMEM;
+    return 1;
 }
 
 void *malloc(size_t size) {

@@ -19,7 +19,7 @@ from refused import Refuser
 
 SOURCE = os.path.join(TOP, "bench", "sessions", "session_trial")
 USES = "ir_ast ir_text certs certificate edit_text recheck"
-WITHOUT = (1, "memory\n", "")
+WITHOUT = (1, b"memory\n", b"", None)
 
 
 def main():
@@ -29,8 +29,9 @@ def main():
     options = parser.parse_args()
     program = options.program or build(options.scratch, SOURCE, USES, [])
     with tempfile.TemporaryDirectory() as folder:
-        wrong = Refuser(os.path.abspath(program), folder).refuse_each("session", "", 1, ["REFUSE_AT"], WITHOUT)
-    sys.exit(1 if wrong else 0)
+        refuser = Refuser(os.path.abspath(program), folder)
+        refuser.refuse_each("session", "", 1, [False], WITHOUT)
+    sys.exit(1 if refuser.wrong else 0)
 
 
 if __name__ == "__main__":

@@ -4,18 +4,22 @@
     stops.py DGC [--traces N] [--seed S] [--steps N]
 
 Draws N accepted modules with a trace of S steps: which function each of 1 to 4 threads begins at, which of them are late, how many
-cells there are, and which actor makes each step. For each step of the trace all later steps of its actor are left out. Each such
-trace has to be replayed as `sound`, with status 0. Prints how many were. Ends with 1 where one was not, and says which. For use by hand.
+cells there are, and which actor makes each step. Every second module is migrated to opaque pointers. For each step of the trace all
+later steps of its actor are left out. Each such trace has to be replayed as `sound`, with status 0. Many replays are made in one
+process (cases.c). Prints how many were sound. Ends with 1 where one was not, and says which. For use by hand.
 """
 import argparse
 import itertools
 import os
 import random
-import subprocess
 import sys
 import tempfile
 
+from cases import Case, Runner
 from drawn import draw_module
+from make import shapes_of
+
+SECONDS = 60
 
 
 def drawn_head(draw, ends):
@@ -45,6 +49,20 @@ def stopped_at(actors, step):
     return actors[:step + 1] + [actor for actor in actors[step + 1:] if actor != actors[step]]
 
 
+def migrated(runner, module, certificate):
+    """The text of a module with opaque pointers, and its shapes."""
+    texts = {"m.ll": module.encode(), "m.cert": certificate.encode()}
+    of_module, of_certificate = runner.run_all([Case(["migrate", "m.ll"], texts), Case(["migrate", "m.ll", "m.cert"], texts)])
+    return of_module.stdout.decode(), shapes_of(of_certificate.stdout.decode())
+
+
+def replays(module, shapes, traces):
+    """The replay of each of these traces."""
+    texts = {"m.ll": module.encode()} | ({"m.shapes": shapes.encode()} if shapes else {})
+    words = ["replay", "m.ll", "m.trace", *(["--shapes", "m.shapes"] if shapes else [])]
+    return [Case(words, {**texts, "m.trace": trace.encode()}) for trace in traces]
+
+
 def main():
     asked = argparse.ArgumentParser()
     asked.add_argument("dgc", type=os.path.abspath)
@@ -54,23 +72,20 @@ def main():
     options = asked.parse_args()
     draw = random.Random(options.seed)
     stops = wrong = 0
-    with tempfile.TemporaryDirectory() as folder:
-        module, trace = os.path.join(folder, "m.ll"), os.path.join(folder, "m.trace")
+    with tempfile.TemporaryDirectory(dir="/dev/shm" if os.path.isdir("/dev/shm") else None) as folder:
+        runner = Runner(options.dgc, folder, SECONDS)
         for number in range(options.traces):
-            text, _, ends = draw_module(draw)
-            with open(module, "w") as file:
-                file.write(text)
+            module, certificate, ends = draw_module(draw)
             head, threads = drawn_head(draw, ends)
             actors = drawn_actors(draw, threads, options.steps)
-            for step in range(options.steps):
-                left = stopped_at(actors, step)
-                with open(trace, "w") as file:
-                    file.write(trace_of(head, left))
-                ran = subprocess.run([options.dgc, "replay", module, trace], capture_output=True, text=True, timeout=60)
-                stops += 1
-                if ran.returncode != 0 or not ran.stdout.startswith(f"sound {len(left)}\n"):
+            module, shapes = migrated(runner, module, certificate) if number % 2 else (module, "")
+            left = [stopped_at(actors, step) for step in range(options.steps)]
+            ended = runner.run_all(replays(module, shapes, [trace_of(head, one) for one in left]))
+            stops += len(left)
+            for step, (one, end) in enumerate(zip(left, ended)):
+                if end.signal or end.status or not end.stdout.startswith(b"sound %d\n" % len(one)):
                     wrong += 1
-                    print(f"trace {number}, {actors[step]} stops after step {step + 1}: status {ran.returncode}\n{ran.stdout}{ran.stderr}")
+                    print(f"trace {number}, {actors[step]} stops after step {step + 1}: {end}")
     print(f"{options.traces} traces, {stops} stops, {wrong} not sound")
     sys.exit(1 if wrong else 0)
 

@@ -1,0 +1,72 @@
+; A barrier is left out where a node is taken from a list, which a third thread walks.
+%Node = type { i64, %Node* }
+@top = global %Node* null
+declare i8* @dg_alloc(i32)
+declare void @dg_safepoint()
+declare void @llvm.gcroot(i8**, i8*)
+declare i8* @llvm.gcread(i8*, i8**)
+declare void @llvm.gcwrite(i8*, i8*, i8**)
+define void @push() gc "shadow-stack" {
+entry:
+  br label %again
+again:
+  call void @dg_safepoint()
+  %a = call i8* @dg_alloc(i32 0)
+  %x = bitcast i8* %a to %Node*
+  %none = icmp eq %Node* %x, null
+  br i1 %none, label %again, label %put
+put:
+  %o = load %Node*, %Node** @top
+  %f = getelementptr %Node, %Node* %x, i32 0, i32 1
+  store %Node* %o, %Node** %f
+  call void @llvm.gcwrite(i8* %a, i8* null, i8** bitcast (%Node** @top to i8**))
+  br label %again
+}
+
+define void @pop() gc "shadow-stack" {
+entry:
+  %s = alloca %Node*
+  %r = bitcast %Node** %s to i8**
+  call void @llvm.gcroot(i8** %r, i8* null)
+  br label %again
+again:
+  call void @dg_safepoint()
+  %o = load %Node*, %Node** @top
+  %empty = icmp eq %Node* %o, null
+  br i1 %empty, label %again, label %some
+some:
+  store %Node* %o, %Node** %s
+  %f = getelementptr %Node, %Node* %o, i32 0, i32 1
+  %n = load %Node*, %Node** %f
+  store %Node* %n, %Node** @top
+  call void @dg_safepoint()
+  %y = load %Node*, %Node** %s
+  %p = getelementptr %Node, %Node* %y, i32 0, i32 0
+  store i64 1, i64* %p
+  br label %again
+}
+
+define void @sum() gc "shadow-stack" {
+entry:
+  %s = alloca %Node*
+  %r = bitcast %Node** %s to i8**
+  call void @llvm.gcroot(i8** %r, i8* null)
+  br label %again
+again:
+  call void @dg_safepoint()
+  %first = load %Node*, %Node** @top
+  store %Node* %first, %Node** %s
+  br label %walk
+walk:
+  %n = load %Node*, %Node** %s
+  %end = icmp eq %Node* %n, null
+  br i1 %end, label %again, label %step
+step:
+  %p = getelementptr %Node, %Node* %n, i32 0, i32 0
+  %v = load i64, i64* %p
+  %f = getelementptr %Node, %Node* %n, i32 0, i32 1
+  %next = load %Node*, %Node** %f
+  store %Node* %next, %Node** %s
+  call void @dg_safepoint()
+  br label %walk
+}
