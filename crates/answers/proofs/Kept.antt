@@ -12,8 +12,8 @@ use Rattle.certs.specs.declared.section.Section.{Section}
 use Rattle.layout.specs.Layouts.{LaidOut}
 use Rattle.block_rules.specs.InstrContext.{block_body, body_of}
 use Rattle.block_rules.specs.declared.block_fault.Refusal.{Refusal}
-use Rattle.locality.specs.Local.{with_functions, laid_with, interface_of, called_by, IfThere, OfEachCalled, LooksSame, SameScope}
-use Rattle.locality.specs.Laws.{StayCertified, StayRefused}
+use Rattle.answers.specs.Local.{with_functions, laid_with, interface_of, called_by, IfThere, OfEachCalled, LooksSame, SameScope}
+use Rattle.answers.specs.Laws.{StayCertified, StayRefused}
 use Rattle.answers.specs.Answers.{IsAnswer, AreAnswers, AreAnswersSoFar}
 use Rattle.answers.specs.Edited.{is_number, instruction_calls, block_calls, calls, calls_it, is_caller, callers_below, touched, AreWithin, AreAnswersTo, put_first, IsEdited}
 use Rattle.answers.specs.declared.callers.Callers.{Callers}

@@ -11,8 +11,8 @@ use Rattle.layout.specs.Layouts.{LaidOut}
 use Rattle.facts.specs.Facts.{FactSet}
 use Rattle.block_rules.specs.Certified.{context_of}
 use Rattle.block_check.specs.Rows.{given_all, AreRowsIn, AreRowsOf}
-use Rattle.locality.specs.Laws.{StayGiven}
-use Rattle.locality.specs.Local.{laid_with}
+use Rattle.answers.specs.Laws.{StayGiven}
+use Rattle.answers.specs.Local.{laid_with}
 use Rattle.answers.specs.KeptRows.{rows_at, AreEmpty, AreKept, AreOthersKept, StayKept, RowsStay, OthersStay}
 
 abbrev Places : Type 0

@@ -8,7 +8,7 @@ use Rattle.ir_ast.specs.declared.module.Module.{Module}
 use Rattle.certs.specs.declared.section.Section.{Section}
 use Rattle.layout.specs.Layouts.{LaidOut}
 use Rattle.block_rules.specs.declared.block_fault.Refusal.{Refusal}
-use Rattle.locality.specs.Local.{laid_with, called_by, LooksSame}
+use Rattle.answers.specs.Local.{laid_with, called_by, LooksSame}
 use Rattle.answers.specs.Answers.{IsAnswer}
 use Rattle.answers.specs.declared.callers.Callers.{Callers}
 use Rattle.answers.specs.declared.callers.Callers.TheVariants.{SeeChange, SeeNone}

@@ -5,7 +5,7 @@ use Rattle.certs.specs.declared.section.Section.{Section}
 use Rattle.layout.specs.Layouts.{LaidOut}
 use Rattle.facts.specs.Facts.{FactSet}
 use Rattle.block_check.specs.Rows.{AreRowsOf}
-use Rattle.locality.specs.Local.{laid_with}
+use Rattle.answers.specs.Local.{laid_with}
 use Rattle.answers.specs.Edited.{IsEdited}
 use Rattle.answers.specs.declared.callers.Callers.{Callers}
 

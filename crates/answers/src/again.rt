@@ -11,13 +11,13 @@ use crate::answers::answer_to;
 use crate::callers::{Callers, touched_by};
 use crate::kept_functions::KeptFunctions;
 use crate::kept_rows::KeptRows;
+use crate::locality::locality_law;
 use block_check::rows;
 use block_rules::Refusal;
 use certs::Certs;
 use ir_ast::FuncId;
 use items::Items;
 use layout::Program;
-use locality::locality_law;
 use std::alloc::{AllocError, Global};
 
 /// Finds what the blocks of a function begin with, and keeps it, if there is memory for it. It is not kept of the function that was

@@ -1,6 +1,6 @@
 //! Which functions call a function.
 ghost use Rattle.std.specs.Prelude.{◌≡◌, ◌∷◌, [], length, IfOk, OnOk};
-ghost use Rattle.locality.specs.Local as local;
+ghost use Rattle.answers.specs.Local as local;
 ghost use Rattle.answers.specs.Edited as spec;
 
 use ir_ast::{Block, FuncId, Function, Instr, Module, Op, SymbolSort};

@@ -8,6 +8,7 @@ mod callers;
 mod kept_functions;
 mod kept_rows;
 mod laws;
+mod locality;
 
 pub use again::answers_again;
 pub use answers::{answers_to, first_refusal};
@@ -15,3 +16,4 @@ pub use callers::{Callers, touched_by};
 pub use kept_functions::KeptFunctions;
 pub use kept_rows::KeptRows;
 pub use laws::rows_law;
+pub use locality::{fit_law, locality_law};

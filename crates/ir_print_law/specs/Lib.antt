@@ -23,3 +23,5 @@ pub mod Growing
 pub mod Ends
 pub mod Stars
 pub mod Readings
+pub mod Places
+pub mod Standing

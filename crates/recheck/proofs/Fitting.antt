@@ -24,7 +24,7 @@ use Rattle.edit_text.specs.declared.edit.Edit.{Edit}
 use Rattle.edit_text.specs.declared.edit.Edit.TheVariants as edit
 use Rattle.function_text.specs.Replaced.{IsReplaced, put_function}
 use Rattle.layout.specs.Functions.{with_functions}
-use Rattle.locality.specs.Laws.{FitAlone, RootsFitAlone}
+use Rattle.answers.specs.Laws.{FitAlone, RootsFitAlone}
 use Rattle.recheck.specs.Edits.{kept_text, module_in, IsReadAt, IsPut, IsShapedSection}
 use Rattle.recheck.specs.RootShapes.{missing_root}
 use Rattle.recheck.specs.Fitting.{EditsKeepFitting, IsFitting}

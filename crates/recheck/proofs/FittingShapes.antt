@@ -20,7 +20,7 @@ use Rattle.certs.specs.RootNames.{root_names}
 use Rattle.certs.specs.ShapesFit.{all_shapes_fit, body_fits, global_fits, op_fits, root_of, root_row_fits, roots_fit, row_fits, shape_fits, shapes_fit, slot_fits}
 use Rattle.function_text.specs.Replaced.{put_function}
 use Rattle.layout.specs.Functions.{with_functions}
-use Rattle.locality.specs.Laws.{RootsFitAlone}
+use Rattle.answers.specs.Laws.{RootsFitAlone}
 use Rattle.recheck.specs.RootShapes.{is_shaped, missing_from, missing_of, missing_root}
 
 all_true : {A : Type 0} (test : A → Bool) (xs : List A) → ((x : A) → test x ≡ true) → list_all test xs ≡ true

@@ -4,7 +4,7 @@ use Rattle.lemmas.specs.Bools.{and_first, and_second}
 use Rattle.ir_ast.specs.declared.function.Function.{Function}
 use Rattle.ir_ast.specs.declared.function.Parameter.{Parameter}
 use Rattle.certs.specs.declared.section.Section.{Section}
-use Rattle.locality.specs.Local.{types_of, interface_of}
+use Rattle.answers.specs.Local.{types_of, interface_of}
 use Rattle.recheck.specs.Interface.{same_types, all_written}
 
 -- the types of parameters, by which they are compared

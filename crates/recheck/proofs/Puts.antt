@@ -9,7 +9,7 @@ use Rattle.certs.specs.declared.certs.Certs.{Certs}
 use Rattle.certs.specs.declared.section.Section.{Section}
 use Rattle.layout.specs.Functions.{laid_with}
 use Rattle.layout.specs.Layouts.{LaidOut}
-use Rattle.locality.specs.Local.{interface_of, LooksSame}
+use Rattle.answers.specs.Local.{interface_of, LooksSame}
 use Rattle.answers.specs.Edited.{IfUnseen, IsEdited}
 use Rattle.answers.specs.declared.callers.Callers.{Callers}
 use Rattle.answers.specs.declared.callers.Callers.TheVariants.{SeeChange, SeeNone}

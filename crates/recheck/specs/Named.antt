@@ -3,7 +3,7 @@ use Rattle.std.specs.Prelude.{ℕ, nat_lt, if◌then◌else◌, length, slice_ge
 use Rattle.ir_ast.specs.Names.{place_of}
 use Rattle.ir_ast.specs.declared.module.Module.{Module}
 use Rattle.ir_tokens.specs.Bytes.{Text}
-use Rattle.locality.specs.Local.{function_of_sort}
+use Rattle.answers.specs.Local.{function_of_sort}
 
 -- the function that a global name stands for, by the number of the name
 abbrev pub defined_as : Module → (symbol : ℕ) → Option ℕ

@@ -1,5 +1,5 @@
 //! The code of one function, read anew and put in the place of another with its section.
-ghost use Rattle.std.specs.Prelude.{◌≡◌, ◌≢◌, ◌<◌, None, length, IfOk, IfErr, IfSome, OnOk, OnErr};
+ghost use Rattle.std.specs.Prelude.{◌≡◌, ◌≢◌, ◌<◌, None, Some, length, IfOk, IfErr, IfSome, OnOk, OnErr};
 ghost use Rattle.answers.specs.Answers.{AreAnswers};
 ghost use Rattle.answers.specs.KeptRows.{AreKept};
 ghost use Rattle.certs.specs.declared.section.Section.{Section as ASection};
@@ -19,11 +19,12 @@ use crate::put::{answer_all, function_at, put_in_place, read_text};
 use crate::tables::same_tables;
 use certs::Certs;
 use copies::{Tables, copy_tables};
-use function_text::{copy_first, name_of, read_function, replace};
+use function_text::{Replacement, copy_first, name_of, read_function, replace};
 use ir_ast::{FuncId, Function, Module};
 use ir_print_law::grown_law;
 use layout::{LayoutFault, Program, layouts_stay_law, wants_shapes};
 use std::alloc::{AllocError, Global};
+use std::mem;
 
 /// Tables of a module for the reader of code: those that are ready, or else copies.
 fn take_tables(
@@ -39,6 +40,13 @@ fn take_tables(
         Some(tables) => Ok(tables),
         None => copy_tables(alloc, of_module),
     }
+}
+
+/// The tables with which a function was read are ready.
+fn keep_tables(ready: &mut Option<Tables>, read: Replacement)
+    ensures { ready.new ≡ Some read.tables }
+{
+    *ready = Some(read.tables);
 }
 
 /// The function of a text, where the text adds nothing to the tables of the module. Then these are ready once more.
@@ -63,14 +71,18 @@ fn read_within(
         Err(fault) => return Err(EditFault::from(fault)),
     };
     if !same_tables(of_module, &read.tables) {
+        drop(read);
         return Ok(None);
     }
     match copy_first(alloc, read.functions.as_slice()) {
         Ok(function) => {
-            *ready = Some(read.tables);
+            keep_tables(ready, read);
             Ok(function)
         }
-        Err(_) => Err(EditFault::Memory),
+        Err(_) => {
+            drop(read);
+            Err(EditFault::Memory)
+        }
     }
 }
 
@@ -93,6 +105,7 @@ fn read_code(
         Err(fault) => return Err(EditFault::from(fault)),
     };
     if wants_shapes(&replaced) {
+        drop(replaced);
         return Err(EditFault::ShapesWanted);
     }
     Ok(replaced)
@@ -107,6 +120,13 @@ fn without_layouts(fault: LayoutFault) -> EditFault
         LayoutFault::Memory => EditFault::Memory,
         _ => unreachable!(),
     }
+}
+
+/// The program is this one from now on.
+fn put_program(program: &mut Program, anew: Program)
+    ensures { program.new ≡ anew }
+{
+    drop(mem::replace(program, anew));
 }
 
 /// Puts the function and the section of two texts in the place of those that are there, where the code may add to the tables.
@@ -158,13 +178,14 @@ fn put_anew(
     let old = function_at(program.module(), func);
     match answer_all(alloc, &anew, certs, func, old, &past, &mut kept.functions) {
         Ok(count) => {
-            *program = anew;
-            kept.tables = None;
+            drop(past);
+            put_program(program, anew);
+            drop(kept.tables.take());
             Ok(count)
         }
         Err(_) => {
             drop(anew);
-            certs.replace(func, past);
+            drop(certs.replace(func, past));
             Err(EditFault::Memory)
         }
     }

@@ -2,7 +2,7 @@
 ghost use Rattle.std.specs.Prelude.{◌≡◌, ◌+◌, Some, true, false, length, slice_get};
 ghost use Rattle.answers.specs.Edited.{IfUnseen};
 ghost use Rattle.ir_ast.specs.declared.module.Module.{Module as AModule};
-ghost use Rattle.locality.specs.Local.{interface_of};
+ghost use Rattle.answers.specs.Local.{interface_of};
 ghost use Rattle.recheck.specs.Interface as spec;
 
 use answers::Callers;

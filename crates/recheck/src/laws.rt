@@ -1,7 +1,7 @@
 ghost use Rattle.recheck.specs.Fitting.{EditsKeepFitting};
 
+use answers::fit_law;
 use certificate::cert_law;
-use locality::fit_law;
 
 /// Certificates that fit the module fit it after each edit that adds nothing to the module's tables: each edit of a section, and each of
 /// code that mentions no new name and no new type.

@@ -25,7 +25,7 @@ use Rattle.moves.specs.Runs.{collector_after, run_by}
 use Rattle.moves.specs.Shared.{held_at, ThreadStateAfter}
 use Rattle.moves.specs.Stands.{cells_to_try, phase_at, standing}
 use Rattle.stepping.specs.Reach.{IsSchemaOf}
-use Rattle.run_law.specs.Growth.{IsInHeap}
+use Rattle.stepping.specs.Growth.{IsInHeap}
 use Rattle.stepping.specs.declared.acting.Actors.{Actors}
 use Rattle.stepping.specs.declared.beginning.NewThread.{NewThread}
 use Rattle.stepping.specs.Starts.{value_at_start, IsRowAtStart, AreRowsAtStart, stage_at_start, call_phase_at_start, thread_state_at_start}

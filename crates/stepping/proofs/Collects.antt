@@ -27,7 +27,7 @@ use Rattle.moves.specs.Drawn.{drawn, moved-found}
 use Rattle.stepping.specs.Reach.{FreesNothing, LosesNothing}
 use Rattle.stepping.specs.Loss.{IsTold}
 use Rattle.stepping.specs.declared.loss.Loss.{Loss}
-use Rattle.run_law.specs.Growth.{CollectorIsAfter, MotionGrows, with_stored}
+use Rattle.stepping.specs.Growth.{CollectorIsAfter, MotionGrows, with_stored}
 use Rattle.stepping.specs.declared.acting.Actors.{Actors}
 use Rattle.stepping.specs.declared.happening.Happening.TheVariants as made
 use Rattle.stepping.specs.declared.happening.MadeStep.{MadeStep}

@@ -1,3 +1,16 @@
+pub mod Frees
+pub mod Births
+pub mod Stages
+pub mod Rows
+pub mod Places
+pub mod Shapes
+pub mod Words
+pub mod Chosen
+pub mod Moves
+pub mod Hints
+pub mod BoundsOfThreads
+pub mod Turns
+pub mod Motions
 pub mod Schemas
 pub mod Meetings
 pub mod Wholes

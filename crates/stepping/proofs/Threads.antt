@@ -26,7 +26,7 @@ use Rattle.stepping.specs.Reach.{AddsNothing, LosesNothing}
 use Rattle.stepping.specs.Loss.{IsTold}
 use Rattle.stepping.specs.declared.loss.Loss.{Loss}
 use Rattle.stepping.specs.declared.loss.Loss.TheVariants.{Nothing, Possible}
-use Rattle.run_law.specs.Growth.{ThreadIsAfter, MoveGrows}
+use Rattle.stepping.specs.Growth.{ThreadIsAfter, MoveGrows}
 use Rattle.stepping.specs.declared.acting.Actors.{Actors}
 use Rattle.stepping.specs.declared.happening.Happening.TheVariants as happening
 use Rattle.stepping.specs.Ends.{AreAfterSteps, IsEnd, IsOneStep}

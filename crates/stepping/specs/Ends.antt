@@ -18,7 +18,7 @@ use Rattle.moves.specs.Shared.{ThreadStateAfter}
 use Rattle.moves.specs.Stands.{standing}
 use Rattle.stepping.specs.Reach.{IsSchemaOf, IsFirstGone, LosesNothing}
 use Rattle.stepping.specs.Loss.{IsTold}
-use Rattle.run_law.specs.Growth.{IsInHeap}
+use Rattle.stepping.specs.Growth.{IsInHeap}
 use Rattle.stepping.specs.declared.acting.Actors.{Actors}
 use Rattle.stepping.specs.declared.happening.Happening.{Happening}
 use Rattle.stepping.specs.declared.happening.Happening.TheVariants.{Thread, Collector}

@@ -1,3 +1,5 @@
+pub mod Bounds
+pub mod Growth
 pub mod Reach
 pub mod Walks
 pub mod Starts

@@ -12,13 +12,13 @@ ghost use Rattle.stepping.specs.Ends.{AreAfterSteps, IsStep, IsOneStep};
 use crate::beginning::{NewThread, shared_at_start, stands_at_start};
 use crate::cover::{Cover, after_turn, stored_by, walked_on};
 use crate::gone::{Gone, HeapSchema};
+use crate::growth_laws::growth_law;
 use crate::happening::{Happening, MadeStep};
 use crate::laws::loss_law;
 use crate::loss::{loss_of_move, loss_of_turn};
 use crate::roots::{new_roots, roots_under_way};
 use crate::walk::{Walk, walk_from};
 use moves::{Actor, Runner, Shared, ThreadState, broken_by, go_on, next_move};
-use run_law::growth_law;
 use std::alloc::{AllocError, Global};
 use trace_sweep::Collector;
 

@@ -1,7 +1,8 @@
 use Rattle.std.proofs.Common.{◌≡◌, ◌<◌, ℕ, Some, inl, slice_get, refl, ap, subst, sym}
 use Rattle.ir_ast.specs.declared.module.Module.{Module}
 use Rattle.answers.specs.declared.kept_functions.KeptFunctions.{KeptFunctions}
-use Rattle.layout.specs.Layouts.{AreLayouts}
+use Rattle.layout.specs.Layouts.{AreLayouts, LaidOut}
+use Rattle.recheck.specs.Put.{IsBothPut}
 use Rattle.recheck.proofs.Edited.{the_code, code_accepted, code_refused, code_same, only_section, with_code, section_of_code, both_anew}
 use Rattle.recheck.proofs.Grown.{layouts_of_replaced}
 use Rattle.recheck.proofs.Puts.{certs_back, as_many_sections}
@@ -54,10 +55,11 @@ returns-in-Err-new-clause-only_fault c =
 pub returns-in-Ok-answer_all-clause-put : goal.returns-in-Ok-answer_all-clause-put
 returns-in-Ok-answer_all-clause-put c =
     let read = the_code c.args.program.now.of_module c.module.result.now c.module.ensures.of_module c.args.func c.args.code.now c.in-Ok.of_module c.in-Ok.ensures.found c.in-Ok.ensures.one c.in-Ok.ensures.only_fault in
-    both_anew c.args.program.now c.in-Ok-new.anew c.args.certs.now.sections c.replace-past.new.self.sections c.args.func c.function_at-old.result.now c.replace-past.result c.in-Ok-read_text.section c.in-Ok.of_module c.args.code.now c.args.text.now c.in-Ok-answer_all.count
+    subst (λ (p : LaidOut). IsBothPut c.args.program.now c.args.certs.now.sections c.args.func c.args.code.now c.args.text.now p c.replace-past.new.self.sections c.in-Ok-answer_all.count) (sym c.put_program.ensures)
+    (both_anew c.args.program.now c.in-Ok-new.anew c.args.certs.now.sections c.replace-past.new.self.sections c.args.func c.function_at-old.result.now c.replace-past.result c.in-Ok-read_text.section c.in-Ok.of_module c.args.code.now c.args.text.now c.in-Ok-answer_all.count
     read.is_read.0 c.in-Ok-read_text.ensures.found c.in-Ok-new.ensures.found c.replace-past.ensures.new
     (subst (λ (m : Module). slice_get m.functions c.args.func ≡ Some c.function_at-old.result.now) c.module-2.ensures.of_module c.function_at-old.ensures)
-    c.replace-past.ensures.given_back c.in-Ok-answer_all.ensures.count
+    c.replace-past.ensures.given_back c.in-Ok-answer_all.ensures.count)
 
 pub returns-in-Ok-answer_all-clause-only_fault : goal.returns-in-Ok-answer_all-clause-only_fault
 returns-in-Ok-answer_all-clause-only_fault c =

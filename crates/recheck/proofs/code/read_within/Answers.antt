@@ -1,6 +1,7 @@
-use Rattle.std.proofs.Common.{List, slice_get, ap, ◌∙◌}
+use Rattle.std.proofs.Common.{List, slice_get, ap, ◌∙◌, subst, sym}
 use Rattle.ir_ast.specs.declared.function.Function.{Function}
 use Rattle.recheck.specs.Edits.{code_fault}
+use Rattle.recheck.specs.Put.{AreReady}
 use Rattle.recheck.proofs.Faults.{refused_for_memory}
 use Rattle.recheck.proofs.Within.{AreTables, tables_same, some_found, some_one, within_unread, within_accepted, within_refused, within_same}
 use Rattle.recheck.proofs.code.read_within.Goals as goal
@@ -47,4 +48,5 @@ returns-in-Ok-copy_first-clause-ready c =
     let yes = c.if-not-same_tables.false in
     let are : AreTables c.args.of_module.now c.in-Ok.read.tables =
     record { types = same.types yes; struct_names = same.struct_names yes; struct_of = same.struct_of yes; symbols = same.symbols yes } in
-    tables_same c.args.of_module.now c.args.func c.args.code.now c.in_ok-tables.tables c.name_of.result.now c.in_ok-tables.ensures.tables c.name_of.ensures c.in-Ok.read c.in-Ok.ensures.found are
+    subst (AreReady c.args.of_module.now) (sym c.keep_tables.ensures)
+    (tables_same c.args.of_module.now c.args.func c.args.code.now c.in_ok-tables.tables c.name_of.result.now c.in_ok-tables.ensures.tables c.name_of.ensures c.in-Ok.read c.in-Ok.ensures.found are)

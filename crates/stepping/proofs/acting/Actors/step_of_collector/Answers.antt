@@ -2,7 +2,7 @@
 use Rattle.std.proofs.Common.{false, refl, sym, ap, ◌∙◌}
 use Rattle.runs.specs.Machine.{machine_of}
 use Rattle.moves.specs.Runs.{run_by}
-use Rattle.run_law.specs.Growth.{with_stored}
+use Rattle.stepping.specs.Growth.{with_stored}
 use Rattle.stepping.proofs.Collects.{collector_is_after, collected-none, collected, stored-none, with-words}
 use Rattle.stepping.proofs.acting.Actors.step_of_collector.Goals as goal
 use Rattle.stepping.proofs.acting.Actors.step_of_collector.Goals.{in-Some, in_default}

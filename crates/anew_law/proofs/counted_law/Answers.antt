@@ -1,8 +1,0 @@
-use Rattle.anew_law.proofs.Alone.{are_counted, stay_counted}
-use Rattle.anew_law.proofs.counted_law.Goals as goal
-
-pub returns-clause-read : goal.returns-clause-read
-returns-clause-read c = are_counted
-
-pub returns-clause-replaced : goal.returns-clause-replaced
-returns-clause-replaced c = stay_counted

@@ -1,9 +1,0 @@
-use Rattle.anew_law.proofs.Alone.{read_alone}
-use Rattle.anew_law.proofs.Law.{read_anew}
-use Rattle.anew_law.proofs.read_alone_law.Goals as goal
-
-pub returns-clause-whole : goal.returns-clause-whole
-returns-clause-whole c = read_alone
-
-pub returns-clause-place : goal.returns-clause-place
-returns-clause-place c = read_anew

@@ -1,0 +1,126 @@
+-- Operands and lists of them are read alike in both.
+use Rattle.std.proofs.Common.{◌≡◌, ℕ, Bool, true, false, not, List, Option, refl, sym, ap, subst, ◌∙◌}
+use Rattle.std.specs.Prelude.{◌&&◌, ◌||◌, is_some, unwrap_or}
+use Rattle.grammar.specs.Grammar.{pure, ◌>>◌}
+use Rattle.ir_ast.specs.declared.operand.Constant.{Constant}
+use Rattle.ir_ast.specs.declared.operand.Constant.TheVariants as c
+use Rattle.ir_ast.specs.declared.operand.Operand.TheVariants as o
+use Rattle.ir_tokens.specs.declared.token.Kind.{Kind}
+use Rattle.ir_tokens.specs.declared.token.Kind.TheVariants as k
+use Rattle.ir_forms.specs.Cursor.{kind_after, sees, start}
+use Rattle.ir_forms.specs.Number as numbers
+use Rattle.ir_forms.specs.declared.fault.Fault.TheVariants.{OutOfRange}
+use Rattle.ir_forms.specs.declared.input.Input.{Input}
+use Rattle.ir_forms.specs.declared.written.WrittenType.{WrittenType}
+use Rattle.ir_forms.specs.declared.decorating.Spot.TheVariants as spot
+use Rattle.ir_forms.specs.Input.{unread, skip, sees_is}
+use Rattle.ir_forms.specs.Operand.{begins_unread_operand, begins_other_operand, zero_of, truth_of, number_at, number_or_zero, number, constant_by, constant, cast_operand_by, cast_operand, cast_to, cast, operand_by, operand}
+use Rattle.ir_forms.specs.Lists.{at_round, argument_of, argument, argument_takes, arguments, is_metadata, typed, index, any_index, index_takes, at_no_comma, ends_indices, after_index, indices}
+use Rattle.ir_forms.specs.Written.{bits_of}
+use Rattle.ir_print_law.proofs.Seats.{Seat, Beside, spelling_same, sees_same, after_same}
+use Rattle.ir_print_law.proofs.Sim.{Any, Equal, At, Both, Same, past, both, and, then, give, gives, refuses, so, by_kind, kinds, lists, lists_by}
+use Rattle.ir_print_law.proofs.AnewSteps.{takes, skip_same, expect_same, rule}
+use Rattle.ir_print_law.proofs.Names.{used_value_at, used_global_same}
+use Rattle.ir_print_law.proofs.AnewTypes.{Written, bits_same, scalar_at, pointer_type_at}
+use Rattle.ir_print_law.proofs.AnewDecorations.{decorations_same, separator_same}
+
+module _ (s : Seat) where
+  -- ---- constants
+
+  number_at_same : (bits : Option ℕ) (i j : Input) → Beside s i j → number_at bits i ≡ number_at bits j
+  unfolding number_at
+  number_at_same bits i j b = ap (λ (t : List ℕ). numbers.constant t (unwrap_or bits 64)) (spelling_same s i.cursor j.cursor b.along)
+
+  number_is : (bits : Option ℕ) → Both s Equal (number bits) (number bits)
+  unfolding number
+  number_is bits i j = past s (rule s (λ i. is_some (number_at bits i)) (λ i. OutOfRange (start i.cursor)) (λ i j b. ap (λ (n : Option ℕ). is_some n) (number_at_same bits i j b)) i j)
+      (λ i j. takes s {V = Equal} (number_or_zero bits) (number_or_zero bits) i j (λ b. ap (λ (n : Option ℕ). c.Number (unwrap_or n 0)) (number_at_same bits i j b)))
+
+  word : (x : Constant) → Both s Equal (skip >> pure x) (skip >> pure x)
+  word x i j = past s (skip_same s i j) (λ i j. give s {V = Equal} x x refl)
+
+  constant_by_at : (bits : Option ℕ) (x : Kind) → Both s Equal (constant_by bits x) (constant_by bits x)
+  constant_by_at bits k.Number = number_is bits
+  constant_by_at bits k.True = word (truth_of bits true)
+  constant_by_at bits k.False = word (truth_of bits false)
+  constant_by_at bits k.Null = word c.Null
+  constant_by_at bits k.Undef = word (zero_of bits)
+  constant_by_at bits k.Zeroinitializer = word (zero_of bits)
+  constant_by_at bits _ = refuses s (unread begins_unread_operand)
+
+  pub constant_at : (bits : Option ℕ) → Both s Equal (constant bits) (constant bits)
+  unfolding constant
+  constant_at bits i j = kinds s (constant_by bits) (constant_by bits) i j (λ x. constant_by_at bits x i j)
+
+  -- ---- operands
+
+  cast_operand_by_same : (x : Kind) → Same s (cast_operand_by x)
+  cast_operand_by_same k.GlobalName = used_global_same s
+  cast_operand_by_same _ = refuses s (unread begins_other_operand)
+
+  cast_operand_same : Same s cast_operand
+  unfolding cast_operand
+  cast_operand_same = by_kind s cast_operand_by cast_operand_by_same
+
+  cast_to_at : (v u : WrittenType) (g h : ℕ) → Both s Any (cast_to v g) (cast_to u h)
+  cast_to_at v u g h i j =
+      past s (expect_same s k.To i j) (λ i j. and s (pointer_type_at s i j) (λ x y i j. past s (expect_same s k.CloseRound i j) (gives s (o.CastGlobal v.id g x.id) (o.CastGlobal u.id h y.id))))
+
+  cast_same : Same s cast
+  unfolding cast
+  cast_same i j = past s (skip_same s i j) (λ i j. past s (expect_same s k.OpenRound i j) (λ i j. and s (pointer_type_at s i j) (λ v u i j. and s (cast_operand_same i j) (λ g h. cast_to_at v u g h))))
+
+  operand_by_same : (bits : Option ℕ) (x : Kind) → Same s (operand_by bits x)
+  operand_by_same bits k.LocalName i j = and s (used_value_at s i j) (λ a b. gives s (o.Local a) (o.Local b))
+  operand_by_same bits k.LocalNumber i j = and s (used_value_at s i j) (λ a b. gives s (o.Local a) (o.Local b))
+  operand_by_same bits k.GlobalName i j = and s (used_global_same s i j) (λ a b. gives s (o.Global a) (o.Global b))
+  operand_by_same bits k.Bitcast i j = cast_same i j
+  operand_by_same bits _ i j = and s (constant_at bits i j) (λ a b. gives s (o.Constant a) (o.Constant b))
+
+  pub operand_same : (bits : Option ℕ) → Same s (operand bits)
+  unfolding operand
+  operand_same bits = by_kind s (operand_by bits) (operand_by_same bits)
+
+  -- at the types of both
+  pub operand_at : (bits other : Option ℕ) → bits ≡ other → Both s Any (operand bits) (operand other)
+  operand_at bits other same i j = subst (λ (x : Option ℕ). At s Any (operand bits) (operand x) i j) same (operand_same bits i j)
+
+  -- ---- lists
+
+  argument_of_at : (v u : WrittenType) (i j : Input) → Written i j v u → At s Any (argument_of v) (argument_of u) i j
+  argument_of_at v u i j h =
+      past s (decorations_same s spot.Argument i j) (λ m q. and s (operand_at (bits_of v) (bits_of u) (bits_same i j v u h) m q) (λ x y i j.
+      past s (separator_same s k.CloseRound i j) (gives s (record { written = v.id; operand = x }) (record { written = u.id; operand = y }))))
+
+  argument_same : Same s argument
+  unfolding argument
+  argument_same i j = then s (scalar_at s i j) (λ v u m q h x y. argument_of_at v u m q h)
+
+  pub arguments_same : Same s arguments
+  unfolding arguments
+  arguments_same = lists s at_round argument argument_takes (λ i j b. sees_same s k.CloseRound i.cursor j.cursor b.along) argument_same
+
+  pub typed_same : Same s typed
+  unfolding typed
+  typed_same i j = then s (scalar_at s i j) (λ v u m q h x y. and s (operand_at (bits_of v) (bits_of u) (bits_same m q v u h) m q) (λ a b. gives s (record { written = v.id; operand = a }) (record { written = u.id; operand = b })))
+
+  index_same : Same s index
+  unfolding index
+  index_same = both s (expect_same s k.Comma) typed_same
+
+  -- no comma follows in both, or in neither
+  pub comma_same : (i j : Input) → Beside s i j → at_no_comma i ≡ at_no_comma j
+  comma_same i j b = which (sees k.Comma j.cursor) refl where
+    same : sees k.Comma i.cursor ≡ sees k.Comma j.cursor
+    same = sees_same s k.Comma i.cursor j.cursor b.along
+
+    which : (t : Bool) → sees k.Comma j.cursor ≡ t → at_no_comma i ≡ at_no_comma j
+    which false e = ap (λ (x : Bool). not x || is_metadata (kind_after i.cursor)) (same ∙ e) ∙ sym (ap (λ (x : Bool). not x || is_metadata (kind_after j.cursor)) e)
+    which true e =
+        let is = sees_is k.Comma j e in
+        let after = after_same s i.cursor j.cursor b.along (λ close. let one : k.Comma ≡ k.CloseBrace = sym is ∙ close in cc) in
+        ap (λ (x : Bool). not x || is_metadata (kind_after i.cursor)) same ∙ ap (λ (x : Kind). not (sees k.Comma j.cursor) || is_metadata x) after
+
+  pub indices_same : Same s indices
+  unfolding indices
+  indices_same = lists_by s ends_indices any_index index_takes after_index (λ c i j b. ap (λ (x : Bool). c.is_further && x) (comma_same i j b)) (λ c i j. so s {V = Any} (λ o p a b e. refl) (index_same i j)) (record { is_further = false })
