@@ -21,7 +21,7 @@ pub struct Tables {
 pub fn copy_names(alloc: Global, names: &Names) -> Result<Names, AllocError>
     ensures { IfOk result (λ copy. copy ≡ names.now) }
 {
-    let mut copy = Names::new(alloc);
+    let mut copy = Names::new(alloc, names.key());
     for number in 0..names.count() {
         if copy.number(alloc, names.name_at(number))? != number {
             return Err(AllocError);
@@ -34,7 +34,7 @@ pub fn copy_names(alloc: Global, names: &Names) -> Result<Names, AllocError>
 pub fn copy_types(alloc: Global, types: &Types) -> Result<Types, AllocError>
     ensures { IfOk result (λ copy. copy ≡ types.now) }
 {
-    let mut copy = Types::new(alloc);
+    let mut copy = Types::new(alloc, types.key());
     for number in 0..types.count() {
         let Some(written) = types.get(TypeId::new(number as u32)) else {
             return Err(AllocError);

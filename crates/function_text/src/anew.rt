@@ -102,14 +102,23 @@ fn anew(alloc: Global, input: &mut Input<'_>, func: FuncId, name: &[u8]) -> Resu
 fn set_sorts(alloc: Global, input: &mut Input<'_>, sorts: Items<SymbolSort>)
     ensures { input.new ≡ spec.with_sorts sorts input.old }
 {
-    let names = mem::replace(&mut input.symbols.names, Names::new(alloc));
+    let none = Names::new(alloc, input.symbols.names.key());
+    let names = mem::replace(&mut input.symbols.names, none);
     input.symbols = Table { names, sorts };
 }
 
-/// Before the first token, where the names and types of these tables were mentioned.
-fn start_with<'x>(alloc: Global, tables: Tables, cursor: Cursor<'x>) -> Input<'x>
-    ensures { result ≡ spec.start_with tables cursor.entry }
+/// Before the first token of a text, where the names and types of these tables were mentioned. What is new is hashed by a key that
+/// comes from the text too.
+fn start_with<'x>(alloc: Global, tables: Tables, bytes: &'x [u8], lexed: &'x Lexed) -> Input<'x>
+    requires { length bytes.now ≤ text_limit }
+    ensures { result ≡ spec.start_with tables (record { text = bytes.now; rest = lexed.now.tokens; bad = lexed.now.bad }) }
 {
+    let key = tables.symbols.key().with(bytes);
+    let cursor = Cursor::new(bytes, lexed.tokens.as_slice(), lexed.bad);
+    let mut tables = tables;
+    tables.types.set_key(key);
+    tables.struct_names.set_key(key);
+    tables.symbols.set_key(key);
     Input {
         cursor,
         types: tables.types,
@@ -123,7 +132,7 @@ fn start_with<'x>(alloc: Global, tables: Tables, cursor: Cursor<'x>) -> Input<'x
             sorts: tables.sorts,
         },
         symbol_uses: Items::new(alloc),
-        locals: Table::new(alloc),
+        locals: Table::new(alloc, key),
         local_uses: Items::new(alloc),
         values: 0,
         unnamed: 0,
@@ -167,8 +176,7 @@ fn read_lexed<'x>(
     let mut tables = tables;
     let before = sorts_before(alloc, func, tables.sorts.as_slice())?;
     let sorts = mem::replace(&mut tables.sorts, before);
-    let cursor = Cursor::new(bytes, lexed.tokens.as_slice(), lexed.bad);
-    let mut input = start_with(alloc, tables, cursor);
+    let mut input = start_with(alloc, tables, bytes, lexed);
     let fault = match anew(alloc, &mut input, func, name) {
         Ok(()) => {
             set_sorts(alloc, &mut input, sorts);

@@ -1,1 +1,3 @@
 mod Jumps
+mod Coefficients
+mod KeysAgain

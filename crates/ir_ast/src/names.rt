@@ -2,6 +2,8 @@ ghost use Rattle.std.specs.Prelude.{◌≡◌, ◌<◌, ◌≤◌, ◌^◌, [], 
 ghost use Rattle.std.specs.Option.{option_copied};
 ghost use Rattle.ir_ast.specs.Names.{name_at, place_of, number_of, numbered};
 
+use crate::hash_key::HashKey;
+use crate::rehashed::rehash;
 use indexmap::IndexSet;
 use std::alloc::{AllocError, Global};
 use std::marker::Model;
@@ -12,7 +14,9 @@ pub(crate) const TABLE_LIMIT: usize = 1 << 32;
 /// Distinct names, numbered from 0 in the order in which they came.
 #[derive(Drop)]
 pub struct Names {
-    texts: IndexSet<Vec<u8>>,
+    texts: IndexSet<Vec<u8>, HashKey>,
+    /// The key to hash by from the next new name on, where it is another one.
+    next_key: Option<HashKey>,
 }
 
 impl Model for Names {
@@ -26,12 +30,39 @@ impl Model for Names {
 }
 
 impl Names {
-    pub fn new(alloc: Global) -> Self
+    pub fn new(alloc: Global, key: HashKey) -> Self
         ensures { result ≡ [] }
     {
         Names {
-            texts: IndexSet::new(alloc),
+            texts: IndexSet::with_hasher(alloc, key),
+            next_key: None,
         }
+    }
+
+    /// The key by which a new name is hashed.
+    pub fn key(&self) -> HashKey {
+        match self.next_key {
+            Some(key) => key,
+            None => *self.texts.hasher(),
+        }
+    }
+
+    /// Hashes by this key as soon as a name is new. A text that adds nothing leaves the table as it is.
+    pub fn set_key(&mut self, key: HashKey)
+        ensures { self.new ≡ self.old }
+    {
+        self.next_key = Some(key);
+    }
+
+    /// Hashes by the key that is set.
+    fn take_key(&mut self, alloc: Global) -> Result<(), AllocError>
+        ensures { self.new ≡ self.old }
+    {
+        if let Some(key) = self.next_key {
+            rehash(alloc, &mut self.texts, key)?;
+            self.next_key = None;
+        }
+        Ok(())
     }
 
     /// How many names there are.
@@ -81,6 +112,7 @@ impl Names {
             return Err(AllocError);
         }
         let text = Vec::from_slice(alloc, text)?;
+        self.take_key(alloc)?;
         let (number, _) = self.texts.insert_full(text)?;
         Ok(number)
     }

@@ -2,9 +2,11 @@ ghost use Rattle.std.specs.Prelude.{◌≡◌, ◌<◌, ◌≤◌, ◌^◌, ◌+
 ghost use Rattle.ir_ast.specs.Types.{place_of_type, number_of_type, numbered_type};
 ghost use Rattle.ir_ast.specs.Fields.{after_fields, IsJump};
 
+use crate::hash_key::HashKey;
 use crate::ir_type::IrType;
 use crate::jump::Jump;
 use crate::names::TABLE_LIMIT;
+use crate::rehashed::rehash;
 use crate::type_id::TypeId;
 use indexmap::IndexSet;
 use std::alloc::{AllocError, Global};
@@ -14,8 +16,10 @@ use std::marker::Model;
 /// found by about log n of them.
 #[derive(Drop)]
 pub struct Types {
-    each: IndexSet<IrType>,
+    each: IndexSet<IrType, HashKey>,
     jumps: Vec<Jump>,
+    /// The key to hash by from the next new type on, where it is another one.
+    next_key: Option<HashKey>,
 }
 
 impl Model for Types {
@@ -31,13 +35,41 @@ impl Model for Types {
 }
 
 impl Types {
-    pub fn new(alloc: Global) -> Self
+    pub fn new(alloc: Global, key: HashKey) -> Self
         ensures { result ≡ [] }
     {
         Types {
-            each: IndexSet::new(alloc),
+            each: IndexSet::with_hasher(alloc, key),
             jumps: Vec::new(alloc),
+            next_key: None,
         }
+    }
+
+    /// The key by which a new type is hashed.
+    pub fn key(&self) -> HashKey {
+        match self.next_key {
+            Some(key) => key,
+            None => *self.each.hasher(),
+        }
+    }
+
+    /// Hashes by this key as soon as a type is new. A text that adds nothing leaves the table as it is.
+    pub fn set_key(&mut self, key: HashKey)
+        ensures { self.new ≡ self.old }
+    {
+        self.next_key = Some(key);
+    }
+
+    /// Hashes by the key that is set.
+    fn take_key(&mut self) -> Result<(), AllocError>
+        ensures { self.new ≡ self.old }
+    {
+        if let Some(key) = self.next_key {
+            let alloc = *self.each.allocator();
+            rehash(alloc, &mut self.each, key)?;
+            self.next_key = None;
+        }
+        Ok(())
     }
 
     /// How many types there are.
@@ -91,6 +123,7 @@ impl Types {
         ensures types { OnOk result (self.new ≡ self.old ++ written ∷ []) }
         ensures err { OnErr result (self.new ≡ self.old) }
     {
+        self.take_key()?;
         self.jumps.push(jump)?;
         match self.each.insert(written) {
             Ok(_) => Ok(()),

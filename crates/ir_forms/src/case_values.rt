@@ -3,7 +3,7 @@ ghost use Rattle.std.specs.Prelude.{◌≡◌, [], OnOk};
 ghost use Rattle.ir_forms.specs.CaseValues as spec;
 
 use indexmap::IndexSet;
-use ir_ast::Constant;
+use ir_ast::{Constant, HashKey};
 use std::alloc::{AllocError, Global};
 use std::marker::Model;
 
@@ -32,7 +32,7 @@ impl CaseValue {
 /// The values of the cases so far, which are looked up by their hashes.
 #[derive(Drop)]
 pub struct CaseValues {
-    each: IndexSet<CaseValue>,
+    each: IndexSet<CaseValue, HashKey>,
 }
 
 impl Model for CaseValues {
@@ -45,11 +45,11 @@ impl Model for CaseValues {
 }
 
 impl CaseValues {
-    pub fn new(alloc: Global) -> Self
+    pub fn new(alloc: Global, key: HashKey) -> Self
         ensures { result ≡ [] }
     {
         CaseValues {
-            each: IndexSet::new(alloc),
+            each: IndexSet::with_hasher(alloc, key),
         }
     }
 

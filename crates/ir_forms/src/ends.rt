@@ -114,7 +114,7 @@ fn all_cases(
 {
     let first = Cases {
         written: *written,
-        seen: CaseValues::new(alloc),
+        seen: CaseValues::new(alloc, input.types.key()),
     };
     many_with(alloc, input, first)
 }

@@ -9,7 +9,7 @@ use crate::fault::Fault;
 use crate::table::Table;
 use crate::uses::{LocalUse, StructUse, SymbolUse};
 use ir_ast as ast;
-use ir_ast::{Declare, Function, LocalSort, StructType, SymbolSort, Types};
+use ir_ast::{Declare, Function, HashKey, LocalSort, StructType, SymbolSort, Types};
 use ir_tokens::Kind;
 use items::Items;
 use pools::LayoutId;
@@ -43,18 +43,18 @@ pub struct Input<'a> {
 }
 
 impl<'a> Input<'a> {
-    /// Before the first token.
-    pub fn new(alloc: Global, cursor: Cursor<'a>) -> Input<'a>
+    /// Before the first token. The tables hash by this key.
+    pub fn new(alloc: Global, cursor: Cursor<'a>, key: HashKey) -> Input<'a>
         ensures { result ≡ start_of cursor.entry }
     {
         Input {
             cursor,
-            types: Types::new(alloc),
-            struct_names: Table::new(alloc),
+            types: Types::new(alloc, key),
+            struct_names: Table::new(alloc, key),
             struct_uses: Items::new(alloc),
-            symbols: Table::new(alloc),
+            symbols: Table::new(alloc, key),
             symbol_uses: Items::new(alloc),
-            locals: Table::new(alloc),
+            locals: Table::new(alloc, key),
             local_uses: Items::new(alloc),
             values: 0,
             unnamed: 0,

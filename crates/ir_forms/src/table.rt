@@ -5,7 +5,7 @@ ghost use Rattle.ir_forms.specs.Table as spec;
 ghost use Rattle.std.specs.Option.{option_copied};
 
 use crate::cursor::Cursor;
-use ir_ast::Names;
+use ir_ast::{HashKey, Names};
 use items::Items;
 use std::alloc::{AllocError, Global};
 
@@ -17,11 +17,11 @@ pub struct Table<S> {
 }
 
 impl<S: Copy + Drop> Table<S> {
-    pub fn new(alloc: Global) -> Self
+    pub fn new(alloc: Global, key: HashKey) -> Self
         ensures { result ≡ spec.empty }
     {
         Table {
-            names: Names::new(alloc),
+            names: Names::new(alloc, key),
             sorts: Items::new(alloc),
         }
     }

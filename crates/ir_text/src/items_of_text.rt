@@ -1,5 +1,7 @@
 //! Items: struct types, globals, declared and defined functions.
-ghost use Rattle.std.specs.Prelude.{◌≡◌, Ok};
+ghost use Rattle.std.specs.Prelude.{◌≡◌, Ok, IfOk};
+ghost use Rattle.ir_ast.specs.RuntimeNames.{runtime_of};
+ghost use Rattle.ir_forms.specs.Cursor.{spelled};
 ghost use Rattle.ir_forms.specs.Input.{Reads};
 ghost use Rattle.ir_text.specs.ItemsOfText as form;
 
@@ -18,7 +20,7 @@ use ir_forms::{
 };
 use ir_tokens::Kind;
 use items::Items;
-use std::alloc::Global;
+use std::alloc::{AllocError, Global};
 use std::mem;
 
 // ---- struct types
@@ -94,16 +96,10 @@ fn is_constant(alloc: Global, input: &mut Input<'_>) -> Result<bool, Fault>
     }
 }
 
-/// `@g = global T c`
-#[tactic(auto, unfolding(crate::specs::ItemsOfText::global))]
-fn global(alloc: Global, input: &mut Input<'_>) -> Result<(), Fault>
-    ensures { Reads (form.global.read input.old) result input.new }
+/// What follows the name of a global.
+fn global_afterwards(alloc: Global, input: &mut Input<'_>, symbol: SymbolId) -> Result<(), Fault>
+    ensures { Reads ((form.global_afterwards symbol).read input.old) result input.new }
 {
-    if input.globals.len() >= 4096 {
-        return Err(input.limit());
-    }
-    let number = GlobalId::new(input.globals.len() as u32);
-    let symbol = input.new_symbol(alloc, SymbolSort::Global(number))?;
     input.expect(Kind::Equals)?;
     let is_constant = is_constant(alloc, input)?;
     let written = input.held_type(alloc)?;
@@ -119,6 +115,19 @@ fn global(alloc: Global, input: &mut Input<'_>) -> Result<(), Fault>
     Ok(())
 }
 
+/// `@g = global T c`
+#[tactic(auto, unfolding(crate::specs::ItemsOfText::global))]
+fn global(alloc: Global, input: &mut Input<'_>) -> Result<(), Fault>
+    ensures { Reads (form.global.read input.old) result input.new }
+{
+    if input.globals.len() >= 4096 {
+        return Err(input.limit());
+    }
+    let number = GlobalId::new(input.globals.len() as u32);
+    let symbol = input.new_symbol(alloc, SymbolSort::Global(number))?;
+    global_afterwards(alloc, input, symbol)
+}
+
 // ---- functions
 
 /// `void`, which begins no function type.
@@ -130,17 +139,24 @@ fn void_result(input: &mut Input<'_>) -> Result<TypeId, Fault>
     input.intern(IrType::Void)
 }
 
-/// `void`, or a type, with what decorates a declared function and the metadata before that.
-#[tactic(auto, unfolding(crate::specs::ItemsOfText::declared_result))]
-fn declared_result(alloc: Global, input: &mut Input<'_>) -> Result<TypeId, Fault>
-    ensures { Reads (form.declared_result.read input.old) result input.new }
+/// `void`, or a type, with what decorates a declared function.
+fn decorated_result(alloc: Global, input: &mut Input<'_>) -> Result<TypeId, Fault>
+    ensures { Reads (form.decorated_result.read input.old) result input.new }
 {
-    decorations(alloc, input, Spot::Declare)?;
     decorations(alloc, input, Spot::Result)?;
     match input.kind() {
         Kind::Void => void_result(input),
         _ => Ok(input.any_type(alloc)?.id),
     }
+}
+
+/// The metadata of a declared function, and then its result.
+#[tactic(auto, unfolding(crate::specs::ItemsOfText::declared_result))]
+fn declared_result(alloc: Global, input: &mut Input<'_>) -> Result<TypeId, Fault>
+    ensures { Reads (form.declared_result.read input.old) result input.new }
+{
+    decorations(alloc, input, Spot::Declare)?;
+    decorated_result(alloc, input)
 }
 
 /// `void`, or a type that a defined function may return, with what decorates the function.
@@ -166,19 +182,27 @@ fn function_name(alloc: Global, input: &mut Input<'_>, sort: SymbolSort) -> Resu
     }
 }
 
-/// `declare T @f(T, ..)`
-#[tactic(auto, unfolding(crate::specs::ItemsOfText::declaration, crate::specs::Parameters::declared_parameters))]
-fn declaration(alloc: Global, input: &mut Input<'_>) -> Result<(), Fault>
-    ensures { Reads (form.declaration.read input.old) result input.new }
+/// The function of the runtime that is named here, if it is one.
+fn runtime_here(alloc: Global, input: &Input<'_>) -> Result<Option<Runtime>, AllocError>
+    ensures { IfOk result (λ runtime. runtime ≡ runtime_of (spelled input.now.cursor)) }
 {
-    if input.declares.len() >= 65535 {
-        return Err(input.limit());
-    }
-    let number = DeclareId::new(input.declares.len() as u32);
-    input.skip();
-    let returned = declared_result(alloc, input)?;
     let name = input.cursor.spelled(alloc)?;
     let runtime = Runtime::of(name.as_slice());
+    drop(name);
+    Ok(runtime)
+}
+
+/// What follows the result of a declared function.
+#[tactic(auto, unfolding(crate::specs::Parameters::declared_parameters))]
+fn declare_after(
+    alloc: Global,
+    input: &mut Input<'_>,
+    number: DeclareId,
+    returned: TypeId,
+    runtime: Option<Runtime>,
+) -> Result<(), Fault>
+    ensures { Reads ((form.declare_after number returned runtime).read input.old) result input.new }
+{
     let symbol = function_name(alloc, input, SymbolSort::Declared(number))?;
     input.expect(Kind::OpenRound)?;
     let parameters = many::<DeclaredParameters>(alloc, input)?;
@@ -192,6 +216,21 @@ fn declaration(alloc: Global, input: &mut Input<'_>) -> Result<(), Fault>
         parameters,
     })?;
     Ok(())
+}
+
+/// `declare T @f(T, ..)`
+#[tactic(auto, unfolding(crate::specs::ItemsOfText::declaration))]
+fn declaration(alloc: Global, input: &mut Input<'_>) -> Result<(), Fault>
+    ensures { Reads (form.declaration.read input.old) result input.new }
+{
+    if input.declares.len() >= 65535 {
+        return Err(input.limit());
+    }
+    let number = DeclareId::new(input.declares.len() as u32);
+    input.skip();
+    let returned = declared_result(alloc, input)?;
+    let runtime = runtime_here(alloc, input)?;
+    declare_after(alloc, input, number, returned, runtime)
 }
 
 /// The brace before a function's body.
@@ -286,7 +325,8 @@ fn end_function(
     if input.missing.is_none() {
         input.missing = first_missing(&input.locals, input.local_uses.as_slice());
     }
-    let locals = mem::replace(&mut input.locals, Table::new(alloc));
+    let none = Table::new(alloc, input.locals.names.key());
+    let locals = mem::replace(&mut input.locals, none);
     input.local_uses.clear();
     input.values = 0;
     input.unnamed = 0;

@@ -104,8 +104,26 @@ pub fn opaque(alloc: Global, of_module: &Module) -> Result<Module, AllocError>
     ensures { IfOk result (λ made. made ≡ opaque_module of_module.now) }
 {
     let made = opaque_types(alloc, &of_module.types)?;
-    let defined = opaque_defined(alloc, made.numbers.as_slice(), of_module)?;
-    let tables = with_types(alloc, of_module, made)?;
-    let shapes = copy_shapes(alloc, &of_module.shapes)?;
-    Ok(joined(tables, defined, shapes))
+    let defined = match opaque_defined(alloc, made.numbers.as_slice(), of_module) {
+        Ok(defined) => defined,
+        Err(refused) => {
+            drop(made);
+            return Err(refused);
+        }
+    };
+    let tables = match with_types(alloc, of_module, made) {
+        Ok(tables) => tables,
+        Err(refused) => {
+            drop(defined);
+            return Err(refused);
+        }
+    };
+    match copy_shapes(alloc, &of_module.shapes) {
+        Ok(shapes) => Ok(joined(tables, defined, shapes)),
+        Err(refused) => {
+            drop(tables);
+            drop(defined);
+            Err(refused)
+        }
+    }
 }

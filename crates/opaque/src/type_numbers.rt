@@ -58,7 +58,7 @@ pub fn opaque_types(alloc: Global, types: &Types) -> Result<Renumbered, AllocErr
     ensures numbers { IfOk result (λ made. made.numbers ≡ (spec.opaque_types types.now).numbers) }
 {
     let mut made = Renumbered {
-        types: Types::new(alloc),
+        types: Types::new(alloc, types.key()),
         numbers: Items::new(alloc),
     };
     for number in 0..types.count() {

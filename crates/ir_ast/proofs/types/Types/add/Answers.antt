@@ -6,7 +6,7 @@ use Rattle.ir_ast.proofs.types.Types.add.Goals as goal
 
 types_now : (c : goal.In-Ok) → c.insert.new.self.keys ≡ c.args.self.now ++ c.args.written ∷ []
 types_now c =
-    c.in-Ok.ensures.keys ∙ types-are c.args.written c.self.inside.each.keys c.args.self.now c.self.view_is
+    c.in-Ok.ensures.keys ∙ types-are c.args.written c.self.inside.each.keys c.args.self.now (c.self.view_is ∙ c.take_key.ensures)
     ∙ ap (λ place. if is_some place then c.args.self.now else c.args.self.now ++ c.args.written ∷ []) c.requires.new
 
 pub invariant_of-self-in-Ok : goal.invariant_of-self-in-Ok
@@ -14,12 +14,13 @@ invariant_of-self-in-Ok c =
     let types = c.args.self.now in
     let old = c.self.inside.jumps.items in
     let now = types_now c in
+    let view : c.self.inside.each.keys ≡ types = c.self.view_is ∙ c.take_key.ensures in
     let longer : length c.insert.new.self.keys ≡ length types + 1 = ap length now ∙ length-append types (c.args.written ∷ []) in
     let pushed : c.push.new.self.items ≡ old ++ c.args.jump ∷ [] = c.in_ok-push.ensures.items in
     let more : length c.push.new.self.items ≡ length old + 1 = ap length pushed ∙ length-append old (c.args.jump ∷ []) in
-    let same : length old ≡ length types = c.self.invariant.1 ∙ ap length c.self.view_is in
+    let same : length old ≡ length types = c.self.invariant.1 ∙ ap length view in
     let limit = c.requires.limit in
-    let are : AreJumps types old = subst (λ each. AreJumps each old) c.self.view_is c.self.invariant.2 in (
+    let are : AreJumps types old = subst (λ each. AreJumps each old) view c.self.invariant.2 in (
       omega (arith, longer, limit),
       omega (arith, longer, more, same),
       subst (λ each. AreJumps each c.push.new.self.items) (sym now) (subst (AreJumps (types ++ c.args.written ∷ [])) (sym pushed) (one_more types old c.args.written c.args.jump same are c.requires.jump)),
