@@ -125,11 +125,14 @@ fn section_of_text(
 ) -> Result<Section, WordFault>
     ensures { Gives Memory result (value_of ((form.file_anew «module».now function).read (start_anew bytes.now))) }
 {
+    let sections = no_section(alloc)?;
     let mut input = Input::new(
         bytes,
-        Progress::new(alloc, no_section(alloc)?, ShapeDraft::none(alloc)),
+        Progress::new(alloc, sections, ShapeDraft::none(alloc)),
     );
-    file_anew(alloc, &mut input, module, function)
+    let section = file_anew(alloc, &mut input, module, function);
+    drop(input);
+    section
 }
 
 /// Reads the section of one function of a module from a text of its own: a section of this function and nothing else.

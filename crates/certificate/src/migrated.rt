@@ -1,8 +1,9 @@
 //! Certificates of the opaque text of a module.
-ghost use Rattle.std.specs.Prelude.{◌≡◌, ◌⊎◌, slice_get, IfOk, Err};
+ghost use Rattle.std.specs.Prelude.{◌≡◌, ◌⊎◌, Some, slice_get, IfOk, Err};
 ghost use Rattle.certificate.specs.Migrated as spec;
 ghost use Rattle.certificate.specs.Migrated.{IsMigration};
 ghost use Rattle.certificate.specs.declared.fault.CertFault.TheVariants as fault;
+ghost use Rattle.opaque.specs.Opaque.{opaque_module};
 
 use crate::fault::CertFault;
 use crate::input::WordFault;
@@ -11,7 +12,7 @@ use crate::replaced::{copied_blocks, copied_certs, copied_section};
 use crate::shape_draft::shapes_gap;
 use crate::typed_shapes::typed_draft;
 use certs::{Certs, Promise, Section, is_opaque_text};
-use ir_ast::{Function, Module, Parameter, TypeId};
+use ir_ast::{Function, Module, Parameter, Shapes, TypeId};
 use items::Items;
 use layout::field_rows;
 use opaque::opaque;
@@ -116,6 +117,22 @@ fn migrated_sections(
     Ok(migrated)
 }
 
+/// Certificates with these shapes.
+fn with_shapes(
+    alloc: Global,
+    certs: &Certs,
+    module: &Module,
+    shapes: Shapes,
+) -> Result<Certs, AllocError>
+    ensures { IfOk result (λ migrated. migrated ≡ record { sections = spec.sections_from «module».now 0 certs.now.sections; shapes = Some shapes }) }
+{
+    let sections = migrated_sections(alloc, module, certs.sections.as_slice())?;
+    Ok(Certs {
+        sections,
+        shapes: Some(shapes),
+    })
+}
+
 /// Certificates with the shapes that the types say, or the first shape that none says.
 fn migrated_typed(
     alloc: Global,
@@ -127,14 +144,16 @@ fn migrated_typed(
     ensures { IfOk result (λ answer. answer ≡ spec.migrated_typed «module».now opaque.now rows.now certs.now) }
 {
     let draft = typed_draft(alloc, module, opaque, rows)?;
-    if let Some(gap) = shapes_gap(&draft, opaque) {
-        return Ok(Err(placed(&[], WordFault::Wrong(gap))));
+    match shapes_gap(&draft, opaque) {
+        Some(gap) => {
+            drop(draft);
+            Ok(Err(placed(&[], WordFault::Wrong(gap))))
+        }
+        None => {
+            let migrated = with_shapes(alloc, certs, module, draft.into_shapes())?;
+            Ok(Ok(migrated))
+        }
     }
-    let sections = migrated_sections(alloc, module, certs.sections.as_slice())?;
-    Ok(Ok(Certs {
-        sections,
-        shapes: Some(draft.shapes),
-    }))
 }
 
 /// Whether a text writes typed pointers, and no `ptr`. Its opaque text is given.
@@ -142,6 +161,24 @@ pub fn is_typed_text(module: &Module, opaque: &Module) -> bool
     ensures { result ≡ spec.is_typed_text «module».now opaque.now }
 {
     !is_opaque_text(module) && is_opaque_text(opaque)
+}
+
+/// What comes of certificates, where the module has this opaque text, and these are the scalar fields of each struct.
+fn answer_of_text(
+    alloc: Global,
+    certs: &Certs,
+    module: &Module,
+    opaque: &Module,
+    rows: &[Items<TypeId>],
+) -> Result<Result<Certs, CertFault>, AllocError>
+    requires { opaque.now ≡ opaque_module «module».now }
+    ensures { IfOk result (λ answer. answer ≡ spec.migrated_certs «module».now rows.now certs.now) }
+{
+    if is_typed_text(module, opaque) {
+        migrated_typed(alloc, certs, module, opaque, rows)
+    } else {
+        Ok(Ok(copied_certs(alloc, certs)?))
+    }
 }
 
 /// What comes of certificates, where these are the scalar fields of each struct.
@@ -154,11 +191,9 @@ fn answer_by(
     ensures { IfOk result (λ answer. answer ≡ spec.migrated_certs «module».now rows.now certs.now) }
 {
     let made = opaque(alloc, module)?;
-    if is_typed_text(module, &made) {
-        migrated_typed(alloc, certs, module, &made, rows)
-    } else {
-        Ok(Ok(copied_certs(alloc, certs)?))
-    }
+    let answer = answer_of_text(alloc, certs, module, &made, rows);
+    drop(made);
+    answer
 }
 
 fn answer(

@@ -439,7 +439,9 @@ fn certs_in(
 {
     let sections = no_sections(alloc, module)?;
     let mut input = Input::new(bytes, Progress::new(alloc, sections, shapes));
-    file(alloc, &mut input, module)
+    let certs = file(alloc, &mut input, module);
+    drop(input);
+    certs
 }
 
 /// The fault with its line and column.

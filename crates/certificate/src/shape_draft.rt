@@ -8,8 +8,8 @@ ghost use Rattle.ir_ast.specs.Shapes.{row_at};
 use crate::draft::root_names;
 use crate::mistake::Mistake;
 use ir_ast::{
-    Function, Global as GlobalItem, Module, Names, RootShapes, Shapes, StructNameId, StructType,
-    SymbolId, SymbolSort, ValueId, shape_at,
+    Function, Global as GlobalItem, HashKey, Module, Names, RootShapes, Shapes, StructNameId,
+    StructType, SymbolId, SymbolSort, ValueId, shape_at,
 };
 use items::Items;
 use pools::LayoutId;
@@ -79,21 +79,25 @@ fn no_globals(alloc: Global, sorts: &[SymbolSort]) -> Result<Items<Option<Layout
 }
 
 /// Nothing is given for the slots of a function.
-fn no_roots(alloc: Global) -> RootShapes
+fn no_roots(alloc: Global, key: HashKey) -> RootShapes
     ensures { result ≡ spec.no_roots }
 {
     RootShapes {
-        names: Names::new(alloc),
+        names: Names::new(alloc, key),
         layouts: Items::new(alloc),
     }
 }
 
-fn no_root_rows(alloc: Global, sorts: &[SymbolSort]) -> Result<Items<RootShapes>, AllocError>
+fn no_root_rows(
+    alloc: Global,
+    key: HashKey,
+    sorts: &[SymbolSort],
+) -> Result<Items<RootShapes>, AllocError>
     ensures { IfOk result (λ roots. roots ≡ map (λ _. spec.no_roots) sorts.now) }
 {
     let mut roots = Items::new(alloc);
     for _symbol in sorts {
-        roots.push(no_roots(alloc))?;
+        roots.push(no_roots(alloc, key))?;
     }
     Ok(roots)
 }
@@ -117,7 +121,7 @@ fn no_shapes(alloc: Global, module: &Module, pointers: &[Items<bool>]) -> Result
 {
     let words = no_words(alloc, pointers, module.struct_of.as_slice())?;
     let globals = no_globals(alloc, module.sorts.as_slice())?;
-    let roots = no_root_rows(alloc, module.sorts.as_slice())?;
+    let roots = no_root_rows(alloc, module.symbols.key(), module.sorts.as_slice())?;
     Ok(Shapes {
         words,
         globals,
@@ -167,6 +171,24 @@ impl ShapeDraft {
                 globals: Items::new(alloc),
                 roots: Items::new(alloc),
             },
+        }
+    }
+
+    /// The shapes, without what they were asked of.
+    pub fn into_shapes(self) -> Shapes
+        ensures { result ≡ self.shapes }
+    {
+        self.shapes
+    }
+
+    /// The same with these shapes.
+    pub fn with_shapes(self, shapes: Shapes) -> ShapeDraft
+        ensures { result ≡ record { pointers = self.pointers; slots = self.slots; shapes = shapes } }
+    {
+        ShapeDraft {
+            pointers: self.pointers,
+            slots: self.slots,
+            shapes,
         }
     }
 
@@ -274,7 +296,8 @@ impl ShapeDraft {
     {
         let symbol = function.symbol.number() as usize;
         let name = function.locals.name_at(slot.number() as usize);
-        put_in_roots(alloc, &mut self.shapes.roots, symbol, name, target)?;
+        let key = function.locals.key();
+        put_in_roots(alloc, &mut self.shapes.roots, key, symbol, name, target)?;
         Ok(())
     }
 }
@@ -315,6 +338,7 @@ fn put_in_row(
 fn put_in_roots(
     alloc: Global,
     roots: &mut Items<RootShapes>,
+    key: HashKey,
     symbol: usize,
     name: &[u8],
     target: LayoutId,
@@ -324,7 +348,7 @@ fn put_in_roots(
     if symbol >= roots.len() {
         return Ok(());
     }
-    let old = roots.replace(symbol, no_roots(alloc));
+    let old = roots.replace(symbol, no_roots(alloc, key));
     let new = with_root(alloc, old, name, target)?;
     roots.set(symbol, new);
     Ok(())

@@ -74,7 +74,9 @@ fn shapes_in(
 {
     let sections = no_sections(alloc, module)?;
     let mut input = Input::new(bytes, Progress::new(alloc, sections, begun));
-    text(alloc, &mut input, module)
+    let shapes = text(alloc, &mut input, module);
+    drop(input);
+    shapes
 }
 
 /// Reads the shapes of a text before which these are begun.

@@ -6,7 +6,7 @@ ghost use Rattle.certificate.specs.ShapeDrafts.{no_roots};
 ghost use Rattle.certificate.specs.TypedShapes as spec;
 
 use crate::shape_draft::ShapeDraft;
-use ir_ast::{Function, Module, Names, RootShapes, Shapes, SymbolSort, TypeId, ValueId};
+use ir_ast::{Function, HashKey, Module, Names, RootShapes, Shapes, SymbolSort, TypeId, ValueId};
 use items::Items;
 use pools::LayoutId;
 use shadow_stack::{Slots, slots_of};
@@ -134,11 +134,11 @@ fn slot_shape(slots: &Slots, name: ValueId) -> Option<LayoutId>
 }
 
 /// Nothing is given for the slots of a function.
-fn no_roots(alloc: Global) -> RootShapes
+fn no_roots(alloc: Global, key: HashKey) -> RootShapes
     ensures { result ≡ no_roots }
 {
     RootShapes {
-        names: Names::new(alloc),
+        names: Names::new(alloc, key),
         layouts: Items::new(alloc),
     }
 }
@@ -186,7 +186,7 @@ fn root_row(
 ) -> Result<RootShapes, AllocError>
     ensures { IfOk result (λ roots. roots ≡ spec.typed_slots slots.now function.now 0 is_root.now no_roots) }
 {
-    let mut roots = no_roots(alloc);
+    let mut roots = no_roots(alloc, function.locals.key());
     for (name, root) in is_root.iter().enumerate() {
         put_root(alloc, &mut roots, slots, function, name, *root)?;
     }
@@ -203,13 +203,15 @@ fn function_roots(
     ensures { IfOk result (λ row. row ≡ spec.typed_roots_in «module».now (slice_get «module».now.functions number) (slice_get roots.now number)) }
 {
     let Some(function) = module.functions.get(number) else {
-        return Ok(no_roots(alloc));
+        return Ok(no_roots(alloc, module.symbols.key()));
     };
     let Some(is_root) = roots.get(number) else {
-        return Ok(no_roots(alloc));
+        return Ok(no_roots(alloc, module.symbols.key()));
     };
     let slots = slots_of(alloc, module, function)?;
-    root_row(alloc, &slots, function, is_root.as_slice())
+    let row = root_row(alloc, &slots, function, is_root.as_slice());
+    drop(slots);
+    row
 }
 
 fn symbol_roots(
@@ -224,7 +226,7 @@ fn symbol_roots(
         SymbolSort::Defined(function) => {
             function_roots(alloc, module, roots, function.number() as usize)
         }
-        _ => Ok(no_roots(alloc)),
+        _ => Ok(no_roots(alloc, module.symbols.key())),
     }
 }
 
@@ -273,10 +275,11 @@ pub fn typed_draft(
 {
     let pointers = pointers_of(alloc, module, rows)?;
     let begun = ShapeDraft::of(alloc, opaque, pointers)?;
-    let shapes = typed_shapes(alloc, module, rows, begun.slots.as_slice())?;
-    Ok(ShapeDraft {
-        pointers: begun.pointers,
-        slots: begun.slots,
-        shapes,
-    })
+    match typed_shapes(alloc, module, rows, begun.slots.as_slice()) {
+        Ok(shapes) => Ok(begun.with_shapes(shapes)),
+        Err(refused) => {
+            drop(begun);
+            Err(refused)
+        }
+    }
 }

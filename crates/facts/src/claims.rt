@@ -167,7 +167,9 @@ impl Contents {
         for claim in claims {
             self.tie_claim(&mut ties, *claim)?;
         }
-        self.settle(&ties)
+        let settled = self.settle(&ties);
+        drop(ties);
+        settled
     }
 
     fn tie_claim(&mut self, ties: &mut Ties, claim: Claim) -> Result<(), AllocError>

@@ -18,6 +18,7 @@ use ir_ast::ValueId;
 use pools::LayoutId;
 use shadow_stack::SlotId;
 use std::alloc::{AllocError, Global};
+use std::rc::Rc;
 
 /// What is known of values, of classes and of slots.
 #[derive(Drop)]
@@ -46,6 +47,42 @@ impl Contents {
         let values = Values::new(alloc, values)?;
         let slots = SlotRows::new(alloc, slots)?;
         Ok(Contents { values, slots })
+    }
+
+    /// Rows to be shared, in which nothing is known of this number of values and slots.
+    pub fn blank(alloc: Global, values: usize, slots: usize) -> Result<Rc<Contents>, AllocError>
+        ensures { IfOk result (λ rows. set_of rows.value ≡ nothing_known values slots) }
+    {
+        let contents = Contents::new(alloc, values, slots)?;
+        Ok(Rc::new(alloc, contents)?)
+    }
+
+    /// Rows to be shared, with what is known elsewhere.
+    pub fn copied(alloc: Global, other: &Contents) -> Result<Rc<Contents>, AllocError>
+        ensures { IfOk result (λ rows. set_of rows.value ≡ set_of other.now) }
+    {
+        let mut contents = Contents::new(alloc, other.values.count(), other.slots.len())?;
+        match contents.copy(alloc, other) {
+            Ok(()) => Ok(Rc::new(alloc, contents)?),
+            Err(refused) => {
+                drop(contents);
+                Err(refused)
+            }
+        }
+    }
+
+    /// Rows to be shared, with what was kept.
+    pub fn opened(alloc: Global, kept: &KeptFacts) -> Result<Rc<Contents>, AllocError>
+        ensures { IfOk result (λ rows. set_of rows.value ≡ kept.now) }
+    {
+        let mut contents = Contents::new(alloc, kept.values.count(), kept.slots.len())?;
+        match contents.open(alloc, kept) {
+            Ok(()) => Ok(Rc::new(alloc, contents)?),
+            Err(refused) => {
+                drop(contents);
+                Err(refused)
+            }
+        }
     }
 
     /// Whether there are rows for this number of values and slots.

@@ -40,9 +40,8 @@ impl Facts {
     pub fn new(alloc: Global, values: usize, slots: usize) -> Result<Self, AllocError>
         ensures { IfOk result (λ facts. facts ≡ nothing_known values slots) }
     {
-        let contents = Contents::new(alloc, values, slots)?;
         Ok(Facts {
-            contents: Rc::new(alloc, contents)?,
+            contents: Contents::blank(alloc, values, slots)?,
         })
     }
 
@@ -98,8 +97,7 @@ impl Facts {
         if self.has(values, slots) {
             Rc::make_mut(&mut self.contents)?.clear();
         } else {
-            let fresh = Contents::new(alloc, values, slots)?;
-            self.contents = Rc::new(alloc, fresh)?;
+            self.replace(Contents::blank(alloc, values, slots)?);
         }
         Ok(())
     }
@@ -183,9 +181,7 @@ impl Facts {
         if self.has(values, slots) {
             Rc::make_mut(&mut self.contents)?.copy(alloc, &other.contents)
         } else {
-            let mut fresh = Contents::new(alloc, values, slots)?;
-            fresh.copy(alloc, &other.contents)?;
-            self.contents = Rc::new(alloc, fresh)?;
+            self.replace(Contents::copied(alloc, &other.contents)?);
             Ok(())
         }
     }
@@ -207,9 +203,7 @@ impl Facts {
         if self.has(values, slots) {
             Rc::make_mut(&mut self.contents)?.open(alloc, kept)
         } else {
-            let mut fresh = Contents::new(alloc, values, slots)?;
-            fresh.open(alloc, kept)?;
-            self.contents = Rc::new(alloc, fresh)?;
+            self.replace(Contents::opened(alloc, kept)?);
             Ok(())
         }
     }
@@ -219,6 +213,13 @@ impl Facts {
         ensures { result ≡ ((length self.now.values == values) && (length self.now.slots == slots)) }
     {
         self.contents.has(values, slots)
+    }
+
+    /// What is known is this from now on.
+    fn replace(&mut self, contents: Rc<Contents>)
+        ensures { self.new ≡ set_of contents.value }
+    {
+        self.contents = contents;
     }
 
     /// What is known is this from now on. The rows that there were are to spare.

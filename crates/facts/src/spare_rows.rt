@@ -33,8 +33,7 @@ impl SpareRows {
             }
             drop(rows);
         }
-        let fresh = Contents::new(alloc, values, slots)?;
-        Ok(Rc::new(alloc, fresh)?)
+        Contents::blank(alloc, values, slots)
     }
 
     /// These rows are to spare.

@@ -71,8 +71,8 @@ impl<'a> Entered<'a> {
         }
         let of_module = self.program.module();
         let function = function_of(of_module, number);
-        let slots = slots_of(alloc, of_module, function)?;
         make_room(alloc, &mut self.phi_values, most_phis(function))?;
+        let slots = slots_of(alloc, of_module, function)?;
         self.tables.set(number.number() as usize, Some(slots));
         Ok(())
     }

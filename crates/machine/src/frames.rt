@@ -2,7 +2,7 @@
 ghost use Rattle.std.specs.Prelude.{◌≡◌, ◌+◌, ◌<◌, ◌^◌, ◌∷◌, ◌++◌, [], List, Option, Some, not, is_ok, if◌then◌else◌, reverse, slice_get, IfOk, OnErr};
 ghost use Rattle.shadow_stack.specs.Slots.{SlotTable, slots_of};
 ghost use Rattle.machine.specs.Asks.{edge_of, target_at};
-ghost use Rattle.machine.specs.Machine.{above_callers, with_room, function_called, has_room, values_of, after_op, after_instr, after_end, enter_block, go_on, frames_called, frames_unless, frames_returned};
+ghost use Rattle.machine.specs.Machine.{above_callers, with_room, function_called, has_room, values_of, entry_frame, after_op, after_instr, after_end, enter_block, go_on, frames_called, frames_unless, frames_returned};
 ghost use Rattle.machine.specs.Entered.{WasEntered, WereEntered};
 
 use crate::action::Action;
@@ -66,6 +66,35 @@ fn push_frame(running: &mut Frame, below: &mut Vec<Frame>, frame: Frame) -> Resu
     Ok(())
 }
 
+/// The first frame of a function that was entered, which is called with these arguments.
+fn called_frame(
+    alloc: Global,
+    entered: &Entered<'_>,
+    registers: &[Value],
+    callee: &Function,
+    number: FuncId,
+    into: Option<ValueId>,
+    arguments: &[Argument],
+) -> Result<Frame, AllocError>
+    requires entered { WasEntered entered.now.tables number }
+    requires callee { slice_get entered.now.program.of_module.functions number ≡ Some callee.now }
+    ensures { let m = entered.now.program.of_module in IfOk result (λ frame. frame ≡ entry_frame m callee.now number into (values_of m registers.now arguments.now)) }
+{
+    let of_module = entered.program().module();
+    let values = values_of(alloc, of_module, registers, arguments)?;
+    let frame = entry_frame(
+        alloc,
+        of_module,
+        entered.slots(number),
+        callee,
+        number,
+        into,
+        values.as_slice(),
+    );
+    drop(values);
+    frame
+}
+
 /// A function is called. Whether the thread goes on: it ends where there is no room for one frame more.
 fn call(
     alloc: Global,
@@ -91,15 +120,14 @@ fn call(
         return Ok(false);
     }
     entered.enter(alloc, number)?;
-    let values = values_of(alloc, of_module, running.registers.as_slice(), arguments)?;
-    let frame = entry_frame(
+    let frame = called_frame(
         alloc,
-        of_module,
-        entered.slots(number),
+        entered,
+        running.registers.as_slice(),
         callee,
         number,
         into,
-        values.as_slice(),
+        arguments,
     )?;
     push_frame(running, below, frame)?;
     Ok(true)

@@ -1,7 +1,7 @@
-ghost use Rattle.std.specs.Prelude.{◌≡◌, ◌+◌, ◌<◌, ◌≤◌, ◌^◌, ◌↔◌, ◌∷◌, length, reverse, slice_get, Err, List, Option, IfOk, OnOk, OnErr, OnSome, Some};
+ghost use Rattle.std.specs.Prelude.{◌≡◌, ◌+◌, ◌<◌, ◌≤◌, ◌^◌, ◌↔◌, ◌∷◌, length, reverse, slice_get, Err, List, None, Option, IfOk, OnOk, OnErr, OnSome, Some};
 ghost use Rattle.std.specs.Option.{option_copied};
 ghost use Rattle.machine.specs.Endings.{ending};
-ghost use Rattle.machine.specs.Machine.{action, after_answer, start, roots, frame_roots, instr_in, end_of};
+ghost use Rattle.machine.specs.Machine.{action, after_answer, entry_frame, start, roots, frame_roots, instr_in, end_of};
 ghost use Rattle.machine.specs.Start.{takes_reference, argument_fits, arguments_fit, argument_values, StartsByReference, StartsWrongly};
 ghost use Rattle.machine.specs.declared.frame.Frame.{Frame as AFrame};
 ghost use Rattle.machine.specs.Entered.{WasEntered, WereEntered};
@@ -104,16 +104,7 @@ impl<'a> Thread<'a> {
     {
         let mut entered = Entered::new(alloc, program)?;
         entered.enter(alloc, number)?;
-        let values = argument_values(alloc, arguments)?;
-        let running = entry_frame(
-            alloc,
-            program.module(),
-            entered.slots(number),
-            function,
-            number,
-            None,
-            values.as_slice(),
-        )?;
+        let running = first_frame(alloc, &entered, function, number, arguments)?;
         Ok(Thread {
             alloc,
             entered,
@@ -242,6 +233,32 @@ impl<'a> Thread<'a> {
         self.ended = !goes_on;
         Ok(())
     }
+}
+
+/// The frame in which a thread begins a function that was entered.
+fn first_frame(
+    alloc: Global,
+    entered: &Entered<'_>,
+    function: &Function,
+    number: FuncId,
+    arguments: &[u64],
+) -> Result<Frame, AllocError>
+    requires entered { WasEntered entered.now.tables number }
+    requires function { slice_get entered.now.program.of_module.functions number ≡ Some function.now }
+    ensures { IfOk result (λ frame. frame ≡ entry_frame entered.now.program.of_module function.now number None (argument_values arguments.now)) }
+{
+    let values = argument_values(alloc, arguments)?;
+    let frame = entry_frame(
+        alloc,
+        entered.program().module(),
+        entered.slots(number),
+        function,
+        number,
+        None,
+        values.as_slice(),
+    );
+    drop(values);
+    frame
 }
 
 /// A frame of those that run, the newest being number 0.

@@ -47,16 +47,31 @@ fn copied_text(alloc: Global, bytes: &[u8]) -> Result<Vec<u8>, AllocError>
     Ok(text)
 }
 
+/// The opaque text of a module that was read from these bytes, where this is the module with opaque pointers.
+fn text_by(
+    alloc: Global,
+    of_module: &Module,
+    opaque: &Module,
+    bytes: &[u8],
+) -> Result<Vec<u8>, AllocError>
+    requires { opaque.now ≡ opaque_module of_module.now }
+    ensures { IfOk result (λ text. text.items ≡ migrated_text of_module.now bytes.now) }
+{
+    if is_typed_text(of_module, opaque) {
+        print(alloc, opaque)
+    } else {
+        copied_text(alloc, bytes)
+    }
+}
+
 /// The opaque text of a module that was read from these bytes.
 fn text_of_module(alloc: Global, of_module: &Module, bytes: &[u8]) -> Result<Vec<u8>, AllocError>
     ensures { IfOk result (λ text. text.items ≡ migrated_text of_module.now bytes.now) }
 {
     let made = opaque(alloc, of_module)?;
-    if is_typed_text(of_module, &made) {
-        print(alloc, &made)
-    } else {
-        copied_text(alloc, bytes)
-    }
+    let text = text_by(alloc, of_module, &made, bytes);
+    drop(made);
+    text
 }
 
 fn print_module<O: Write, E: Write>(

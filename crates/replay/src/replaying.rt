@@ -25,9 +25,26 @@ pub fn replay(alloc: Global, program: &Program, trace: &Trace) -> Result<Outcome
     setup_law();
     let mut watch = Watch::new(alloc, program, &trace.setup)?;
     for steps in trace.steps.as_slice() {
-        if let Some(broken) = watch.steps(steps.actor, steps.count)? {
+        let broken = match watch.steps(steps.actor, steps.count) {
+            Ok(broken) => broken,
+            Err(refused) => {
+                drop(watch);
+                return Err(SetupFault::from(refused));
+            }
+        };
+        if let Some(broken) = broken {
+            drop(watch);
             return Ok(Outcome::Broken(broken));
         }
     }
-    Ok(Outcome::Sound(watch.report()?))
+    match watch.report() {
+        Ok(report) => {
+            drop(watch);
+            Ok(Outcome::Sound(report))
+        }
+        Err(refused) => {
+            drop(watch);
+            Err(SetupFault::from(refused))
+        }
+    }
 }

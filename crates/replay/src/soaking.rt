@@ -78,7 +78,7 @@ fn may_begin(alloc: Global, program: &Program, setup: &Setup) -> Result<(), Setu
     ensures no_fault { IfOk result (λ _. HasNoFault program.now setup.now) }
     ensures fault { IfErr result (λ e. e ≢ fault.Memory → IsSetupFault program.now setup.now e) }
 {
-    let _watch = Watch::new(alloc, program, setup)?;
+    drop(Watch::new(alloc, program, setup)?);
     Ok(())
 }
 
@@ -140,9 +140,18 @@ fn end_of_seed(
     let mut rng = seeded(u64::from(seed));
     for _step in 0..steps {
         let actor = actor_drawn(threads, draw(&mut rng, threads));
-        if let Some(broken) = watch.step(actor)? {
+        let broken = match watch.step(actor) {
+            Ok(broken) => broken,
+            Err(refused) => {
+                drop(watch);
+                return Err(SetupFault::from(refused));
+            }
+        };
+        if let Some(broken) = broken {
+            drop(watch);
             return Ok(Some(broken));
         }
     }
+    drop(watch);
     Ok(None)
 }

@@ -19,6 +19,7 @@ use crate::few_switches::soak_biased;
 use crate::onlooker::Onlooker;
 use crate::shorter::{ShorterBreak, add_trace, make_shorter, write_shorter};
 use command_line::{Draws, Search, Shrink, SoakLine};
+use layout::Program;
 use replay::{ReplayFault, SeedBreak};
 use reports::{STATUS_NO, STATUS_YES, Traced, read_traced, unread};
 use run_commands::{no_threads, write_break};
@@ -29,9 +30,33 @@ use std::io;
 use std::io::Write;
 use std::thread::Threads;
 use std::time::Clock;
-use trace_text::STEP_LIMIT;
+use trace_text::{STEP_LIMIT, Trace};
 
 /// Appends the text of the trace that a broken seed draws up to its break.
+fn save_drawn(
+    alloc: Global,
+    program: &Program,
+    trace: Trace,
+    at: SeedBreak,
+    saved: &mut Vec<u8>,
+) -> Result<(), AllocError>
+    requires is_trace { IsTraceOf program.now trace }
+    requires few { at.broken.step ≤ 10000000 }
+    requires breaks { (steps : ℕ) × IsFirstBreak program.now trace.setup (actors_drawn (length trace.setup.starts) at.seed steps) at.broken }
+    ensures saved { OnOk result (IsDrawn program.now trace true at.broken saved.old.items saved.new.items) }
+    ensures err { OnErr result (saved.new.items ≡ saved.old.items) }
+{
+    match broken_trace(alloc, trace, at) {
+        Ok(trace) => {
+            let added = add_trace(alloc, program, &trace, true, saved);
+            drop(trace);
+            added
+        }
+        Err(_refused) => Err(AllocError),
+    }
+}
+
+/// Appends the text of the trace that a broken seed draws up to its break, and ends what was read.
 fn save_broken(
     alloc: Global,
     traced: Traced,
@@ -45,13 +70,40 @@ fn save_broken(
     ensures err { OnErr result (saved.new.items ≡ saved.old.items) }
 {
     let Traced { program, trace } = traced;
+    let drawn = save_drawn(alloc, &program, trace, at, saved);
+    drop(program);
+    drawn
+}
+
+/// Makes the schedule of a broken seed shorter within this number of tries. Appends the text of the trace, if that is wanted.
+fn shrink_drawn(
+    alloc: Global,
+    program: &Program,
+    trace: Trace,
+    at: SeedBreak,
+    limit: u32,
+    wanted: bool,
+    saved: &mut Vec<u8>,
+) -> Result<ShorterBreak, AllocError>
+    requires is_trace { IsTraceOf program.now trace }
+    requires few { at.broken.step ≤ 10000000 }
+    requires breaks { (steps : ℕ) × IsFirstBreak program.now trace.setup (actors_drawn (length trace.setup.starts) at.seed steps) at.broken }
+    ensures shorter { IfOk result (λ b. IsShorter program.now wanted b.broken saved.old.items saved.new.items) }
+    ensures kind { IfOk result (λ b. kind_of b.broken.cause ≡ kind_of at.broken.cause) }
+    ensures tries { IfOk result (λ b. b.tries ≤ limit) }
+    ensures err { OnErr result (saved.new.items ≡ saved.old.items) }
+{
     match broken_trace(alloc, trace, at) {
-        Ok(trace) => add_trace(alloc, &program, &trace, true, saved),
+        Ok(trace) => {
+            let broken = at.broken;
+            let found = BrokenTrace { trace, broken };
+            make_shorter(alloc, program, found, limit, wanted, saved)
+        }
         Err(_refused) => Err(AllocError),
     }
 }
 
-/// Makes the schedule of a broken seed shorter within this number of tries. Appends the text of the trace, if that is wanted.
+/// Makes the schedule of a broken seed shorter, and ends what was read.
 fn shrink_broken(
     alloc: Global,
     traced: Traced,
@@ -69,14 +121,9 @@ fn shrink_broken(
     ensures err { OnErr result (saved.new.items ≡ saved.old.items) }
 {
     let Traced { program, trace } = traced;
-    match broken_trace(alloc, trace, at) {
-        Ok(trace) => {
-            let broken = at.broken;
-            let found = BrokenTrace { trace, broken };
-            make_shorter(alloc, &program, found, limit, wanted, saved)
-        }
-        Err(_refused) => Err(AllocError),
-    }
+    let shorter = shrink_drawn(alloc, &program, trace, at, limit, wanted, saved);
+    drop(program);
+    shorter
 }
 
 /// Says how many seeds were tried, none of which is broken.

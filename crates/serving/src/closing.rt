@@ -12,7 +12,7 @@ use std::alloc::{AllocError, Global};
 pub fn close_after<'a, R: Drop>(
     alloc: Global,
     heap: Heap<'a>,
-    mut jobs: Vec<Job<R>>,
+    jobs: Vec<Job<R>>,
     sweeper: Sweeper<'_>,
 ) -> Result<Closed<'a>, AllocError>
     requires jobs { AreOf heap (map token_of jobs.items) }
@@ -20,11 +20,19 @@ pub fn close_after<'a, R: Drop>(
     ensures setup { IfOk result (λ closed. closed.setup ≡ heap.entry.setup) }
     ensures run { IfOk result (λ closed. EndsSo heap.entry.setup (map token_of jobs.items) sweeper.entry closed) }
 {
+    let mutators = into_tokens(alloc, jobs)?;
+    Ok(heap.close(mutators, sweeper))
+}
+
+/// The tokens of threads that were served, in their order.
+fn into_tokens<R: Drop>(alloc: Global, mut jobs: Vec<Job<R>>) -> Result<Vec<Mutator>, AllocError>
+    ensures { IfOk result (λ tokens. tokens.items ≡ map token_of jobs.items) }
+{
     let mut mutators = Vec::with_capacity(alloc, jobs.len())?;
     while let Some(job) = jobs.pop() {
         mutators.insert(0, into_token(job))?;
     }
-    Ok(heap.close(mutators, sweeper))
+    Ok(mutators)
 }
 
 /// The token of a thread that was served.

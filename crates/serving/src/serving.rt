@@ -3,7 +3,7 @@ ghost use Rattle.colours.specs.Colours.{done};
 ghost use Rattle.colours.specs.Steps.{StoreStage};
 ghost use Rattle.runs.specs.Machine.{machine_of, End};
 ghost use Rattle.runs.specs.RealThreads.{Left};
-ghost use Rattle.moves.specs.Calls.{answer_in};
+ghost use Rattle.moves.specs.Calls.{action_of, answer_in};
 ghost use Rattle.heap_table.specs.Holders.{IsNow, MayCall};
 ghost use Rattle.serving.specs.Serving.{MayBeServed, MayCallFirst, MayServe, IsServed, WentOn, StaysReady, AreListed};
 ghost use Rattle.serving.specs.Tries.{HasTried};
@@ -97,10 +97,11 @@ fn serve_begun<R: Runner>(
 {
     let mut roots = RootCells::new(alloc);
     for _made in made..limit {
-        if let Call::End = machine.call() {
+        let call = machine.call();
+        if let Call::End = call {
             return finished(heap, me, ServingEnd::Ended);
         }
-        if go_on(heap, me, machine, &mut roots).is_err() {
+        if go_on(heap, me, machine, call, &mut roots).is_err() {
             return finished(heap, me, ServingEnd::Memory);
         }
     }
@@ -122,8 +123,10 @@ fn go_on<R: Runner>(
     heap: &Heap<'_>,
     me: &mut Mutator,
     machine: &mut R,
+    call: Call,
     roots: &mut RootCells,
 ) -> Result<(), AllocError>
+    requires asked { action_of call ≡ R.action machine.old }
     requires may { MayServe (machine_of R.action R.after_answer R.roots) R.fits heap.now me.old machine.old }
     requires not_end { R.action machine.old ≢ End }
     requires listed { AreListed roots.old (R.roots machine.old) }
@@ -132,7 +135,7 @@ fn go_on<R: Runner>(
     ensures listed { OnOk result (AreListed roots.new (R.roots machine.new)) }
 {
     heap.few_cells_law();
-    let answer = make_call(heap, me, machine, roots)?;
+    let answer = make_call(heap, me, machine, call, roots)?;
     let after = machine.answer(answer)?;
     roots.follow(after);
     Ok(())
@@ -143,8 +146,10 @@ fn make_call<R: Runner>(
     heap: &Heap<'_>,
     me: &mut Mutator,
     machine: &R,
+    call: Call,
     roots: &mut RootCells,
 ) -> Result<Answer, AllocError>
+    requires asked { action_of call ≡ R.action machine.now }
     requires may { MayServe (machine_of R.action R.after_answer R.roots) R.fits heap.now me.old machine.now }
     requires not_end { R.action machine.now ≢ End }
     requires listed { AreListed roots.old (R.roots machine.now) }
@@ -153,7 +158,7 @@ fn make_call<R: Runner>(
     ensures listed { AreListed roots.new (R.roots machine.now) }
 {
     me.is_of_run_law();
-    match machine.call() {
+    match call {
         Call::Local => Ok(Answer::Done),
         Call::Read { base, word } => Ok(read_for(heap, me, machine, base, word)),
         Call::StorePlain { base, word, value } => {

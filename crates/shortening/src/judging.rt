@@ -80,13 +80,19 @@ fn ended(
     ensures kind { IfOk result (λ found. IfSome found (λ f. kind_of f.broken.cause ≡ kind)) }
     ensures setup { IfOk result (λ found. IfSome found (λ f. f.trace.setup ≡ trace.setup)) }
 {
-    let Some(broken) = break_of(alloc, program, kind, &trace)? else {
-        return Ok(None);
-    };
-    if broken.step != total(trace.steps.as_slice()) {
-        return Ok(None);
+    match break_of(alloc, program, kind, &trace) {
+        Ok(Some(broken)) if broken.step == total(trace.steps.as_slice()) => {
+            Ok(Some(BrokenTrace { trace, broken }))
+        }
+        Ok(_) => {
+            drop(trace);
+            Ok(None)
+        }
+        Err(refused) => {
+            drop(trace);
+            Err(refused)
+        }
     }
-    Ok(Some(BrokenTrace { trace, broken }))
 }
 
 /// The trace up to a step, if that then makes a break of this kind.

@@ -18,6 +18,14 @@ pub struct ShorterTrace {
 }
 
 impl ShorterTrace {
+    /// This was found from now on.
+    fn put_found(&mut self, found: BrokenTrace)
+        ensures found { self.new.found ≡ found }
+        ensures tries { self.new.tries ≡ self.old.tries }
+    {
+        self.found = found;
+    }
+
     /// Leaves something out of the trace, if it then breaks its run by this kind of cause. Says whether it is left out.
     fn leave_out(
         &mut self,
@@ -37,9 +45,11 @@ impl ShorterTrace {
             return Ok(false);
         };
         self.tries += 1;
-        match judged(alloc, program, kind, &candidate) {
+        let judged = judged(alloc, program, kind, &candidate);
+        drop(candidate);
+        match judged {
             Ok(Some(found)) => {
-                self.found = found;
+                self.put_found(found);
                 Ok(true)
             }
             Ok(None) => Ok(false),
@@ -94,7 +104,13 @@ pub fn shortened(
         if shorter.tries >= limit {
             return Ok(shorter);
         }
-        let is_left_out = shorter.leave_out(alloc, program, kind, course.change)?;
+        let is_left_out = match shorter.leave_out(alloc, program, kind, course.change) {
+            Ok(is_left_out) => is_left_out,
+            Err(refused) => {
+                drop(shorter);
+                return Err(refused);
+            }
+        };
         let Some(next) = course.next(program, &shorter.found, is_left_out) else {
             return Ok(shorter);
         };

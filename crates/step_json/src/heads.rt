@@ -1,5 +1,6 @@
 //! The lines before those of the steps: the run, its break, threads, pools, globals, and the text of the module.
-use crate::texts::{function_name, put_line, text_in, thread_in};
+use crate::texts::{function_name, put_made, text_in, thread_in};
+use ir_ast::{FuncId, SymbolId};
 use moves::Cause;
 use name_text::{Blank, put_global, put_layout};
 use pools::{LayoutId, WordKind};
@@ -24,28 +25,39 @@ fn cell_of(cause: &BreakCause) -> Option<u64> {
 fn put_run(alloc: Global, out: &mut Vec<u8>, told: &Told) -> Result<(), AllocError> {
     let steps = told.log.steps.len();
     let cells = told.setup.pools.cells();
-    let line = json!(in alloc; {"kind": "run", "format": FORMAT, "steps": steps, "cells": cells})?;
-    put_line(alloc, out, &line)
+    let line = json!(in alloc; {"kind": "run", "format": FORMAT, "steps": steps, "cells": cells});
+    put_made(alloc, out, line)
+}
+
+/// The path that leads to a cell in a heap.
+fn path_in(alloc: Global, told: &Told, heap: &HeapView, cell: u64) -> Result<Vec<u8>, AllocError> {
+    let names = Names {
+        alloc,
+        module: told.program.module(),
+        heap,
+    };
+    let path = path_to(alloc, heap, told.log, told.setup.starts.len(), cell)?;
+    let mut text = Vec::new(alloc);
+    let put = put_path_to(&names, &mut text, told.log, &path, cell);
+    drop(path);
+    match put {
+        Ok(()) => Ok(text),
+        Err(refused) => Err(refused),
+    }
 }
 
 /// The path that leads to a cell after the last step; empty where there is none.
 fn path_text(alloc: Global, told: &Told, cell: Option<u64>) -> Result<Vec<u8>, AllocError> {
-    let mut text = Vec::new(alloc);
     let Some(cell) = cell else {
-        return Ok(text);
+        return Ok(Vec::new(alloc));
     };
     let mut heap = HeapView::new(alloc, told.program, told.setup)?;
     for step in told.log.steps.as_slice() {
         let _event = heap.step(step);
     }
-    let names = Names {
-        alloc,
-        module: told.program.module(),
-        heap: &heap,
-    };
-    let path = path_to(alloc, &heap, told.log, told.setup.starts.len(), cell)?;
-    put_path_to(&names, &mut text, told.log, &path, cell)?;
-    Ok(text)
+    let text = path_in(alloc, told, &heap, cell);
+    drop(heap);
+    text
 }
 
 fn put_broken(
@@ -65,17 +77,28 @@ fn put_broken(
         "cause": cause.as_str(),
         "cell": cell,
         "path": text_in(path.as_slice()),
-    })?;
-    put_line(alloc, out, &line)
+    });
+    drop(path);
+    drop(cause);
+    put_made(alloc, out, line)
+}
+
+fn put_thread(
+    names: &Names,
+    out: &mut Vec<u8>,
+    number: usize,
+    function: FuncId,
+) -> Result<(), AllocError> {
+    let name = function_name(names, function)?;
+    let function = text_in(name.as_slice());
+    let line = json!(in names.alloc; {"kind": "thread", "thread": number, "function": function});
+    drop(name);
+    put_made(names.alloc, out, line)
 }
 
 fn put_threads(names: &Names, out: &mut Vec<u8>, told: &Told) -> Result<(), AllocError> {
     for (number, start) in told.setup.starts.as_slice().iter().enumerate() {
-        let name = function_name(names, start.function)?;
-        let function = text_in(name.as_slice());
-        let line =
-            json!(in names.alloc; {"kind": "thread", "thread": number, "function": function})?;
-        put_line(names.alloc, out, &line)?;
+        put_thread(names, out, number, start.function)?;
     }
     Ok(())
 }
@@ -91,8 +114,36 @@ fn references(alloc: Global, kinds: &[WordKind]) -> Result<Vec<Value>, AllocErro
     Ok(words)
 }
 
+/// The name of a layout.
+fn layout_name(names: &Names, layout: LayoutId) -> Result<Vec<u8>, AllocError> {
+    let mut name = Vec::new(names.alloc);
+    put_layout(&mut name, names.module, layout, Blank::Kept)?;
+    Ok(name)
+}
+
+/// The line of a pool with this many cells, of which this is the first.
+fn put_pool(
+    names: &Names,
+    out: &mut Vec<u8>,
+    layout: LayoutId,
+    kinds: &[WordKind],
+    first: u32,
+    cells: u32,
+) -> Result<(), AllocError> {
+    let words = references(names.alloc, kinds)?;
+    let name = layout_name(names, layout)?;
+    let line = json!(in names.alloc; {
+        "kind": "pool",
+        "layout": text_in(name.as_slice()),
+        "first": first,
+        "cells": cells,
+        "references": words,
+    });
+    drop(name);
+    put_made(names.alloc, out, line)
+}
+
 fn put_pools(names: &Names, out: &mut Vec<u8>, told: &Told) -> Result<(), AllocError> {
-    let alloc = names.alloc;
     let layouts = told.program.layouts();
     let mut first: u32 = 1;
     for number in 0..layouts.count() {
@@ -101,20 +152,34 @@ fn put_pools(names: &Names, out: &mut Vec<u8>, told: &Told) -> Result<(), AllocE
         };
         let layout = LayoutId::new(number);
         let cells = told.setup.pools.count(layout);
-        let mut name = Vec::new(alloc);
-        put_layout(&mut name, names.module, layout, Blank::Kept)?;
-        let words = references(alloc, layouts.words(layout))?;
-        let line = json!(in alloc; {
-            "kind": "pool",
-            "layout": text_in(name.as_slice()),
-            "first": first,
-            "cells": cells,
-            "references": words,
-        })?;
-        put_line(alloc, out, &line)?;
+        put_pool(names, out, layout, layouts.words(layout), first, cells)?;
         first = first.saturating_add(cells);
     }
     Ok(())
+}
+
+/// The name of a global.
+fn global_name(names: &Names, symbol: SymbolId) -> Result<Vec<u8>, AllocError> {
+    let mut name = Vec::new(names.alloc);
+    put_global(&mut name, names.module, symbol, Blank::Kept)?;
+    Ok(name)
+}
+
+fn put_global_line(
+    names: &Names,
+    out: &mut Vec<u8>,
+    word: u32,
+    symbol: SymbolId,
+) -> Result<(), AllocError> {
+    let name = global_name(names, symbol)?;
+    let line = json!(in names.alloc; {
+        "kind": "global",
+        "name": text_in(name.as_slice()),
+        "reference": names.heap.is_reference(0, word),
+        "value": names.heap.word(0, word),
+    });
+    drop(name);
+    put_made(names.alloc, out, line)
 }
 
 fn put_globals(names: &Names, out: &mut Vec<u8>) -> Result<(), AllocError> {
@@ -122,15 +187,7 @@ fn put_globals(names: &Names, out: &mut Vec<u8>) -> Result<(), AllocError> {
         let Ok(word) = u32::try_from(word) else {
             return Ok(());
         };
-        let mut name = Vec::new(names.alloc);
-        put_global(&mut name, names.module, global.symbol, Blank::Kept)?;
-        let line = json!(in names.alloc; {
-            "kind": "global",
-            "name": text_in(name.as_slice()),
-            "reference": names.heap.is_reference(0, word),
-            "value": names.heap.word(0, word),
-        })?;
-        put_line(names.alloc, out, &line)?;
+        put_global_line(names, out, word, global.symbol)?;
     }
     Ok(())
 }
@@ -138,10 +195,30 @@ fn put_globals(names: &Names, out: &mut Vec<u8>) -> Result<(), AllocError> {
 fn put_text(alloc: Global, out: &mut Vec<u8>, listing: &Listing) -> Result<(), AllocError> {
     for number in 0..listing.lines() {
         let text = text_in(listing.line(number));
-        let line = json!(in alloc; {"kind": "text", "line": number, "text": text})?;
-        put_line(alloc, out, &line)?;
+        put_made(
+            alloc,
+            out,
+            json!(in alloc; {"kind": "text", "line": number, "text": text}),
+        )?;
     }
     Ok(())
+}
+
+/// The threads, the pools and the globals, where the heap is as before the first step.
+fn put_beginning(
+    alloc: Global,
+    out: &mut Vec<u8>,
+    told: &Told,
+    heap: &HeapView,
+) -> Result<(), AllocError> {
+    let names = Names {
+        alloc,
+        module: told.program.module(),
+        heap,
+    };
+    put_threads(&names, out, told)?;
+    put_pools(&names, out, told)?;
+    put_globals(&names, out)
 }
 
 /// The lines before those of the steps.
@@ -156,13 +233,8 @@ pub fn put_heads(
         put_broken(alloc, out, told, broken)?;
     }
     let heap = HeapView::new(alloc, told.program, told.setup)?;
-    let names = Names {
-        alloc,
-        module: told.program.module(),
-        heap: &heap,
-    };
-    put_threads(&names, out, told)?;
-    put_pools(&names, out, told)?;
-    put_globals(&names, out)?;
+    let put = put_beginning(alloc, out, told, &heap);
+    drop(heap);
+    put?;
     put_text(alloc, out, listing)
 }

@@ -1,6 +1,6 @@
 //! The lines of steps and frames.
 use crate::heads::put_heads;
-use crate::texts::{function_name, place_name, put_line, text_in, thread_in};
+use crate::texts::{function_name, place_name, put_made, text_in, thread_in};
 use serde_json::{Value, json};
 use std::alloc::{AllocError, Global};
 use step_log::{FrameNote, LogStep, StepLog};
@@ -39,19 +39,18 @@ fn colour_of(names: &Names, event: &Event) -> Option<&'static str> {
     Some(names.heap.shade(cell).name())
 }
 
-/// The line of a step.
-fn put_step(
+/// A step with what it does in words.
+fn step_value(
     names: &Names,
-    out: &mut Vec<u8>,
-    texts: Texts,
+    listing: &Listing,
     number: usize,
     step: &LogStep,
     event: &Event,
-) -> Result<(), AllocError> {
-    let told = told_of(names, texts.log, number, step, event)?;
+    told: &str,
+) -> Result<Value, AllocError> {
     let colour = colour_value(names, event)?;
-    let (line, place) = put_members(names, texts.listing, step)?;
-    let value = json!(in names.alloc; {
+    let (line, place) = put_members(names, listing, step)?;
+    json!(in names.alloc; {
         "kind": "step",
         "step": number,
         "thread": thread_in(&step.actor),
@@ -63,9 +62,24 @@ fn put_step(
         "colour": colour,
         "line": line,
         "place": place,
-        "told": text_in(told.as_slice()),
-    })?;
-    put_line(names.alloc, out, &value)
+        "told": told,
+    })
+}
+
+/// The line of a step.
+fn put_step(
+    names: &Names,
+    out: &mut Vec<u8>,
+    texts: Texts,
+    number: usize,
+    step: &LogStep,
+    event: &Event,
+) -> Result<(), AllocError> {
+    let told = told_of(names, texts.log, number, step, event)?;
+    let text = text_in(told.as_slice());
+    let value = step_value(names, texts.listing, number, step, event, text);
+    drop(told);
+    put_made(names.alloc, out, value)
 }
 
 fn colour_value(names: &Names, event: &Event) -> Result<Value, AllocError> {
@@ -118,8 +132,9 @@ fn put_frame(
         "frames": note.frames,
         "function": text_in(name.as_slice()),
         "roots": roots,
-    })?;
-    put_line(names.alloc, out, &value)
+    });
+    drop(name);
+    put_made(names.alloc, out, value)
 }
 
 /// The lines of the frames that changed by this many steps, from this note on. Returns the next note.
@@ -141,6 +156,17 @@ fn put_frames(
     Ok(at)
 }
 
+/// The lines of a run, whose module is listed.
+fn put_lines(
+    alloc: Global,
+    out: &mut Vec<u8>,
+    told: &Told,
+    texts: Texts,
+) -> Result<(), AllocError> {
+    put_heads(alloc, out, told, texts.listing)?;
+    put_steps(alloc, out, told, texts)
+}
+
 /// All lines of a run.
 pub fn put_json(alloc: Global, out: &mut Vec<u8>, told: &Told) -> Result<(), AllocError> {
     let listing = Listing::new(alloc, told.program.module())?;
@@ -148,8 +174,9 @@ pub fn put_json(alloc: Global, out: &mut Vec<u8>, told: &Told) -> Result<(), All
         log: told.log,
         listing: &listing,
     };
-    put_heads(alloc, out, told, &listing)?;
-    put_steps(alloc, out, told, texts)
+    let put = put_lines(alloc, out, told, texts);
+    drop(listing);
+    put
 }
 
 /// The lines of a step, and of the frames that it changes. Returns the next note.
@@ -173,12 +200,25 @@ fn put_steps(
     told: &Told,
     texts: Texts,
 ) -> Result<(), AllocError> {
-    let module = told.program.module();
     let mut heap = HeapView::new(alloc, told.program, told.setup)?;
+    let put = put_steps_from(alloc, out, told, texts, &mut heap);
+    drop(heap);
+    put
+}
+
+/// The same, where the heap is as before the first step.
+fn put_steps_from(
+    alloc: Global,
+    out: &mut Vec<u8>,
+    told: &Told,
+    texts: Texts,
+    heap: &mut HeapView,
+) -> Result<(), AllocError> {
+    let module = told.program.module();
     let names = Names {
         alloc,
         module,
-        heap: &heap,
+        heap,
     };
     let mut next = put_frames(&names, out, told.log, 0, 0)?;
     for (at, step) in told.log.steps.as_slice().iter().enumerate() {
@@ -186,7 +226,7 @@ fn put_steps(
         let names = Names {
             alloc,
             module,
-            heap: &heap,
+            heap,
         };
         let number = at.saturating_add(1);
         next = put_step_lines(&names, out, texts, number, step, &event, next)?;

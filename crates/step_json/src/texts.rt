@@ -8,11 +8,27 @@ use told_steps::{Listing, Names};
 use trace_text::Actor;
 
 /// Writes a value as a line.
-pub fn put_line(alloc: Global, out: &mut Vec<u8>, value: &Value) -> Result<(), AllocError> {
+fn put_line(alloc: Global, out: &mut Vec<u8>, value: &Value) -> Result<(), AllocError> {
     let text = value.to_string(alloc)?;
     out.extend_from_slice(text.as_bytes())?;
     out.push(b'\n')?;
     Ok(())
+}
+
+/// Writes a value as a line, if there was memory to make it.
+pub fn put_made(
+    alloc: Global,
+    out: &mut Vec<u8>,
+    made: Result<Value, AllocError>,
+) -> Result<(), AllocError> {
+    match made {
+        Ok(value) => {
+            let put = put_line(alloc, out, &value);
+            drop(value);
+            put
+        }
+        Err(refused) => Err(refused),
+    }
 }
 
 /// A text that has no bytes but those of UTF-8; otherwise an empty one.

@@ -55,6 +55,15 @@ fn note(
     }
 }
 
+/// What there is to note of the frames of threads before the first step.
+fn first_notes(alloc: Global, world: &World<'_>, threads: u32) -> Result<FrameNotes, AllocError> {
+    let mut notes = FrameNotes::new(alloc, threads as usize)?;
+    for number in 0..threads {
+        note(world, Actor::Thread(number), 0, &mut notes)?;
+    }
+    Ok(notes)
+}
+
 impl<'a> Recorder<'a> {
     /// A world before its first step.
     fn new(alloc: Global, program: &'a Program, setup: &'a Setup) -> Result<Self, SetupFault>
@@ -62,18 +71,21 @@ impl<'a> Recorder<'a> {
         ensures ok { IfOk result (IsRecorded program.now setup.now []) }
         ensures fault { IfErr result (λ e. e ≢ fault.Memory → IsSetupFault program.now setup.now e) }
     {
-        let threads = setup.starts.len();
-        let steps = Items::new(alloc);
-        let mut notes = FrameNotes::new(alloc, threads)?;
         let world = World::new(alloc, program, setup)?;
-        for number in 0..threads {
-            note(&world, Actor::Thread(number as u32), 0, &mut notes)?;
+        match first_notes(alloc, &world, setup.starts.len() as u32) {
+            Ok(notes) => {
+                let steps = Items::new(alloc);
+                Ok(Recorder {
+                    world,
+                    steps,
+                    notes,
+                })
+            }
+            Err(refused) => {
+                drop(world);
+                Err(SetupFault::from(refused))
+            }
         }
-        Ok(Recorder {
-            world,
-            steps,
-            notes,
-        })
     }
 
     /// The actor makes its next step, which is logged.
@@ -125,7 +137,13 @@ pub fn log_steps(
         let Some(actor) = upcoming.next() else {
             return Ok(recorder.into_log());
         };
-        recorder.step(actor)?;
+        match recorder.step(actor) {
+            Ok(()) => {}
+            Err(refused) => {
+                drop(recorder);
+                return Err(SetupFault::from(refused));
+            }
+        }
     }
     let log = recorder.into_log();
     Ok(log)

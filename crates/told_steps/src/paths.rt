@@ -160,6 +160,12 @@ fn name_of_slot(function: &Function, slots: &Slots, slot: SlotId) -> Option<Valu
     None
 }
 
+/// The first name of a root slot, by its place among the root slots.
+fn name_of_root(function: &Function, slots: &Slots, root: usize) -> Option<ValueId> {
+    let slot = slots.root_slots().get(root).copied()?;
+    name_of_slot(function, slots, slot)
+}
+
 /// The name of a root slot of a function, by its place among the root slots.
 pub fn put_root_name(
     names: &Names,
@@ -168,10 +174,9 @@ pub fn put_root_name(
     root: usize,
 ) -> Result<(), AllocError> {
     let slots = slots_of(names.alloc, names.module, function)?;
-    let Some(slot) = slots.root_slots().get(root).copied() else {
-        return Ok(());
-    };
-    match name_of_slot(function, &slots, slot) {
+    let named = name_of_root(function, &slots, root);
+    drop(slots);
+    match named {
         Some(value) => put_local(out, &function.locals, value, Blank::Kept),
         None => Ok(()),
     }

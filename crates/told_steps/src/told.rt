@@ -118,6 +118,33 @@ impl Lines {
     }
 }
 
+impl Lines {
+    /// Adds the steps whose numbers lie between these, where the heap is as before the first step, and writes them.
+    fn put_between(
+        &mut self,
+        out: &mut Vec<u8>,
+        told: &Told,
+        texts: Texts,
+        heap: &mut HeapView,
+        first: usize,
+        last: usize,
+    ) -> Result<(), AllocError> {
+        for (at, step) in told.log.steps.as_slice().iter().enumerate() {
+            let event = heap.step(step);
+            let number = at.saturating_add(1);
+            if first <= number && number <= last {
+                let names = Names {
+                    alloc: self.alloc,
+                    module: told.program.module(),
+                    heap,
+                };
+                self.add(&names, out, texts, number, step, &event)?;
+            }
+        }
+        self.end(out)
+    }
+}
+
 /// The steps whose numbers lie between these.
 fn put_between(
     alloc: Global,
@@ -129,19 +156,10 @@ fn put_between(
 ) -> Result<(), AllocError> {
     let mut heap = HeapView::new(alloc, told.program, told.setup)?;
     let mut lines = Lines::new(alloc);
-    for (at, step) in told.log.steps.as_slice().iter().enumerate() {
-        let event = heap.step(step);
-        let number = at.saturating_add(1);
-        if first <= number && number <= last {
-            let names = Names {
-                alloc,
-                module: told.program.module(),
-                heap: &heap,
-            };
-            lines.add(&names, out, texts, number, step, &event)?;
-        }
-    }
-    lines.end(out)
+    let put = lines.put_between(out, told, texts, &mut heap, first, last);
+    drop(lines);
+    drop(heap);
+    put
 }
 
 /// Whether the step with this number of a life is told.
@@ -158,6 +176,20 @@ fn put_steps_at(
     places: &Items<usize>,
 ) -> Result<(), AllocError> {
     let mut heap = HeapView::new(alloc, told.program, told.setup)?;
+    let put = put_steps_from(alloc, out, told, texts, &mut heap, places);
+    drop(heap);
+    put
+}
+
+/// The same, where the heap is as before the first step.
+fn put_steps_from(
+    alloc: Global,
+    out: &mut Vec<u8>,
+    told: &Told,
+    texts: Texts,
+    heap: &mut HeapView,
+    places: &Items<usize>,
+) -> Result<(), AllocError> {
     let mut next = 0;
     for (at, step) in told.log.steps.as_slice().iter().enumerate() {
         let event = heap.step(step);
@@ -166,7 +198,7 @@ fn put_steps_at(
                 let names = Names {
                     alloc,
                     module: told.program.module(),
-                    heap: &heap,
+                    heap,
                 };
                 put_step(&names, out, texts, at.saturating_add(1), step, &event)?;
                 put(out, "\n")?;
@@ -208,17 +240,38 @@ fn put_life(
     lost: &Lost,
 ) -> Result<(), AllocError> {
     let mut heap = HeapView::new(alloc, told.program, told.setup)?;
-    let life = life_of(alloc, &mut heap, told.log, lost)?;
+    let put = match life_of(alloc, &mut heap, told.log, lost) {
+        Ok(life) => {
+            let put = put_life_steps(alloc, out, told, texts, lost, &heap, &life);
+            drop(life);
+            put
+        }
+        Err(refused) => Err(refused),
+    };
+    drop(heap);
+    put
+}
+
+/// The steps of the life of a cell that is gone, which have these places, and the path that leads to it after the last step.
+fn put_life_steps(
+    alloc: Global,
+    out: &mut Vec<u8>,
+    told: &Told,
+    texts: Texts,
+    lost: &Lost,
+    heap: &HeapView,
+    life: &Items<usize>,
+) -> Result<(), AllocError> {
     let names = Names {
         alloc,
         module: told.program.module(),
-        heap: &heap,
+        heap,
     };
     put(out, "the life of ")?;
     names.put_cell(out, lost.cell)?;
     put(out, ":\n")?;
-    put_steps_at(alloc, out, told, texts, &life)?;
-    put_way(alloc, out, told, &heap, lost.cell)
+    put_steps_at(alloc, out, told, texts, life)?;
+    put_way(alloc, out, told, heap, lost.cell)
 }
 
 /// The last steps, and before them those that matter for the cause where the run is broken.
@@ -246,8 +299,10 @@ pub fn put_told(
         log: told.log,
         listing: &listing,
     };
-    match steps {
+    let put = match steps {
         Steps::Last => put_last(alloc, out, told, texts),
         Steps::Between(first, last) => put_between(alloc, out, told, texts, first, last),
-    }
+    };
+    drop(listing);
+    put
 }

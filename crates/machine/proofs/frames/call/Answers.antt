@@ -8,10 +8,6 @@ pub returns-in_err-enter-clause-entered : goal.returns-in_err-enter-clause-enter
 returns-in_err-enter-clause-entered c =
     were_stay c.args.entered.now.tables c.enter.new.self.tables c.enter.ensures.stay (c.args.running.now ∷ c.args.below.now.items) c.requires.entered
 
-pub returns-in_err-values-clause-entered : goal.returns-in_err-values-clause-entered
-returns-in_err-values-clause-entered c =
-    were_stay c.args.entered.now.tables c.enter.new.self.tables c.enter.ensures.stay (c.args.running.now ∷ c.args.below.now.items) c.requires.entered
-
 pub returns-in_err-frame-clause-entered : goal.returns-in_err-frame-clause-entered
 returns-in_err-frame-clause-entered c =
     were_stay c.args.entered.now.tables c.enter.new.self.tables c.enter.ensures.stay (c.args.running.now ∷ c.args.below.now.items) c.requires.entered

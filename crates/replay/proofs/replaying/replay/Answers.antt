@@ -30,7 +30,7 @@ returns-in-Some-clause-outcome c =
     let i = c.loop-steps.steps-index in
     let s = get_or items i none in
     let few : i < length steps = subst (λ l. i < length l) c.as_slice-steps-items.ensures c.loop-steps-test.true in
-    let made = c.in_ok-broken.ensures c.args.program.now c.args.trace.now.setup (reverse (actors_of (take i steps))) c.loop-steps.invariant in
+    let made = c.in-Ok.ensures c.args.program.now c.args.trace.now.setup (reverse (actors_of (take i steps))) c.loop-steps.invariant in
     steps-break c.args.program.now c.args.trace.now i s c.steps.new.self c.in-Some.broken few (same_item items steps i none c.as_slice-steps-items.ensures few)
     (subst (λ o. IsWatchedOn c.args.program.now c.args.trace.now.setup (reverse (actors_of (take i steps))) (replicate s.count (actor_in s.actor)) c.steps.new.self o) c.in-Some.is made)
 
@@ -41,7 +41,7 @@ returns-in-Some-clause-safe c certs certified =
     let i = c.loop-steps.steps-index in
     let s = get_or items i none in
     let few : i < length steps = subst (λ l. i < length l) c.as_slice-steps-items.ensures c.loop-steps-test.true in
-    let made = c.in_ok-broken.ensures c.args.program.now c.args.trace.now.setup (reverse (actors_of (take i steps))) c.loop-steps.invariant in
+    let made = c.in-Ok.ensures c.args.program.now c.args.trace.now.setup (reverse (actors_of (take i steps))) c.loop-steps.invariant in
     let breaks = steps-break c.args.program.now c.args.trace.now i s c.steps.new.self c.in-Some.broken few (same_item items steps i none c.as_slice-steps-items.ensures few)
     (subst (λ o. IsWatchedOn c.args.program.now c.args.trace.now.setup (reverse (actors_of (take i steps))) (replicate s.count (actor_in s.actor)) c.steps.new.self o) c.in-Some.is made) in
     let safe = c.setup_law.ensures c.args.program.now c.args.trace.now.setup certs (setup_of_trace c.args.program.now c.args.trace.now c.requires) c.in_ok-watch.ensures.no_fault certified in
@@ -54,12 +54,12 @@ loop-steps-preserved c =
     let i = c.loop-steps.steps-index in
     let s = get_or items i none in
     let few : i < length steps = subst (λ l. i < length l) c.as_slice-steps-items.ensures c.loop-steps-test.true in
-    let made = c.in_ok-broken.ensures c.args.program.now c.args.trace.now.setup (reverse (actors_of (take i steps))) c.loop-steps.invariant in
+    let made = c.in-Ok.ensures c.args.program.now c.args.trace.now.setup (reverse (actors_of (take i steps))) c.loop-steps.invariant in
     steps-made c.args.program.now c.args.trace.now i s c.steps.new.self few (same_item items steps i none c.as_slice-steps-items.ensures few)
     (subst (λ o. IsWatchedOn c.args.program.now c.args.trace.now.setup (reverse (actors_of (take i steps))) (replicate s.count (actor_in s.actor)) c.steps.new.self o) c.in_default.is made)
 
-pub returns-clause-outcome : goal.returns-clause-outcome
-returns-clause-outcome c =
+pub returns-in-Ok-report-clause-outcome : goal.returns-in-Ok-report-clause-outcome
+returns-in-Ok-report-clause-outcome c =
     let p = c.args.program.now in
     let setup = c.args.trace.now.setup in
     let steps = c.args.trace.now.steps in
@@ -68,4 +68,4 @@ returns-clause-outcome c =
     let all : i ≡ length steps = omega (arith, count, c.loop-steps-test.false, c.loop-steps.auto.steps-index-end) in
     let whole : take i steps ≡ steps = ap (λ n. take n steps) all ∙ take-length steps in
     let watched = subst (λ l. IsWatched p setup (reverse (actors_of l)) c.loop-steps.watch) whole c.loop-steps.invariant in
-    (sound_list p setup (actors_of steps) watched.unbroken, c.in_ok-report.ensures p setup (reverse (actors_of steps)) watched)
+    (sound_list p setup (actors_of steps) watched.unbroken, c.in-Ok-report.ensures p setup (reverse (actors_of steps)) watched)

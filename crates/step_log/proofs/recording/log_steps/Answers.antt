@@ -39,7 +39,7 @@ loop-step-preserved c =
     let v = c.next.new.self in
     let is = c.loop-step.invariant in
     let next = subst (λ o. MatchOption o (actors_in u ≡ []) (λ actor. actors_in u ≡ actor_in actor ∷ actors_in v)) c.in-Some.is c.next.ensures in
-    let more = c.in_ok-step.ensures p setup is.before is.recorded in
+    let more = c.in-Ok.ensures p setup is.before is.recorded in
     subst (λ n. IsLogging p setup actors n c.step.new.self v) (sym (add-one i)) (logs_more p setup actors i c.loop-step.recorder c.step.new.self u v c.in-Some.actor is next more)
 
 pub returns-in_default-clause-steps : goal.returns-in_default-clause-steps

@@ -10,6 +10,10 @@ pub invariant_of-self : goal.invariant_of-self
 invariant_of-self c =
     (c.self.invariant.0, kept_with_room c.self.inside.program.now.of_module c.self.inside.phi_values c.make_room.new.values c.self.inside.tables c.make_room.ensures.grows c.self.invariant.1)
 
+pub invariant_of-self-in_err-slots : goal.invariant_of-self-in_err-slots
+invariant_of-self-in_err-slots c =
+    (c.self.invariant.0, kept_with_room c.self.inside.program.now.of_module c.self.inside.phi_values c.make_room.new.values c.self.inside.tables c.make_room.ensures.grows c.self.invariant.1)
+
 set_so : (c : goal.After-set) → c.set.new.self ≡ slice_set c.self.inside.tables c.args.number (Some c.in_ok-slots.slots)
 set_so c = c.set.ensures ∙ ap (λ n. slice_set c.self.inside.tables n (Some c.in_ok-slots.slots)) c.number.ensures
 

@@ -4,7 +4,7 @@ use Rattle.ir_ast.specs.declared.module.Module.{Module}
 use Rattle.opaque.specs.Opaque.{opaque_module}
 use Rattle.certs.specs.declared.certs.Certs.{Certs}
 use Rattle.certificate.specs.Migrated.{is_typed_text, migrated_certs, migrated_typed}
-use Rattle.certificate.proofs.migrated.answer_by.Goals as goal
+use Rattle.certificate.proofs.migrated.answer_of_text.Goals as goal
 
 of_typed : (m opaque : Module) (rows : List (List ℕ)) (certs : Certs) → opaque ≡ opaque_module m → is_typed_text m opaque ≡ true → migrated_typed m opaque rows certs ≡ migrated_certs m rows certs
 of_typed m opaque rows certs e typed =
@@ -15,4 +15,4 @@ of_typed m opaque rows certs e typed =
 pub returns-then-is_typed_text : goal.returns-then-is_typed_text
 returns-then-is_typed_text c =
     let typed = sym c.is_typed_text.ensures ∙ c.if-is_typed_text.true in
-    IfOk-weaker c.migrated_typed.result _ _ (λ answer e. e ∙ of_typed c.args.module.now c.in_ok-made.made c.args.rows.now c.args.certs.now c.in_ok-made.ensures typed) c.migrated_typed.ensures
+    IfOk-weaker c.migrated_typed.result _ _ (λ answer e. e ∙ of_typed c.args.module.now c.args.opaque.now c.args.rows.now c.args.certs.now c.requires typed) c.migrated_typed.ensures

@@ -1,6 +1,6 @@
 use Rattle.std.proofs.Common.{◌≡◌, ◌++◌, length, map}
 use Rattle.serving.specs.Jobs.{token_of}
-use Rattle.serving.proofs.closing.close_after.Given as goal
+use Rattle.serving.proofs.closing.into_tokens.Given as goal
 
 abbrev pub invariant-loop-job : goal.invariant-loop-job
 invariant-loop-job g l = map token_of l.fn.jobs.items ≡ map token_of l.jobs.items ++ l.mutators.items

@@ -1,9 +1,9 @@
 use Rattle.std.proofs.lemmas.Result.{on_ok_weaker}
-use Rattle.search_commands.proofs.soaking.save_broken.Goals as goal
+use Rattle.search_commands.proofs.soaking.save_drawn.Goals as goal
 
 pub returns-in-Ok-clause-saved : goal.returns-in-Ok-clause-saved
 returns-in-Ok-clause-saved c =
-    let p = c.args.traced.program in
+    let p = c.args.program.now in
     let breaks = c.requires.breaks in
     on_ok_weaker c.add_trace.result
     (λ added. record {

@@ -5,7 +5,7 @@ use Rattle.ir_print.specs.Items.{text_of}
 use Rattle.opaque.specs.Opaque.{opaque_module}
 use Rattle.certificate.specs.Migrated.{is_typed_text}
 use Rattle.migrate_command.specs.Migrating.{migrated_text}
-use Rattle.migrate_command.proofs.migrating.text_of_module.Goals as goal
+use Rattle.migrate_command.proofs.migrating.text_by.Goals as goal
 
 -- the text by the test
 chosen : (m opaque : Module) (bytes : List ℕ) (b : Bool) → opaque ≡ opaque_module m → is_typed_text m opaque ≡ b → migrated_text m bytes ≡ (if b then text_of (opaque_module m) else bytes)
@@ -14,13 +14,13 @@ chosen m opaque bytes b e tested = ap (λ (x : Bool). if x then text_of (opaque_
 pub returns-then-is_typed_text : goal.returns-then-is_typed_text
 returns-then-is_typed_text c =
     let m = c.args.of_module.now in
-    let opaque = c.in_ok-made.made in
-    let text = sym (chosen m opaque c.args.bytes.now true c.in_ok-made.ensures (sym c.is_typed_text.ensures ∙ c.if-is_typed_text.true)) in
-    IfOk-weaker c.print.result _ _ (λ printed e. e ∙ ap text_of c.in_ok-made.ensures ∙ text) c.print.ensures.text
+    let opaque = c.args.opaque.now in
+    let text = sym (chosen m opaque c.args.bytes.now true c.requires (sym c.is_typed_text.ensures ∙ c.if-is_typed_text.true)) in
+    IfOk-weaker c.print.result _ _ (λ printed e. e ∙ ap text_of c.requires ∙ text) c.print.ensures.text
 
-pub returns : goal.returns
-returns c =
+pub returns-else-is_typed_text : goal.returns-else-is_typed_text
+returns-else-is_typed_text c =
     let m = c.args.of_module.now in
-    let opaque = c.in_ok-made.made in
-    let text = sym (chosen m opaque c.args.bytes.now false c.in_ok-made.ensures (sym c.is_typed_text.ensures ∙ c.if-is_typed_text.false)) in
+    let opaque = c.args.opaque.now in
+    let text = sym (chosen m opaque c.args.bytes.now false c.requires (sym c.is_typed_text.ensures ∙ c.if-is_typed_text.false)) in
     IfOk-weaker c.copied_text.result _ _ (λ copied e. e ∙ text) c.copied_text.ensures
