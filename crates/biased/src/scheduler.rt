@@ -1,9 +1,11 @@
 //! Who makes the next steps of a run.
-ghost use Rattle.std.specs.Prelude.{◌≤◌};
+ghost use Rattle.std.specs.Prelude.{◌≤◌, length};
 
 use crate::changes::Changes;
+use crate::habits::{Habits, OfActor, Way, drawn_habits, of_collector, of_thread};
 use crate::numbers::{below, falls};
-use crate::seen::{Place, Seen};
+use crate::places::{Place, Places};
+use crate::seen::Seen;
 use items::Items;
 use rand_core::{Rng, SeedableRng};
 use rand_pcg::Pcg32;
@@ -15,34 +17,12 @@ const OVER: u32 = 0;
 /// Ranks that are drawn are from this one on, and those that fall are below it.
 const MIDDLE: u32 = 1 << 31;
 
-/// How the next actor is found.
+/// Whether an actor is drawn.
 #[derive(Clone, Copy)]
-enum Way {
-    /// It is drawn: those with more weight more often.
-    Lots,
-    /// It is the one with the highest rank.
-    Ranks,
-}
-
-/// Around what an actor is left more often.
-#[derive(Clone, Copy)]
-enum Focus {
-    Nowhere,
-    Everywhere,
-    Around(Place),
-}
-
-/// What a seed draws for its whole schedule.
-#[derive(Clone, Copy)]
-struct Habits {
-    way: Way,
-    /// Around what threads are left more often, and around what the collector is.
-    of_threads: Focus,
-    of_collector: Focus,
-    /// How many times of 64 they are left there.
-    at_places: u32,
-    /// How many steps an actor makes in a row at most.
-    most: u32,
+enum Presence {
+    Here,
+    /// A thread stands at a place, until it is called.
+    Away,
 }
 
 /// Draws the steps of a schedule. Actors are numbers here: those of the threads, and after them that of the collector.
@@ -51,73 +31,16 @@ pub(crate) struct Scheduler {
     rng: Pcg32,
     habits: Habits,
     changes: Changes,
-    /// For each actor, how many times of 64 it is left after a step.
-    leaving: Items<u32>,
+    /// What is drawn for each actor.
+    actors: Items<OfActor>,
     weights: Items<u32>,
     ranks: Items<u32>,
+    presence: Items<Presence>,
     /// The rank that fell last.
     lowest: u32,
     current: u32,
     /// How many steps the current actor has made in a row.
     row: u32,
-}
-
-/// How a seed finds the next actor.
-fn drawn_way<R: Rng>(rng: &mut R) -> Way {
-    match below(rng, 2) {
-        0 => Way::Lots,
-        _ => Way::Ranks,
-    }
-}
-
-/// Around what threads are left more often.
-fn focus_of_threads<R: Rng>(rng: &mut R) -> Focus {
-    match below(rng, 6) {
-        0 => Focus::Nowhere,
-        1 => Focus::Around(Place::Reference),
-        2 => Focus::Around(Place::Handshake),
-        3 => Focus::Around(Place::Cell),
-        _ => Focus::Everywhere,
-    }
-}
-
-/// Around what the collector is.
-fn focus_of_collector<R: Rng>(rng: &mut R) -> Focus {
-    match below(rng, 6) {
-        0 => Focus::Everywhere,
-        1 => Focus::Around(Place::Reference),
-        2 => Focus::Around(Place::Handshake),
-        3 => Focus::Around(Place::Cell),
-        _ => Focus::Nowhere,
-    }
-}
-
-/// What a seed draws for its whole schedule.
-fn drawn_habits<R: Rng>(rng: &mut R) -> Habits {
-    Habits {
-        way: drawn_way(rng),
-        of_threads: focus_of_threads(rng),
-        of_collector: focus_of_collector(rng),
-        at_places: 16 + 16 * below(rng, 3),
-        most: 16 << below(rng, 6),
-    }
-}
-
-/// How many times of 64 an actor is left after a step: from always to once. By ranks it is left at change points alone.
-fn leaving<R: Rng>(rng: &mut R, way: Way) -> u32 {
-    match way {
-        Way::Lots => 64 >> below(rng, 7),
-        Way::Ranks => 0,
-    }
-}
-
-/// How many times of 64 the collector is left after a step: half of the seeds let it go on for long.
-fn leaving_of_collector<R: Rng>(rng: &mut R, way: Way) -> u32 {
-    let leaving = leaving(rng, way);
-    match below(rng, 2) {
-        0 => leaving.min(8 >> below(rng, 4)),
-        _ => leaving,
-    }
 }
 
 impl Scheduler {
@@ -127,29 +50,32 @@ impl Scheduler {
     {
         let mut rng = Pcg32::seed_from_u64(u64::from(seed));
         let habits = drawn_habits(&mut rng);
-        let mut leaving_by_actor = Items::new(alloc);
+        let mut actors = Items::new(alloc);
         let mut weights = Items::new(alloc);
         let mut ranks = Items::new(alloc);
+        let mut presence = Items::new(alloc);
         for actor in 0..last + 1 {
-            leaving_by_actor.push(if actor < last {
-                leaving(&mut rng, habits.way)
+            actors.push(if actor < last {
+                of_thread(&mut rng, habits.way)
             } else {
-                leaving_of_collector(&mut rng, habits.way)
+                of_collector(&mut rng, habits.way)
             })?;
             weights.push(1 << (2 * below(&mut rng, 3)))?;
             ranks.push(MIDDLE + below(&mut rng, MIDDLE))?;
+            presence.push(Presence::Here)?;
         }
         let changes = match habits.way {
-            Way::Lots => Changes::none(),
+            Way::Lots | Way::Standing => Changes::none(),
             Way::Ranks => Changes::drawn(&mut rng),
         };
         Ok(Scheduler {
             rng,
             habits,
             changes,
-            leaving: leaving_by_actor,
+            actors,
             weights,
             ranks,
+            presence,
             lowest: MIDDLE,
             current: 0,
             row: 0,
@@ -170,7 +96,7 @@ impl Scheduler {
         ensures { result ≤ last }
     {
         let next = match self.habits.way {
-            Way::Lots => self.next_by_lot(last),
+            Way::Lots | Way::Standing => self.next_by_lot(last),
             Way::Ranks => self.next_by_rank(last),
         };
         self.current = next;
@@ -189,36 +115,87 @@ impl Scheduler {
         switches
     }
 
-    /// Whether the current actor is left after a step of which this was seen.
+    /// Whether the current actor is left after a step of which this was seen. Threads are called where the collector waits, and where it posts.
     fn is_left(&mut self, seen: Seen) -> bool {
-        if self.row >= self.habits.most {
-            return true;
-        }
-        let leaving = self
-            .leaving
-            .get(self.current as usize)
-            .copied()
-            .unwrap_or(0);
         match seen {
-            Seen::Over | Seen::Wait => true,
-            Seen::At(place) if self.switches_at(place) => {
-                falls(&mut self.rng, self.habits.at_places.max(leaving))
+            Seen::Over | Seen::End => true,
+            Seen::Waits(thread) => {
+                self.call_one(thread);
+                true
             }
-            _ => falls(&mut self.rng, leaving),
+            Seen::Posts => {
+                self.call_any();
+                self.is_left_at(Place::Handshake)
+            }
+            Seen::At(place) => self.is_left_at(place),
+            Seen::Elsewhere => self.is_left_by_lot(),
         }
     }
 
-    /// Whether the current actor is left more often there.
-    fn switches_at(&self, place: Place) -> bool {
-        let wanted = if (self.current as usize) + 1 < self.ranks.len() {
-            self.habits.of_threads
-        } else {
-            self.habits.of_collector
+    /// What is drawn for the current actor.
+    fn drawn(&self) -> OfActor {
+        self.actors
+            .get(self.current as usize)
+            .copied()
+            .unwrap_or(OfActor {
+                leaving: 0,
+                places: Places::none(),
+            })
+    }
+
+    /// Whether the current actor is left after a step that was made at no place.
+    fn is_left_by_lot(&mut self) -> bool {
+        let leaving = self.drawn().leaving;
+        self.row >= self.habits.most || falls(&mut self.rng, leaving)
+    }
+
+    /// Whether the current actor is left at a place. Then it may stand there.
+    fn is_left_at(&mut self, place: Place) -> bool {
+        if self.drawn().places.has(place) && falls(&mut self.rng, self.habits.at_places) {
+            self.stand();
+            return true;
+        }
+        self.is_left_by_lot()
+    }
+
+    /// The number of threads.
+    fn threads(&self) -> usize
+        ensures { result ≤ length self.now.presence }
+    {
+        self.presence.len().saturating_sub(1)
+    }
+
+    /// The current actor stands where it is, if it is a thread, and threads stand in this schedule.
+    fn stand(&mut self) {
+        let at = self.current as usize;
+        if matches!(self.habits.way, Way::Standing) && at < self.threads() {
+            self.presence.set(at, Presence::Away);
+        }
+    }
+
+    /// A thread is called, if it stands.
+    fn call(&mut self, thread: usize) {
+        if thread < self.threads() {
+            self.presence.set(thread, Presence::Here);
+        }
+    }
+
+    /// Any thread is called.
+    fn call_any(&mut self) {
+        let threads = match u32::try_from(self.threads()) {
+            Ok(threads) => threads.max(1),
+            Err(_) => u32::MAX,
         };
-        match wanted {
-            Focus::Nowhere => false,
-            Focus::Everywhere => true,
-            Focus::Around(wanted) => wanted == place,
+        let thread = below(&mut self.rng, threads);
+        self.call(thread as usize);
+    }
+
+    /// The thread for which the collector waits is called, or any.
+    fn call_one(&mut self, awaited: usize) {
+        if falls(&mut self.rng, 32) {
+            self.call(awaited);
+        } else {
+            self.call_any();
         }
     }
 
@@ -240,9 +217,14 @@ impl Scheduler {
         self.ranks.get(actor as usize).copied().unwrap_or(OVER)
     }
 
-    /// The weight of an actor in the next lot. The current one has none, and one that is over.
+    /// Whether a thread stands.
+    fn stands(&self, actor: u32) -> bool {
+        matches!(self.presence.get(actor as usize), Some(Presence::Away))
+    }
+
+    /// The weight of an actor in the next lot. The current one has none, one that stands, and one that is over.
     fn weight(&self, actor: u32) -> u32 {
-        if actor == self.current || self.rank(actor) == OVER {
+        if actor == self.current || self.rank(actor) == OVER || self.stands(actor) {
             return 0;
         }
         self.weights.get(actor as usize).copied().unwrap_or(0)

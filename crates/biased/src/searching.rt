@@ -56,6 +56,25 @@ fn broken_by_seed(
     Ok(found)
 }
 
+/// A trace with the steps that a seed draws, as many as these at most, from the start of a trace. Steps past a trace's limit are left out.
+pub fn biased_trace(
+    alloc: Global,
+    program: &Program,
+    start: &Trace,
+    seed: u32,
+    steps: u32,
+) -> Result<Trace, SetupFault>
+    requires { IsTraceOf program.now start.now }
+    ensures is_trace { IfOk result (IsTraceOf program.now) }
+    ensures setup { IfOk result (λ made. made.setup ≡ start.now.setup) }
+    ensures fault { IfErr result (λ e. e ≢ fault.Memory → IsSetupFault program.now start.now.setup e) }
+{
+    let steps = steps.min(STEP_LIMIT as u32);
+    let drawn = drawn_steps(alloc, program, &start.setup, seed, steps)?;
+    let trace = with_steps(alloc, program, start, drawn.lines)?;
+    Ok(trace)
+}
+
 /// Whether the threads of a trace may begin.
 fn may_begin(alloc: Global, program: &Program, start: &Trace) -> Result<(), SetupFault>
     requires { IsTraceOf program.now start.now }

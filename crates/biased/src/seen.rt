@@ -1,26 +1,20 @@
 //! What is seen of a step: whether its actor has more to do, and whether it is at a place around which a schedule may switch more often.
+use crate::places::Place;
 use colours::{DONE, Turn};
 use moves::Move;
 use stepping::{Happening, MadeStep};
-
-/// Around what a schedule may switch more often.
-#[derive(Clone, Copy, PartialEq, Eq)]
-pub(crate) enum Place {
-    /// A load or a store of a reference, a part of a barrier, and the collector's trace.
-    Reference,
-    /// Stages: an answer at a safepoint, a thread that begins, a post of the collector, and an answer that it finds.
-    Handshake,
-    /// A claim, and a free.
-    Cell,
-}
 
 /// What is seen of a step.
 #[derive(Clone, Copy)]
 pub(crate) enum Seen {
     /// The actor had no step left.
     Over,
-    /// The collector waits for a thread, or a thread ends.
-    Wait,
+    /// A thread ends.
+    End,
+    /// The collector waits for this thread.
+    Waits(usize),
+    /// The collector posts a stage.
+    Posts,
     At(Place),
     Elsewhere,
 }
@@ -29,27 +23,26 @@ pub(crate) enum Seen {
 fn seen_of_move(made: &Move) -> Seen {
     match made {
         Move::Works | Move::GoesWrong | Move::ReadsPosted(_) => Seen::Elsewhere,
-        Move::ReadsWord { .. }
-        | Move::ReadsOldValue { .. }
-        | Move::Marks(_)
-        | Move::StoresAfterBarrier { .. }
-        | Move::StoresPlain { .. } => Seen::At(Place::Reference),
+        Move::ReadsWord { .. } => Seen::At(Place::Load),
+        Move::ReadsOldValue { .. } | Move::Marks(_) => Seen::At(Place::Mark),
+        Move::StoresAfterBarrier { .. } | Move::StoresPlain { .. } => Seen::At(Place::Store),
         Move::Claims { won: true, .. } => Seen::At(Place::Cell),
         Move::Claims { .. } => Seen::Elsewhere,
         Move::Answers(_)
         | Move::ReadsPostedFirst(_)
         | Move::EntersStage(_)
         | Move::ReadsPostedAgain(_) => Seen::At(Place::Handshake),
-        Move::Ends => Seen::Wait,
+        Move::Ends => Seen::End,
     }
 }
 
 /// What is seen of a step of the collector, which has posted this stage.
 fn seen_of_turn(turn: Turn, posted: u64) -> Seen {
     match turn {
-        Turn::ReadStage(_, stage) if stage != posted && stage != DONE => Seen::Wait,
-        Turn::PostStage(_) | Turn::ReadStage(..) => Seen::At(Place::Handshake),
-        Turn::MarkFound(..) | Turn::ScanWord(..) | Turn::Blacken(_) => Seen::At(Place::Reference),
+        Turn::ReadStage(thread, stage) if stage != posted && stage != DONE => Seen::Waits(thread),
+        Turn::PostStage(_) => Seen::Posts,
+        Turn::ReadStage(..) => Seen::At(Place::Handshake),
+        Turn::MarkFound(..) | Turn::ScanWord(..) | Turn::Blacken(_) => Seen::At(Place::Mark),
         Turn::Free(_) => Seen::At(Place::Cell),
         Turn::ReadColour(..) | Turn::ClearWord(..) => Seen::Elsewhere,
     }

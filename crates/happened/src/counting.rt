@@ -57,7 +57,7 @@ fn cycles_in(report: &Report) -> u64
 
 impl Happened {
     /// What happened in no run.
-    fn nothing() -> Self
+    pub(crate) fn nothing() -> Self
         ensures { result ≡ nothing }
     {
         Happened {
@@ -70,7 +70,7 @@ impl Happened {
     }
 
     /// What happened in one more run too, if the counts have room for it.
-    fn with(self, report: &Report) -> Option<Happened>
+    pub(crate) fn with(self, report: &Report) -> Option<Happened>
         ensures { IfSome result (λ more. more ≡ with_report self report.now) }
     {
         Some(Happened {

@@ -2,6 +2,8 @@
 //! ended.
 #![tactic(auto)]
 
+mod biased_counting;
 mod counting;
 
+pub use biased_counting::counted_biased;
 pub use counting::{Happened, counted};

@@ -74,7 +74,7 @@ pub record AreTried (search : Search) (past : ℕ) : Type 0 where
 abbrev pub seed_text : SeedBreak → List ℕ
 seed_text at = codes "broken seed " ++ decimal at.seed ++ codes " " ++ break_text at.broken
 
--- no schedule of so many seeds breaks its run
+-- of that number of seeds none has a schedule that breaks its run
 abbrev pub of_sound : (seeds : ℕ) → Answer
 of_sound seeds = record { text = codes "sound " ++ decimal seeds ++ codes " seeds" ++ 10 ∷ []; status = 0 }
 
@@ -121,7 +121,7 @@ MayTell old new = (new ≡ old) ⊎ ((text : List ℕ) × Appends old new text)
 
 -- ---- soak with few switches
 
--- no schedule of so many seeds broke its run
+-- of that number of seeds none had a schedule that broke its run
 abbrev pub of_biased_sound : (seeds : ℕ) → Answer
 of_biased_sound seeds = record { text = codes "sound " ++ decimal seeds ++ codes " biased seeds" ++ 10 ∷ []; status = 0 }
 
@@ -178,7 +178,7 @@ tried_text starts seeds tries = codes "starts " ++ decimal starts ++ codes " see
 abbrev pub of_broken : Break → (starts seeds tries : ℕ) → Answer
 of_broken b starts seeds tries = record { text = codes "broken " ++ break_text b ++ tried_text starts seeds tries; status = 1 }
 
--- nothing was found with so many starts and seeds
+-- nothing was found with that number of starts, and of seeds
 abbrev pub of_nothing : (starts seeds : ℕ) → Answer
 of_nothing starts seeds = record { text = codes "sound " ++ decimal seeds ++ codes " seeds" ++ 10 ∷ codes "starts " ++ decimal starts ++ 10 ∷ []; status = 0 }
 

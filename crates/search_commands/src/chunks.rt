@@ -48,6 +48,7 @@ pub(crate) fn soak_for<P: Onlooker>(
     ensures fault { IfErr result (λ e. e ≢ fault.Memory → IsSetupFault program.now setup.now e) }
 {
     let past = past_seed(search);
+    // A soak of no seed says only whether each thread may begin. That is told also where no seed is tried.
     let _none = soak(
         rt,
         alloc,

@@ -5,7 +5,7 @@ ghost use Rattle.trace_text.specs.Traces.{IsTraceOf};
 
 use crate::chunks::past_seed;
 use command_line::{Draws, Search, SoakLine};
-use happened::{Happened, counted};
+use happened::{Happened, counted, counted_biased};
 use layout::Program;
 use reports::{Traced, read_traced};
 use std::alloc::Global;
@@ -67,6 +67,31 @@ fn tell_counts<E: Write>(
     Ok(())
 }
 
+/// How many steps of biased seeds are looked at: one in twenty, since they are drawn and made anew.
+fn biased_budget(search: Search) -> u64 {
+    let all = u64::from(search.seeds).saturating_mul(u64::from(search.steps));
+    (all / 20).max(1).min(STEPS)
+}
+
+/// What happens in the runs of the first seeds of a search, if memory is ample and the threads may begin.
+fn counts_of(alloc: Global, program: &Program, start: &Trace, search: Search) -> Option<Happened>
+    requires { IsTraceOf program.now start.now }
+{
+    let first = search.first;
+    let past = past_seed(search).min(first.saturating_add(SEEDS));
+    let counts = match &search.draws {
+        Draws::Uniform => counted(alloc, program, start, first, past, search.steps, STEPS),
+        Draws::Biased => {
+            let budget = biased_budget(search);
+            counted_biased(alloc, program, start, first, past, search.steps, budget)
+        }
+    };
+    match counts {
+        Ok(happened) => Some(happened),
+        Err(_) => None,
+    }
+}
+
 /// Says what happens in the runs of the first seeds of a search, from the start of a trace.
 fn tell_traced<E: Write>(
     alloc: Global,
@@ -78,21 +103,18 @@ fn tell_traced<E: Write>(
     requires { IsTraceOf program.now start.now }
     ensures { OnOk result (MayTell (E.contents err.old) (E.contents err.new)) }
 {
-    let first = search.first;
-    let past = past_seed(search).min(first.saturating_add(SEEDS));
     let threads = start.setup.starts.len() as u64;
-    let counts = counted(alloc, program, start, first, past, search.steps, STEPS);
-    let Ok(happened) = counts else {
+    let Some(happened) = counts_of(alloc, program, start, search) else {
         return Ok(());
     };
     if happened.seeds == 0 {
         return Ok(());
     }
     let threads = threads.saturating_mul(u64::from(happened.seeds));
-    tell_counts(err, first, threads, happened)
+    tell_counts(err, search.first, threads, happened)
 }
 
-/// Says how much happens in the runs of the first seeds of a line, where draws are uniform.
+/// Says how much happens in the runs of the first seeds of a line.
 pub fn tell_happened<E: Write>(
     alloc: Global,
     asked: SoakLine<'_>,
@@ -101,9 +123,6 @@ pub fn tell_happened<E: Write>(
 ) -> io::Result<()>
     ensures { OnOk result (MayTell (E.contents err.old) (E.contents err.new)) }
 {
-    if matches!(asked.search.draws, Draws::Biased) {
-        return Ok(());
-    }
     let paths = (asked.module_path, asked.trace_path, asked.shapes_path);
     match read_traced(alloc, paths, files) {
         Ok(traced) => {
@@ -113,6 +132,9 @@ pub fn tell_happened<E: Write>(
             drop(program);
             told
         }
-        Err(_) => Ok(()),
+        Err(fault) => {
+            drop(fault);
+            Ok(())
+        }
     }
 }
