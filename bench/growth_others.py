@@ -101,6 +101,36 @@ def stale_after_blocks(n):
     return function(f"{body}b{n}:\n  store %Node* %x, %Node** @g\n  ret void\n", section, mark="may")
 
 
+def joined(n, body, section):
+    """Blocks that a switch leads to, each with a line of the certificate, and one to which all of them lead."""
+    cases = "".join(f"    i64 {i}, label %b{i}\n" for i in range(1, n))
+    return (f"  switch i64 %k, label %b0 [\n{cases}  ]\n" + lines(n, lambda i: f"b{i}:\n  br label %join") + f"join:\n{body}",
+            lines(n, lambda i: f"block %b{i}\n{section}") + f"block %join\n{section}\n")
+
+
+@kind("predecessors before an explained refusal", 65000, command="check, explained")
+def stale_after_predecessors(n):
+    """Blocks that all lead to a use that is refused, after a safepoint in the block before them."""
+    body, section = joined(n, "  store %Node* %x, %Node** @g\n  ret void\n", "%x ref Node stale")
+    return function("  %x = load %Node*, %Node** @g\n" + safepoints(1) + body, section, "i64 %k", mark="may")
+
+
+@kind("predecessors of a block that lacks a claim", 65000, command="check, explained")
+def lacking_after_predecessors(n):
+    """Blocks that list a reference, and all lead to a block that does not."""
+    body, section = joined(n, "  store %Node* %x, %Node** @g\n  ret void\n", "%x ref Node nonnull")
+    section = "param %x nonnull\n" + section.removesuffix("%x ref Node nonnull\n")
+    return function(body, section, "%Node* %x, i64 %k")
+
+
+@kind("entries of an explained phi", 65000, command="check, explained")
+def explained_entries(n):
+    """Blocks that all lead to a phi, which has an entry of one more."""
+    entries = "".join(f"[ {i}, %b{i} ], " for i in range(n))
+    body, section = joined(n, f"  %p = phi i64 {entries}[ 0, %other ]\n  ret void\nother:\n  ret void\n", "%k i64")
+    return function(body, section.removesuffix("%k i64\n") + "block %other\n", "i64 %k")
+
+
 @kind("claims of an explained edge", command="check, explained")
 def refused_claims(n):
     """Claims at a block, of which the last one is not known there."""
@@ -125,6 +155,13 @@ def refused_blocks(n):
     """Blocks that each load from null."""
     body = "  br label %b0\n" + lines(n, lambda i: f"b{i}:\n  %v{i} = load i64, i64* null\n  br label %b{i + 1}") + f"b{n}:\n  ret void\n"
     return function(body, lines(n + 1, lambda i: f"block %b{i}"))
+
+
+@kind("functions that are refused, explained", 65000, command="check, all")
+def refused_functions(n):
+    """Functions that each load from null."""
+    module = HEAD + lines(n, lambda i: f"define void @f{i}() {{\nentry:\n  %v = load i64, i64* null\n  ret void\n}}")
+    return module, "cert 1\n" + lines(n, lambda i: f"function @f{i} none\nend")
 
 
 @kind("refused edits, explained", command="recheck, explained")

@@ -10,3 +10,4 @@ pub mod BlockWalk
 pub mod Follows
 pub mod Exact
 pub mod Refills
+pub mod RefusedBlocks

@@ -197,7 +197,8 @@ fn first_fault(
     None
 }
 
-fn answer(
+/// Whether a block of the function obeys the rules. The facts and the scratch are written anew.
+pub(crate) fn answer(
     alloc: Global,
     under_check: &FunctionUnderCheck,
     facts: &mut Facts,

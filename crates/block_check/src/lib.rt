@@ -1,6 +1,7 @@
 //! One block, or each block of a function, against its certificate: the rules of every instruction, and what each edge out implies.
 #![tactic(auto)]
 
+mod all_refusals;
 mod block_set;
 mod block_walk;
 mod breach;
@@ -16,6 +17,7 @@ mod phis;
 mod predecessors;
 mod under_check;
 
+pub use all_refusals::refused_blocks;
 pub use block_rules::{BlockFault, Breach, Detail, Refusal, Rule};
 pub use check::{check_block, check_function, check_function_rows, check_rows};
 pub use entry_rows::rows;

@@ -5,7 +5,7 @@ use crate::null_tests::shows_nonnull;
 use crate::told::Told;
 use certs::{Age, Fact};
 use facts::{Class, Facts, Known};
-use ir_ast::{BlockId, ValueId};
+use ir_ast::{BlockId, Function, ValueId};
 use messages::put;
 use origins::{Definition, block_id, blocks_between, is_missing, leads_to};
 use scenes::{Scene, Spot, put_block, put_claim};
@@ -16,6 +16,9 @@ const NAMED: usize = 6;
 
 /// Of how many blocks it is found at most which edges into them show.
 const SHOWN: usize = 64;
+
+/// How many edges into these blocks there are at most.
+const EDGES: usize = 1024;
 
 /// A block that has to list a value, and does not.
 #[derive(Clone, Copy)]
@@ -183,7 +186,12 @@ fn nonnull_among(
 ) -> Result<Vec<BlockId>, AllocError> {
     let mut listed = Vec::from_slice(scene.pen.alloc, blocks)?;
     for _turn in 0..blocks.len() {
-        listed = still_nonnull(scene, value, listed.as_slice())?;
+        let kept = still_nonnull(scene, value, listed.as_slice())?;
+        let is_settled = kept.len() == listed.len();
+        listed = kept;
+        if is_settled {
+            return Ok(listed);
+        }
     }
     Ok(listed)
 }
@@ -218,6 +226,26 @@ fn shown_at(
     found
 }
 
+/// Whether few edges lead into some blocks.
+fn are_entered_by_few(function: &Function, blocks: &[BlockId]) -> bool {
+    let mut edges: usize = 0;
+    for to in blocks {
+        let into = function
+            .blocks
+            .as_slice()
+            .iter()
+            .filter(|block| leads_to(function, &block.end, *to))
+            .count();
+        edges = edges.saturating_add(into);
+    }
+    edges <= EDGES
+}
+
+/// Whether it is found what the edges into some blocks show.
+fn are_shown(scene: &Scene, blocks: &[BlockId]) -> bool {
+    blocks.len() <= SHOWN && are_entered_by_few(scene.context.function, blocks)
+}
+
 /// The same, where nothing is said of edges.
 fn not_shown(scene: &Scene, blocks: &[BlockId]) -> Result<Vec<Unlisted>, AllocError> {
     let mut found = Vec::new(scene.pen.alloc);
@@ -239,7 +267,7 @@ fn unlisted_blocks(
     fact: &Fact,
 ) -> Result<Vec<Unlisted>, AllocError> {
     let blocks = missing(scene, definition, value)?;
-    if matches!(fact, Fact::Reference { .. }) && blocks.len() <= SHOWN {
+    if matches!(fact, Fact::Reference { .. }) && are_shown(scene, blocks.as_slice()) {
         shown_at(scene, value, blocks.as_slice())
     } else {
         not_shown(scene, blocks.as_slice())

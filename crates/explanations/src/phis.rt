@@ -1,8 +1,10 @@
 //! K16: an entry of a phi that is missing, or one too many.
 use crate::told::Told;
 use ir_ast::{BlockId, Function, Incoming};
+use number_tables::{put, row_or};
 use origins::{block_id, leads_to};
 use scenes::{Scene, There};
+use std::alloc::{AllocError, Global};
 use types::target_of;
 
 /// What is wrong with the entries of a phi.
@@ -14,24 +16,27 @@ pub enum Entries {
     Other,
 }
 
-fn is_from(function: &Function, entry: &Incoming, block: BlockId) -> bool {
-    match target_of(function, entry.from) {
-        Some(from) => from.number() == block.number(),
-        None => false,
+/// For each block of a function whether a phi has an entry of it.
+fn entered_from(
+    alloc: Global,
+    function: &Function,
+    incoming: &[Incoming],
+) -> Result<Vec<bool>, AllocError> {
+    let mut entered = vec![in alloc; false; function.blocks.len()]?;
+    for entry in incoming {
+        if let Some(from) = target_of(function, entry.from) {
+            put(&mut entered, from.number() as usize, true);
+        }
     }
-}
-
-/// Whether a phi has an entry of a block.
-fn has_entry(function: &Function, incoming: &[Incoming], block: BlockId) -> bool {
-    incoming.iter().any(|entry| is_from(function, entry, block))
+    Ok(entered)
 }
 
 /// The first block that leads to this one without an entry, or has one and does not lead here.
-fn first_wrong(function: &Function, incoming: &[Incoming], here: BlockId) -> Entries {
+fn first_wrong(function: &Function, entered: &[bool], here: BlockId) -> Entries {
     for (place, block) in function.blocks.as_slice().iter().enumerate() {
         if let Some(id) = block_id(place) {
             let leads = leads_to(function, &block.end, here);
-            let has = has_entry(function, incoming, id);
+            let has = row_or(entered, place, false);
             if leads != has {
                 return if leads {
                     Entries::Missing(id)
@@ -45,15 +50,18 @@ fn first_wrong(function: &Function, incoming: &[Incoming], here: BlockId) -> Ent
 }
 
 /// What is wrong with the entries of the refused phi.
-pub fn entries_of(scene: &Scene) -> Entries {
+pub fn entries_of(scene: &Scene) -> Result<Entries, AllocError> {
     match scene.there() {
-        There::Phi(phi) => first_wrong(
-            scene.context.function,
-            phi.incoming.as_slice(),
-            scene.refusal.block,
-        ),
-        _ => Entries::Other,
+        There::Phi(phi) => entries_in(scene, phi.incoming.as_slice()),
+        _ => Ok(Entries::Other),
     }
+}
+
+/// What is wrong with these entries.
+fn entries_in(scene: &Scene, incoming: &[Incoming]) -> Result<Entries, AllocError> {
+    let function = scene.context.function;
+    let entered = entered_from(scene.pen.alloc, function, incoming)?;
+    Ok(first_wrong(function, entered.as_slice(), scene.refusal.block))
 }
 
 /// The same text with the block.

@@ -225,7 +225,7 @@ fn operands_of_result(operand: Option<Operand>) -> [Operand; 1] {
 
 /// K16.
 fn put_entries(out: &mut Vec<u8>, told: &Told) -> Result<(), AllocError> {
-    let entries = phis::entries_of(told.scene);
+    let entries = phis::entries_of(told.scene)?;
     let told = phis::told_of(told, &entries);
     put_text(out, &told, phis::sentence_of(&entries))?;
     put(out, "\n")?;

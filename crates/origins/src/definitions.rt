@@ -1,10 +1,12 @@
 //! Where a value is defined, and which blocks on the way from there do not list it.
-use crate::ways::{block_id, defines, predecessors};
+use crate::entered::predecessors_of;
+use crate::ways::{block_id, defines};
 use certs::{Claim, Section};
 use diagnosis::claim_of;
 use ir_ast::{BlockId, Function, ValueId};
+use number_tables::{Buckets, put, row_or};
 use scenes::{Scene, Spot};
-use std::alloc::AllocError;
+use std::alloc::{AllocError, Global};
 
 /// How many blocks are gone over at most.
 const FAR: usize = 4096;
@@ -114,24 +116,43 @@ fn is_among(blocks: &[BlockId], block: BlockId) -> bool {
     blocks.iter().any(|other| other.number() == block.number())
 }
 
-fn add(blocks: &mut Vec<BlockId>, block: BlockId) -> Result<(), AllocError> {
-    if is_among(blocks.as_slice(), block) {
-        return Ok(());
-    }
-    blocks.push(block)?;
-    Ok(())
+/// Blocks of a function, each once, in the order in which they were found.
+#[derive(Drop)]
+struct Gathered {
+    blocks: Vec<BlockId>,
+    /// Whether each block of the function is among them.
+    seen: Vec<bool>,
 }
 
-fn add_predecessors(
-    scene: &Scene,
-    blocks: &mut Vec<BlockId>,
-    block: BlockId,
-) -> Result<(), AllocError> {
-    let found = predecessors(scene.pen.alloc, scene.context.function, block)?;
-    for other in found.as_slice() {
-        add(blocks, *other)?;
+impl Gathered {
+    fn new(alloc: Global, function: &Function) -> Result<Gathered, AllocError> {
+        let seen = vec![in alloc; false; function.blocks.len()]?;
+        Ok(Gathered {
+            blocks: Vec::new(alloc),
+            seen,
+        })
     }
-    Ok(())
+
+    fn add(&mut self, block: BlockId) -> Result<(), AllocError> {
+        let at = block.number() as usize;
+        if row_or(&self.seen, at, true) {
+            return Ok(());
+        }
+        put(&mut self.seen, at, true);
+        self.blocks.push(block)?;
+        Ok(())
+    }
+
+    fn add_each(&mut self, blocks: &[u32]) -> Result<(), AllocError> {
+        for number in blocks {
+            self.add(BlockId::new(*number))?;
+        }
+        Ok(())
+    }
+
+    fn into_blocks(self) -> Vec<BlockId> {
+        self.blocks
+    }
 }
 
 /// The blocks on the ways to a block, itself first, back to the one that defines a value, which is left out.
@@ -140,21 +161,38 @@ pub fn blocks_between(
     from: &Option<BlockId>,
     to: BlockId,
 ) -> Result<Vec<BlockId>, AllocError> {
-    let mut blocks = Vec::new(scene.pen.alloc);
-    blocks.push(to)?;
+    let entered = predecessors_of(scene.pen.alloc, scene.context.function)?;
+    let blocks = blocks_back(scene, &entered, from, to);
+    drop(entered);
+    blocks
+}
+
+/// The same, with the blocks from which each block is entered.
+fn blocks_back(
+    scene: &Scene,
+    entered: &Buckets,
+    from: &Option<BlockId>,
+    to: BlockId,
+) -> Result<Vec<BlockId>, AllocError> {
+    let mut gathered = Gathered::new(scene.pen.alloc, scene.context.function)?;
+    gathered.add(to)?;
     for turn in 0..FAR {
-        let Some(block) = blocks.get(turn).copied() else {
-            return Ok(blocks);
+        let Some(block) = gathered.blocks.get(turn).copied() else {
+            return Ok(gathered.into_blocks());
         };
-        let is_first = match from {
-            Some(from) => from.number() == block.number(),
-            None => false,
-        };
-        if !is_first {
-            add_predecessors(scene, &mut blocks, block)?;
+        if !is_first(from, block) {
+            gathered.add_each(entered.group(block.number() as usize))?;
         }
     }
-    Ok(blocks)
+    Ok(gathered.into_blocks())
+}
+
+/// Whether a block is the one that defines the value.
+fn is_first(from: &Option<BlockId>, block: BlockId) -> bool {
+    match from {
+        Some(from) => from.number() == block.number(),
+        None => false,
+    }
 }
 
 /// Whether a way from the beginning of the function leads to a block past the one that defines a value.
@@ -171,10 +209,6 @@ pub fn is_bypassed(scene: &Scene, from: &Option<BlockId>, to: BlockId) -> Result
 
 /// Whether a value has to be listed at a block, and is not.
 pub fn is_missing(scene: &Scene, from: &Option<BlockId>, block: BlockId, value: ValueId) -> bool {
-    let is_first = match from {
-        Some(from) => from.number() == block.number(),
-        None => false,
-    };
     let section = scene.context.certs.section(scene.refusal.func);
-    !is_first && block.number() != 0 && !lists(section, block, value)
+    !is_first(from, block) && block.number() != 0 && !lists(section, block, value)
 }

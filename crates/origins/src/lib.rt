@@ -4,6 +4,7 @@
 
 mod cert_lines;
 mod definitions;
+mod entered;
 mod ways;
 
 pub use cert_lines::{Sought, cert_position};

@@ -1,11 +1,13 @@
 //! The ways through a function that lead to an instruction, gone back over block by block.
+use crate::entered::predecessors_of;
 use certs::Mark;
 use diagnosis::{Change, last_change};
 use ir_ast::{
     Block, BlockId, End, Function, Incoming, Instr, Op, Operand, Phi, Runtime, SymbolSort, ValueId,
 };
+use number_tables::Buckets;
 use scenes::{Scene, Spot, reference_of};
-use std::alloc::{AllocError, Global};
+use std::alloc::AllocError;
 use types::{runtime_called, target_of};
 
 /// How many blocks are gone over at most.
@@ -150,7 +152,8 @@ fn add(ways: &mut Vec<Way>, block: BlockId, value: ValueId) -> Result<(), AllocE
         value,
         upto: usize::MAX,
     };
-    if is_among(ways.as_slice(), &way) {
+    // No way beyond these is gone over.
+    if ways.len() >= FAR || is_among(ways.as_slice(), &way) {
         return Ok(());
     }
     ways.push(way)?;
@@ -182,39 +185,17 @@ pub fn block_id(place: usize) -> Option<BlockId> {
     }
 }
 
-/// The blocks that lead to a block.
-pub fn predecessors(
-    alloc: Global,
-    function: &Function,
-    block: BlockId,
-) -> Result<Vec<BlockId>, AllocError> {
-    let mut found = Vec::new(alloc);
-    for (place, other) in function.blocks.as_slice().iter().enumerate() {
-        if let Some(id) = block_id(place) {
-            if leads_to(function, &other.end, block) {
-                found.push(id)?;
-            }
-        }
-    }
-    Ok(found)
-}
-
-/// The ways over which a block is entered.
-fn add_predecessors(
-    scene: &Scene,
-    ways: &mut Vec<Way>,
-    block: BlockId,
-    value: ValueId,
-) -> Result<(), AllocError> {
-    let blocks = predecessors(scene.pen.alloc, scene.context.function, block)?;
-    for other in blocks.as_slice() {
-        add(ways, *other, value)?;
+/// The ways over which a block is entered from these blocks.
+fn add_predecessors(ways: &mut Vec<Way>, blocks: &[u32], value: ValueId) -> Result<(), AllocError> {
+    for number in blocks {
+        add(ways, BlockId::new(*number), value)?;
     }
     Ok(())
 }
 
 fn add_ways(
     scene: &Scene,
+    entered: &Buckets,
     ways: &mut Vec<Way>,
     block: BlockId,
     phis: &[Phi],
@@ -222,7 +203,7 @@ fn add_ways(
 ) -> Result<(), AllocError> {
     match phi_of(phis, value) {
         Some(phi) => add_entries(scene.context.function, ways, phi.incoming.as_slice()),
-        None => add_predecessors(scene, ways, block, value),
+        None => add_predecessors(ways, entered.group(block.number() as usize), value),
     }
 }
 
@@ -283,9 +264,22 @@ fn found_at(scene: &Scene, spot: &Spot, value: ValueId) -> Result<Found, AllocEr
 }
 
 /// Goes on from one place back to the blocks before.
-fn go_on(scene: &Scene, ways: &mut Vec<Way>, way: &Way, block: &Block) -> Result<(), AllocError> {
+fn go_on(
+    scene: &Scene,
+    entered: &Buckets,
+    ways: &mut Vec<Way>,
+    way: &Way,
+    block: &Block,
+) -> Result<(), AllocError> {
     match name_before(block.body.as_slice(), way) {
-        Some(value) => add_ways(scene, ways, way.block, block.phis.as_slice(), value),
+        Some(value) => add_ways(
+            scene,
+            entered,
+            ways,
+            way.block,
+            block.phis.as_slice(),
+            value,
+        ),
         None => Ok(()),
     }
 }
@@ -302,13 +296,18 @@ fn found_in(scene: &Scene, way: &Way, block: &Block) -> Result<Found, AllocError
 }
 
 /// Goes on from one place back, if the value does not become stale in its block.
-fn go_back(scene: &Scene, ways: &mut Vec<Way>, way: &Way) -> Result<Found, AllocError> {
+fn go_back(
+    scene: &Scene,
+    entered: &Buckets,
+    ways: &mut Vec<Way>,
+    way: &Way,
+) -> Result<Found, AllocError> {
     let Some(block) = block_at(scene.context.function, way.block) else {
         return Ok(Found::Nothing);
     };
     let found = found_in(scene, way, block)?;
     if !matches!(found, Found::Since(_)) {
-        go_on(scene, ways, way, block)?;
+        go_on(scene, entered, ways, way, block)?;
     }
     Ok(found)
 }
@@ -317,6 +316,19 @@ fn go_back(scene: &Scene, ways: &mut Vec<Way>, way: &Way) -> Result<Found, Alloc
 /// call that may reach a safepoint.
 pub fn safepoint_before(
     scene: &Scene,
+    spot: &Spot,
+    value: ValueId,
+) -> Result<Option<Lost>, AllocError> {
+    let entered = predecessors_of(scene.pen.alloc, scene.context.function)?;
+    let lost = safepoint_on_ways(scene, &entered, spot, value);
+    drop(entered);
+    lost
+}
+
+/// The same, with the blocks from which each block is entered.
+fn safepoint_on_ways(
+    scene: &Scene,
+    entered: &Buckets,
     spot: &Spot,
     value: ValueId,
 ) -> Result<Option<Lost>, AllocError> {
@@ -331,7 +343,7 @@ pub fn safepoint_before(
         let Some(way) = ways.get(turn).copied() else {
             return Ok(nearest);
         };
-        match go_back(scene, &mut ways, &way)? {
+        match go_back(scene, entered, &mut ways, &way)? {
             Found::Since(lost) => return Ok(Some(lost)),
             Found::Over(lost) => nearest = nearest.or(Some(lost)),
             Found::Nothing => {}

@@ -6,9 +6,10 @@ use crate::summary::FunctionSummary;
 use block_rules::{RuleContext, TypeKind, advance, below_next, given_by, known_of};
 use certs::{Claim, Mark};
 use facts::{Entry, Facts, Known, SpareRows};
-use ir_ast::{BlockId, Call, Constant, Instr, Op, Operand, ValueId};
+use ir_ast::{BlockId, Call, Constant, Instr, Module, Op, Operand, Runtime, ValueId};
 use items::Items;
 use std::alloc::{AllocError, Global};
+use types::runtime_called;
 
 /// Which facts are those of the edge that was entered.
 #[derive(Clone, Copy)]
@@ -124,6 +125,9 @@ impl FlowFacts {
                     summaries.promised(callee),
                 );
             }
+            if is_of_no_layout(rule_context.module(), call) {
+                return self.receive_result(rule_context, instr.result, call, None);
+            }
         }
         advance(rule_context, &mut self.here, instr)
     }
@@ -234,6 +238,23 @@ impl FlowFacts {
             place = place.saturating_add(1);
         }
         Ok(())
+    }
+}
+
+/// Whether a call asks for a cell of a layout that the module does not have. The check refuses it, and no certificate names the layout.
+fn is_of_no_layout(module: &Module, call: &Call) -> bool {
+    let runtime = runtime_called(module, call.callee);
+    match (&runtime, call.arguments.as_slice()) {
+        (Some(Runtime::Alloc), [layout, ..]) => is_past_layouts(module, &layout.operand),
+        _ => false,
+    }
+}
+
+/// Whether an operand is a number that no layout of the module has.
+fn is_past_layouts(module: &Module, operand: &Operand) -> bool {
+    match operand {
+        Operand::Constant(Constant::Number(number)) => *number >= module.structs.len() as u64,
+        _ => false,
     }
 }
 

@@ -7,7 +7,8 @@ use Rattle.block_rules.specs.Certified.{BlockCertified, FirstRefusal}
 use Rattle.block_rules.specs.Functions.{AreBlocksCertified, IsFunctionCertified, IsFirstInFunction, blocks_in}
 use Rattle.block_rules.specs.declared.block_fault.Refusal.{Refusal}
 use Rattle.module_check.specs.Accepted.{IsModuleCertified, IsFirstInModule}
-use Rattle.refusals.specs.Refusals.{AreOfBlocks, AreOfFunctions, NoBlock, Certified, Refused, NoFunction, Further}
+use Rattle.block_check.specs.RefusedBlocks.{AreOfBlocks, NoBlock, Certified, Refused}
+use Rattle.refusals.specs.Refusals.{AreOfFunctions, NoFunction, Further}
 
 -- what holds below a number, and at it, holds below the next one
 one_more : (P : ℕ → Type 0) (n : ℕ) → ((k : ℕ) → k < n → P k) → P n → (k : ℕ) → k < n + 1 → P k
@@ -21,7 +22,7 @@ one_more P n below here k lt = pick (cases_order k n)
 module _ (program : LaidOut) (certs : List Section) where
   -- ---- in a function
 
-  -- the first of these is the first refusal of so many blocks; where there is none, they are certified
+  -- the first of the refusals is that of the first blocks; where there is none, they are certified
   abbrev IsFirst : (func count : ℕ) → List Refusal → Type 0
   IsFirst func count refusals = MatchOption (slice_get refusals 0) (AreBlocksCertified program certs func count) (IsFirstInFunction program certs func count)
 
@@ -49,7 +50,7 @@ module _ (program : LaidOut) (certs : List Section) where
 
   -- ---- in a module
 
-  -- the first of these is the first refusal of so many functions; where there is none, they are certified
+  -- the first of the refusals is that of the first functions; where there is none, they are certified
   abbrev IsFirstOfAll : (count : ℕ) → List Refusal → Type 0
   IsFirstOfAll count refusals = MatchOption (slice_get refusals 0) (IsModuleCertified program certs count) (IsFirstInModule program certs count)
 

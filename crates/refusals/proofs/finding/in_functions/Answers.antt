@@ -1,7 +1,8 @@
 use Rattle.std.proofs.Common.{◌+◌, ◌∙◌, ◌++◌, ℕ, List, ap, subst, sym}
 use Rattle.block_rules.specs.Functions.{blocks_in}
 use Rattle.block_rules.specs.declared.block_fault.Refusal.{Refusal}
-use Rattle.refusals.specs.Refusals.{AreOfBlocks, AreOfFunctions, NoFunction, Further}
+use Rattle.block_check.specs.RefusedBlocks.{AreOfBlocks}
+use Rattle.refusals.specs.Refusals.{AreOfFunctions, NoFunction, Further}
 use Rattle.refusals.proofs.finding.in_functions.Goals as goal
 
 pub loop-number-init : goal.loop-number-init

@@ -1,0 +1,15 @@
+%Node = type { i64, %Node* }
+declare i8* @dg_alloc(i32)
+define i64 @first(i64 %k) gc "shadow-stack" {
+entry:
+  %a = call i8* @dg_alloc(i32 255)
+  %n = bitcast i8* %a to %Node*
+  %c = icmp eq %Node* %n, null
+  br i1 %c, label %no, label %ok
+no:
+  ret i64 0
+ok:
+  %p = getelementptr %Node, %Node* %n, i32 0, i32 0
+  store i64 %k, i64* %p
+  ret i64 %k
+}
