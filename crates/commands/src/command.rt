@@ -24,7 +24,7 @@ use std::io;
 use std::io::Write;
 use std::thread::Threads;
 use std::time::Clock;
-use step_commands::{save_steps, tell_steps};
+use step_commands::{save_steps, tell_steps, words_of_steps};
 
 /// Does the command of a line, without explanations. What it asks to write to a file of its own is appended to `saved`.
 fn answer<O: Write, E: Write>(
@@ -54,19 +54,16 @@ fn answer<O: Write, E: Write>(
     }
 }
 
-/// Tells the steps of a replay, if its line asks for that.
-fn tell_replayed<O: Write>(
+/// The steps of a replay in words, if its line asks for that.
+fn words_replayed(
     alloc: Global,
     asked: ReplayLine<'_>,
     files: &[Option<Vec<u8>>],
-    out: &mut O,
-) -> io::Result<()>
-    ensures { OnOk result (GivesTextIf (asks_for_steps (asked_by (Replay asked.entry))) (O.contents out.old) (O.contents out.new)) }
-{
+) -> Result<Vec<u8>, AllocError> {
     if asked.steps.is_wanted() {
-        return tell_steps(alloc, asked, files, out);
+        return words_of_steps(alloc, asked, files);
     }
-    Ok(())
+    Ok(Vec::new(alloc))
 }
 
 /// Appends the steps of a replay as JSON, if its line asks for that.
@@ -84,29 +81,45 @@ fn save_replayed(
     Ok(())
 }
 
-/// Tells and saves the steps of a command that answered with this status, if the line asks for that.
-fn tell<O: Write>(
+/// The steps of a command in words, and appended to `saved` as JSON, as far as the line asks for them.
+fn steps_of(
     alloc: Global,
     line: &Line<'_>,
     files: &[Option<Vec<u8>>],
-    status: u8,
     saved: &mut Vec<u8>,
-    out: &mut O,
-) -> io::Result<()>
-    ensures told { OnOk result (GivesTextIf (asks_for_steps (asked_by line.now)) (O.contents out.old) (O.contents out.new)) }
-    ensures saved { (before : List ℕ) (said : Said) → OfCommand (asked_by line.now) (spec.file_at files.now) before saved.old.items said
-        → OfCommand (asked_by line.now) (spec.file_at files.now) before saved.new.items said }
+) -> Result<Vec<u8>, AllocError>
+    ensures saved { (after : List ℕ) (said : Said) → OfCommand (asked_by line.now) (spec.file_at files.now) saved.new.items after said
+        → OfCommand (asked_by line.now) (spec.file_at files.now) saved.old.items after said }
     ensures kept { is_some (save_of (asked_by line.now)) ≡ false → saved.new.items ≡ saved.old.items }
+{
+    match *line {
+        Line::Replay(asked) => {
+            save_replayed(alloc, asked, files, saved)?;
+            words_replayed(alloc, asked, files)
+        }
+        _ => Ok(Vec::new(alloc)),
+    }
+}
+
+/// Tells these steps of a replay, if its line asks for that.
+fn tell_replayed<O: Write>(asked: ReplayLine<'_>, words: &[u8], out: &mut O) -> io::Result<()>
+    ensures { OnOk result (GivesTextIf (asks_for_steps (asked_by (Replay asked.entry))) (O.contents out.old) (O.contents out.new)) }
+{
+    if asked.steps.is_wanted() {
+        return tell_steps(words, out);
+    }
+    Ok(())
+}
+
+/// Tells these steps of a command that answered with this status, if the line asks for that.
+fn tell<O: Write>(line: &Line<'_>, status: u8, words: &[u8], out: &mut O) -> io::Result<()>
+    ensures { OnOk result (GivesTextIf (asks_for_steps (asked_by line.now)) (O.contents out.old) (O.contents out.new)) }
 {
     if status != STATUS_YES && status != STATUS_NO {
         return Ok(());
     }
     match *line {
-        Line::Replay(asked) => {
-            tell_replayed(alloc, asked, files, out)?;
-            save_replayed(alloc, asked, files, saved)?;
-            Ok(())
-        }
+        Line::Replay(asked) => tell_replayed(asked, words, out),
         _ => Ok(()),
     }
 }
@@ -254,8 +267,10 @@ fn explain<E: Write>(
 }
 
 /// Does the command of a line on the bytes of its files, in the line's order; None is a file that cannot be read.
-/// What the line asks to write to a file of its own is appended to `saved`. A search is told of to the onlooker while it works.
-/// The steps of a replay are told after its answer. An explanation has this look. Returns the status with which the program ends, or an error of a writer.
+/// What the line asks to write to a file of its own is appended to `saved`; it is to be written where the status is yes or no. A search is
+/// told of to the onlooker while it works.
+/// The steps of a replay are told after its answer, and made before it, so that nothing is answered where they find no memory.
+/// An explanation has this look. Returns the status with which the program ends, or an error of a writer.
 pub fn work<O: Write, E: Write>(
     rt: &(impl Threads + Clock + Sync),
     alloc: Global,
@@ -271,8 +286,9 @@ pub fn work<O: Write, E: Write>(
     ensures said { IfOk result (SaysAndTells (asks_for_steps (asked_by line.now)) (is_explained (asked_by line.now)) (OfCommand (asked_by line.now) (spec.file_at files.now) saved.old.items saved.new.items) (O.contents out.old) (O.contents out.new) (E.contents err.old) (E.contents err.new)) }
     ensures kept { is_some (save_of (asked_by line.now)) ≡ false → saved.new.items ≡ saved.old.items }
 {
+    let steps = steps_of(alloc, line, files, saved)?;
     let status = answer(rt, alloc, line, files, saved, out, err, onlooker)?;
-    tell(alloc, line, files, status, saved, out)?;
+    tell(line, status, steps.as_slice(), out)?;
     explain(alloc, look, line, files, status, err)?;
     Ok(status)
 }

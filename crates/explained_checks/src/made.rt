@@ -105,7 +105,8 @@ fn put_untried(
 ) -> Result<(), AllocError> {
     match fault {
         MakeFault::Layout(fault) => put_layout_fault(pen, out, of_file, *fault),
-        _ => Ok(()),
+        MakeFault::NoAnswer => Ok(()),
+        MakeFault::Memory => Err(AllocError),
     }
 }
 

@@ -306,7 +306,7 @@ pub fn put_read_fault(
             put_fault_at(pen, out, named, position, code)?;
             put_expected(pen, out, named, position, code)
         }
-        None => Ok(()),
+        None => Err(AllocError),
     }
 }
 
@@ -351,6 +351,7 @@ pub fn put_edits_fault(
                 "an edit begins with `edit code @f`, `edit cert @f` or `edit both @f`; each of its texts ends with a line `.`",
             )
         }
+        CertFault::Memory => Err(AllocError),
         _ => Ok(()),
     }
 }
@@ -581,6 +582,7 @@ fn put_lacking(
             put_whole_fault(out, pen, path, Code::C6)?;
             put_shape(pen, out, of_module, fault)
         }
+        CertFault::Memory => Err(AllocError),
         _ => Ok(()),
     }
 }
@@ -673,6 +675,7 @@ pub fn put_layout_fault(
             Code::Y5,
             "--shapes FILE gives them: a text that begins with `shapes 1` (docs/CERTIFICATES.md)",
         ),
+        LayoutFault::Memory => Err(AllocError),
         _ => Ok(()),
     }
 }

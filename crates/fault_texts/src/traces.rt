@@ -94,6 +94,6 @@ pub fn put_trace_fault(
             )
         }
         TraceFault::TooManyCells => put_whole_fault(out, pen, named.path, Code::Y4),
-        TraceFault::Memory => Ok(()),
+        TraceFault::Memory => Err(AllocError),
     }
 }

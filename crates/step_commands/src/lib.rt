@@ -4,4 +4,4 @@
 
 mod steps_told;
 
-pub use steps_told::{save_steps, tell_steps};
+pub use steps_told::{save_steps, tell_steps, words_of_steps};

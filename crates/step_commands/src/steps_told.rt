@@ -3,9 +3,12 @@ ghost use Rattle.std.specs.Prelude.{OnOk};
 ghost use Rattle.explained_checks.specs.Explained.{GivesText};
 ghost use Rattle.trace_text.specs.Traces.{IsTraceOf};
 
+use certificate::CertFault;
 use command_line::{ReplayLine, StepsTold};
+use ir_text::ReadFault;
+use layout::LayoutFault;
 use replay::{Outcome, replay};
-use reports::{Traced, read_traced};
+use reports::{Traced, Unread, read_traced};
 use setups::SetupFault;
 use std::alloc::{AllocError, Global};
 use std::io;
@@ -13,6 +16,7 @@ use std::io::Write;
 use step_json::put_json;
 use step_log::{StepLog, log_steps};
 use told_steps::{Steps, Told, put_told};
+use trace_text::TraceFault;
 
 /// How steps are written.
 #[derive(Clone, Copy)]
@@ -97,6 +101,27 @@ fn put_traced(
     }
 }
 
+/// Whether files are not read for want of memory.
+fn finds_no_memory(unread: &Unread<'_>) -> bool {
+    match unread {
+        Unread::NoFile(_) => false,
+        Unread::NoModule(fault) => matches!(fault, ReadFault::Memory),
+        Unread::NoLayouts(refused) => matches!(refused.fault, LayoutFault::Memory),
+        Unread::NoCertificate(_, fault) | Unread::NoEdits(fault) => {
+            matches!(fault, CertFault::Memory)
+        }
+        Unread::NoTrace(fault) => matches!(fault, TraceFault::Memory),
+    }
+}
+
+/// What is told of files that are not read: nothing, unless memory was refused.
+fn put_unread(unread: &Unread<'_>) -> Result<(), AllocError> {
+    if finds_no_memory(unread) {
+        return Err(AllocError);
+    }
+    Ok(())
+}
+
 /// Writes the steps of the files of a line. There are none of files that are not read.
 fn put_files(
     alloc: Global,
@@ -113,14 +138,15 @@ fn put_files(
             told
         }
         Err(unread) => {
+            let told = put_unread(&unread);
             drop(unread);
-            Ok(())
+            told
         }
     }
 }
 
-/// The words of the steps that a line asks for.
-fn words_of(
+/// The steps that a line asks for, in words. They are empty where the files are not read, and where a thread may not begin.
+pub fn words_of_steps(
     alloc: Global,
     asked: ReplayLine<'_>,
     files: &[Option<Vec<u8>>],
@@ -131,20 +157,14 @@ fn words_of(
     Ok(words)
 }
 
-/// Tells the steps that a line asks for, in words.
-pub fn tell_steps<O: Write>(
-    alloc: Global,
-    asked: ReplayLine<'_>,
-    files: &[Option<Vec<u8>>],
-    out: &mut O,
-) -> io::Result<()>
+/// Writes the words of steps.
+pub fn tell_steps<O: Write>(words: &[u8], out: &mut O) -> io::Result<()>
     ensures { OnOk result (GivesText (O.contents out.old) (O.contents out.new)) }
 {
-    let words = words_of(alloc, asked, files)?;
-    out.write_all(words.as_slice())
+    out.write_all(words)
 }
 
-/// Appends all steps of a run as JSON.
+/// Appends all steps of a run as JSON. Nothing is appended where the files are not read, and where a thread may not begin.
 pub fn save_steps(
     alloc: Global,
     asked: ReplayLine<'_>,
