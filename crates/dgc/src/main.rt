@@ -1,51 +1,42 @@
 //! `dgc`, the program: reads the command line and the files, does the command, and ends with its status.
 #![tactic(auto)]
 
+mod answering;
 mod failure;
 mod files;
 mod progress;
+mod terminal;
+mod ticking;
 
 ghost use Rattle.command_line.specs.Asked.{asked_by, HasWorkers};
 
-use commands::{
-    Line, LineFault, Look, Onlooker, STATUS_USAGE, STATUS_YES, line, memory, status_of, work,
-};
+use answering::answer_to;
+use commands::{Line, LineFault, Look, Nobody, STATUS_USAGE, STATUS_YES, line, memory, status_of};
 use failure::Failure;
-use files::{bytes_of, save};
-use progress::Progress;
+use files::bytes_of;
 use std::env::VarError;
-use std::io::{IsTerminal, Write};
+use std::io::{IsTerminal, Stderr, Write};
 use std::process::ExitCode;
 use std::rt::Runtime;
+use std::sync::Wait;
 use std::thread::Threads;
 use std::{env, io};
+use terminal::{Terminal, answer_on_terminal};
 
 /// Where the standard error goes.
 #[derive(Clone, Copy)]
 enum Errors {
     Elsewhere,
-    /// To a terminal, on which text has this look.
-    Terminal(Look),
-}
-
-impl Errors {
-    /// How a text looks there.
-    fn look(self) -> Look {
-        match self {
-            Errors::Elsewhere => Look::Plain,
-            Errors::Terminal(look) => look,
-        }
-    }
+    Terminal(Terminal),
 }
 
 /// Does what a line asks for.
 fn answer<O: Write, E: Write>(
-    rt: &(impl Runtime + AllocGlobal + Threads + Sync),
+    rt: &(impl Runtime + AllocGlobal + Threads + Wait + Sync),
     errors: Errors,
     line: &Line<'_>,
     out: &mut O,
     err: &mut E,
-    onlooker: &mut impl Onlooker,
 ) -> Result<u8, Failure>
     requires { HasWorkers (asked_by line.now) }
 {
@@ -54,20 +45,11 @@ fn answer<O: Write, E: Write>(
         let bytes = bytes_of(rt, path, files.len())?;
         files.push(bytes)?;
     }
-    let mut saved = Vec::new(rt.alloc());
-    let status = work(
-        rt,
-        rt.alloc(),
-        errors.look(),
-        line,
-        files.as_slice(),
-        &mut saved,
-        out,
-        err,
-        onlooker,
-    )?;
-    save(rt, line, saved.as_slice())?;
-    Ok(status)
+    let files = files.as_slice();
+    match errors {
+        Errors::Elsewhere => answer_to(rt, Look::Plain, line, files, out, err, &mut Nobody),
+        Errors::Terminal(terminal) => answer_on_terminal(rt, terminal, line, files, out, err),
+    }
 }
 
 /// The words of the command line.
@@ -96,17 +78,16 @@ fn line_on(line: Line<'_>, errors: Errors) -> Line<'_>
 
 /// Reads the command line and does what it asks for.
 fn run<O: Write, E: Write>(
-    rt: &(impl Runtime + AllocGlobal + Threads + Sync),
+    rt: &(impl Runtime + AllocGlobal + Threads + Wait + Sync),
     errors: Errors,
     out: &mut O,
     err: &mut E,
-    onlooker: &mut impl Onlooker,
 ) -> Result<u8, Failure> {
     let alloc = rt.alloc();
     let owned = words_given(rt)?;
     let words: Vec<&str> = owned.iter().map(|word| word.as_str()).collect(alloc)?;
     match line(alloc, words.as_slice()) {
-        Ok(line) => answer(rt, errors, &line_on(line, errors), out, err, onlooker),
+        Ok(line) => answer(rt, errors, &line_on(line, errors), out, err),
         Err(LineFault::Words(error)) => {
             error.print(rt)?;
             Ok(if error.use_stderr() {
@@ -136,13 +117,12 @@ fn report<E: Write>(err: &mut E, failure: Failure) -> io::Result<u8> {
 
 /// The status with which the program ends.
 fn ended<O: Write, E: Write>(
-    rt: &(impl Runtime + AllocGlobal + Threads + Sync),
+    rt: &(impl Runtime + AllocGlobal + Threads + Wait + Sync),
     errors: Errors,
     out: &mut O,
     err: &mut E,
-    onlooker: &mut impl Onlooker,
 ) -> u8 {
-    match run(rt, errors, out, err, onlooker) {
+    match run(rt, errors, out, err) {
         Ok(status) => status,
         Err(failure) => status_of(report(err, failure)),
     }
@@ -157,13 +137,17 @@ fn look_on_terminal(rt: &(impl Runtime + AllocGlobal)) -> Look {
     }
 }
 
-fn main(rt: HostRuntime) -> ExitCode {
-    let mut err = rt.stderr();
-    let errors = if err.is_terminal() {
-        Errors::Terminal(look_on_terminal(&rt))
+/// Where the standard error goes, which is this stream.
+fn errors_to(rt: &(impl Runtime + AllocGlobal), stream: Stderr) -> Errors {
+    if stream.is_terminal() {
+        let look = look_on_terminal(rt);
+        Errors::Terminal(Terminal { stream, look })
     } else {
         Errors::Elsewhere
-    };
-    let mut progress = Progress::new(rt.stderr(), matches!(errors, Errors::Terminal(_)));
-    ExitCode::from(ended(&rt, errors, &mut rt.stdout(), &mut err, &mut progress))
+    }
+}
+
+fn main(rt: HostRuntime) -> ExitCode {
+    let errors = errors_to(&rt, rt.stderr());
+    ExitCode::from(ended(&rt, errors, &mut rt.stdout(), &mut rt.stderr()))
 }

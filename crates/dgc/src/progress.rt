@@ -1,21 +1,39 @@
-//! How far a search is, told on a terminal while it works.
+//! How far a command is, told on a terminal while it works.
 ghost use Rattle.std.specs.Prelude.{◌<◌};
 
 use commands::{Onlooker, SoFar};
 use std::io;
 use std::io::Write;
+use std::time::Duration;
 
-/// Of a search that takes fewer seconds nothing is shown.
+/// Of a command that takes fewer seconds nothing is shown.
 const SHORT: u64 = 1;
 
-/// What a terminal shows of a search: one line, which is written anew, and is gone when the search is over.
+/// What the line on the terminal says.
+#[derive(Clone, Copy)]
+enum Text<'a> {
+    /// Nothing: the line is empty.
+    Nothing,
+    /// This command works for that number of seconds.
+    Working(&'a str, u64),
+    /// A search is so far.
+    Searching(SoFar),
+    /// The schedule of this seed, which is broken, is made shorter.
+    Shortening(u32),
+}
+
+/// What is on the terminal.
+#[derive(Clone, Copy)]
+enum Shown {
+    Nothing,
+    Line,
+}
+
+/// What a terminal shows of a command: one line, which is written anew, and is gone when the command is over.
 #[derive(Drop)]
 pub struct Progress<W> {
     terminal: W,
-    /// Whether there is a terminal.
-    is_shown: bool,
-    /// Whether the line is not empty.
-    has_text: bool,
+    shown: Shown,
 }
 
 /// How many milliseconds a search took, at least one.
@@ -52,55 +70,71 @@ fn write_so_far<W: Write>(terminal: &mut W, so_far: SoFar) -> io::Result<()> {
     write!(
         terminal,
         "\r{tried} of {seeds} seeds, {a_second} a second, {left} s left\x1b[K"
-    )?;
-    terminal.flush()
+    )
 }
 
-/// Writes which seed is broken, in the place of the line.
-fn write_broken<W: Write>(terminal: &mut W, seed: u32) -> io::Result<()> {
-    write!(
-        terminal,
-        "\rseed {seed} is broken; its schedule is made shorter\x1b[K"
-    )?;
-    terminal.flush()
-}
-
-/// Writes an empty line in the place of the line.
-fn write_nothing<W: Write>(terminal: &mut W) -> io::Result<()> {
-    write!(terminal, "\r\x1b[K")?;
+/// Writes a text in the place of the line.
+fn write_text<W: Write>(terminal: &mut W, text: Text<'_>) -> io::Result<()> {
+    match text {
+        Text::Nothing => write!(terminal, "\r\x1b[K")?,
+        Text::Working(command, seconds) => write!(terminal, "\r{command}: {seconds} s\x1b[K")?,
+        Text::Searching(so_far) => write_so_far(terminal, so_far)?,
+        Text::Shortening(seed) => write!(
+            terminal,
+            "\rseed {seed} is broken; its schedule is made shorter\x1b[K"
+        )?,
+    }
     terminal.flush()
 }
 
 impl<W: Write> Progress<W> {
     /// Nothing is shown so far.
-    pub fn new(terminal: W, is_shown: bool) -> Progress<W> {
+    pub fn on(terminal: W) -> Progress<W> {
         Progress {
             terminal,
-            is_shown,
-            has_text: false,
+            shown: Shown::Nothing,
+        }
+    }
+
+    /// Writes a text in the place of the line.
+    fn show(&mut self, text: Text<'_>) {
+        self.shown = match text {
+            Text::Nothing => Shown::Nothing,
+            _ => Shown::Line,
+        };
+        // A line that cannot be written is no fault of the command, which goes on without it.
+        let _ = write_text(&mut self.terminal, text);
+    }
+
+    /// The command with this name works for so long.
+    pub fn works(&mut self, command: &str, elapsed: Duration) {
+        let seconds = elapsed.as_secs();
+        if seconds >= SHORT {
+            self.show(Text::Working(command, seconds));
+        }
+    }
+
+    /// The command is over: the line is gone.
+    pub fn clear(&mut self) {
+        match self.shown {
+            Shown::Nothing => {}
+            Shown::Line => self.show(Text::Nothing),
         }
     }
 }
 
 impl<W: Write> Onlooker for Progress<W> {
     fn goes_on(&mut self, so_far: SoFar) {
-        if self.is_shown && so_far.elapsed.as_secs() >= SHORT {
-            self.has_text = true;
-            let _ = write_so_far(&mut self.terminal, so_far);
+        if so_far.elapsed.as_secs() >= SHORT {
+            self.show(Text::Searching(so_far));
         }
     }
 
     fn shortens(&mut self, seed: u32) {
-        if self.is_shown {
-            self.has_text = true;
-            let _ = write_broken(&mut self.terminal, seed);
-        }
+        self.show(Text::Shortening(seed));
     }
 
     fn ended(&mut self) {
-        if self.has_text {
-            self.has_text = false;
-            let _ = write_nothing(&mut self.terminal);
-        }
+        self.clear();
     }
 }
