@@ -54,7 +54,8 @@ PRINTED = {
     "recheck": {0: rb"(?:(?s:.*)\n)?(?:\d+ rechecked \d+ )?yes \d+\n(?:\d+ refused [LC]\d+\n)*",
                 1: rb"(?:(?s:.*)\n)?(?:\d+ rechecked \d+ )?no @(?s:.*) K\d+(?s:.*)\n"},
     "replay": {0: rb"sound \d+\n(?:" + THREAD + rb")*claims \d+ frees \d+ posted \d+\n", 1: rb"broken \d+ " + CAUSE},
-    "soak": {0: rb"sound \d+ seeds\n", 1: rb"broken seed \d+ \d+ " + CAUSE},
+    "soak": {0: rb"sound \d+ (?:biased )?seeds\n",
+             1: rb"broken (?:biased )?seed \d+ \d+ " + CAUSE + rb"(?:shorter \d+ " + CAUSE + rb"tries \d+\n)?"},
     "run": {0: rb"(?:" + THREAD + rb")*collector turns \d+ cycles \d+\n", 1: REFUSED},
 }
 # what it may print on the standard error where there is no answer; an explanation may come after it
@@ -69,7 +70,7 @@ OPTIONS = {
     "make": [["--explain", "always"], ["--why"]],
     "recheck": [["--explain", "always"]],
     "replay": [["--explain", "always"], ["--steps"], ["--json", "steps.json"]],
-    "soak": [["--save", "saved.trace"]],
+    "soak": [["--save", "saved.trace"], ["--bias"], ["--shrink", "--tries", "20"]],
     "run": [["--explain", "always"]],
 }
 
