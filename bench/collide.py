@@ -16,7 +16,7 @@ import subprocess
 import sys
 import tempfile
 
-from hostile_runs import Runner
+from cases import Case, Runner
 
 HERE = os.path.dirname(os.path.abspath(__file__))
 MOST_SECONDS, MOST_TIMES = 600, 2
@@ -135,8 +135,10 @@ def choices(finder, what, count, aimed_at):
 
 
 def least_time(runner, runs, words, files):
-    """The least processor time of so many runs. The fault of a certificate that has no block ends one too."""
-    ended = [runner.run(words, files) for _ in range(runs)]
+    """The least processor time of that number of runs. The fault of a certificate that has no block ends one too."""
+    case = Case(words, files)
+    folder = runner.folder_of(0, case.texts)
+    ended = [runner.alone(folder, case) for _ in range(runs)]
     if any(run.signal or run.status > 2 for run in ended):
         sys.exit(f"collide.py: {' '.join(words)} ended so: {ended[0]}")
     return min(run.seconds for run in ended)

@@ -103,15 +103,20 @@ def fault_of(words, ended):
         form = COUNTED if "--all" in words and ended.status == 1 else PRINTED[command].get(ended.status)
         may_say_more = is_explained or command == "make" and ended.status == 1
         is_wanted = form and is_form(ended.stdout, form, "--steps" in words) and (may_say_more or not ended.stderr)
-    if is_wanted and is_explained and not is_told(command, ended):
+    if is_wanted and is_explained and not is_told(words, ended):
         return "no explanation"
     return "" if is_wanted else "another text"
 
 
-def is_told(command, ended):
+def prints_none(words):
+    """Whether a check may print no refusal, and so explains none."""
+    return any(word == "--limit" and most.isdigit() and int(most) == 0 for word, most in zip(words, words[1:]))
+
+
+def is_told(words, ended):
     """Whether an explanation came with an answer that wants one. A thread that may not begin is not explained, and a soak says nothing more."""
     if ended.status == 1:
-        return command in ("replay", "soak") or bool(ended.stderr)
+        return words[0] in ("replay", "soak") or prints_none(words) or bool(ended.stderr)
     return ended.status != 2 or ended.stderr.startswith(b"error K") or ended.stderr.count(b"\n") > 1
 
 
