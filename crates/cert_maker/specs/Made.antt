@@ -48,10 +48,15 @@ pub record AreTried (program : LaidOut) (refused : Refused) : Type 0 where
   pub fit : fits program.of_module refused.certs.sections ≡ true
   pub first : IsFirstIn program refused.certs.sections refused.refusal
 
--- where an instruction is refused with proposed certificates, they are certificates of the module and it is the first one
+-- where an instruction is refused with some certificates, they are certificates of the module and it is the first one
 abbrev pub IsTried : LaidOut → Rejection → Type 0
 IsTried program (tried.Refused refused) = AreTried program refused
 IsTried program _ = Unit {0}
+
+-- where an instruction is refused, it is one of those that are with the plain certificates
+abbrev pub IsOfPlain : LaidOut → Rejection → Type 0
+IsOfPlain program (tried.Refused _) = AreRefused program (plain program.of_module)
+IsOfPlain program _ = Unit {0}
 
 -- the fault of a module that has layouts
 abbrev pub fault_of_make_failure : MakeFailure → MakeFault

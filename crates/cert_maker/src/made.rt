@@ -27,7 +27,7 @@ pub struct Refused {
 pub struct NotMade {
     pub fault: MakeFault,
     pub of_module: Module,
-    /// The boldest of the proposed certificates that were refused.
+    /// The boldest of the certificates that were refused. Where none that is proposed fits the module, these are the plain ones.
     pub refused: Option<Refused>,
 }
 

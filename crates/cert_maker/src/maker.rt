@@ -18,7 +18,7 @@ use std::alloc::Global;
 #[derive(Drop)]
 struct NoCerts {
     make_failure: MakeFailure,
-    /// The boldest of the proposed certificates that were refused.
+    /// The boldest of the certificates that were refused.
     refused: Option<Refused>,
 }
 
@@ -92,20 +92,27 @@ fn certs_for(alloc: Global, program: &Program) -> Result<Certs, NoCerts>
             Ok(certs) => return Ok(certs),
             Err(Rejection::Refused(refused)) => boldest = Some(bolder(boldest, refused)),
             Err(Rejection::Misfit) => {}
-            Err(Rejection::Memory) => {
-                return Err(NoCerts {
-                    make_failure: MakeFailure::Memory,
-                    refused: boldest,
-                });
-            }
+            Err(Rejection::Memory) => return Err(no_memory(boldest)),
         }
     }
     match plain_certs(alloc, program) {
         Ok(certs) => Ok(certs),
-        Err(make_failure) => Err(NoCerts {
-            make_failure,
-            refused: boldest,
+        Err(Rejection::Refused(refused)) => Err(NoCerts {
+            make_failure: MakeFailure::NoAnswer,
+            refused: Some(bolder(boldest, refused)),
         }),
+        Err(Rejection::Misfit | Rejection::Memory) => Err(no_memory(boldest)),
+    }
+}
+
+/// Memory was refused, when these were the boldest certificates that were.
+fn no_memory(refused: Option<Refused>) -> NoCerts
+    ensures make_failure { result.make_failure ≡ MakeFailure.Memory }
+    ensures refused { result.refused ≡ refused }
+{
+    NoCerts {
+        make_failure: MakeFailure::Memory,
+        refused,
     }
 }
 

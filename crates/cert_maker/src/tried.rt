@@ -1,8 +1,6 @@
 //! Whether a module is accepted with some certificates.
 ghost use Rattle.std.specs.Prelude.{◌≡◌, IfOk, IfErr};
-ghost use Rattle.cert_maker.specs.Made.{AreGood, AreRefused, IsTried};
-ghost use Rattle.cert_maker.specs.Plain.{plain};
-ghost use Rattle.cert_maker.specs.declared.tried.MakeFailure.TheVariants.{NoAnswer};
+ghost use Rattle.cert_maker.specs.Made.{AreGood, IsOfPlain, IsTried};
 
 use crate::made::Refused;
 use crate::plain::plain;
@@ -42,16 +40,6 @@ impl From<AllocError> for Rejection {
     }
 }
 
-impl From<AllocError> for MakeFailure {
-    ghost use Rattle.cert_maker.specs.declared.tried.MakeFailure.TheVariants.{Memory};
-
-    ghost from_gives = { λ _ make_failure. make_failure ≡ Memory };
-
-    fn from(_refused: AllocError) -> MakeFailure {
-        MakeFailure::Memory
-    }
-}
-
 /// Proposed certificates, if the module is accepted with them.
 pub fn proposed(alloc: Global, program: &Program, boldness: Boldness) -> Result<Certs, Rejection>
     ensures good { IfOk result (AreGood program.now) }
@@ -77,14 +65,18 @@ fn accepted(alloc: Global, program: &Program, certs: Certs) -> Result<Certs, Rej
 }
 
 /// The plain certificates, if the module is accepted with them.
-pub fn plain_certs(alloc: Global, program: &Program) -> Result<Certs, MakeFailure>
+pub fn plain_certs(alloc: Global, program: &Program) -> Result<Certs, Rejection>
     ensures good { IfOk result (AreGood program.now) }
-    ensures make_failure { IfErr result (λ make_failure. make_failure ≡ NoAnswer → AreRefused program.now (plain program.now.of_module)) }
+    ensures tried { IfErr result (IsTried program.now) }
+    ensures plain { IfErr result (IsOfPlain program.now) }
 {
-    let certs = plain(alloc, program.module())?;
-    match fault_in_module(alloc, program, &certs) {
-        None => Ok(certs),
-        Some(BlockFault::Refused(_)) => Err(MakeFailure::NoAnswer),
-        Some(BlockFault::Memory) => Err(MakeFailure::Memory),
+    let plainest = plain(alloc, program.module())?;
+    match fault_in_module(alloc, program, &plainest) {
+        None => Ok(plainest),
+        Some(BlockFault::Refused(refusal)) => Err(Rejection::Refused(Refused {
+            certs: plainest,
+            refusal,
+        })),
+        Some(BlockFault::Memory) => Err(Rejection::Memory),
     }
 }
