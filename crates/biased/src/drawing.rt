@@ -1,6 +1,7 @@
 //! Makes the steps of a run as a seed draws them.
 ghost use Rattle.std.specs.Prelude.{◌≡◌, ◌≢◌, ◌<◌, ◌≤◌, length, IfOk, IfErr};
-ghost use Rattle.trace_text.specs.Traces.{step_sum, IsActorOf};
+ghost use Rattle.moves.specs.Runs.{IsActor};
+ghost use Rattle.trace_text.specs.Traces.{step_sum};
 ghost use Rattle.trace_parts.specs.Parts.{AreOfActors};
 ghost use Rattle.setups.specs.Setups.{IsSetupOf, IsSetupFault, HasNoFault};
 ghost use Rattle.setups.specs.declared.setup_fault.SetupFault.TheVariants as fault;
@@ -9,12 +10,13 @@ use crate::scheduler::Scheduler;
 use crate::seen::{breaks, look_at, may_break, posts};
 use items::Items;
 use layout::Program;
+use moves::Actor;
 use replay::World;
 use setups::SetupFault;
 use std::alloc::{AllocError, Global};
 use stepping::MadeStep;
 use trace_parts::add_line;
-use trace_text::{Actor, Setup, Steps};
+use trace_text::{Setup, Steps};
 
 /// How many stages the collector posts after the last step of the threads: those of two cycles, and one more.
 const LAST_STAGES: u32 = 7;
@@ -41,7 +43,7 @@ struct DrawnWorld<'a> {
 /// A number as an actor: the count of threads means the collector.
 fn actor_of(threads: u32, number: u32) -> Actor
     requires { number ≤ threads }
-    ensures { IsActorOf threads result }
+    ensures { IsActor threads result }
 {
     if number == threads {
         return Actor::Collector;
@@ -75,7 +77,7 @@ impl<'a> DrawnWorld<'a> {
 
     /// One step of an actor. Says whether another actor comes then.
     fn step(&mut self, actor: Actor) -> Result<bool, AllocError>
-        requires { IsActorOf (length self.old.world.setup.starts) actor }
+        requires { IsActor (length self.old.world.setup.starts) actor }
         ensures { self.new.world.setup ≡ self.old.world.setup }
     {
         let made = self.world.step(actor);
@@ -104,7 +106,7 @@ impl<'a> DrawnWorld<'a> {
 
     /// Steps of an actor until another one comes, and at most this many. Says how many they are.
     fn steps(&mut self, actor: Actor, most: u32) -> Result<u32, AllocError>
-        requires actor { IsActorOf (length self.old.world.setup.starts) actor }
+        requires actor { IsActor (length self.old.world.setup.starts) actor }
         requires some { 0 < most }
         ensures setup { self.new.world.setup ≡ self.old.world.setup }
         ensures some { IfOk result (λ count. 0 < count) }

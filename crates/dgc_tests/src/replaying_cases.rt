@@ -6,12 +6,13 @@ use crate::texts::{FOUR, HEAD, PUBLISHER_AND_CLEARER, joined, text_of, two_files
 use commands::{Draws, Explained, Line, ReplayLine, Search, Shrink, SoakLine, StepsTold};
 use ir_text::read;
 use layout::Program;
+use moves::Actor;
 use replay::drawn_trace;
 use std::alloc::{AllocError, Global};
 use std::io::Write;
 use std::rt::Runtime;
 use std::thread::Threads;
-use trace_text::{Actor, Trace, print_trace, read_trace};
+use trace_text::{Trace, print_trace, read_trace};
 
 const REPLAY: Line<'static> = Line::Replay(ReplayLine {
     module_path: "module.ll",

@@ -4,15 +4,14 @@ use Rattle.std.specs.Prelude.{sum}
 use Rattle.std.specs.List.{AllByRecursion}
 use Rattle.std.proofs.lemmas.List.{map-append, length-reverse}
 use Rattle.std.proofs.lemmas.List.Sums.{sum_by_push}
+use Rattle.moves.specs.Runs.{IsActor}
 use Rattle.rand_core.specs.Stream.{Stream}
 use Rattle.replay.specs.Draws.{one_draw, draws_from, seeded, drawn}
 use Rattle.layout.specs.Layouts.{LaidOut}
-use Rattle.trace_text.specs.Traces.{IsActorOf, step_sum}
-use Rattle.trace_text.specs.declared.trace.Actor.{Actor as TracedActor}
+use Rattle.trace_text.specs.Traces.{step_sum}
+use Rattle.moves.specs.declared.actor.Actor.{Actor}
 use Rattle.trace_text.specs.declared.trace.Setup.{Setup}
 use Rattle.trace_text.specs.declared.trace.Steps.{Steps}
-use Rattle.moves.specs.declared.actor.Actor.{Actor}
-use Rattle.replay.specs.Worlds.{actor_in}
 use Rattle.replay.specs.declared.watch.Watch.{Watch}
 use Rattle.replay.specs.declared.outcome.Break.{Break}
 use Rattle.replay.specs.Lists.{actors_of, IsBrokenAt, IsSoundList, IsFirstBreak}
@@ -51,24 +50,24 @@ drawn-all last steps i s over =
 -- ---- steps of a trace
 
 -- with one step more
-actors_of-push : (steps : List Steps) (actor : TracedActor) → actors_of (steps ++ record { actor = actor; count = 1 } ∷ []) ≡ actors_of steps ++ actor_in actor ∷ []
+actors_of-push : (steps : List Steps) (actor : Actor) → actors_of (steps ++ record { actor = actor; count = 1 } ∷ []) ≡ actors_of steps ++ actor ∷ []
 actors_of-push [] actor = refl
-actors_of-push (s ∷ steps) actor = ap (λ l. replicate s.count (actor_in s.actor) ++ l) (actors_of-push steps actor) ∙ sym (append_assoc (replicate s.count (actor_in s.actor)) (actors_of steps) (actor_in actor ∷ []))
+actors_of-push (s ∷ steps) actor = ap (λ l. replicate s.count s.actor ++ l) (actors_of-push steps actor) ∙ sym (append_assoc (replicate s.count s.actor) (actors_of steps) (actor ∷ []))
 
 -- the list grows by one step
-pub steps-more : (all : List Actor) (done : List Steps) (actor : TracedActor) (a : Actor) (left left' : List Actor) → all ≡ actors_of done ++ left → left ≡ a ∷ left' → actor_in actor ≡ a
+pub steps-more : (all : List Actor) (done : List Steps) (actor : Actor) (a : Actor) (left left' : List Actor) → all ≡ actors_of done ++ left → left ≡ a ∷ left' → actor ≡ a
     → all ≡ actors_of (done ++ record { actor = actor; count = 1 } ∷ []) ++ left'
 steps-more all done actor a left left' is next same =
-    is ∙ ap (λ l. actors_of done ++ l) (next ∙ ap (λ (b : Actor). b ∷ left') (sym same)) ∙ sym (append_assoc (actors_of done) (actor_in actor ∷ []) left') ∙ ap (λ l. l ++ left') (sym (actors_of-push done actor))
+    is ∙ ap (λ l. actors_of done ++ l) (next ∙ ap (λ (b : Actor). b ∷ left') (sym same)) ∙ sym (append_assoc (actors_of done) (actor ∷ []) left') ∙ ap (λ l. l ++ left') (sym (actors_of-push done actor))
 
 -- its actors are among the threads and the collector
-pub actors-more : (threads : ℕ) (done : List Steps) (s : Steps) → AllByRecursion (λ (s : Steps). IsActorOf threads s.actor) done → IsActorOf threads s.actor
-    → AllByRecursion (λ (s : Steps). IsActorOf threads s.actor) (done ++ s ∷ [])
+pub actors-more : (threads : ℕ) (done : List Steps) (s : Steps) → AllByRecursion (λ (s : Steps). IsActor threads s.actor) done → IsActor threads s.actor
+    → AllByRecursion (λ (s : Steps). IsActor threads s.actor) (done ++ s ∷ [])
 actors-more threads [] s all is = (is, tt)
 actors-more threads (first ∷ done) s all is = (all.0, actors-more threads done s all.1 is)
 
 -- and there is one step more
-pub sum-more : (done : List Steps) (actor : TracedActor) → step_sum (done ++ record { actor = actor; count = 1 } ∷ []) ≡ step_sum done + 1
+pub sum-more : (done : List Steps) (actor : Actor) → step_sum (done ++ record { actor = actor; count = 1 } ∷ []) ≡ step_sum done + 1
 sum-more done actor =
     ap sum (map-append (λ (s : Steps). s.count) done (record { actor = actor; count = 1 } ∷ [])) ∙ sum_by_push (λ x. x) (map (λ (s : Steps). s.count) done) 1
 
@@ -96,30 +95,30 @@ pub drawing-room : (p : LaidOut) (setup : Setup) (all left : List Actor) (made :
 drawing-room p setup all left made w d few = (p, setup, d.before, d.is, omega (arith, d.count, few))
 
 -- an actor of the setup is one of the world
-pub drawing-actor : (p : LaidOut) (setup : Setup) (all left : List Actor) (made threads : ℕ) (actor : TracedActor) (w : Watch) → IsDrawing p setup all left made w → threads ≡ length setup.starts → IsActorOf threads actor
-    → IsActorOf (length w.world.setup.starts) actor
-drawing-actor p setup all left made threads actor w d count is = subst (λ n. IsActorOf n actor) (count ∙ ap (λ (begun : Setup). length begun.starts) (sym d.is.setup_is)) is
+pub drawing-actor : (p : LaidOut) (setup : Setup) (all left : List Actor) (made threads : ℕ) (actor : Actor) (w : Watch) → IsDrawing p setup all left made w → threads ≡ length setup.starts → IsActor threads actor
+    → IsActor (length w.world.setup.starts) actor
+drawing-actor p setup all left made threads actor w d count is = subst (λ n. IsActor n actor) (count ∙ ap (λ (begun : Setup). length begun.starts) (sym d.is.setup_is)) is
 
 -- the actor that was drawn made its step
-pub seed-goes-on : (p : LaidOut) (setup : Setup) (all : List Actor) (last n steps i x : ℕ) (s t : Stream) (actor : TracedActor) (w v : Watch) → last ≡ n → i < steps → (x, t) ≡ one_draw last s → actor_in actor ≡ actor_drawn last x
+pub seed-goes-on : (p : LaidOut) (setup : Setup) (all : List Actor) (last n steps i x : ℕ) (s t : Stream) (actor : Actor) (w v : Watch) → last ≡ n → i < steps → (x, t) ≡ one_draw last s → actor ≡ actor_drawn last x
     → IsDrawing p setup all (map (actor_drawn n) (draws_from n (steps - i) s)) i w
-    → ((q : LaidOut) (begun : Setup) (before : List Actor) → IsWatched q begun before w → IsWatchedOn q begun before (actor_in actor ∷ []) v None)
+    → ((q : LaidOut) (begun : Setup) (before : List Actor) → IsWatched q begun before w → IsWatchedOn q begun before (actor ∷ []) v None)
     → IsDrawing p setup all (map (actor_drawn n) (draws_from n (steps - (i + 1)) t)) (i + 1) v
 seed-goes-on p setup all last n steps i x s t actor w v same under drew is d made =
     let drew_n : (x, t) ≡ one_draw n s = subst (λ m. (x, t) ≡ one_draw m s) same drew in
-    let is_n : actor_in actor ≡ actor_drawn n x = subst (λ m. actor_in actor ≡ actor_drawn m x) same is in
+    let is_n : actor ≡ actor_drawn n x = subst (λ m. actor ≡ actor_drawn m x) same is in
     let left' = map (actor_drawn n) (draws_from n (steps - (i + 1)) t) in
-    drawing-more p setup all (map (actor_drawn n) (draws_from n (steps - i) s)) left' i (actor_in actor) w v d
+    drawing-more p setup all (map (actor_drawn n) (draws_from n (steps - i) s)) left' i actor w v d
     (drawn-more n steps i x s t under drew_n ∙ ap (λ (a : Actor). a ∷ left') (sym is_n)) (made p setup d.before d.is)
 
 -- the actor that was drawn broke the run
-pub seed-breaks : (p : LaidOut) (setup : Setup) (all : List Actor) (last n steps i x : ℕ) (s t : Stream) (actor : TracedActor) (w v : Watch) (b : Break) → last ≡ n → i < steps → (x, t) ≡ one_draw last s → actor_in actor ≡ actor_drawn last x
+pub seed-breaks : (p : LaidOut) (setup : Setup) (all : List Actor) (last n steps i x : ℕ) (s t : Stream) (actor : Actor) (w v : Watch) (b : Break) → last ≡ n → i < steps → (x, t) ≡ one_draw last s → actor ≡ actor_drawn last x
     → IsDrawing p setup all (map (actor_drawn n) (draws_from n (steps - i) s)) i w
-    → ((q : LaidOut) (begun : Setup) (before : List Actor) → IsWatched q begun before w → IsWatchedOn q begun before (actor_in actor ∷ []) v (Some b))
+    → ((q : LaidOut) (begun : Setup) (before : List Actor) → IsWatched q begun before w → IsWatchedOn q begun before (actor ∷ []) v (Some b))
     → IsFirstBreak p setup all b
 seed-breaks p setup all last n steps i x s t actor w v b same under drew is d made =
     let drew_n : (x, t) ≡ one_draw n s = subst (λ m. (x, t) ≡ one_draw m s) same drew in
-    let is_n : actor_in actor ≡ actor_drawn n x = subst (λ m. actor_in actor ≡ actor_drawn m x) same is in
+    let is_n : actor ≡ actor_drawn n x = subst (λ m. actor ≡ actor_drawn m x) same is in
     let left' = map (actor_drawn n) (draws_from n (steps - (i + 1)) t) in
     let next = drawn-more n steps i x s t under drew_n ∙ ap (λ (a : Actor). a ∷ left') (sym is_n) in
     subst (λ l. IsFirstBreak p setup l b) (ap (λ l. reverse d.before ++ l) (sym next) ∙ sym d.lists) (made p setup d.before d.is left')

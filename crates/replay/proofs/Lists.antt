@@ -10,7 +10,7 @@ use Rattle.replay.specs.Runs.{program_machine, heap_of}
 use Rattle.trace_text.specs.declared.trace.Setup.{Setup}
 use Rattle.moves.specs.declared.actor.Actor.{Actor}
 use Rattle.setups.specs.Setups.{starts_of}
-use Rattle.replay.specs.Worlds.{run_of, actor_in}
+use Rattle.replay.specs.Worlds.{run_of}
 use Rattle.replay.specs.declared.outcome.Break.{Break}
 use Rattle.replay.specs.Lists.{IsBrokenAt, IsSoundList, IsFirstBreak, cause_in}
 use Rattle.replay.specs.Watched.{IsUnbroken}
@@ -55,17 +55,17 @@ sound_list p setup actors unbroken steps few =
 
 -- a list breaks its run first where an actor breaks that of those before it, which broke none
 pub first_break : (p : LaidOut) (setup : Setup) (before rest : List Actor) (b : Break) → IsUnbroken p setup before → b.step ≡ suc (length before)
-    → IsModuleRun (heap_of p setup) program_machine (starts_of p setup) (run_of p setup (actor_in b.actor ∷ before))
-    → IsCause (heap_of p setup) program_machine (starts_of p setup) (run_of p setup (actor_in b.actor ∷ before)) (cause_in b.cause)
-    → IsFirstBreak p setup (reverse before ++ actor_in b.actor ∷ rest) b
+    → IsModuleRun (heap_of p setup) program_machine (starts_of p setup) (run_of p setup (b.actor ∷ before))
+    → IsCause (heap_of p setup) program_machine (starts_of p setup) (run_of p setup (b.actor ∷ before)) (cause_in b.cause)
+    → IsFirstBreak p setup (reverse before ++ b.actor ∷ rest) b
 first_break p setup before rest b unbroken step is_run cause =
-    let same : reverse (take (suc (length before)) (reverse before ++ actor_in b.actor ∷ rest)) ≡ actor_in b.actor ∷ before =
-    ap (λ l. reverse (take (suc (length before)) l)) (sym (reverse-cons (actor_in b.actor) before rest)) ∙ first_reversed (actor_in b.actor ∷ before) rest in
+    let same : reverse (take (suc (length before)) (reverse before ++ b.actor ∷ rest)) ≡ b.actor ∷ before =
+    ap (λ l. reverse (take (suc (length before)) l)) (sym (reverse-cons b.actor before rest)) ∙ first_reversed (b.actor ∷ before) rest in
     record {
       place = length before;
       step = step;
-      actor = ap (λ n. slice_get (reverse before ++ actor_in b.actor ∷ rest) n) (sym (length-reverse before)) ∙ slice_get-afterwards (reverse before) (actor_in b.actor) rest;
-      before = λ steps few. unbroken_at p setup before (actor_in b.actor ∷ rest) steps unbroken few;
+      actor = ap (λ n. slice_get (reverse before ++ b.actor ∷ rest) n) (sym (length-reverse before)) ∙ slice_get-afterwards (reverse before) b.actor rest;
+      before = λ steps few. unbroken_at p setup before (b.actor ∷ rest) steps unbroken few;
       is_run = subst (λ l. IsModuleRun (heap_of p setup) program_machine (starts_of p setup) (run_of p setup l)) (sym same) is_run;
       cause = subst (λ l. IsCause (heap_of p setup) program_machine (starts_of p setup) (run_of p setup l) (cause_in b.cause)) (sym same) cause;
     }

@@ -3,16 +3,16 @@ use Rattle.std.proofs.Common.{◌≡◌, ◌<◌, ◌+◌, ℕ, zero, suc, List,
 use Rattle.std.specs.List.{AllByRecursion}
 use Rattle.std.proofs.lemmas.List.{append-nil, reverse-append, reverse-reverse, length-replicate, length-reverse}
 use Rattle.std.proofs.lemmas.List.Sums.{sum_by-cons}
+use Rattle.moves.specs.Runs.{IsActor}
 use Rattle.layout.specs.Layouts.{LaidOut}
 use Rattle.runs.specs.Causes.{shows_broken}
 use Rattle.replay.specs.Runs.{program_machine, heap_of}
-use Rattle.trace_text.specs.Traces.{IsActorOf, IsTraceOf, step_sum}
+use Rattle.trace_text.specs.Traces.{IsTraceOf, step_sum}
 use Rattle.trace_text.specs.declared.trace.Setup.{Setup}
 use Rattle.trace_text.specs.declared.trace.Steps.{Steps}
 use Rattle.trace_text.specs.declared.trace.Trace.{Trace}
 use Rattle.moves.specs.declared.actor.Actor.{Actor}
 use Rattle.setups.specs.Setups.{starts_of, IsSetupOf, IsSafeSetup}
-use Rattle.replay.specs.Worlds.{actor_in}
 use Rattle.replay.specs.declared.outcome.Break.{Break}
 use Rattle.replay.specs.declared.watch.Watch.{Watch}
 use Rattle.replay.specs.Lists.{actors_of, IsFirstBreak, cause_in, run_at}
@@ -53,33 +53,33 @@ all-at P (x ∷ xs) (suc i) d all few = all-at P xs i d all.1 (omega (arith, few
 -- of some steps and others
 actors_of-append : (xs ys : List Steps) → actors_of (xs ++ ys) ≡ actors_of xs ++ actors_of ys
 actors_of-append [] ys = refl
-actors_of-append (s ∷ xs) ys = ap (λ l. replicate s.count (actor_in s.actor) ++ l) (actors_of-append xs ys) ∙ sym (append_assoc (replicate s.count (actor_in s.actor)) (actors_of xs) (actors_of ys))
+actors_of-append (s ∷ xs) ys = ap (λ l. replicate s.count s.actor ++ l) (actors_of-append xs ys) ∙ sym (append_assoc (replicate s.count s.actor) (actors_of xs) (actors_of ys))
 
 -- of all steps, at one of their places
-actors-split : (xs : List Steps) (i : ℕ) (s : Steps) → i < length xs → get_or xs i s ≡ s → actors_of xs ≡ actors_of (take i xs) ++ (replicate s.count (actor_in s.actor) ++ actors_of (drop (suc i) xs))
+actors-split : (xs : List Steps) (i : ℕ) (s : Steps) → i < length xs → get_or xs i s ≡ s → actors_of xs ≡ actors_of (take i xs) ++ (replicate s.count s.actor ++ actors_of (drop (suc i) xs))
 actors-split xs i s few is =
     ap actors_of (split_at xs i s few) ∙ ap (λ (x : Steps). actors_of (take i xs ++ (x ∷ drop (suc i) xs))) is ∙ actors_of-append (take i xs) (s ∷ drop (suc i) xs)
 
 -- of the first steps and one more
-actors-take : (xs : List Steps) (i : ℕ) (s : Steps) → i < length xs → get_or xs i s ≡ s → actors_of (take (suc i) xs) ≡ actors_of (take i xs) ++ replicate s.count (actor_in s.actor)
+actors-take : (xs : List Steps) (i : ℕ) (s : Steps) → i < length xs → get_or xs i s ≡ s → actors_of (take (suc i) xs) ≡ actors_of (take i xs) ++ replicate s.count s.actor
 actors-take xs i s few is =
-    ap actors_of (take-more xs i s few) ∙ ap (λ (x : Steps). actors_of (take i xs ++ (x ∷ []))) is ∙ actors_of-append (take i xs) (s ∷ []) ∙ ap (λ l. actors_of (take i xs) ++ l) (append-nil (replicate s.count (actor_in s.actor)))
+    ap actors_of (take-more xs i s few) ∙ ap (λ (x : Steps). actors_of (take i xs ++ (x ∷ []))) is ∙ actors_of-append (take i xs) (s ∷ []) ∙ ap (λ l. actors_of (take i xs) ++ l) (append-nil (replicate s.count s.actor))
 
 -- how many they are
 length-actors : (xs : List Steps) → length (actors_of xs) ≡ step_sum xs
 length-actors [] = refl
 length-actors (s ∷ xs) =
-    length-append (replicate s.count (actor_in s.actor)) (actors_of xs) ∙ ap (λ n. n + length (actors_of xs)) (length-replicate s.count (actor_in s.actor)) ∙ ap (λ n. s.count + n) (length-actors xs)
+    length-append (replicate s.count s.actor) (actors_of xs) ∙ ap (λ n. n + length (actors_of xs)) (length-replicate s.count s.actor) ∙ ap (λ n. s.count + n) (length-actors xs)
     ∙ sym (sum_by-cons (λ (x : ℕ). x) s.count (map (λ (s : Steps). s.count) xs))
 
 -- ---- a world that makes them
 
 -- the actor of these steps is one of the world's
 pub steps-actor : (p : LaidOut) (trace : Trace) (i : ℕ) (s : Steps) (before : List Actor) (w : Watch) → IsTraceOf p trace → IsWatched p trace.setup before w → i < length trace.steps → get_or trace.steps i s ≡ s
-    → IsActorOf (length w.world.setup.starts) s.actor
+    → IsActor (length w.world.setup.starts) s.actor
 steps-actor p trace i s before w is watched few same =
-    subst (λ (begun : Setup). IsActorOf (length begun.starts) s.actor) (sym watched.setup_is)
-    (subst (λ (x : Steps). IsActorOf (length trace.setup.starts) x.actor) same (all-at (λ (s : Steps). IsActorOf (length trace.setup.starts) s.actor) trace.steps i s is.actors few))
+    subst (λ (begun : Setup). IsActor (length begun.starts) s.actor) (sym watched.setup_is)
+    (subst (λ (x : Steps). IsActor (length trace.setup.starts) x.actor) same (all-at (λ (s : Steps). IsActor (length trace.setup.starts) s.actor) trace.steps i s is.actors few))
 
 -- there is room for them
 pub steps-room : (p : LaidOut) (trace : Trace) (i : ℕ) (s : Steps) (w : Watch) → IsTraceOf p trace → IsWatched p trace.setup (reverse (actors_of (take i trace.steps))) w → i < length trace.steps → get_or trace.steps i s ≡ s
@@ -87,23 +87,23 @@ pub steps-room : (p : LaidOut) (trace : Trace) (i : ℕ) (s : Steps) (w : Watch)
 steps-room p trace i s w is watched few same =
     let all : length (actors_of trace.steps) ≡ step_sum trace.steps = length-actors trace.steps in
     let parts = ap length (actors-split trace.steps i s few same) in
-    let first = length-append (actors_of (take i trace.steps)) (replicate s.count (actor_in s.actor) ++ actors_of (drop (suc i) trace.steps)) in
-    let second = length-append (replicate s.count (actor_in s.actor)) (actors_of (drop (suc i) trace.steps)) in
-    (p, trace.setup, reverse (actors_of (take i trace.steps)), watched, omega (arith, all, parts, first, second, length-replicate s.count (actor_in s.actor), length-reverse (actors_of (take i trace.steps)), is.steps))
+    let first = length-append (actors_of (take i trace.steps)) (replicate s.count s.actor ++ actors_of (drop (suc i) trace.steps)) in
+    let second = length-append (replicate s.count s.actor) (actors_of (drop (suc i) trace.steps)) in
+    (p, trace.setup, reverse (actors_of (take i trace.steps)), watched, omega (arith, all, parts, first, second, length-replicate s.count s.actor, length-reverse (actors_of (take i trace.steps)), is.steps))
 
 -- they were made
 pub steps-made : (p : LaidOut) (trace : Trace) (i : ℕ) (s : Steps) (w : Watch) → i < length trace.steps → get_or trace.steps i s ≡ s
-    → IsWatchedOn p trace.setup (reverse (actors_of (take i trace.steps))) (replicate s.count (actor_in s.actor)) w None → IsWatched p trace.setup (reverse (actors_of (take (i + 1) trace.steps))) w
+    → IsWatchedOn p trace.setup (reverse (actors_of (take i trace.steps))) (replicate s.count s.actor) w None → IsWatched p trace.setup (reverse (actors_of (take (i + 1) trace.steps))) w
 steps-made p trace i s w few same made =
     let actors = ap (λ n. actors_of (take n trace.steps)) (add-one i) ∙ actors-take trace.steps i s few same in
-    subst (λ l. IsWatched p trace.setup l w) (sym (ap reverse actors ∙ reverse-append (actors_of (take i trace.steps)) (replicate s.count (actor_in s.actor)))) made
+    subst (λ l. IsWatched p trace.setup l w) (sym (ap reverse actors ∙ reverse-append (actors_of (take i trace.steps)) (replicate s.count s.actor))) made
 
 -- one of them broke the run
 pub steps-break : (p : LaidOut) (trace : Trace) (i : ℕ) (s : Steps) (w : Watch) (b : Break) → i < length trace.steps → get_or trace.steps i s ≡ s
-    → IsWatchedOn p trace.setup (reverse (actors_of (take i trace.steps))) (replicate s.count (actor_in s.actor)) w (Some b) → IsFirstBreak p trace.setup (actors_of trace.steps) b
+    → IsWatchedOn p trace.setup (reverse (actors_of (take i trace.steps))) (replicate s.count s.actor) w (Some b) → IsFirstBreak p trace.setup (actors_of trace.steps) b
 steps-break p trace i s w b few same breaks =
     subst (λ l. IsFirstBreak p trace.setup l b)
-    (ap (λ l. l ++ (replicate s.count (actor_in s.actor) ++ actors_of (drop (suc i) trace.steps))) (reverse-reverse (actors_of (take i trace.steps))) ∙ sym (actors-split trace.steps i s few same))
+    (ap (λ l. l ++ (replicate s.count s.actor ++ actors_of (drop (suc i) trace.steps))) (reverse-reverse (actors_of (take i trace.steps))) ∙ sym (actors-split trace.steps i s few same))
     (breaks (actors_of (drop (suc i) trace.steps)))
 
 -- ---- safe setups

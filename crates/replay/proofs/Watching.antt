@@ -1,6 +1,7 @@
 -- A world that is watched: one step more, and several steps of one actor.
 use Rattle.std.proofs.Common.{◌≡◌, ◌<◌, ◌+◌, ◌^◌, ℕ, zero, suc, cond, List, [], ◌∷◌, ◌++◌, length, reverse, replicate, Option, Some, None, IfSome, refl, sym, ap, subst, ◌∙◌, arith, append_assoc, length-append, add-one}
 use Rattle.std.proofs.lemmas.List.{reverse-append, replicate-append-replicate, length-replicate}
+use Rattle.moves.specs.Runs.{IsActor}
 use Rattle.pools.specs.Heap.{cells}
 use Rattle.layout.specs.Layouts.{LaidOut}
 use Rattle.colours.specs.declared.place.Place.TheVariants.{Posted}
@@ -8,10 +9,8 @@ use Rattle.colours.specs.Runs.{word_after}
 use Rattle.runs.specs.ModuleRuns.{IsModuleRun, heap_of as events_of}
 use Rattle.runs.specs.Broken.{IsBroken}
 use Rattle.replay.specs.Runs.{program_machine, heap_of}
-use Rattle.trace_text.specs.Traces.{IsActorOf}
-use Rattle.trace_text.specs.declared.trace.Actor.{Actor as TracedActor}
-use Rattle.trace_text.specs.declared.trace.Setup.{Setup}
 use Rattle.moves.specs.declared.actor.Actor.{Actor}
+use Rattle.trace_text.specs.declared.trace.Setup.{Setup}
 use Rattle.stepping.specs.declared.cover.Cover.{Cover}
 use Rattle.stepping.specs.declared.happening.MadeStep.{MadeStep}
 use Rattle.stepping.specs.declared.walk.Walk.{Walk}
@@ -20,7 +19,7 @@ use Rattle.stepping.specs.Ends.{IsStepOrNone}
 use Rattle.replay.specs.declared.thread_outcome.ThreadOutcome.{ThreadOutcome}
 use Rattle.setups.specs.Setups.{starts_of}
 use Rattle.replay.specs.ThreadEnds.{AreEndsOf, AreEndsAfter}
-use Rattle.replay.specs.Worlds.{World, run_of, IsAfter, IsMadeAfter, IsStepAfter, IsBrokenWorld, IsCoveredWorld, IsOverIn, actor_in}
+use Rattle.replay.specs.Worlds.{World, run_of, IsAfter, IsStepAfter, IsBrokenWorld, IsCoveredWorld, IsOverIn}
 use Rattle.replay.specs.declared.outcome.BreakCause.{BreakCause}
 use Rattle.replay.specs.declared.watch.Watch.{Watch}
 use Rattle.replay.specs.Outcomes.{Reports}
@@ -38,7 +37,7 @@ unbroken_now p setup (actor ∷ before) unbroken = unbroken.0
 pub cause_is : (p : LaidOut) (setup : Setup) (before : List Actor) (actor : Actor) (made : Option MadeStep) (w : World) (cover : Cover) (o : Option BreakCause) → w.program ≡ p → w.setup ≡ setup
     → IsAfter w (actor ∷ before) → IsStepOrNone (heap_of p setup) program_machine (starts_of p setup) (run_of p setup before) actor made → IsCovered (heap_of p setup) program_machine (starts_of p setup) (run_of p setup before) cover
     → IsUnbroken p setup before
-    → ((before : List Actor) (actor : Actor) → IsAfter w (actor ∷ before) → IsMadeAfter w before actor made → IsCoveredWorld w before cover → ¬ IsBrokenWorld w before → IsCauseAfter w.program w.setup (actor ∷ before) o)
+    → ((before : List Actor) (actor : Actor) → IsAfter w (actor ∷ before) → IsStepAfter w before actor made → IsCoveredWorld w before cover → ¬ IsBrokenWorld w before → IsCauseAfter w.program w.setup (actor ∷ before) o)
     → IsCauseAfter p setup (actor ∷ before) o
 cause_is p setup before actor made w cover o same_program same_setup afterwards is covered unbroken tells =
     let Tells : LaidOut → Setup → Type 0 = λ q begun. IsStepOrNone (heap_of q begun) program_machine (starts_of q begun) (run_of q begun before) actor made
@@ -51,7 +50,7 @@ cause_is p setup before actor made w cover o same_program same_setup afterwards 
 -- and has a cover after it
 pub cover_is : (p : LaidOut) (setup : Setup) (before : List Actor) (actor : Actor) (made : Option MadeStep) (w : World) (cover after : Cover) → w.program ≡ p → w.setup ≡ setup
     → IsAfter w (actor ∷ before) → IsStepOrNone (heap_of p setup) program_machine (starts_of p setup) (run_of p setup before) actor made → IsCovered (heap_of p setup) program_machine (starts_of p setup) (run_of p setup before) cover
-    → ((before : List Actor) (actor : Actor) → IsAfter w (actor ∷ before) → IsMadeAfter w before actor made → IsCoveredWorld w before cover → IsCoveredWorld w (actor ∷ before) after)
+    → ((before : List Actor) (actor : Actor) → IsAfter w (actor ∷ before) → IsStepAfter w before actor made → IsCoveredWorld w before cover → IsCoveredWorld w (actor ∷ before) after)
     → IsCovered (heap_of p setup) program_machine (starts_of p setup) (run_of p setup (actor ∷ before)) after
 cover_is p setup before actor made w cover after same_program same_setup afterwards is covered keeps =
     let Keeps : LaidOut → Setup → Type 0 = λ q begun. IsStepOrNone (heap_of q begun) program_machine (starts_of q begun) (run_of q begun before) actor made
@@ -121,8 +120,8 @@ pub all_replicated : (p : LaidOut) (setup : Setup) (before : List Actor) (count 
 all_replicated p setup before count actor w is = subst (λ l. IsWatched p setup (l ++ before) w) (sym (reverse-replicate count actor)) is
 
 -- the actor of one world is one of another with this setup
-pub actor_of_both : (p : LaidOut) (setup : Setup) (before after : List Actor) (actor : TracedActor) (w v : Watch) → IsWatched p setup before w → IsWatched p setup after v → IsActorOf (length w.world.setup.starts) actor → IsActorOf (length v.world.setup.starts) actor
-actor_of_both p setup before after actor w v is is_too actor_is = subst (λ (begun : Setup). IsActorOf (length begun.starts) actor) (is.setup_is ∙ sym is_too.setup_is) actor_is
+pub actor_of_both : (p : LaidOut) (setup : Setup) (before after : List Actor) (actor : Actor) (w v : Watch) → IsWatched p setup before w → IsWatched p setup after v → IsActor (length w.world.setup.starts) actor → IsActor (length v.world.setup.starts) actor
+actor_of_both p setup before after actor w v is is_too actor_is = subst (λ (begun : Setup). IsActor (length begun.starts) actor) (is.setup_is ∙ sym is_too.setup_is) actor_is
 
 -- there is room for one more of them
 pub room_for_more : (p : LaidOut) (setup : Setup) (before : List Actor) (count done : ℕ) (actor : Actor) (v : Watch) → length before + count < 2 ^ 63 → done < count → IsWatched p setup (replicate done actor ++ before) v → HasRoomFor 1 v
@@ -149,10 +148,10 @@ reports p setup before w ends posted is ends_are posted_is =
     }
 
 -- a world that made one step more, which is not counted so far
-pub stepped : (p : LaidOut) (setup : Setup) (before : List Actor) (actor : TracedActor) (made : Option MadeStep) (w : Watch) (world : World) → IsWatched p setup before w → (world.program ≡ w.world.program) × (world.setup ≡ w.world.setup)
-    → IsStepAfter w.world before actor made × IsAfter world (actor_in actor ∷ before) → IsStepped p setup before (actor_in actor) made (record w { world = world })
+pub stepped : (p : LaidOut) (setup : Setup) (before : List Actor) (actor : Actor) (made : Option MadeStep) (w : Watch) (world : World) → IsWatched p setup before w → (world.program ≡ w.world.program) × (world.setup ≡ w.world.setup)
+    → IsStepAfter w.world before actor made × IsAfter world (actor ∷ before) → IsStepped p setup before actor made (record w { world = world })
 stepped p setup before actor made w world is same both =
-    let Made : LaidOut → Setup → Type 0 = λ q begun. IsStepOrNone (heap_of q begun) program_machine (starts_of q begun) (run_of q begun before) (actor_in actor) made in
+    let Made : LaidOut → Setup → Type 0 = λ q begun. IsStepOrNone (heap_of q begun) program_machine (starts_of q begun) (run_of q begun before) actor made in
     let made_is : Made p setup = subst (λ q. Made q setup) is.program (subst (λ begun. Made w.world.program begun) is.setup_is both.0) in
     record {
       program = same.0 ∙ is.program;

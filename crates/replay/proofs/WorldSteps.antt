@@ -8,7 +8,6 @@ use Rattle.certs.specs.declared.section.Section.{Section}
 use Rattle.replay.specs.declared.thread_outcome.ThreadOutcome.{ThreadOutcome}
 use Rattle.machine.specs.Machine.{start}
 use Rattle.machine.specs.Start.{argument_values, StartsByReference, StartsWrongly}
-use Rattle.moves.specs.declared.actor.Actor as run
 use Rattle.moves.specs.Runs.{IsActor}
 use Rattle.stepping.specs.declared.acting.Actors.{Actors}
 use Rattle.stepping.specs.declared.beginning.NewThread.{NewThread}
@@ -20,15 +19,14 @@ use Rattle.program_runner.specs.Threads.{CertifiedIsSafe, ProgramThread, program
 use Rattle.program_runner.specs.Heaps.{heap_of}
 use Rattle.program_runner.specs.Kinds.{FitsThread}
 use Rattle.trace_text.specs.Arrivals.{is_late}
-use Rattle.trace_text.specs.Traces.{IsActorOf}
-use Rattle.trace_text.specs.declared.trace.Actor.{Actor}
-use Rattle.trace_text.specs.declared.trace.Actor.TheVariants.{Thread, Collector}
+use Rattle.moves.specs.declared.actor.Actor.{Actor}
+use Rattle.moves.specs.declared.actor.Actor.TheVariants.{Thread, Collector}
 use Rattle.trace_text.specs.declared.trace.Setup.{Setup}
 use Rattle.trace_text.specs.declared.trace.Start.{Start}
 use Rattle.replay.specs.declared.world.World.TheInside.{Inside}
 use Rattle.replay.specs.Keeping.{endings_after}
 use Rattle.setups.specs.Setups.{HasNoFault, IsCertifiedSetup, AreBegun, begun_at, new_thread, starts_of}
-use Rattle.replay.specs.Worlds.{World, AreEndings, IsAfter, IsStepAfter, IsBrokenWorld, IsOverIn, actor_in, run_of}
+use Rattle.replay.specs.Worlds.{World, AreEndings, IsAfter, IsStepAfter, IsBrokenWorld, IsOverIn, run_of}
 use Rattle.replay.specs.WorldView.{world_seen, IsKept}
 use Rattle.replay.proofs.Endings.{kept, kept_by_collector, none_ended}
 use Rattle.replay.proofs.Ends.{afterwards, from_map}
@@ -36,7 +34,7 @@ use Rattle.setups.specs.SafeSetups.{certified_setup, each_may_begin}
 use Rattle.setups.specs.SetupHeaps.{is_setup}
 
 -- the actors of a world are those after the steps that led to it
-pub are_after : (i : Inside) (w : World) (before : List run.Actor) → world_seen i ≡ w → IsKept i → IsAfter w before
+pub are_after : (i : Inside) (w : World) (before : List Actor) → world_seen i ≡ w → IsKept i → IsAfter w before
     → stepping.AreAfterSteps (heap_of w.program w.setup) program_machine (FitsThread (heap_of w.program w.setup)) (starts_of w.program w.setup) before i.actors
 are_after i w before seen kept b =
     subst (λ (v : World). IsAfter v before → stepping.AreAfterSteps (heap_of v.program v.setup) program_machine (FitsThread (heap_of v.program v.setup)) (starts_of v.program v.setup) before i.actors)
@@ -53,16 +51,11 @@ pub over_in : (i : Inside) (w : World) → world_seen i ≡ w → IsKept i → (
 over_in i w seen kept cover over =
     subst (λ (count : ℕ). IfSome cover.walk (IsOver count)) (ap cells_in kept.schema.pools) (subst (λ (v : World). IsOverIn v cover) (sym seen) over)
 
--- an actor of the trace is one of the run
-pub is_actor : (threads : ℕ) (actor : Actor) → IsActorOf threads actor → IsActor threads (actor_in actor)
-is_actor threads (Thread t) is = is
-is_actor threads Collector is = tt
-
 -- the endings after a step
-are_endings : (p : LaidOut) (setup : Setup) (before : List run.Actor) (actors : Actors ProgramThread) (endings : List ThreadOutcome) (actor : Actor)
-    → stepping.AreAfterSteps (heap_of p setup) program_machine (FitsThread (heap_of p setup)) (starts_of p setup) before actors → IsActorOf (length setup.starts) actor
+are_endings : (p : LaidOut) (setup : Setup) (before : List Actor) (actors : Actors ProgramThread) (endings : List ThreadOutcome) (actor : Actor)
+    → stepping.AreAfterSteps (heap_of p setup) program_machine (FitsThread (heap_of p setup)) (starts_of p setup) before actors → IsActor (length setup.starts) actor
     → AreEndings p setup (run_of p setup before) endings
-    → AreEndings p setup (run_of p setup (actor_in actor ∷ before)) (endings_after actor actors.threads.items endings)
+    → AreEndings p setup (run_of p setup (actor ∷ before)) (endings_after actor actors.threads.items endings)
 are_endings p setup before actors endings (Thread t) b is are = kept p setup before actors.threads.items actors.shared actors.collector endings t b.is_after.is_end is are
 are_endings p setup before actors endings Collector b is are = kept_by_collector p setup before endings are
 
@@ -71,44 +64,44 @@ abbrev pub stepped : Inside → (actor : Actor) → Actors ProgramThread → Ins
 stepped i actor actors = record i { actors = actors; endings = endings_after actor i.actors.threads.items i.endings }
 
 -- what a step of the actor tells, and where it leads
-abbrev pub IsStepOf : Inside → (before : List run.Actor) → Actor → Option MadeStep → Actors ProgramThread → Type 0
+abbrev pub IsStepOf : Inside → (before : List Actor) → Actor → Option MadeStep → Actors ProgramThread → Type 0
 IsStepOf i before actor made actors =
-    stepping.IsOneStep (heap_of i.program.now i.setup.now) program_machine (FitsThread (heap_of i.program.now i.setup.now)) (starts_of i.program.now i.setup.now) before (actor_in actor) made actors
+    stepping.IsOneStep (heap_of i.program.now i.setup.now) program_machine (FitsThread (heap_of i.program.now i.setup.now)) (starts_of i.program.now i.setup.now) before actor made actors
 
 -- the world after a step
-pub is_after : (i : Inside) (actor : Actor) (before : List run.Actor) (made : Option MadeStep) (actors : Actors ProgramThread) → IsKept i → IsAfter (world_seen i) before
-    → IsActorOf (length i.setup.now.starts) actor → IsStepOf i before actor made actors → IsAfter (world_seen (stepped i actor actors)) (actor_in actor ∷ before)
+pub is_after : (i : Inside) (actor : Actor) (before : List Actor) (made : Option MadeStep) (actors : Actors ProgramThread) → IsKept i → IsAfter (world_seen i) before
+    → IsActor (length i.setup.now.starts) actor → IsStepOf i before actor made actors → IsAfter (world_seen (stepped i actor actors)) (actor ∷ before)
 is_after i actor before made actors kept b is step =
-    afterwards (world_seen (stepped i actor actors)) (actor_in actor ∷ before) step.afterwards.is_after
+    afterwards (world_seen (stepped i actor actors)) (actor ∷ before) step.afterwards.is_after
     (are_endings i.program.now i.setup.now before i.actors i.endings actor (are_after i (world_seen i) before refl kept b) is b.ends.endings)
 
 -- keeps what a world keeps
-pub is_kept : (i : Inside) (actor : Actor) (made : Option MadeStep) (actors : Actors ProgramThread) → (kept : IsKept i) → IsActorOf (length i.setup.now.starts) actor
+pub is_kept : (i : Inside) (actor : Actor) (made : Option MadeStep) (actors : Actors ProgramThread) → (kept : IsKept i) → IsActor (length i.setup.now.starts) actor
     → IsStepOf i kept.made.0 actor made actors → IsKept (stepped i actor actors)
 is_kept i actor made actors kept is step = record {
   schema = step.afterwards.schema;
   setup = kept.setup;
   no_fault = kept.no_fault;
-  made = (actor_in actor ∷ kept.made.0, is_after i actor kept.made.0 made actors kept kept.made.1 is step);
+  made = (actor ∷ kept.made.0, is_after i actor kept.made.0 made actors kept kept.made.1 is step);
 }
 
 -- where the program is certified, no world is broken
-pub is_safe : CertifiedIsSafe → (i : Inside) (certs : List Section) (before : List run.Actor) → IsKept i → IsCertifiedSetup i.program.now i.setup.now certs → IsAfter (world_seen i) before
+pub is_safe : CertifiedIsSafe → (i : Inside) (certs : List Section) (before : List Actor) → IsKept i → IsCertifiedSetup i.program.now i.setup.now certs → IsAfter (world_seen i) before
     → ¬ IsBrokenWorld (world_seen i) before
 is_safe law i certs before kept certified b = certified_setup law i.program.now i.setup.now certs kept.setup kept.no_fault certified (run_of i.program.now i.setup.now before) b.ends.is_run
 
 -- a step of an actor, as the code made it: which actor it was, the actors after it and the endings that are kept
 pub record IsMadeBy (i : Inside) (actor : Actor) (made : Option MadeStep) (actors : Actors ProgramThread) (endings : List ThreadOutcome) : Type 0 where
-  pub is_actor : IsActorOf (length i.setup.now.starts) actor
+  pub is_actor : IsActor (length i.setup.now.starts) actor
   pub endings_are : endings ≡ endings_after actor i.actors.threads.items i.endings
-  pub makes : (before : List run.Actor)
+  pub makes : (before : List Actor)
       → stepping.AreAfterSteps (heap_of i.program.now i.setup.now) program_machine (FitsThread (heap_of i.program.now i.setup.now)) (starts_of i.program.now i.setup.now) before i.actors
       → IsStepOf i before actor made actors
 
 -- the actor is a thread of the world
-pub is_thread : (i : Inside) (w : World) (actor : Actor) (t : ℕ) → world_seen i ≡ w → actor ≡ Thread t → IsActorOf (length w.setup.starts) actor → t < length i.setup.now.starts
+pub is_thread : (i : Inside) (w : World) (actor : Actor) (t : ℕ) → world_seen i ≡ w → actor ≡ Thread t → IsActor (length w.setup.starts) actor → t < length i.setup.now.starts
 is_thread i w actor t seen is of =
-    let q : t < length w.setup.starts = subst (IsActorOf (length w.setup.starts)) is of in
+    let q : t < length w.setup.starts = subst (IsActor (length w.setup.starts)) is of in
     subst (λ (v : World). t < length v.setup.starts) (sym seen) q
 
 -- the world after it keeps what a world keeps
@@ -120,23 +113,23 @@ keeps i actor made actors endings kept by =
 
 -- the step is told, and the world is the one after it
 pub tells : (i : Inside) (w : World) (given actor : Actor) (made : Option MadeStep) (actors : Actors ProgramThread) (endings : List ThreadOutcome) → world_seen i ≡ w → given ≡ actor → IsKept i
-    → IsMadeBy i actor made actors endings → (before : List run.Actor) → IsAfter w before
-    → IsStepAfter w before given made × IsAfter (world_seen (record i { actors = actors; endings = endings })) (actor_in given ∷ before)
+    → IsMadeBy i actor made actors endings → (before : List Actor) → IsAfter w before
+    → IsStepAfter w before given made × IsAfter (world_seen (record i { actors = actors; endings = endings })) (given ∷ before)
 tells i w given actor made actors endings seen is kept by before b =
     let here : IsAfter (world_seen i) before = subst (λ (v : World). IsAfter v before) (sym seen) b in
     let step = by.makes before (are_after i (world_seen i) before refl kept here) in
     let told : IsStepAfter (world_seen i) before actor made = step.made_is in
     let there : IsStepAfter w before actor made = subst (λ (v : World). IsStepAfter v before actor made) seen told in
-    let leads : IsAfter (world_seen (record i { actors = actors; endings = endings })) (actor_in actor ∷ before) =
-    subst (λ (e : List ThreadOutcome). IsAfter (world_seen (record i { actors = actors; endings = e })) (actor_in actor ∷ before)) (sym by.endings_are) (is_after i actor before made actors kept here by.is_actor step) in
-    (subst (λ (a : Actor). IsStepAfter w before a made) (sym is) there, subst (λ (a : Actor). IsAfter (world_seen (record i { actors = actors; endings = endings })) (actor_in a ∷ before)) (sym is) leads)
+    let leads : IsAfter (world_seen (record i { actors = actors; endings = endings })) (actor ∷ before) =
+    subst (λ (e : List ThreadOutcome). IsAfter (world_seen (record i { actors = actors; endings = e })) (actor ∷ before)) (sym by.endings_are) (is_after i actor before made actors kept here by.is_actor step) in
+    (subst (λ (a : Actor). IsStepAfter w before a made) (sym is) there, subst (λ (a : Actor). IsAfter (world_seen (record i { actors = actors; endings = endings })) (a ∷ before)) (sym is) leads)
 
 -- and it is not broken where the program is certified
 pub stays_safe : CertifiedIsSafe → (i : Inside) (w : World) (given actor : Actor) (made : Option MadeStep) (actors : Actors ProgramThread) (endings : List ThreadOutcome) → world_seen i ≡ w → given ≡ actor → IsKept i
-    → IsMadeBy i actor made actors endings → (certs : List Section) (before : List run.Actor) → IsCertifiedSetup w.program w.setup certs → IsAfter w before
-    → ¬ IsBrokenWorld (world_seen (record i { actors = actors; endings = endings })) (actor_in given ∷ before)
+    → IsMadeBy i actor made actors endings → (certs : List Section) (before : List Actor) → IsCertifiedSetup w.program w.setup certs → IsAfter w before
+    → ¬ IsBrokenWorld (world_seen (record i { actors = actors; endings = endings })) (given ∷ before)
 stays_safe law i w given actor made actors endings seen is kept by certs before certified b =
-    is_safe law (record i { actors = actors; endings = endings }) certs (actor_in given ∷ before) (keeps i actor made actors endings kept by)
+    is_safe law (record i { actors = actors; endings = endings }) certs (given ∷ before) (keeps i actor made actors endings kept by)
     (subst (λ (v : World). IsCertifiedSetup v.program v.setup certs) (sym seen) certified) (tells i w given actor made actors endings seen is kept by before b).1
 
 -- ---- the start

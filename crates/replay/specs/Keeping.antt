@@ -1,8 +1,8 @@
 -- What a world keeps of the ends of its threads.
 use Rattle.std.specs.Prelude.{ℕ, Option, Some, None, List, slice_get, slice_set, unwrap_or}
 use Rattle.program_runner.specs.Threads.{ProgramThread}
-use Rattle.trace_text.specs.declared.trace.Actor.{Actor}
-use Rattle.trace_text.specs.declared.trace.Actor.TheVariants.{Thread, Collector}
+use Rattle.moves.specs.declared.actor.Actor.{Actor}
+use Rattle.moves.specs.declared.actor.Actor.TheVariants.{Thread, Collector}
 use Rattle.moves.specs.declared.thread_state.CallPhase.{CallPhase}
 use Rattle.moves.specs.declared.thread_state.CallPhase.TheVariants.{Ended, Absent, Arriving, Entering, Leaving}
 use Rattle.moves.specs.declared.thread_state.ThreadState.{ThreadState}

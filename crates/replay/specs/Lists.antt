@@ -12,7 +12,7 @@ use Rattle.moves.specs.Causes as step
 use Rattle.stepping.specs.declared.gone.Gone.{Gone}
 use Rattle.stepping.specs.declared.gone.Gone.TheVariants.{Blue, Reborn}
 use Rattle.setups.specs.Setups.{starts_of}
-use Rattle.replay.specs.Worlds.{run_of, actor_in}
+use Rattle.replay.specs.Worlds.{run_of}
 use Rattle.replay.specs.declared.outcome.Break.{Break}
 use Rattle.replay.specs.declared.outcome.BreakCause.{BreakCause}
 use Rattle.replay.specs.declared.outcome.BreakCause.TheVariants.{OfStep, OfReach}
@@ -20,7 +20,7 @@ use Rattle.replay.specs.declared.outcome.BreakCause.TheVariants.{OfStep, OfReach
 -- the actor of each step of a trace
 abbrev pub actors_of : List Steps → List Actor
 actors_of [] = []
-actors_of (steps ∷ more) = replicate steps.count (actor_in steps.actor) ++ actors_of more
+actors_of (steps ∷ more) = replicate steps.count steps.actor ++ actors_of more
 
 -- ---- broken
 
@@ -50,7 +50,7 @@ cause_in (OfReach gone) = cause_of_gone gone
 pub record IsFirstBreak (p : LaidOut) (setup : Setup) (actors : List Actor) (b : Break) : Type 0 where
   pub place : ℕ
   pub step : b.step ≡ suc place
-  pub actor : slice_get actors place ≡ Some (actor_in b.actor)
+  pub actor : slice_get actors place ≡ Some b.actor
   pub before : (steps : ℕ) → steps ≤ place → ¬ IsBrokenAt p setup actors steps
   pub is_run : IsModuleRun (heap_of p setup) program_machine (starts_of p setup) (run_at p setup actors (suc place))
   pub cause : IsCause (heap_of p setup) program_machine (starts_of p setup) (run_at p setup actors (suc place)) (cause_in b.cause)

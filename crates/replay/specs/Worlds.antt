@@ -16,8 +16,6 @@ use Rattle.machine.specs.Endings.{ending}
 use Rattle.program_runner.specs.Threads.{ProgramThread, program_machine}
 use Rattle.program_runner.specs.Heaps.{heap_of}
 use Rattle.program_runner.specs.Kinds.{FitsThread}
-use Rattle.trace_text.specs.declared.trace.Actor as traced
-use Rattle.trace_text.specs.declared.trace.Actor.TheVariants as traced_actor
 use Rattle.trace_text.specs.declared.trace.Setup.{Setup}
 use Rattle.moves.specs.declared.actor.Actor.{Actor}
 use Rattle.moves.specs.declared.actor.Actor.TheVariants.{Thread, Collector}
@@ -101,19 +99,9 @@ IsMade w = (actors : List Actor) × IsAfter w actors
 
 -- ---- its steps
 
--- an actor of a trace as one of a run
-abbrev pub actor_in : traced.Actor → Actor
-actor_in (traced_actor.Thread t) = Thread t
-actor_in traced_actor.Collector = Collector
-
 -- the step, or none, is that of the actor after these, and says how it breaks the run
-abbrev pub IsStepAfter : World → (before : List Actor) → traced.Actor → Option MadeStep → Type 0
-IsStepAfter w before actor made =
-    IsStepOrNone (heap_of w.program w.setup) program_machine (starts_of w.program w.setup) (run_of w.program w.setup before) (actor_in actor) made
-
--- the step, or none, is that of this actor of the run
-abbrev pub IsMadeAfter : World → (before : List Actor) → Actor → Option MadeStep → Type 0
-IsMadeAfter w before actor made = IsStepOrNone (heap_of w.program w.setup) program_machine (starts_of w.program w.setup) (run_of w.program w.setup before) actor made
+abbrev pub IsStepAfter : World → (before : List Actor) → Actor → Option MadeStep → Type 0
+IsStepAfter w before actor made = IsStepOrNone (heap_of w.program w.setup) program_machine (starts_of w.program w.setup) (run_of w.program w.setup before) actor made
 
 -- the cells of a cover, where they are known, are cells of the world that a walk met, and none of them is gone
 abbrev pub IsOverIn : World → Cover → Type 0

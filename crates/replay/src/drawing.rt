@@ -1,22 +1,23 @@
 ghost use Rattle.std.specs.Prelude.{◌≡◌, ◌≤◌, length, IfOk};
 ghost use Rattle.std.specs.List.{AllByRecursion};
+ghost use Rattle.moves.specs.Runs.{IsActor};
 ghost use Rattle.layout.specs.Layouts.{LaidOut};
-ghost use Rattle.trace_text.specs.Traces.{IsTraceOf, IsActorOf, step_sum};
+ghost use Rattle.trace_text.specs.Traces.{IsTraceOf, step_sum};
 ghost use Rattle.trace_text.specs.declared.trace.Steps.{Steps as SomeSteps};
-ghost use Rattle.replay.specs.Worlds.{actor_in};
 ghost use Rattle.replay.specs.Lists.{actors_of};
 ghost use Rattle.replay.specs.Soaks.{actor_drawn, actors_drawn};
 
 use crate::seeds::{draw, seeded};
 use items::Items;
+use moves::Actor;
 use std::alloc::{AllocError, Global};
-use trace_text::{Actor, Steps, Trace};
+use trace_text::{Steps, Trace};
 
 /// A number that was drawn, as an actor: the count of threads means the collector.
 pub fn actor_drawn(threads: u32, draw: u32) -> Actor
     requires { draw ≤ threads }
-    ensures actor { actor_in result ≡ actor_drawn threads draw }
-    ensures is_actor { IsActorOf threads result }
+    ensures actor { result ≡ actor_drawn threads draw }
+    ensures is_actor { IsActor threads result }
 {
     if draw == threads {
         return Actor::Collector;
@@ -33,7 +34,7 @@ fn drawn_steps(
 ) -> Result<Items<Steps>, AllocError>
     requires { threads ≤ 64 }
     ensures actors { IfOk result (λ drawn. actors_of drawn ≡ actors_drawn threads seed steps) }
-    ensures are_actors { IfOk result (AllByRecursion (λ (s : SomeSteps). IsActorOf threads s.actor)) }
+    ensures are_actors { IfOk result (AllByRecursion (λ (s : SomeSteps). IsActor threads s.actor)) }
     ensures count { IfOk result (λ drawn. step_sum drawn ≡ steps) }
 {
     let mut rng = seeded(u64::from(seed));

@@ -12,10 +12,11 @@ mod watch;
 mod world;
 
 pub use drawing::drawn_trace;
+pub use moves::Actor;
 pub use outcome::{Break, BreakCause, Outcome, Report, SeedBreak, SoakOutcome};
 pub use replaying::replay;
 pub use setups::{SetupFault, SetupFault as ReplayFault, setup_law};
 pub use soaking::soak;
 pub use thread_outcome::ThreadOutcome;
-pub use trace_text::{Actor, Setup, Start, Steps, Trace, TraceFault, print_trace, read_trace};
+pub use trace_text::{Setup, Start, Steps, Trace, TraceFault, print_trace, read_trace};
 pub use world::World;

@@ -3,9 +3,9 @@ ghost use Rattle.replay.specs.CauseNames.{cause_name};
 
 use crate::thread_outcome::ThreadOutcome;
 use items::Items;
+use moves::Actor;
 use std::fmt::{Display, Error, Formatter, Write};
 use stepping::Gone;
-use trace_text::Actor;
 
 /// Why a run is broken after a step.
 #[derive(Clone, Copy)]

@@ -1,10 +1,10 @@
 ghost use Rattle.std.specs.Prelude.{◌≡◌, ◌≢◌, ◌<◌, ◌+◌, ◌^◌, cond, None, List, [], ◌∷◌, length, replicate, IfOk, IfErr};
+ghost use Rattle.moves.specs.Runs.{IsActor};
 ghost use Rattle.layout.specs.Layouts.{LaidOut};
-ghost use Rattle.trace_text.specs.Traces.{IsActorOf};
 ghost use Rattle.trace_text.specs.declared.trace.Setup.{Setup as ASetup};
 ghost use Rattle.moves.specs.declared.actor.Actor.{Actor as AnActor};
 ghost use Rattle.setups.specs.Setups.{IsSetupOf, IsSetupFault, HasNoFault};
-ghost use Rattle.replay.specs.Worlds.{IsAfter, IsMadeAfter, IsBrokenWorld, IsCoveredWorld, IsOverIn, actor_in};
+ghost use Rattle.replay.specs.Worlds.{IsAfter, IsStepAfter, IsBrokenWorld, IsCoveredWorld, IsOverIn};
 ghost use Rattle.setups.specs.declared.setup_fault.SetupFault.TheVariants as fault;
 ghost use Rattle.replay.specs.Outcomes.{Reports};
 ghost use Rattle.replay.specs.Watched.{IsWatched, IsWatchedOn, HasRoomFor, IsStepped, IsCauseAfter, claims_cell, frees_cell};
@@ -13,12 +13,12 @@ use crate::outcome::{Break, BreakCause, Report};
 use crate::world::World;
 use colours::Turn;
 use layout::Program;
-use moves::Move;
+use moves::{Actor, Move};
 use program_runner::ProgramThread;
 use setups::SetupFault;
 use std::alloc::{AllocError, Global};
 use stepping::{Cover, Happening, Loss, MadeStep, cover_law};
-use trace_text::{Actor, Setup};
+use trace_text::Setup;
 
 /// A world whose run was never broken so far, with what was counted on the way.
 #[derive(Drop)]
@@ -50,10 +50,10 @@ impl<'a> Watch<'a> {
 
     /// One step of an actor: how it breaks the run, if it does. The run goes on otherwise.
     pub fn step(&mut self, actor: Actor) -> Result<Option<Break>, AllocError>
-        requires actor { IsActorOf (length self.old.world.setup.starts) actor }
+        requires actor { IsActor (length self.old.world.setup.starts) actor }
         requires room { HasRoomFor 1 self.old }
         ensures { (p : LaidOut) (setup : ASetup) (before : List AnActor) → IsWatched p setup before self.old
-            → IfOk result (IsWatchedOn p setup before (actor_in actor ∷ []) self.new) }
+            → IfOk result (IsWatchedOn p setup before (actor ∷ []) self.new) }
     {
         let made = self.world.step(actor);
         match &made {
@@ -64,10 +64,10 @@ impl<'a> Watch<'a> {
 
     /// Makes `count` steps of one actor, or those up to the first that breaks the run.
     pub fn steps(&mut self, actor: Actor, count: u32) -> Result<Option<Break>, AllocError>
-        requires actor { IsActorOf (length self.old.world.setup.starts) actor }
+        requires actor { IsActor (length self.old.world.setup.starts) actor }
         requires room { HasRoomFor count self.old }
         ensures { (p : LaidOut) (setup : ASetup) (before : List AnActor) → IsWatched p setup before self.old
-            → IfOk result (IsWatchedOn p setup before (replicate count (actor_in actor)) self.new) }
+            → IfOk result (IsWatchedOn p setup before (replicate count actor) self.new) }
     {
         for _step in 0..count {
             if let Some(broken) = self.step(actor)? {
@@ -95,8 +95,8 @@ impl<'a> Watch<'a> {
     fn told(&mut self, actor: Actor, made: &Option<MadeStep>) -> Result<Option<Break>, AllocError>
         requires room { (self.old.steps < 2 ^ 63) × (self.old.claims < 2 ^ 63) × (self.old.frees < 2 ^ 63) }
         requires cover { IsOverIn self.old.world self.old.cover }
-        ensures { (p : LaidOut) (setup : ASetup) (before : List AnActor) → IsStepped p setup before (actor_in actor) made.now self.old
-            → IfOk result (IsWatchedOn p setup before (actor_in actor ∷ []) self.new) }
+        ensures { (p : LaidOut) (setup : ASetup) (before : List AnActor) → IsStepped p setup before actor made.now self.old
+            → IfOk result (IsWatchedOn p setup before (actor ∷ []) self.new) }
     {
         self.count(made);
         match cause_after(&self.world, &mut self.cover, made)? {
@@ -165,10 +165,10 @@ fn cause_after(
 ) -> Result<Option<BreakCause>, AllocError>
     requires { IsOverIn world.now cover.old }
     ensures cause { (before : List AnActor) (actor : AnActor) → IsAfter world.now (actor ∷ before)
-        → IsMadeAfter world.now before actor made.now → IsCoveredWorld world.now before cover.old → ¬ IsBrokenWorld world.now before
+        → IsStepAfter world.now before actor made.now → IsCoveredWorld world.now before cover.old → ¬ IsBrokenWorld world.now before
         → IfOk result (IsCauseAfter world.now.program world.now.setup (actor ∷ before)) }
     ensures cover { (before : List AnActor) (actor : AnActor) → IsAfter world.now (actor ∷ before)
-        → IsMadeAfter world.now before actor made.now → IsCoveredWorld world.now before cover.old
+        → IsStepAfter world.now before actor made.now → IsCoveredWorld world.now before cover.old
         → IfOk result (λ cause. cause ≡ None → IsCoveredWorld world.now (actor ∷ before) cover.new) }
 {
     cover_law::<ProgramThread<'_>>();

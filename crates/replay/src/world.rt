@@ -1,9 +1,9 @@
 ghost use Rattle.std.specs.Prelude.{◌≡◌, ◌≢◌, ◌<◌, None, Some, List, [], ◌∷◌, length, slice_get, unwrap_or, IfOk, IfErr, OnErr};
+ghost use Rattle.moves.specs.Runs.{IsActor};
 ghost use Rattle.certs.specs.declared.section.Section.{Section};
 ghost use Rattle.moves.specs.declared.actor.Actor.{Actor as AnActor};
-ghost use Rattle.trace_text.specs.Traces.{IsActorOf};
 ghost use Rattle.setups.specs.Setups.{IsSetupOf, IsSetupFault, HasNoFault, IsCertifiedSetup};
-ghost use Rattle.replay.specs.Worlds.{IsAfter, actor_in, ended_by, IsStepAfter, IsMadeAfter, IsBrokenWorld, IsCoveredWorld, IsOverIn, IsFirstGoneOf};
+ghost use Rattle.replay.specs.Worlds.{IsAfter, ended_by, IsStepAfter, IsBrokenWorld, IsCoveredWorld, IsOverIn, IsFirstGoneOf};
 ghost use Rattle.replay.specs.Keeping.{ending_after, end_told};
 ghost use Rattle.replay.specs.ThreadEnds.{AreEndsOf};
 ghost use Rattle.setups.specs.declared.setup_fault.SetupFault.TheVariants as fault;
@@ -13,13 +13,13 @@ use crate::thread_outcome::ThreadOutcome;
 use items::Items;
 use layout::Program;
 use machine::{Ending, Thread};
-use moves::{CallPhase, ThreadState};
+use moves::{Actor, CallPhase, ThreadState};
 use program_runner::{ProgramThread, begun_law, program_law};
 use setups::{SetupFault, begun_threads, values_at_start};
 use std::alloc::{AllocError, Global};
 use std::marker::Model;
 use stepping::{Actors, Cover, Gone, HeapSchema, MadeStep};
-use trace_text::{Actor, Setup};
+use trace_text::Setup;
 
 /// The threads of a program and the collector, after some steps from their setup.
 #[derive(Drop)]
@@ -77,24 +77,24 @@ impl<'a> World<'a> {
 
     /// The actor makes its one next step, if it has one. Without memory nothing changes.
     pub fn step(&mut self, actor: Actor) -> Result<Option<MadeStep>, AllocError>
-        requires { IsActorOf (length self.old.setup.starts) actor }
+        requires { IsActor (length self.old.setup.starts) actor }
         // The step is the actor's one next step after the run that led here, and the world is the end of the longer run.
-        ensures ok { (before : List AnActor) → IsAfter self.old before → IfOk result (λ made. IsStepAfter self.old before actor made × IsAfter self.new (actor_in actor ∷ before)) }
+        ensures ok { (before : List AnActor) → IsAfter self.old before → IfOk result (λ made. IsStepAfter self.old before actor made × IsAfter self.new (actor ∷ before)) }
         ensures same { (self.new.program ≡ self.old.program) × (self.new.setup ≡ self.old.setup) }
         ensures err { OnErr result (self.new ≡ self.old) }
         // Where the program is certified with some certificates, and the threads began with what these promise, the world after the step is not broken.
         ensures safe { (certs : List Section) (before : List AnActor) → IsCertifiedSetup self.old.program self.old.setup certs → IsAfter self.old before
-            → IfOk result (λ _. ¬ IsBrokenWorld self.new (actor_in actor ∷ before)) }
+            → IfOk result (λ _. ¬ IsBrokenWorld self.new (actor ∷ before)) }
     {
         program_law();
         match actor {
             Actor::Collector => {
-                let made = self.actors.step(moves::Actor::Collector)?;
+                let made = self.actors.step(Actor::Collector)?;
                 Ok(made)
             }
             Actor::Thread(thread) => {
                 let ending = ending_after(&self.actors, self.endings.as_slice(), thread as usize);
-                let made = self.actors.step(moves::Actor::Thread(thread))?;
+                let made = self.actors.step(Actor::Thread(thread))?;
                 self.endings.set(thread as usize, ending);
                 Ok(made)
             }
@@ -105,9 +105,9 @@ impl<'a> World<'a> {
     /// one after the step.
     pub fn first_gone(&self, cover: &mut Cover, step: &MadeStep) -> Result<Option<Gone>, AllocError>
         requires { IsOverIn self.now cover.old }
-        ensures gone { (before : List AnActor) (actor : AnActor) → IsAfter self.now (actor ∷ before) → IsMadeAfter self.now before actor (Some step.now) → IsCoveredWorld self.now before cover.old
+        ensures gone { (before : List AnActor) (actor : AnActor) → IsAfter self.now (actor ∷ before) → IsStepAfter self.now before actor (Some step.now) → IsCoveredWorld self.now before cover.old
             → IfOk result (IsFirstGoneOf self.now (actor ∷ before)) }
-        ensures cover { (before : List AnActor) (actor : AnActor) → IsAfter self.now (actor ∷ before) → IsMadeAfter self.now before actor (Some step.now) → IsCoveredWorld self.now before cover.old
+        ensures cover { (before : List AnActor) (actor : AnActor) → IsAfter self.now (actor ∷ before) → IsStepAfter self.now before actor (Some step.now) → IsCoveredWorld self.now before cover.old
             → IfOk result (λ gone. gone ≡ None → IsCoveredWorld self.now (actor ∷ before) cover.new) }
     {
         self.actors.first_gone(self.alloc, cover, step)

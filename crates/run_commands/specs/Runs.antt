@@ -2,8 +2,8 @@
 use Rattle.std.specs.Prelude.{◌++◌, ℕ, List, [], ◌∷◌, Option, Some, None, codes}
 use Rattle.std.specs.Fmt.{decimal}
 use Rattle.std.specs.List.{enumerate_from, flat_map}
-use Rattle.trace_text.specs.declared.trace.Actor.{Actor}
-use Rattle.trace_text.specs.declared.trace.Actor.TheVariants as actor
+use Rattle.moves.specs.declared.actor.Actor.{Actor}
+use Rattle.moves.specs.declared.actor.Actor.TheVariants as actor
 use Rattle.machine.specs.declared.value.Value.{Value}
 use Rattle.machine.specs.declared.value.Value.TheVariants as value
 use Rattle.setups.specs.declared.setup_fault.SetupFault.{SetupFault}

@@ -6,11 +6,11 @@ ghost use Rattle.reports.specs.Report.{IsTold};
 ghost use Rattle.run_commands.specs.Runs as spec;
 
 use machine::Value;
+use moves::Actor;
 use replay::{Break, Outcome, ReplayFault, Report, ThreadOutcome};
 use reports::{STATUS_NO, STATUS_UNREADABLE, STATUS_YES, memory};
 use std::io;
 use std::io::Write;
-use trace_text::Actor;
 
 /// A thread that does not begin: `error K13 t 0`.
 pub fn no_threads<W: Write>(err: &mut W, fault: ReplayFault) -> io::Result<u8>

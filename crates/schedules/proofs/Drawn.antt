@@ -8,7 +8,7 @@ use Rattle.runs.specs.Broken.{IsBroken, IsCause}
 use Rattle.moves.specs.declared.actor.Actor.{Actor}
 use Rattle.setups.specs.Setups.{starts_of}
 use Rattle.replay.specs.Runs.{program_machine, heap_of}
-use Rattle.replay.specs.Worlds.{run_of, actor_in}
+use Rattle.replay.specs.Worlds.{run_of}
 use Rattle.replay.specs.Draws.{one_draw, draws_from, seeded, drawn}
 use Rattle.replay.specs.Lists.{IsFirstBreak, cause_in}
 use Rattle.replay.specs.Soaks.{actor_drawn, actors_drawn}
@@ -78,6 +78,6 @@ first_steps_break p setup actors b is =
 pub drawn_breaks : (p : LaidOut) (setup : Setup) (last seed steps : ℕ) (b : Break) → IsFirstBreak p setup (actors_drawn last seed steps) b → IsFirstBreak p setup (actors_drawn last seed b.step) b
 unfolding drawn
 drawn_breaks p setup last seed steps b is =
-    let within = get-within (actors_drawn last seed steps) is.place (actor_in b.actor) is.actor in
+    let within = get-within (actors_drawn last seed steps) is.place b.actor is.actor in
     let few : b.step ≤ steps = omega (arith, within, is.step, length-drawn last steps (seeded seed)) in
     subst (λ l. IsFirstBreak p setup l b) (sym (fewer-drawn last b.step steps (seeded seed) few)) (first_steps_break p setup (actors_drawn last seed steps) b is)

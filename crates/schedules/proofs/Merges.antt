@@ -4,37 +4,37 @@ use Rattle.std.specs.Prelude.{map}
 use Rattle.std.specs.List.{AllByRecursion}
 use Rattle.std.proofs.lemmas.List.{length-replicate, replicate-append-replicate}
 use Rattle.std.proofs.lemmas.List.Sums.{sum_by-cons}
+use Rattle.moves.specs.Runs.{IsActor}
 use Rattle.layout.specs.Layouts.{LaidOut}
-use Rattle.trace_text.specs.Traces.{step_sum, IsActorOf, IsTraceOf}
+use Rattle.trace_text.specs.Traces.{step_sum, IsTraceOf}
 use Rattle.trace_text.specs.declared.trace.Setup.{Setup}
 use Rattle.trace_text.specs.declared.trace.Trace.{Trace}
 use Rattle.trace_text.specs.declared.trace.Steps.{Steps}
 use Rattle.moves.specs.declared.actor.Actor.{Actor}
-use Rattle.replay.specs.Worlds.{actor_in}
 use Rattle.replay.specs.Lists.{actors_of}
 
 -- the actors of lines after others
 pub actors_of-append : (one other : List Steps) → actors_of (one ++ other) ≡ actors_of one ++ actors_of other
 actors_of-append [] other = refl
 actors_of-append (s ∷ one) other =
-    ap (λ l. replicate s.count (actor_in s.actor) ++ l) (actors_of-append one other) ∙ sym (append_assoc (replicate s.count (actor_in s.actor)) (actors_of one) (actors_of other))
+    ap (λ l. replicate s.count s.actor ++ l) (actors_of-append one other) ∙ sym (append_assoc (replicate s.count s.actor) (actors_of one) (actors_of other))
 
 -- two lines of one actor are one line
 pub two_as_one : (one other both : Steps) → both.actor ≡ one.actor → one.actor ≡ other.actor → both.count ≡ one.count + other.count → actors_of (both ∷ []) ≡ actors_of (one ∷ other ∷ [])
 two_as_one one other both same alike count =
-    let first = actor_in one.actor in
-    ap (λ (a : Actor). replicate both.count a ++ []) (ap actor_in same)
+    let first = one.actor in
+    ap (λ (a : Actor). replicate both.count a ++ []) (ap same)
     ∙ ap (λ n. replicate n first ++ []) count
     ∙ ap (λ l. l ++ []) (sym (replicate-append-replicate one.count other.count first))
     ∙ append_assoc (replicate one.count first) (replicate other.count first) []
-    ∙ ap (λ (a : Actor). replicate one.count first ++ (replicate other.count a ++ [])) (ap actor_in alike)
+    ∙ ap (λ (a : Actor). replicate one.count first ++ (replicate other.count a ++ [])) (ap alike)
 
 -- there are as many actors as steps
 pub length-actors_of : (steps : List Steps) → length (actors_of steps) ≡ step_sum steps
 length-actors_of [] = refl
 length-actors_of (s ∷ steps) =
-    let this = length-append (replicate s.count (actor_in s.actor)) (actors_of steps) in
-    let count = length-replicate s.count (actor_in s.actor) in
+    let this = length-append (replicate s.count s.actor) (actors_of steps) in
+    let count = length-replicate s.count s.actor in
     let more = length-actors_of steps in
     let all : step_sum (s ∷ steps) ≡ s.count + step_sum steps = sum_by-cons (λ x. x) s.count (map (λ (s : Steps). s.count) steps) in
     omega (arith, this, count, more, all)
@@ -79,7 +79,7 @@ take-more xs i x is = ap (λ n. take n xs) (add-one i) ∙ take-suc xs i x is
 
 -- a trace with other lines that say the same
 pub same_trace : (p : LaidOut) (t : Trace) (setup : Setup) (steps : List Steps) → setup ≡ t.setup → IsTraceOf p t → actors_of steps ≡ actors_of t.steps
-    → AllByRecursion (λ (s : Steps). IsActorOf (length t.setup.starts) s.actor) steps → IsTraceOf p (record { setup = setup; steps = steps })
+    → AllByRecursion (λ (s : Steps). IsActor (length t.setup.starts) s.actor) steps → IsTraceOf p (record { setup = setup; steps = steps })
 same_trace p t setup steps begins is same actors =
     subst (λ (begun : Setup). IsTraceOf p (record { setup = begun; steps = steps })) (sym begins) (record {
       one_each = is.one_each;

@@ -1,14 +1,16 @@
 //! Steps of one actor, one after the other, as one line.
 ghost use Rattle.std.specs.Prelude.{◌≡◌, ℕ, ◌++◌, [], ◌∷◌, IfOk, IfSome, IsTrue, OnOk};
 ghost use Rattle.std.specs.List.{AllByRecursion};
+ghost use Rattle.moves.specs.Runs.{IsActor};
 ghost use Rattle.layout.specs.Layouts.{LaidOut};
-ghost use Rattle.trace_text.specs.Traces.{IsActorOf, IsTraceOf};
+ghost use Rattle.trace_text.specs.Traces.{IsTraceOf};
 ghost use Rattle.trace_text.specs.declared.trace.Steps.{Steps as SomeSteps};
 ghost use Rattle.replay.specs.Lists.{actors_of};
 
 use items::Items;
+use moves::Actor;
 use std::alloc::{AllocError, Global};
-use trace_text::{Actor, Steps, Trace};
+use trace_text::{Steps, Trace};
 
 /// Whether two actors are the same.
 fn is_same_actor(one: Actor, other: Actor) -> bool
@@ -24,7 +26,7 @@ fn is_same_actor(one: Actor, other: Actor) -> bool
 /// Two lines as one, where it says the same.
 fn joined(one: Steps, other: Steps) -> Option<Steps>
     ensures actors { IfSome result (λ both. actors_of (both ∷ []) ≡ actors_of (one ∷ other ∷ [])) }
-    ensures either { IfSome result (λ both. (threads : ℕ) → IsActorOf threads one.actor → IsActorOf threads other.actor → IsActorOf threads both.actor) }
+    ensures either { IfSome result (λ both. (threads : ℕ) → IsActor threads one.actor → IsActor threads other.actor → IsActor threads both.actor) }
 {
     if other.count == 0 {
         return Some(one);
@@ -55,8 +57,8 @@ impl Merging {
     /// One more line.
     fn add(&mut self, next: Steps) -> Result<(), AllocError>
         ensures actors { OnOk result (actors_of (self.new.lines ++ self.new.last ∷ []) ≡ actors_of (self.old.lines ++ self.old.last ∷ []) ++ actors_of (next ∷ [])) }
-        ensures either { (threads : ℕ) → AllByRecursion (λ (s : SomeSteps). IsActorOf threads s.actor) (self.old.lines ++ self.old.last ∷ []) → IsActorOf threads next.actor
-            → OnOk result (AllByRecursion (λ (s : SomeSteps). IsActorOf threads s.actor) (self.new.lines ++ self.new.last ∷ [])) }
+        ensures either { (threads : ℕ) → AllByRecursion (λ (s : SomeSteps). IsActor threads s.actor) (self.old.lines ++ self.old.last ∷ []) → IsActor threads next.actor
+            → OnOk result (AllByRecursion (λ (s : SomeSteps). IsActor threads s.actor) (self.new.lines ++ self.new.last ∷ [])) }
     {
         if let Some(both) = joined(self.last, next) {
             self.last = both;
@@ -70,8 +72,8 @@ impl Merging {
     /// All lines.
     fn close(self) -> Result<Items<Steps>, AllocError>
         ensures actors { IfOk result (λ merged. actors_of merged ≡ actors_of (self.lines ++ self.last ∷ [])) }
-        ensures either { (threads : ℕ) → AllByRecursion (λ (s : SomeSteps). IsActorOf threads s.actor) (self.lines ++ self.last ∷ [])
-            → IfOk result (AllByRecursion (λ (s : SomeSteps). IsActorOf threads s.actor)) }
+        ensures either { (threads : ℕ) → AllByRecursion (λ (s : SomeSteps). IsActor threads s.actor) (self.lines ++ self.last ∷ [])
+            → IfOk result (AllByRecursion (λ (s : SomeSteps). IsActor threads s.actor)) }
     {
         let Merging { mut lines, last } = self;
         lines.push(last)?;
@@ -82,7 +84,7 @@ impl Merging {
 /// The same steps, with one line for those of an actor that come one after the other. Where there are none, one line says so.
 pub fn merged(alloc: Global, steps: &[Steps]) -> Result<Items<Steps>, AllocError>
     ensures actors { IfOk result (λ merged. actors_of merged ≡ actors_of steps.now) }
-    ensures either { (threads : ℕ) → AllByRecursion (λ (s : SomeSteps). IsActorOf threads s.actor) steps.now → IfOk result (AllByRecursion (λ (s : SomeSteps). IsActorOf threads s.actor)) }
+    ensures either { (threads : ℕ) → AllByRecursion (λ (s : SomeSteps). IsActor threads s.actor) steps.now → IfOk result (AllByRecursion (λ (s : SomeSteps). IsActor threads s.actor)) }
 {
     let mut merging = Merging {
         lines: Items::new(alloc),

@@ -3,13 +3,14 @@ ghost use Rattle.std.specs.Prelude.{◌≡◌, ◌<◌, ◌≤◌, length, IfOk,
 ghost use Rattle.trace_text.specs.Traces.{IsTraceOf};
 
 use layout::Program;
+use moves::Actor;
 use pools::LayoutId;
 use replay::drawn_trace;
 use std::alloc::{AllocError, Global};
 use trace_parts::{
     total, with_fewer_cells, with_fewer_steps, with_lines_swapped, without_lines, without_thread,
 };
-use trace_text::{Actor, STEP_LIMIT, Steps, Trace};
+use trace_text::{STEP_LIMIT, Steps, Trace};
 
 /// The last of the seeds, from 0, that draw steps for the threads that are left.
 const LAST_REDRAW: u32 = 511;

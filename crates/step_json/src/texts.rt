@@ -1,11 +1,11 @@
 //! Parts of the lines.
 use ir_ast::FuncId;
 use machine::FramePlace;
+use moves::Actor;
 use name_text::{Blank, put_global};
 use serde_json::Value;
 use std::alloc::{AllocError, Global};
 use told_steps::{Listing, Names};
-use trace_text::Actor;
 
 /// Writes a value as a line.
 fn put_line(alloc: Global, out: &mut Vec<u8>, value: &Value) -> Result<(), AllocError> {

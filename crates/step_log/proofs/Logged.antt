@@ -8,14 +8,12 @@ use Rattle.moves.specs.declared.actor.Actor.{Actor}
 use Rattle.moves.specs.Runs.{IsActor, AreActors}
 use Rattle.setups.specs.Setups.{starts_of}
 use Rattle.stepping.specs.Ends.{IsStepOrNone}
-use Rattle.trace_text.specs.Traces.{IsActorOf}
-use Rattle.trace_text.specs.declared.trace.Actor.{Actor as TracedActor}
-use Rattle.trace_text.specs.declared.trace.Actor.TheVariants.{Thread, Collector}
+use Rattle.moves.specs.declared.actor.Actor.TheVariants.{Thread, Collector}
 use Rattle.trace_text.specs.declared.trace.Setup.{Setup}
 use Rattle.trace_text.specs.declared.trace.Steps.{Steps}
 use Rattle.replay.specs.Lists.{actors_of}
 use Rattle.replay.specs.Runs.{heap_of, program_machine}
-use Rattle.replay.specs.Worlds.{IsAfter, IsStepAfter, actor_in, run_of}
+use Rattle.replay.specs.Worlds.{IsAfter, IsStepAfter, run_of}
 use Rattle.step_log.specs.declared.log.LogStep.{LogStep}
 use Rattle.step_log.specs.declared.recording.Recorder.{Recorder}
 use Rattle.step_log.specs.declared.upcoming.Upcoming.{Upcoming}
@@ -24,42 +22,32 @@ use Rattle.step_log.specs.Upcoming.{actors_in}
 
 -- ---- actors
 
--- an actor of the run is one of the trace
-pub is_actor_of : (threads : ℕ) (actor : TracedActor) → IsActor threads (actor_in actor) → IsActorOf threads actor
-is_actor_of threads (Thread t) is = is
-is_actor_of threads Collector is = tt
-
--- and the other way round
-is_actor : (threads : ℕ) (actor : TracedActor) → IsActorOf threads actor → IsActor threads (actor_in actor)
-is_actor threads (Thread t) is = is
-is_actor threads Collector is = tt
-
 -- some steps of one actor before others
 are_actors_more : (threads count : ℕ) (actor : Actor) (actors : List Actor) → IsActor threads actor → AreActors threads actors → AreActors threads (replicate count actor ++ actors)
 are_actors_more threads zero actor actors is are = are
 are_actors_more threads (suc count) actor actors is are = (is, are_actors_more threads count actor actors is are)
 
 -- those of a trace are of its run
-pub are_actors : (threads : ℕ) (steps : List Steps) → AllByRecursion (λ (s : Steps). IsActorOf threads s.actor) steps → AreActors threads (actors_of steps)
+pub are_actors : (threads : ℕ) (steps : List Steps) → AllByRecursion (λ (s : Steps). IsActor threads s.actor) steps → AreActors threads (actors_of steps)
 are_actors threads [] all = tt
-are_actors threads (s ∷ steps) all = are_actors_more threads s.count (actor_in s.actor) (actors_of steps) (is_actor threads s.actor all.0) (are_actors threads steps all.1)
+are_actors threads (s ∷ steps) all = are_actors_more threads s.count s.actor (actors_of steps) (all.0) (are_actors threads steps all.1)
 
 -- ---- one step
 
 -- the step of an actor is logged
-pub recorded : (p : LaidOut) (setup : Setup) (before : List Actor) (r v : Recorder) (actor : TracedActor) (step : LogStep) → IsRecorded p setup before r → step.actor ≡ actor
-    → (v.world.program ≡ r.world.program) × (v.world.setup ≡ r.world.setup) → IsStepAfter r.world before actor step.made × IsAfter v.world (actor_in actor ∷ before)
-    → v.steps ≡ r.steps ++ step ∷ [] → IsRecorded p setup (actor_in actor ∷ before) v
+pub recorded : (p : LaidOut) (setup : Setup) (before : List Actor) (r v : Recorder) (actor : Actor) (step : LogStep) → IsRecorded p setup before r → step.actor ≡ actor
+    → (v.world.program ≡ r.world.program) × (v.world.setup ≡ r.world.setup) → IsStepAfter r.world before actor step.made × IsAfter v.world (actor ∷ before)
+    → v.steps ≡ r.steps ++ step ∷ [] → IsRecorded p setup (actor ∷ before) v
 recorded p setup before r v actor step is of same both more =
-    let Made : LaidOut → Setup → Type 0 = λ q begun. IsStepOrNone (heap_of q begun) program_machine (starts_of q begun) (run_of q begun before) (actor_in actor) step.made in
+    let Made : LaidOut → Setup → Type 0 = λ q begun. IsStepOrNone (heap_of q begun) program_machine (starts_of q begun) (run_of q begun before) actor step.made in
     let made : Made p setup = subst (λ q. Made q setup) is.program (subst (λ begun. Made r.world.program begun) is.setup_is both.0) in
-    let named = subst (λ (a : TracedActor). IsStepOrNone (heap_of p setup) program_machine (starts_of p setup) (run_of p setup before) (actor_in a) step.made) (sym of) made in
+    let named = subst (λ (a : Actor). IsStepOrNone (heap_of p setup) program_machine (starts_of p setup) (run_of p setup before) a step.made) (sym of) made in
     record {
       program = same.0 ∙ is.program;
       setup_is = same.1 ∙ is.setup_is;
       afterwards = both.1;
-      steps = subst (λ l. AreSteps p setup (actor_in actor ∷ before) l) (sym more)
-          (subst (λ (a : TracedActor). AreSteps p setup (actor_in a ∷ before) (r.steps ++ step ∷ [])) of (Further before r.steps step is.steps named));
+      steps = subst (λ l. AreSteps p setup (actor ∷ before) l) (sym more)
+          (subst (λ (a : Actor). AreSteps p setup (a ∷ before) (r.steps ++ step ∷ [])) of (Further before r.steps step is.steps named));
     }
 
 -- ---- all steps
@@ -73,24 +61,24 @@ pub record IsLogging (p : LaidOut) (setup : Setup) (actors : List Actor) (count 
   pub are_actors : AreActors (length setup.starts) (actors_in u)
 
 -- with one step more
-pub logs_more : (p : LaidOut) (setup : Setup) (actors : List Actor) (count : ℕ) (r s : Recorder) (u v : Upcoming) (actor : TracedActor) → (is : IsLogging p setup actors count r u)
-    → actors_in u ≡ actor_in actor ∷ actors_in v → IsRecorded p setup (actor_in actor ∷ is.before) s → IsLogging p setup actors (suc count) s v
+pub logs_more : (p : LaidOut) (setup : Setup) (actors : List Actor) (count : ℕ) (r s : Recorder) (u v : Upcoming) (actor : Actor) → (is : IsLogging p setup actors count r u)
+    → actors_in u ≡ actor ∷ actors_in v → IsRecorded p setup (actor ∷ is.before) s → IsLogging p setup actors (suc count) s v
 logs_more p setup actors count r s u v actor is next more = record {
-  before = actor_in actor ∷ is.before;
+  before = actor ∷ is.before;
   recorded = more;
   count_is = ap suc is.count_is;
   whole =
-      ap (λ l. l ++ actors_in v) (reverse-append (actor_in actor ∷ []) is.before) ∙ append_assoc (reverse is.before) (actor_in actor ∷ []) (actors_in v)
+      ap (λ l. l ++ actors_in v) (reverse-append (actor ∷ []) is.before) ∙ append_assoc (reverse is.before) (actor ∷ []) (actors_in v)
       ∙ ap (λ l. reverse is.before ++ l) (sym next) ∙ is.whole;
   are_actors = (subst (AreActors (length setup.starts)) next is.are_actors).1;
 }
 
 -- the next actor is a thread of the world, or the collector
-pub next_is_actor : (p : LaidOut) (setup : Setup) (actors : List Actor) (count : ℕ) (r : Recorder) (u v : Upcoming) (actor : TracedActor) → (is : IsLogging p setup actors count r u)
-    → actors_in u ≡ actor_in actor ∷ actors_in v → IsActorOf (length r.world.setup.starts) actor
+pub next_is_actor : (p : LaidOut) (setup : Setup) (actors : List Actor) (count : ℕ) (r : Recorder) (u v : Upcoming) (actor : Actor) → (is : IsLogging p setup actors count r u)
+    → actors_in u ≡ actor ∷ actors_in v → IsActor (length r.world.setup.starts) actor
 next_is_actor p setup actors count r u v actor is next =
     let found = (subst (AreActors (length setup.starts)) next is.are_actors).0 in
-    subst (λ (begun : Setup). IsActorOf (length begun.starts) actor) (sym is.recorded.setup_is) (is_actor_of (length setup.starts) actor found)
+    subst (λ (begun : Setup). IsActor (length begun.starts) actor) (sym is.recorded.setup_is) found
 
 -- the first of a list, as many as there are
 take-all : {A : Type 0} (xs : List A) (n : ℕ) → length xs ≤ n → take n xs ≡ xs

@@ -6,7 +6,7 @@ use Rattle.setups.specs.Setups.{starts_of}
 use Rattle.stepping.specs.Ends.{IsStepOrNone}
 use Rattle.trace_text.specs.declared.trace.Setup.{Setup}
 use Rattle.replay.specs.Runs.{heap_of, program_machine}
-use Rattle.replay.specs.Worlds.{IsAfter, actor_in, run_of}
+use Rattle.replay.specs.Worlds.{IsAfter, run_of}
 use Rattle.step_log.specs.declared.log.LogStep.{LogStep}
 use Rattle.step_log.specs.declared.recording.Recorder.{Recorder}
 
@@ -15,8 +15,8 @@ pub data AreSteps (p : LaidOut) (setup : Setup) : (actors : List Actor) → List
   NoStep : AreSteps p setup [] []
   Further :
       (before : List Actor) (steps : List LogStep) (step : LogStep) → AreSteps p setup before steps
-      → IsStepOrNone (heap_of p setup) program_machine (starts_of p setup) (run_of p setup before) (actor_in step.actor) step.made
-      → AreSteps p setup (actor_in step.actor ∷ before) (steps ++ step ∷ [])
+      → IsStepOrNone (heap_of p setup) program_machine (starts_of p setup) (run_of p setup before) step.actor step.made
+      → AreSteps p setup (step.actor ∷ before) (steps ++ step ∷ [])
 
 -- the world is the one after these actors, and their steps are logged
 pub record IsRecorded (p : LaidOut) (setup : Setup) (before : List Actor) (r : Recorder) : Type 0 where

@@ -1,8 +1,8 @@
 use ir_ast::FuncId;
 use items::Items;
 use machine::FramePlace;
+use moves::Actor;
 use stepping::MadeStep;
-use trace_text::Actor;
 
 /// A step of a run.
 #[derive(Clone, Copy)]

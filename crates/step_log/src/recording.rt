@@ -1,12 +1,12 @@
 ghost use Rattle.std.specs.Prelude.{◌≡◌, ◌≢◌, List, [], ◌∷◌, length, reverse, take, IfOk, IfErr, OnOk};
+ghost use Rattle.moves.specs.Runs.{IsActor};
 ghost use Rattle.layout.specs.Layouts.{LaidOut};
 ghost use Rattle.moves.specs.declared.actor.Actor.{Actor as AnActor};
-ghost use Rattle.trace_text.specs.Traces.{IsTraceOf, IsActorOf};
+ghost use Rattle.trace_text.specs.Traces.{IsTraceOf};
 ghost use Rattle.trace_text.specs.declared.trace.Setup.{Setup as ASetup};
 ghost use Rattle.setups.specs.Setups.{IsSetupOf, IsSetupFault};
 ghost use Rattle.setups.specs.declared.setup_fault.SetupFault.TheVariants as fault;
 ghost use Rattle.replay.specs.Lists.{actors_of};
-ghost use Rattle.replay.specs.Worlds.{actor_in};
 ghost use Rattle.step_log.specs.Steps.{AreSteps, IsRecorded};
 
 use crate::frame_notes::FrameNotes;
@@ -15,10 +15,11 @@ use crate::upcoming::Upcoming;
 use items::Items;
 use layout::Program;
 use machine::FramePlace;
+use moves::Actor;
 use replay::World;
 use setups::SetupFault;
 use std::alloc::{AllocError, Global};
-use trace_text::{Actor, Setup, Trace};
+use trace_text::{Setup, Trace};
 
 /// A world, and what was logged of the steps that led to it.
 #[derive(Drop)]
@@ -90,9 +91,9 @@ impl<'a> Recorder<'a> {
 
     /// The actor makes its next step, which is logged.
     fn step(&mut self, actor: Actor) -> Result<(), AllocError>
-        requires { IsActorOf (length self.old.world.setup.starts) actor }
+        requires { IsActor (length self.old.world.setup.starts) actor }
         ensures { (p : LaidOut) (setup : ASetup) (before : List AnActor) → IsRecorded p setup before self.old
-            → OnOk result (IsRecorded p setup (actor_in actor ∷ before) self.new) }
+            → OnOk result (IsRecorded p setup (actor ∷ before) self.new) }
     {
         let place = place_of(&self.world, actor);
         let notes = self.notes.notes.len();

@@ -1,9 +1,9 @@
 ghost use Rattle.std.specs.Prelude.{◌≡◌, ◌∷◌, [], MatchOption};
 ghost use Rattle.replay.specs.Lists.{actors_of};
-ghost use Rattle.replay.specs.Worlds.{actor_in};
 ghost use Rattle.step_log.specs.Upcoming.{actors_in};
 
-use trace_text::{Actor, Steps};
+use moves::Actor;
+use trace_text::Steps;
 
 /// The actors of the steps that are still to be made, line by line.
 #[derive(Drop)]
@@ -28,7 +28,7 @@ impl<'a> Upcoming<'a> {
 
     /// The actor of the next step.
     pub fn next(&mut self) -> Option<Actor>
-        ensures { MatchOption result (actors_in self.old ≡ []) (λ actor. actors_in self.old ≡ actor_in actor ∷ actors_in self.new) }
+        ensures { MatchOption result (actors_in self.old ≡ []) (λ actor. actors_in self.old ≡ actor ∷ actors_in self.new) }
     {
         while self.left == 0 {
             let [line, more @ ..] = self.lines else {

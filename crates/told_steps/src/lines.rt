@@ -5,10 +5,10 @@ use crate::put_event::{Names, put_event};
 use crate::slot_changes::slot_changes;
 use machine::FramePlace;
 use messages::put;
+use moves::Actor;
 use name_text::put_number;
 use std::alloc::{AllocError, Global};
 use step_log::{LogStep, StepLog};
-use trace_text::Actor;
 
 /// How wide the column of the numbers of steps is.
 const NUMBER_WIDTH: usize = 6;

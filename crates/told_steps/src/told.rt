@@ -10,10 +10,11 @@ use crate::slot_changes::slot_changes;
 use items::Items;
 use layout::Program;
 use messages::put;
+use moves::Actor;
 use replay::Break;
 use std::alloc::{AllocError, Global};
 use step_log::{LogStep, StepLog};
-use trace_text::{Actor, Setup};
+use trace_text::Setup;
 
 /// How many of the last steps are told where no others are asked for.
 const LAST_STEPS: usize = 40;

@@ -2,8 +2,9 @@
 use Rattle.std.proofs.Common.{◌≡◌, ◌+◌, ◌-◌, ◌≤◌, ◌<◌, ℕ, zero, suc, Some, List, [], ◌∷◌, ◌++◌, length, map, take, drop, slice_get, refl, sym, ap, subst, ◌∙◌, add-one, arith}
 use Rattle.std.specs.List.{AllByRecursion}
 use Rattle.std.proofs.lemmas.List.Sums.{sum_by-cons}
+use Rattle.moves.specs.Runs.{IsActor}
 use Rattle.lemmas.specs.All.{all_join, all_get}
-use Rattle.trace_text.specs.Traces.{step_sum, IsActorOf}
+use Rattle.trace_text.specs.Traces.{step_sum}
 use Rattle.trace_text.specs.declared.trace.Steps.{Steps}
 use Rattle.trace_parts.specs.Parts.{AreOfActors, between}
 
@@ -84,7 +85,7 @@ sum_more lines i line is =
 
 pub all_replaced : (threads from to : ℕ) (lines others : List Steps) → AreOfActors threads lines → AreOfActors threads others → AreOfActors threads (take from lines ++ others ++ drop to lines)
 all_replaced threads from to lines others are these =
-    let P = λ (s : Steps). IsActorOf threads s.actor in
+    let P = λ (s : Steps). IsActor threads s.actor in
     all_join P (take from lines ++ others) (drop to lines) (all_join P (take from lines) others (all_take P from lines are) these) (all_drop P to lines are)
 
 pub sum_replaced : (from to : ℕ) (lines others : List Steps) → from ≤ to → step_sum others ≤ step_sum (between from to lines) → step_sum (take from lines ++ others ++ drop to lines) ≤ step_sum lines

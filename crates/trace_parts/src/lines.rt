@@ -1,6 +1,7 @@
 //! Lines of steps in the place of others.
 ghost use Rattle.std.specs.Prelude.{◌≡◌, ◌++◌, ◌+◌, ℕ, take, drop, IfOk, OnOk};
-ghost use Rattle.trace_text.specs.Traces.{IsActorOf, step_sum};
+ghost use Rattle.moves.specs.Runs.{IsActor};
+ghost use Rattle.trace_text.specs.Traces.{step_sum};
 ghost use Rattle.trace_parts.specs.Parts.{AreOfActors};
 
 use items::Items;
@@ -46,7 +47,7 @@ pub(crate) fn joined(
 
 /// One line more at the end.
 pub fn add_line(lines: &mut Items<Steps>, line: Steps) -> Result<(), AllocError>
-    ensures actors { (threads : ℕ) → AreOfActors threads lines.old → IsActorOf threads line.actor → OnOk result (AreOfActors threads lines.new) }
+    ensures actors { (threads : ℕ) → AreOfActors threads lines.old → IsActor threads line.actor → OnOk result (AreOfActors threads lines.new) }
     ensures sum { OnOk result (step_sum lines.new ≡ step_sum lines.old + line.count) }
 {
     lines.push(line)?;

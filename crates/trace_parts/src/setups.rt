@@ -1,7 +1,8 @@
 //! Traces with a thread less, or with fewer cells.
 ghost use Rattle.std.specs.Prelude.{ℕ, ◌≡◌, ◌<◌, ◌≤◌, ◌-◌, ◌^◌, ◌++◌, take, drop, suc, length, ◌+◌, IfOk, IfSome, OnOk};
+ghost use Rattle.moves.specs.Runs.{IsActor};
 ghost use Rattle.pools.specs.Heap.{cells_in};
-ghost use Rattle.trace_text.specs.Traces.{IsTraceOf, IsActorOf, step_sum};
+ghost use Rattle.trace_text.specs.Traces.{IsTraceOf, step_sum};
 ghost use Rattle.trace_parts.specs.Parts.{AreOfActors};
 
 use crate::copies::add_starts;
@@ -9,8 +10,9 @@ use crate::lines::add_line;
 use crate::pool_counts::{counts_in, pools_with};
 use items::Items;
 use layout::{Pools, Program};
+use moves::Actor;
 use std::alloc::{AllocError, Global};
-use trace_text::{Actor, Setup, Start, Steps, Trace};
+use trace_text::{Setup, Start, Steps, Trace};
 
 /// The same pools.
 fn pools_copied(alloc: Global, program: &Program, pools: &Pools) -> Result<Pools, AllocError>
@@ -60,7 +62,7 @@ fn starts_without(alloc: Global, starts: &[Start], place: usize) -> Result<Items
 
 /// The actor, where a thread is left out; None is that thread. Those after it have the numbers before theirs.
 fn actor_without(actor: Actor, thread: u32) -> Option<Actor>
-    ensures { (threads : ℕ) → thread < threads → IsActorOf threads actor → IfSome result (IsActorOf (threads - 1)) }
+    ensures { (threads : ℕ) → thread < threads → IsActor threads actor → IfSome result (IsActor (threads - 1)) }
 {
     match actor {
         Actor::Thread(other) if other > thread => Some(Actor::Thread(other - 1)),
@@ -71,7 +73,7 @@ fn actor_without(actor: Actor, thread: u32) -> Option<Actor>
 
 /// A line more, if it is not of a thread.
 fn add_other(fewer: &mut Items<Steps>, line: Steps, thread: u32) -> Result<(), AllocError>
-    ensures actors { (threads : ℕ) → thread < threads → IsActorOf threads line.actor → AreOfActors (threads - 1) fewer.old → OnOk result (AreOfActors (threads - 1) fewer.new) }
+    ensures actors { (threads : ℕ) → thread < threads → IsActor threads line.actor → AreOfActors (threads - 1) fewer.old → OnOk result (AreOfActors (threads - 1) fewer.new) }
     ensures sum { OnOk result (step_sum fewer.new ≤ step_sum fewer.old + line.count) }
 {
     match actor_without(line.actor, thread) {

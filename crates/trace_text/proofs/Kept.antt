@@ -5,6 +5,7 @@ use Rattle.std.specs.List.{AllByRecursion}
 use Rattle.std.proofs.lemmas.Bool.Decides.{nat_tests}
 use Rattle.std.proofs.lemmas.List.FromFn.{length-map-range_with_len}
 use Rattle.std.proofs.lemmas.List.Sums.{sum_by-cons}
+use Rattle.moves.specs.Runs.{IsActor}
 use Rattle.lemmas.specs.All.{all_join}
 use Rattle.ir_ast.specs.Names.{place_of}
 use Rattle.ir_ast.specs.declared.module.Module.{Module}
@@ -27,10 +28,10 @@ use Rattle.name_text.specs.Forms.{skip, taken, taken_as, expect, line_end}
 use Rattle.trace_text.specs.Arrivals.{arrival, arrival_of_word, past_starts, version, version_of_word}
 use Rattle.trace_text.specs.Text.{pool, past_pools, pools, arguments, start, starts, steps_of, steps_line, past_steps, all_steps, count_or_none, counts_of, trace_with, finished_by, finished, heading, setup, steps, file, IsTrace}
 use Rattle.trace_text.specs.Text as form
-use Rattle.trace_text.specs.Traces.{IsStartOf, IsActorOf, IsTraceOf, step_sum}
+use Rattle.trace_text.specs.Traces.{IsStartOf, IsTraceOf, step_sum}
 use Rattle.name_text.specs.declared.naming.Sigil.TheVariants as sigil
-use Rattle.trace_text.specs.declared.trace.Actor.{Actor}
-use Rattle.trace_text.specs.declared.trace.Actor.TheVariants as actor
+use Rattle.moves.specs.declared.actor.Actor.{Actor}
+use Rattle.moves.specs.declared.actor.Actor.TheVariants as actor
 use Rattle.trace_text.specs.declared.trace.Arrival.{Arrival}
 use Rattle.trace_text.specs.declared.trace.Start.{Start}
 use Rattle.trace_text.specs.declared.trace.Steps.{Steps}
@@ -200,7 +201,7 @@ makes_after a i m o same r =
 
 -- a line of steps of one of the threads or of the collector
 abbrev MakesLine : (i o : Input) → Type 0
-MakesLine i o = (a : Actor) × IsActorOf (length i.read.starts) a × Makes a i o
+MakesLine i o = (a : Actor) × IsActor (length i.read.starts) a × Makes a i o
 
 line_by_kept : (i o : Input) (u : Unit {0}) (t : Bool) → (form.steps_by t).says i u o → MakesLine i o
 unfolding thread
@@ -222,20 +223,20 @@ sum_with (x ∷ steps) s =
 
 -- the steps so far are of these threads and of the collector, and within the limit
 abbrev AreSteps : List Start → Input → Type 0
-AreSteps begun i = (i.read.starts ≡ begun) × AllByRecursion (λ (s : Steps). IsActorOf (length begun) s.actor) i.read.steps × (i.read.made ≡ step_sum i.read.steps) × (i.read.made ≤ 10000000)
+AreSteps begun i = (i.read.starts ≡ begun) × AllByRecursion (λ (s : Steps). IsActor (length begun) s.actor) i.read.steps × (i.read.made ≡ step_sum i.read.steps) × (i.read.made ≤ 10000000)
 
 line_kept : (begun : List Start) (i o : Input) (u : Unit {0}) → steps_line.says i u o → AreSteps begun i → AreSteps begun o
 unfolding steps_line with_steps
 line_kept begun i o u h so_far =
     let r = line_by_kept i o u (begins _ i) h in
     let s : Steps = record { actor = r.0; count = r.2.0 } in
-    let own : IsActorOf (length begun) r.0 = subst (λ (starts : List Start). IsActorOf (length starts) r.0) so_far.0 r.1 in
+    let own : IsActor (length begun) r.0 = subst (λ (starts : List Start). IsActor (length starts) r.0) so_far.0 r.1 in
     let all_steps : i.read.steps ++ s ∷ [] ≡ o.read.steps = ap (λ (j : Input). j.read.steps) r.2.2 in
     let made : i.read.made + r.2.0 ≡ o.read.made = ap (λ (j : Input). j.read.made) r.2.2 in
     let few : i.read.made + r.2.0 ≤ 10000000 = r.2.1 in
     let sums : o.read.made ≡ step_sum o.read.steps = sym made ∙ ap (λ (n : ℕ). n + r.2.0) so_far.2 ∙ sym (sum_with i.read.steps s) ∙ ap step_sum all_steps in (
       sym (ap (λ (j : Input). j.read.starts) r.2.2) ∙ so_far.0,
-      subst (AllByRecursion (λ (x : Steps). IsActorOf (length begun) x.actor)) all_steps (all_join (λ (x : Steps). IsActorOf (length begun) x.actor) i.read.steps (s ∷ []) so_far.1 (own, tt)),
+      subst (AllByRecursion (λ (x : Steps). IsActor (length begun) x.actor)) all_steps (all_join (λ (x : Steps). IsActor (length begun) x.actor) i.read.steps (s ∷ []) so_far.1 (own, tt)),
       sums,
       omega (arith, made, few),
     )
@@ -275,7 +276,7 @@ module _ (p : LaidOut) (bytes : Text) (trace : Trace) where
       let n = l.3 in
       let lines = g.2 in
       let before_steps : kept second.1 ≡ kept f.1 = expect_keeps _ second.1 e.1 e.0 e.2 ∙ line_end_keeps e.1 f.1 f.0 f.2 in
-      let no_step : AreSteps second.1.read.starts second.1 = (refl, subst (AllByRecursion (λ (s : Steps). IsActorOf (length second.1.read.starts) s.actor)) (sym begun.2) tt, (begun.3 ∙ ap step_sum (sym begun.2)), omega (arith, begun.3)) in
+      let no_step : AreSteps second.1.read.starts second.1 = (refl, subst (AllByRecursion (λ (s : Steps). IsActor (length second.1.read.starts) s.actor)) (sym begun.2) tt, (begun.3 ∙ ap step_sum (sym begun.2)), omega (arith, begun.3)) in
       let made : AreSteps second.1.read.starts g.1 = subst (AreSteps second.1.read.starts) lines.3.1 (lines_kept second.1.read.starts lines.0 f.1 lines.1 lines.2 (subst (AreSteps second.1.read.starts) before_steps no_step)) in
       let after_steps : kept g.1 ≡ kept third.1 = expect_keeps _ g.1 l.1 l.0 l.2 ∙ line_end_keeps l.1 n.1 n.0 n.2 ∙ ap kept n.3.1 in
       let at_end : AreSteps second.1.read.starts third.1 = subst (AreSteps second.1.read.starts) after_steps made in
@@ -287,6 +288,6 @@ module _ (p : LaidOut) (bytes : Text) (trace : Trace) where
         cells = given.1;
         starts = subst (AllByRecursion (IsStartOf p)) (sym same_starts) begun.0;
         threads = subst (λ (all : List Start). length all ≤ 64) (sym same_starts) begun.1;
-        actors = subst (λ (all : List Start). AllByRecursion (λ (s : Steps). IsActorOf (length all) s.actor) third.1.read.steps) (sym same_starts) at_end.1;
+        actors = subst (λ (all : List Start). AllByRecursion (λ (s : Steps). IsActor (length all) s.actor) third.1.read.steps) (sym same_starts) at_end.1;
         steps = (let sums = at_end.2 in let few = at_end.3 in omega (arith, sums, few));
       })

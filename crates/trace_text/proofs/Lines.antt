@@ -19,8 +19,8 @@ use Rattle.name_text.specs.Reader.{line_ends, word, begins}
 use Rattle.trace_text.specs.Forms.{argument, put_pool, put_start}
 use Rattle.trace_text.specs.Text.{pool, arguments, start, steps_of, steps_by, steps_line}
 use Rattle.trace_text.specs.Print.{name_text, name_at, struct_name, layout_text, name_of_function, function_text, arguments_text}
-use Rattle.trace_text.specs.declared.trace.Actor.{Actor}
-use Rattle.trace_text.specs.declared.trace.Actor.TheVariants as actor
+use Rattle.moves.specs.declared.actor.Actor.{Actor}
+use Rattle.moves.specs.declared.actor.Actor.TheVariants as actor
 use Rattle.trace_text.specs.declared.trace.Arrival.{Arrival}
 use Rattle.trace_text.specs.declared.trace.Arrival.TheVariants.{AtStart, Late}
 use Rattle.trace_text.specs.declared.trace.Start.{Start}

@@ -6,6 +6,7 @@ use Rattle.std.specs.Fmt.{decimal}
 use Rattle.std.proofs.Math.Seq.{set-append_seam}
 use Rattle.std.proofs.lemmas.List.{append-nil}
 use Rattle.std.proofs.lemmas.List.Sums.{sum_by-cons}
+use Rattle.moves.specs.Runs.{IsActor}
 use Rattle.ir_ast.specs.declared.module.Module.{Module}
 use Rattle.grammar.specs.Many.{Listed}
 use Rattle.layout.specs.Layouts.{LaidOut}
@@ -17,9 +18,9 @@ use Rattle.trace_text.specs.Arrivals.{arrival_of_word, start_word, past_starts}
 use Rattle.trace_text.specs.Text.{pool, past_pools, start, steps_line, past_steps}
 use Rattle.trace_text.specs.Print.{pool_line, pool_text, layout_text, name_text, struct_name, function_text, arguments_text, start_text, actor_text}
 use Rattle.trace_text.specs.Print as print
-use Rattle.trace_text.specs.Traces.{IsStartOf, IsActorOf, step_sum}
-use Rattle.trace_text.specs.declared.trace.Actor.{Actor}
-use Rattle.trace_text.specs.declared.trace.Actor.TheVariants as actor
+use Rattle.trace_text.specs.Traces.{IsStartOf, step_sum}
+use Rattle.moves.specs.declared.actor.Actor.{Actor}
+use Rattle.moves.specs.declared.actor.Actor.TheVariants as actor
 use Rattle.trace_text.specs.declared.trace.Arrival.{Arrival}
 use Rattle.trace_text.specs.declared.trace.Arrival.TheVariants.{AtStart, Late}
 use Rattle.trace_text.specs.declared.trace.Start.{Start}
@@ -210,7 +211,7 @@ IsRead a count more i =
     (past_steps (at ((actor_text a ++ decimal count ++ 10 ∷ []) ++ more) i) ≡ false)
     × steps_line.says (at ((actor_text a ++ decimal count ++ 10 ∷ []) ++ more) i) tt (at more (recorded (with_steps a count) i))
 
-line_is_read : (a : Actor) (count : ℕ) (more : Text) (i : Input) → IsFresh more → IsActorOf (length i.read.starts) a → length i.read.starts ≤ 64 → i.read.made + count ≤ 10000000 → IsRead a count more i
+line_is_read : (a : Actor) (count : ℕ) (more : Text) (i : Input) → IsFresh more → IsActor (length i.read.starts) a → length i.read.starts ≤ 64 → i.read.made + count ≤ 10000000 → IsRead a count more i
 line_is_read (actor.Thread thread) count more i fresh begun few_threads few =
     subst (λ (text : Text). (past_steps (at text i) ≡ false) × steps_line.says (at text i) tt (at more (recorded (with_steps (actor.Thread thread) count) i))) (sym (thread_seam thread count more))
     (thread_begins more fresh i thread count begun few_threads (codes "end"), thread_steps_say more fresh i thread count begun few_threads few)
@@ -219,7 +220,7 @@ line_is_read actor.Collector count more i fresh begun few_threads few =
     (collector_begins more fresh i count few (codes "end"), collector_steps_say more fresh i count few)
 
 module _ (threads : ℕ) (few_threads : threads ≤ 64) (tail : Text) (past : (i : Input) → past_steps (at tail i) ≡ true) (fresh : IsFresh tail) (i : Input) (begun : length i.read.starts ≡ threads) where
-  pub steps_listed : (steps done : List Steps) (made : ℕ) → AllByRecursion (λ (s : Steps). IsActorOf threads s.actor) steps → made + step_sum steps ≤ 10000000
+  pub steps_listed : (steps done : List Steps) (made : ℕ) → AllByRecursion (λ (s : Steps). IsActor threads s.actor) steps → made + step_sum steps ≤ 10000000
       → (units : List (Unit {0})) × Listed past_steps steps_line.says (with_all (flat_map print.steps_line steps ++ tail) done made i) units (with_all tail (done ++ steps) (made + step_sum steps) i)
   unfolding with_steps
   steps_listed [] done made all few =
@@ -229,7 +230,7 @@ module _ (threads : ℕ) (few_threads : threads ≤ 64) (tail : Text) (past : (i
       let others = flat_map print.steps_line steps ++ tail in
       let parts = sum_by-cons (λ (n : ℕ). n) s.count (map (λ (x : Steps). x.count) steps) in
       let before = with_all others done made i in
-      let own = subst (λ (n : ℕ). IsActorOf n s.actor) (sym begun) all.0 in
+      let own = subst (λ (n : ℕ). IsActor n s.actor) (sym begun) all.0 in
       let read = line_is_read s.actor s.count others before (fresh_steps steps tail fresh) own (omega (arith, few_threads, begun)) (omega (arith, few, parts)) in
       let r = steps_listed steps (done ++ s ∷ []) (made + s.count) all.1 (omega (arith, few, parts)) in
       let count : made + s.count + step_sum steps ≡ made + step_sum (s ∷ steps) = omega (arith, parts) in

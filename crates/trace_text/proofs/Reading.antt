@@ -17,7 +17,7 @@ use Rattle.name_text.specs.Reader.{word, begins, after, next_line}
 use Rattle.trace_text.specs.Arrivals.{arrival, arrival_of_word, version, version_of_word}
 use Rattle.trace_text.specs.Forms.{function_name, new_layout, layout_named, layout_by, cell_count, argument, thread, thread_numbered, thread_by, step_count, steps_counted, steps_by, put_steps}
 use Rattle.name_text.specs.Forms.{skip, taken, taken_as, expect, line_end}
-use Rattle.trace_text.specs.declared.trace.Actor.{Actor}
+use Rattle.moves.specs.declared.actor.Actor.{Actor}
 use Rattle.trace_text.specs.declared.trace.Arrival.{Arrival}
 use Rattle.trace_text.specs.declared.versions.Version.{Version}
 use Rattle.name_text.specs.Spelled.{number_read, number_is_inner}

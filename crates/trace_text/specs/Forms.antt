@@ -8,7 +8,7 @@ use Rattle.trace_text.specs.Names.{function_of_word, layout_of_word}
 use Rattle.name_text.specs.Reader.{word}
 use Rattle.name_text.specs.Forms.{syntax, wrong, skip, taken, taken_as, update}
 use Rattle.trace_text.specs.Input.{Form, with_pool, with_start, with_steps}
-use Rattle.trace_text.specs.declared.trace.Actor.{Actor}
+use Rattle.moves.specs.declared.actor.Actor.{Actor}
 use Rattle.trace_text.specs.declared.trace.Arrival.{Arrival}
 use Rattle.trace_text.specs.declared.mistake.TraceMistake.TheVariants.{NoThread, TooManySteps}
 

@@ -5,7 +5,7 @@ use Rattle.ir_tokens.specs.Bytes.{Text}
 use Rattle.name_text.specs.Words.{past_lines}
 use Rattle.name_text.specs.Reader as reader
 use Rattle.name_text.specs.declared.reader.Reader.{Reader}
-use Rattle.trace_text.specs.declared.trace.Actor.{Actor}
+use Rattle.moves.specs.declared.actor.Actor.{Actor}
 use Rattle.trace_text.specs.declared.trace.Arrival.{Arrival}
 use Rattle.trace_text.specs.declared.mistake.TraceMistake.{TraceMistake}
 use Rattle.trace_text.specs.declared.progress.TraceProgress.{TraceProgress}

@@ -11,8 +11,8 @@ use Rattle.layout.specs.Layouts.{LaidOut}
 use Rattle.name_text.specs.Names as names
 use Rattle.name_text.specs.declared.blank.Blank.TheVariants as blank
 use Rattle.trace_text.specs.Arrivals.{start_word, version_of}
-use Rattle.trace_text.specs.declared.trace.Actor.{Actor}
-use Rattle.trace_text.specs.declared.trace.Actor.TheVariants as actor
+use Rattle.moves.specs.declared.actor.Actor.{Actor}
+use Rattle.moves.specs.declared.actor.Actor.TheVariants as actor
 use Rattle.trace_text.specs.declared.trace.Start.{Start}
 use Rattle.trace_text.specs.declared.trace.Steps.{Steps}
 use Rattle.trace_text.specs.declared.trace.Trace.{Trace}

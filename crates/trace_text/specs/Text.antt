@@ -16,8 +16,8 @@ use Rattle.trace_text.specs.Input.{Input, Form, start_of, emptied}
 use Rattle.trace_text.specs.Forms.{function_name, new_layout, cell_count, argument, thread, put_pool, put_start, step_count}
 use Rattle.trace_text.specs.Ends.{argument_takes}
 use Rattle.trace_text.specs.Arrivals.{version, arrival, past_starts, arrival_takes}
-use Rattle.trace_text.specs.declared.trace.Actor.{Actor}
-use Rattle.trace_text.specs.declared.trace.Actor.TheVariants as actor
+use Rattle.moves.specs.declared.actor.Actor.{Actor}
+use Rattle.moves.specs.declared.actor.Actor.TheVariants as actor
 use Rattle.trace_text.specs.declared.trace.Arrival.{Arrival}
 use Rattle.trace_text.specs.declared.trace.Trace.{Trace}
 use Rattle.trace_text.specs.declared.versions.Version.{Version}

@@ -1,6 +1,7 @@
 -- Traces of a program, and the programs whose names are read as they are printed.
 use Rattle.std.specs.Prelude.{◌≡◌, ℕ, ◌<◌, ◌≤◌, ◌^◌, List, length, map, sum, Option, Some, None, [], slice_get}
 use Rattle.std.specs.List.{AllByRecursion}
+use Rattle.moves.specs.Runs.{IsActor}
 use Rattle.ir_ast.specs.Names.{name_at}
 use Rattle.ir_ast.specs.StructNames.{struct_name}
 use Rattle.ir_ast.specs.declared.function.Function.{Function}
@@ -11,8 +12,8 @@ use Rattle.name_text.specs.Readings.{IsShort}
 use Rattle.name_text.specs.declared.blank.Blank.TheVariants as blank
 use Rattle.pools.specs.Heap.{cells_in}
 use Rattle.trace_text.specs.Names.{function_named, layout_named}
-use Rattle.trace_text.specs.declared.trace.Actor.{Actor}
-use Rattle.trace_text.specs.declared.trace.Actor.TheVariants as actor
+use Rattle.moves.specs.declared.actor.Actor.{Actor}
+use Rattle.moves.specs.declared.actor.Actor.TheVariants as actor
 use Rattle.trace_text.specs.declared.trace.Start.{Start}
 use Rattle.trace_text.specs.declared.trace.Steps.{Steps}
 use Rattle.trace_text.specs.declared.trace.Trace.{Trace}
@@ -33,11 +34,6 @@ pub record AreNamed (p : LaidOut) : Type 0 where
 abbrev pub IsStartOf : LaidOut → Start → Type 0
 IsStartOf p start = (start.function < length p.of_module.functions) × AllByRecursion (λ argument. argument < 2 ^ 64) start.arguments
 
--- the collector, or one of this number of threads
-abbrev pub IsActorOf : (threads : ℕ) → Actor → Type 0
-IsActorOf threads (actor.Thread thread) = thread < threads
-IsActorOf threads actor.Collector = Unit {0}
-
 -- how many steps there are
 abbrev pub step_sum : List Steps → ℕ
 step_sum steps = sum (map (λ (s : Steps). s.count) steps)
@@ -48,5 +44,5 @@ pub record IsTraceOf (p : LaidOut) (trace : Trace) : Type 0 where
   pub cells : cells_in trace.setup.pools ≤ 2 ^ 20
   pub starts : AllByRecursion (IsStartOf p) trace.setup.starts
   pub threads : length trace.setup.starts ≤ 64
-  pub actors : AllByRecursion (λ (s : Steps). IsActorOf (length trace.setup.starts) s.actor) trace.steps
+  pub actors : AllByRecursion (λ (s : Steps). IsActor (length trace.setup.starts) s.actor) trace.steps
   pub steps : step_sum trace.steps ≤ 10000000

@@ -16,4 +16,4 @@ mod versions;
 pub use fault::TraceFault;
 pub use print::print_trace;
 pub use reader::read_trace;
-pub use trace::{Actor, Arrival, STEP_LIMIT, Setup, Start, Steps, THREAD_LIMIT, Trace};
+pub use trace::{Arrival, STEP_LIMIT, Setup, Start, Steps, THREAD_LIMIT, Trace};

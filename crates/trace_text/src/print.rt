@@ -6,10 +6,11 @@ ghost use Rattle.trace_text.specs.Print as spec;
 ghost use Rattle.trace_text.specs.Text.{IsTrace};
 ghost use Rattle.trace_text.specs.Traces.{AreNamed, IsTraceOf};
 
-use crate::trace::{Actor, Start, Steps, Trace};
+use crate::trace::{Start, Steps, Trace};
 use crate::versions::{Version, start_word, version_of};
 use ir_ast::{FuncId, Module};
 use layout::Program;
+use moves::Actor;
 use name_text::{Blank, put_global, put_layout, put_number};
 use pools::{LayoutId, Pools};
 use std::alloc::{AllocError, Global};

@@ -2,9 +2,10 @@
 ghost use Rattle.std.specs.Prelude.{◌≡◌, ◌<◌, ◌^◌, ◌+◌, IfOk, OnOk, length};
 ghost use Rattle.trace_text.specs.Input as spec;
 
-use crate::trace::{Actor, Arrival, Start, Steps};
+use crate::trace::{Arrival, Start, Steps};
 use ir_ast::FuncId;
 use items::Items;
+use moves::Actor;
 use pools::LayoutId;
 use std::alloc::{AllocError, Global};
 use std::mem;

@@ -20,11 +20,12 @@ use crate::forms::{
 use crate::input::{Input, WordFault};
 use crate::mistake::TraceMistake;
 use crate::progress::TraceProgress;
-use crate::trace::{Actor, Setup, THREAD_LIMIT, Trace};
+use crate::trace::{Setup, THREAD_LIMIT, Trace};
 use crate::versions::{Version, arrival_of_word};
 use ir_ast::Module;
 use items::Items;
 use layout::Program;
+use moves::Actor;
 use name_text::place;
 use pools::{Pools, PoolsFault};
 use std::alloc::{AllocError, Global};

@@ -1,5 +1,6 @@
 use ir_ast::FuncId;
 use items::Items;
+use moves::Actor;
 use pools::Pools;
 
 /// How many threads a trace begins with at most.
@@ -7,14 +8,6 @@ pub const THREAD_LIMIT: usize = 64;
 
 /// How many steps a trace lists at most.
 pub const STEP_LIMIT: u64 = 10_000_000;
-
-/// Who makes a step.
-#[derive(Clone, Copy)]
-pub enum Actor {
-    /// The thread with this number; threads are numbered from 0 in the order of their starts.
-    Thread(u32),
-    Collector,
-}
 
 /// Steps of one actor, one after the other.
 #[derive(Clone, Copy)]

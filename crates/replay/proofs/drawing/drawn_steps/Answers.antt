@@ -2,10 +2,11 @@
 use Rattle.std.proofs.Common.{◌≡◌, ◌+◌, ◌-◌, [], ◌++◌, map, sym, ap, subst, ◌∙◌}
 use Rattle.std.specs.List.{AllByRecursion}
 use Rattle.std.proofs.lemmas.List.{append-nil}
+use Rattle.moves.specs.Runs.{IsActor}
 use Rattle.rand_core.specs.Steps.{stream_of, steps_u32}
 use Rattle.rand_pcg.specs.Pcg.{pcg32}
 use Rattle.replay.specs.Draws.{seeded, draws_from}
-use Rattle.trace_text.specs.Traces.{IsActorOf, step_sum}
+use Rattle.trace_text.specs.Traces.{step_sum}
 use Rattle.trace_text.specs.declared.trace.Steps.{Steps as SomeSteps}
 use Rattle.replay.specs.Lists.{actors_of}
 use Rattle.replay.specs.Soaks.{actor_drawn, actors_drawn}
@@ -19,7 +20,7 @@ loop-step-init c =
     let none : c.new-drawn.result ≡ [] = c.new-drawn.ensures in
     record {
       lists = drawn-none n c.args.seed c.args.steps (stream_of (steps_u32 pcg32) c.seeded-rng.result) (c.seeded-rng.ensures ∙ ap seeded c.from.ensures) ∙ ap (λ l. actors_of l ++ left) (sym none);
-      are_actors = subst (λ l. AllByRecursion (λ (s : SomeSteps). IsActorOf n s.actor) l) (sym none) tt;
+      are_actors = subst (λ l. AllByRecursion (λ (s : SomeSteps). IsActor n s.actor) l) (sym none) tt;
       count = ap step_sum none;
     }
 
@@ -35,7 +36,7 @@ loop-step-preserved c =
     record {
       lists = steps-more (actors_drawn n c.args.seed c.args.steps) c.loop-step.drawn actor (actor_drawn n c.draw.result) (map (actor_drawn n) (draws_from n (c.args.steps - i) s)) left' c.loop-step.invariant.lists
           (drawn-more n c.args.steps i c.draw.result s t c.loop-step-test.true c.draw.ensures.drawn) c.actor_drawn-actor.ensures.actor ∙ ap (λ l. actors_of l ++ left') (sym push);
-      are_actors = subst (λ l. AllByRecursion (λ (s : SomeSteps). IsActorOf n s.actor) l) (sym push) (actors-more n c.loop-step.drawn (record { actor = actor; count = 1 }) c.loop-step.invariant.are_actors c.actor_drawn-actor.ensures.is_actor);
+      are_actors = subst (λ l. AllByRecursion (λ (s : SomeSteps). IsActor n s.actor) l) (sym push) (actors-more n c.loop-step.drawn (record { actor = actor; count = 1 }) c.loop-step.invariant.are_actors c.actor_drawn-actor.ensures.is_actor);
       count = ap step_sum push ∙ sum-more c.loop-step.drawn actor ∙ ap (λ k. k + 1) c.loop-step.invariant.count;
     }
 

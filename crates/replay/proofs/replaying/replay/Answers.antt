@@ -1,11 +1,10 @@
 -- The steps of a trace, those of one line after those of the others.
 use Rattle.std.proofs.Common.{◌≡◌, ◌<◌, length, reverse, take, get_or, ap, subst, ◌∙◌, arith}
 use Rattle.std.proofs.Math.Seq.{take-length}
-use Rattle.trace_text.specs.declared.trace.Actor.TheVariants as actor
+use Rattle.moves.specs.declared.actor.Actor.TheVariants as actor
 use Rattle.trace_text.specs.declared.trace.Steps.{Steps}
 use Rattle.replay.specs.Lists.{actors_of}
 use Rattle.replay.specs.Watched.{IsWatched, IsWatchedOn}
-use Rattle.replay.specs.Worlds.{actor_in}
 use Rattle.std.proofs.Common.{replicate}
 use Rattle.replay.proofs.Lists.{sound_list}
 use Rattle.replay.proofs.TraceSteps.{same_item, steps-room, steps-made, steps-break, setup_of_trace, safe_breaks_none}
@@ -32,7 +31,7 @@ returns-in-Some-clause-outcome c =
     let few : i < length steps = subst (λ l. i < length l) c.as_slice-steps-items.ensures c.loop-steps-test.true in
     let made = c.in-Ok.ensures c.args.program.now c.args.trace.now.setup (reverse (actors_of (take i steps))) c.loop-steps.invariant in
     steps-break c.args.program.now c.args.trace.now i s c.steps.new.self c.in-Some.broken few (same_item items steps i none c.as_slice-steps-items.ensures few)
-    (subst (λ o. IsWatchedOn c.args.program.now c.args.trace.now.setup (reverse (actors_of (take i steps))) (replicate s.count (actor_in s.actor)) c.steps.new.self o) c.in-Some.is made)
+    (subst (λ o. IsWatchedOn c.args.program.now c.args.trace.now.setup (reverse (actors_of (take i steps))) (replicate s.count s.actor) c.steps.new.self o) c.in-Some.is made)
 
 pub returns-in-Some-clause-safe : goal.returns-in-Some-clause-safe
 returns-in-Some-clause-safe c certs certified =
@@ -43,7 +42,7 @@ returns-in-Some-clause-safe c certs certified =
     let few : i < length steps = subst (λ l. i < length l) c.as_slice-steps-items.ensures c.loop-steps-test.true in
     let made = c.in-Ok.ensures c.args.program.now c.args.trace.now.setup (reverse (actors_of (take i steps))) c.loop-steps.invariant in
     let breaks = steps-break c.args.program.now c.args.trace.now i s c.steps.new.self c.in-Some.broken few (same_item items steps i none c.as_slice-steps-items.ensures few)
-    (subst (λ o. IsWatchedOn c.args.program.now c.args.trace.now.setup (reverse (actors_of (take i steps))) (replicate s.count (actor_in s.actor)) c.steps.new.self o) c.in-Some.is made) in
+    (subst (λ o. IsWatchedOn c.args.program.now c.args.trace.now.setup (reverse (actors_of (take i steps))) (replicate s.count s.actor) c.steps.new.self o) c.in-Some.is made) in
     let safe = c.setup_law.ensures c.args.program.now c.args.trace.now.setup certs (setup_of_trace c.args.program.now c.args.trace.now c.requires) c.in_ok-watch.ensures.no_fault certified in
     safe_breaks_none c.args.program.now c.args.trace.now.setup (actors_of steps) c.in-Some.broken safe breaks
 
@@ -56,7 +55,7 @@ loop-steps-preserved c =
     let few : i < length steps = subst (λ l. i < length l) c.as_slice-steps-items.ensures c.loop-steps-test.true in
     let made = c.in-Ok.ensures c.args.program.now c.args.trace.now.setup (reverse (actors_of (take i steps))) c.loop-steps.invariant in
     steps-made c.args.program.now c.args.trace.now i s c.steps.new.self few (same_item items steps i none c.as_slice-steps-items.ensures few)
-    (subst (λ o. IsWatchedOn c.args.program.now c.args.trace.now.setup (reverse (actors_of (take i steps))) (replicate s.count (actor_in s.actor)) c.steps.new.self o) c.in_default.is made)
+    (subst (λ o. IsWatchedOn c.args.program.now c.args.trace.now.setup (reverse (actors_of (take i steps))) (replicate s.count s.actor) c.steps.new.self o) c.in_default.is made)
 
 pub returns-in-Ok-report-clause-outcome : goal.returns-in-Ok-report-clause-outcome
 returns-in-Ok-report-clause-outcome c =

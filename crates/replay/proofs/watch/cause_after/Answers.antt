@@ -5,26 +5,26 @@ use Rattle.moves.specs.Causes.{IsStepCause}
 use Rattle.moves.specs.Runs.{run_by}
 use Rattle.stepping.specs.Reach.{IsFirstGone}
 use Rattle.setups.specs.Setups.{starts_of}
-use Rattle.replay.specs.Worlds.{IsMadeAfter}
+use Rattle.replay.specs.Worlds.{IsStepAfter}
 use Rattle.replay.proofs.StepsTaken.{cause_told, nothing_lost, none_made, unbroken_by, gone_is_cause}
 use Rattle.replay.proofs.watch.cause_after.Goals as goal
 
 pub returns-in_default-clause-cause : goal.returns-in_default-clause-cause
 returns-in_default-clause-cause c = λ before actor afterwards made known unbroken.
     let w = c.args.world.now in
-    let none = subst (λ o. IsMadeAfter w before actor o) c.in_default.is made in
+    let none = subst (λ o. IsStepAfter w before actor o) c.in_default.is made in
     none_made (heap_of w.program w.setup) program_machine (starts_of w.program w.setup) actor before none unbroken
 
 pub returns-in_default-clause-cover : goal.returns-in_default-clause-cover
 returns-in_default-clause-cover c = λ before actor afterwards made known none.
     let w = c.args.world.now in
-    c.cover_law.ensures (heap_of w.program w.setup) (starts_of w.program w.setup) before actor None c.args.cover.now afterwards.are_actors (subst (λ o. IsMadeAfter w before actor o) c.in_default.is made) tt known
+    c.cover_law.ensures (heap_of w.program w.setup) (starts_of w.program w.setup) before actor None c.args.cover.now afterwards.are_actors (subst (λ o. IsStepAfter w before actor o) c.in_default.is made) tt known
 
 pub returns-in-Some-broke-clause-cause : goal.returns-in-Some-broke-clause-cause
 returns-in-Some-broke-clause-cause c = λ before actor afterwards made known unbroken.
     let w = c.args.world.now in
     let step = c.in-Some.step in
-    let is = subst (λ o. IsMadeAfter w before actor o) c.in-Some.is made in
+    let is = subst (λ o. IsStepAfter w before actor o) c.in-Some.is made in
     let told = cause_told (heap_of w.program w.setup) program_machine (starts_of w.program w.setup) actor before step is in
     subst (λ o. IsStepCause (heap_of w.program w.setup) program_machine (starts_of w.program w.setup) (run_by (heap_of w.program w.setup) program_machine (starts_of w.program w.setup) (actor ∷ before)) o) c.in-Some-broke.is told
 
@@ -32,7 +32,7 @@ pub returns-in-Nothing-clause-cause : goal.returns-in-Nothing-clause-cause
 returns-in-Nothing-clause-cause c = λ before actor afterwards made known unbroken.
     let w = c.args.world.now in
     let step = c.in-Some.step in
-    let is = subst (λ o. IsMadeAfter w before actor o) c.in-Some.is made in
+    let is = subst (λ o. IsStepAfter w before actor o) c.in-Some.is made in
     let told = cause_told (heap_of w.program w.setup) program_machine (starts_of w.program w.setup) actor before step is in
     let none = subst (λ o. IsStepCause (heap_of w.program w.setup) program_machine (starts_of w.program w.setup) (run_by (heap_of w.program w.setup) program_machine (starts_of w.program w.setup) (actor ∷ before)) o) c.in_default-broke.is told in
     let sound = nothing_lost (heap_of w.program w.setup) program_machine (starts_of w.program w.setup) actor before step is c.in-Nothing.is unbroken in
@@ -41,14 +41,14 @@ returns-in-Nothing-clause-cause c = λ before actor afterwards made known unbrok
 pub returns-in-Nothing-clause-cover : goal.returns-in-Nothing-clause-cover
 returns-in-Nothing-clause-cover c = λ before actor afterwards made known none.
     let w = c.args.world.now in
-    let is = subst (λ o. IsMadeAfter w before actor o) c.in-Some.is made in
+    let is = subst (λ o. IsStepAfter w before actor o) c.in-Some.is made in
     c.cover_law.ensures (heap_of w.program w.setup) (starts_of w.program w.setup) before actor (Some c.in-Some.step) c.args.cover.now afterwards.are_actors is c.in-Nothing.is known
 
 pub returns-in-None-clause-cause : goal.returns-in-None-clause-cause
 returns-in-None-clause-cause c = λ before actor afterwards made known unbroken.
     let w = c.args.world.now in
     let step = c.in-Some.step in
-    let is = subst (λ o. IsMadeAfter w before actor o) c.in-Some.is made in
+    let is = subst (λ o. IsStepAfter w before actor o) c.in-Some.is made in
     let told = cause_told (heap_of w.program w.setup) program_machine (starts_of w.program w.setup) actor before step is in
     let none = subst (λ o. IsStepCause (heap_of w.program w.setup) program_machine (starts_of w.program w.setup) (run_by (heap_of w.program w.setup) program_machine (starts_of w.program w.setup) (actor ∷ before)) o) c.in_default-broke.is told in
     let run = run_by (heap_of w.program w.setup) program_machine (starts_of w.program w.setup) (actor ∷ before) in
@@ -57,14 +57,14 @@ returns-in-None-clause-cause c = λ before actor afterwards made known unbroken.
 
 pub returns-in-None-clause-cover : goal.returns-in-None-clause-cover
 returns-in-None-clause-cover c = λ before actor afterwards made known none.
-    let is = subst (λ o. IsMadeAfter c.args.world.now before actor o) c.in-Some.is made in
+    let is = subst (λ o. IsStepAfter c.args.world.now before actor o) c.in-Some.is made in
     c.in_ok-first_gone.ensures.cover before actor afterwards is known c.in-None.is
 
 pub returns-in-Some-2-clause-cause : goal.returns-in-Some-2-clause-cause
 returns-in-Some-2-clause-cause c = λ before actor afterwards made known unbroken.
     let w = c.args.world.now in
     let step = c.in-Some.step in
-    let is = subst (λ o. IsMadeAfter w before actor o) c.in-Some.is made in
+    let is = subst (λ o. IsStepAfter w before actor o) c.in-Some.is made in
     let told = cause_told (heap_of w.program w.setup) program_machine (starts_of w.program w.setup) actor before step is in
     let none = subst (λ o. IsStepCause (heap_of w.program w.setup) program_machine (starts_of w.program w.setup) (run_by (heap_of w.program w.setup) program_machine (starts_of w.program w.setup) (actor ∷ before)) o) c.in_default-broke.is told in
     let run = run_by (heap_of w.program w.setup) program_machine (starts_of w.program w.setup) (actor ∷ before) in

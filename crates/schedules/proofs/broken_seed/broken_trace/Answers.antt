@@ -1,6 +1,6 @@
 use Rattle.std.proofs.Common.{◌∙◌, List, length, refl, ap, sym, subst}
 use Rattle.std.specs.List.{AllByRecursion}
-use Rattle.trace_text.specs.Traces.{IsActorOf}
+use Rattle.moves.specs.Runs.{IsActor}
 use Rattle.trace_text.specs.declared.trace.Steps.{Steps}
 use Rattle.moves.specs.declared.actor.Actor.{Actor}
 use Rattle.trace_text.specs.declared.trace.Setup.{Setup}
@@ -15,7 +15,7 @@ returns-in-Ok-clause-is_trace c p is =
     let traced = c.in_ok-drawn.ensures.is_trace p is c.requires.few in
     let lines = c.in-Ok.ensures in
     let same = c.as_slice.ensures in
-    same_trace p drawn drawn.setup c.in-Ok.steps refl traced (lines.actors ∙ ap actors_of same) (lines.either (length drawn.setup.starts) (subst (AllByRecursion (λ (s : Steps). IsActorOf (length drawn.setup.starts) s.actor)) (sym same) traced.actors))
+    same_trace p drawn drawn.setup c.in-Ok.steps refl traced (lines.actors ∙ ap actors_of same) (lines.either (length drawn.setup.starts) (subst (AllByRecursion (λ (s : Steps). IsActor (length drawn.setup.starts) s.actor)) (sym same) traced.actors))
 
 pub returns-in-Ok-clause-breaks : goal.returns-in-Ok-clause-breaks
 returns-in-Ok-clause-breaks c p steps is =

@@ -3,8 +3,8 @@ use Rattle.std.specs.List.{AllByRecursion}
 use Rattle.std.proofs.Math.Seq.{take-length}
 use Rattle.std.proofs.lemmas.Option.{slice_get-get_or}
 use Rattle.std.proofs.lemmas.Result.{IfOk-weaker}
-use Rattle.trace_text.specs.Traces.{IsActorOf}
-use Rattle.trace_text.specs.declared.trace.Actor.TheVariants as actor
+use Rattle.moves.specs.Runs.{IsActor}
+use Rattle.moves.specs.declared.actor.Actor.TheVariants as actor
 use Rattle.trace_text.specs.declared.trace.Steps.{Steps}
 use Rattle.replay.specs.Lists.{actors_of}
 use Rattle.schedules.proofs.Merges.{actors_of-append, all-first, all-last, take-more}
@@ -21,7 +21,7 @@ none = record { actor = actor.Thread 0; count = 0 }
 pub loop-next-init : goal.loop-next-init
 loop-next-init c = record {
   actors = ap (λ (lines : List Steps). actors_of (lines ++ first ∷ [])) c.new.ensures;
-  either = λ threads all. subst (λ (lines : List Steps). AllByRecursion (λ (s : Steps). IsActorOf threads s.actor) (lines ++ first ∷ [])) (sym c.new.ensures) (tt, tt);
+  either = λ threads all. subst (λ (lines : List Steps). AllByRecursion (λ (s : Steps). IsActor threads s.actor) (lines ++ first ∷ [])) (sym c.new.ensures) (tt, tt);
 }
 
 pub loop-next-preserved : goal.loop-next-preserved
@@ -33,7 +33,7 @@ loop-next-preserved c =
     record {
       actors = c.in_ok-add.ensures.actors ∙ ap (λ l. l ++ actors_of (s ∷ [])) c.loop-next.invariant.actors ∙ sym (actors_of-append (take i steps) (s ∷ [])) ∙ ap actors_of (sym (take-more steps i s there));
       either = λ threads all.
-          let P = λ (s : Steps). IsActorOf threads s.actor in
+          let P = λ (s : Steps). IsActor threads s.actor in
           let whole = subst (AllByRecursion P) (take-more steps i s there) all in
           c.in_ok-add.ensures.either threads (c.loop-next.invariant.either threads (all-first P (take i steps) (s ∷ []) whole)) (all-last P (take i steps) (s ∷ []) whole).0;
     }
@@ -50,4 +50,4 @@ returns-clause-either c threads each =
     let steps = c.args.steps.now in
     let i = c.loop-next.next-index in
     let all : i ≡ length steps = omega (arith, c.loop-next-test.false, c.loop-next.auto.next-index-end) in
-    c.close.ensures.either threads (c.loop-next.invariant.either threads (subst (AllByRecursion (λ (s : Steps). IsActorOf threads s.actor)) (sym (ap (λ n. take n steps) all ∙ take-length steps)) each))
+    c.close.ensures.either threads (c.loop-next.invariant.either threads (subst (AllByRecursion (λ (s : Steps). IsActor threads s.actor)) (sym (ap (λ n. take n steps) all ∙ take-length steps)) each))

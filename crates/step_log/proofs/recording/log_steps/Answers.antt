@@ -3,7 +3,6 @@ use Rattle.std.proofs.Common.{◌≡◌, List, [], ◌∷◌, length, reverse, t
 use Rattle.std.specs.Prelude.{MatchOption}
 use Rattle.moves.specs.Runs.{AreActors}
 use Rattle.replay.specs.Lists.{actors_of}
-use Rattle.replay.specs.Worlds.{actor_in}
 use Rattle.step_log.specs.declared.log.LogStep.{LogStep}
 use Rattle.step_log.specs.Steps.{AreSteps}
 use Rattle.step_log.specs.Upcoming.{actors_in}
@@ -26,7 +25,7 @@ pub step-requires : goal.step-requires
 step-requires c =
     let u = c.loop-step.upcoming in
     let v = c.next.new.self in
-    let next = subst (λ o. MatchOption o (actors_in u ≡ []) (λ actor. actors_in u ≡ actor_in actor ∷ actors_in v)) c.in-Some.is c.next.ensures in
+    let next = subst (λ o. MatchOption o (actors_in u ≡ []) (λ actor. actors_in u ≡ actor ∷ actors_in v)) c.in-Some.is c.next.ensures in
     next_is_actor c.args.program.now c.args.trace.now.setup (actors_of c.args.trace.now.steps) c.loop-step._step c.loop-step.recorder u v c.in-Some.actor c.loop-step.invariant next
 
 pub loop-step-preserved : goal.loop-step-preserved
@@ -38,7 +37,7 @@ loop-step-preserved c =
     let u = c.loop-step.upcoming in
     let v = c.next.new.self in
     let is = c.loop-step.invariant in
-    let next = subst (λ o. MatchOption o (actors_in u ≡ []) (λ actor. actors_in u ≡ actor_in actor ∷ actors_in v)) c.in-Some.is c.next.ensures in
+    let next = subst (λ o. MatchOption o (actors_in u ≡ []) (λ actor. actors_in u ≡ actor ∷ actors_in v)) c.in-Some.is c.next.ensures in
     let more = c.in-Ok.ensures p setup is.before is.recorded in
     subst (λ n. IsLogging p setup actors n c.step.new.self v) (sym (add-one i)) (logs_more p setup actors i c.loop-step.recorder c.step.new.self u v c.in-Some.actor is next more)
 
@@ -49,7 +48,7 @@ returns-in_default-clause-steps c =
     let actors = actors_of c.args.trace.now.steps in
     let u = c.loop-step.upcoming in
     let v = c.next.new.self in
-    let none = subst (λ o. MatchOption o (actors_in u ≡ []) (λ actor. actors_in u ≡ actor_in actor ∷ actors_in v)) c.in_default.is c.next.ensures in
+    let none = subst (λ o. MatchOption o (actors_in u ≡ []) (λ actor. actors_in u ≡ actor ∷ actors_in v)) c.in_default.is c.next.ensures in
     subst (λ (l : List LogStep). AreSteps p setup (reverse (take c.args.count actors)) l) (sym c.into_log.ensures)
     (logged_all p setup actors c.loop-step._step c.args.count c.loop-step.recorder u c.loop-step.invariant none (omega (arith, c.loop-step-test.true)))
 

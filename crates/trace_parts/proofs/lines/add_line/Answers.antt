@@ -1,6 +1,7 @@
 use Rattle.std.proofs.Common.{[], ◌∷◌, ◌++◌, ap, sym, subst, arith}
+use Rattle.moves.specs.Runs.{IsActor}
 use Rattle.lemmas.specs.All.{all_join}
-use Rattle.trace_text.specs.Traces.{IsActorOf, step_sum}
+use Rattle.trace_text.specs.Traces.{step_sum}
 use Rattle.trace_text.specs.declared.trace.Steps.{Steps}
 use Rattle.trace_parts.specs.Parts.{AreOfActors}
 use Rattle.trace_parts.proofs.Sums.{sum_append, sum_cons}
@@ -9,7 +10,7 @@ use Rattle.trace_parts.proofs.lines.add_line.Goals as goal
 pub returns-clause-actors : goal.returns-clause-actors
 returns-clause-actors c threads all actor =
     subst (λ l. AreOfActors threads l) (sym c.in_ok-push.ensures.ok)
-    (all_join (λ (s : Steps). IsActorOf threads s.actor) c.args.lines.now (c.args.line ∷ []) all (actor, tt))
+    (all_join (λ (s : Steps). IsActor threads s.actor) c.args.lines.now (c.args.line ∷ []) all (actor, tt))
 
 pub returns-clause-sum : goal.returns-clause-sum
 returns-clause-sum c =

@@ -4,7 +4,7 @@ use Rattle.stepping.specs.declared.cover.Cover.{Cover}
 use Rattle.stepping.specs.Covers.{IsCovered}
 use Rattle.replay.specs.Runs.{program_machine, heap_of}
 use Rattle.setups.specs.Setups.{starts_of}
-use Rattle.replay.specs.Worlds.{World, IsAfter, IsOverIn, actor_in, run_of}
+use Rattle.replay.specs.Worlds.{World, IsAfter, IsOverIn, run_of}
 use Rattle.replay.specs.Watched.{IsCauseAfter}
 use Rattle.replay.proofs.Lists.{first_break}
 use Rattle.replay.proofs.Watching.{cause_is, cover_is, run_is, goes_on}
@@ -14,7 +14,7 @@ pub returns-in-None : goal.returns-in-None
 returns-in-None c p setup before is =
     let w = c.args.self.now in
     let v = c.count.new.self in
-    let actor = actor_in c.args.actor in
+    let actor = c.args.actor in
     let same_program = ap (λ (x : World). x.program) c.count.ensures.world ∙ is.program in
     let same_setup = ap (λ (x : World). x.setup) c.count.ensures.world ∙ is.setup_is in
     let afterwards = subst (λ (x : World). IsAfter x (actor ∷ before)) (sym c.count.ensures.world) is.afterwards in
@@ -29,7 +29,7 @@ pub returns-in-Some : goal.returns-in-Some
 returns-in-Some c p setup before is rest =
     let w = c.args.self.now in
     let v = c.count.new.self in
-    let actor = actor_in c.args.actor in
+    let actor = c.args.actor in
     let same_program = ap (λ (x : World). x.program) c.count.ensures.world ∙ is.program in
     let same_setup = ap (λ (x : World). x.setup) c.count.ensures.world ∙ is.setup_is in
     let afterwards = subst (λ (x : World). IsAfter x (actor ∷ before)) (sym c.count.ensures.world) is.afterwards in

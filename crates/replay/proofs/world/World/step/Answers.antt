@@ -1,6 +1,6 @@
 use Rattle.std.proofs.Common.{◌≡◌, slice_get, slice_set, refl}
 use Rattle.program_runner.specs.Heaps.{heap_of}
-use Rattle.trace_text.specs.declared.trace.Actor.TheVariants.{Thread, Collector}
+use Rattle.moves.specs.declared.actor.Actor.TheVariants.{Thread, Collector}
 use Rattle.replay.specs.Keeping.{ending_after}
 use Rattle.setups.specs.Setups.{starts_of}
 use Rattle.replay.specs.WorldView.{world_seen}

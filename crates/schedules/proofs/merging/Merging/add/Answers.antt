@@ -1,5 +1,5 @@
 use Rattle.std.proofs.Common.{[], ◌∷◌, ◌++◌, ◌∙◌, List, ap}
-use Rattle.trace_text.specs.Traces.{IsActorOf}
+use Rattle.moves.specs.Runs.{IsActor}
 use Rattle.trace_text.specs.declared.trace.Steps.{Steps}
 use Rattle.replay.specs.Lists.{actors_of}
 use Rattle.schedules.proofs.Merges.{actors_of-append, actors_of-joined, all-append, all-first, all-last}
@@ -12,7 +12,7 @@ pub returns-in-Some-clause-either : goal.returns-in-Some-clause-either
 returns-in-Some-clause-either c threads all is =
     let lines = c.args.self.now.lines in
     let last = c.args.self.now.last in
-    let P = λ (s : Steps). IsActorOf threads s.actor in
+    let P = λ (s : Steps). IsActor threads s.actor in
     all-append P lines (c.in-Some.both ∷ []) (all-first P lines (last ∷ []) all) (c.in-Some.ensures.either threads (all-last P lines (last ∷ []) all).0 is, tt)
 
 pub returns-clause-actors : goal.returns-clause-actors
