@@ -3,16 +3,16 @@ ghost use Rattle.std.specs.Prelude.{◌≡◌, ◌≢◌, ◌<◌, ◌≤◌, le
 ghost use Rattle.moves.specs.Runs.{IsActor};
 ghost use Rattle.trace_text.specs.Traces.{step_sum};
 ghost use Rattle.trace_parts.specs.Parts.{AreOfActors};
-ghost use Rattle.setups.specs.Setups.{IsSetupOf, IsSetupFault, HasNoFault};
-ghost use Rattle.setups.specs.declared.setup_fault.SetupFault.TheVariants as fault;
+ghost use Rattle.program_runner.specs.Setups.{IsSetupOf, IsSetupFault, HasNoFault};
+ghost use Rattle.program_runner.specs.declared.setup_fault.SetupFault.TheVariants as fault;
 
 use crate::scheduler::Scheduler;
 use crate::seen::{breaks, look_at, may_break, posts};
 use items::Items;
 use layout::Program;
 use moves::Actor;
+use program_runner::SetupFault;
 use replay::World;
-use setups::SetupFault;
 use std::alloc::{AllocError, Global};
 use stepping::MadeStep;
 use trace_parts::add_line;

@@ -2,16 +2,16 @@
 ghost use Rattle.std.specs.Prelude.{◌≡◌, ◌≢◌, None, List, IfOk, IfErr, IfSome};
 ghost use Rattle.certs.specs.declared.section.Section.{Section};
 ghost use Rattle.trace_text.specs.Traces.{IsTraceOf};
-ghost use Rattle.setups.specs.Setups.{IsSetupFault, HasNoFault, IsCertifiedSetup};
-ghost use Rattle.setups.specs.declared.setup_fault.SetupFault.TheVariants as fault;
+ghost use Rattle.program_runner.specs.Setups.{IsSetupFault, HasNoFault, IsCertifiedSetup};
+ghost use Rattle.program_runner.specs.declared.setup_fault.SetupFault.TheVariants as fault;
 ghost use Rattle.shortening.specs.Shorter.{IsBreaking};
 ghost use Rattle.biased.specs.Biased.{IsBiasedOutcome, IsSoundOutcome};
 
 use crate::drawing::drawn_steps;
 use items::Items;
 use layout::Program;
+use program_runner::SetupFault;
 use replay::replay;
-use setups::SetupFault;
 use shortening::{BrokenTrace, broken_trace_of};
 use std::alloc::Global;
 use trace_parts::with_steps;

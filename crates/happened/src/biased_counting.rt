@@ -1,14 +1,14 @@
 //! Counts of runs whose schedules have few switches.
 ghost use Rattle.std.specs.Prelude.{◌≢◌, IfErr};
 ghost use Rattle.trace_text.specs.Traces.{IsTraceOf};
-ghost use Rattle.setups.specs.Setups.{IsSetupFault};
-ghost use Rattle.setups.specs.declared.setup_fault.SetupFault.TheVariants as fault;
+ghost use Rattle.program_runner.specs.Setups.{IsSetupFault};
+ghost use Rattle.program_runner.specs.declared.setup_fault.SetupFault.TheVariants as fault;
 
 use crate::counting::Happened;
 use biased::biased_trace;
 use layout::Program;
+use program_runner::SetupFault;
 use replay::{Outcome, Report, replay};
-use setups::SetupFault;
 use std::alloc::Global;
 use trace_text::Trace;
 

@@ -1,13 +1,13 @@
 ghost use Rattle.std.specs.Prelude.{◌≡◌, ◌≢◌, ◌+◌, ◌≤◌, length, min, IfOk, IfErr, IfSome};
 ghost use Rattle.trace_text.specs.Traces.{IsTraceOf};
-ghost use Rattle.setups.specs.Setups.{IsSetupFault};
-ghost use Rattle.setups.specs.declared.setup_fault.SetupFault.TheVariants as fault;
+ghost use Rattle.program_runner.specs.Setups.{IsSetupFault};
+ghost use Rattle.program_runner.specs.declared.setup_fault.SetupFault.TheVariants as fault;
 ghost use Rattle.happened.specs.Happened.{IsCounted, IsReportOfSeed, is_ended, ends_in, cycles_in, nothing, with_report};
 
 use items::Items;
 use layout::Program;
+use program_runner::SetupFault;
 use replay::{Outcome, Report, ThreadOutcome, drawn_trace, replay};
-use setups::SetupFault;
 use std::alloc::Global;
 use trace_parts::with_steps;
 use trace_text::{STEP_LIMIT, Trace};

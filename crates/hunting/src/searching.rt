@@ -9,7 +9,7 @@ use crate::starts::drawn_start;
 use biased::{BiasedOutcome, first_broken};
 use certs::Section;
 use layout::Program;
-use setups::SetupFault;
+use program_runner::SetupFault;
 use shortening::{BrokenTrace, ShorterTrace, shortened};
 use std::alloc::{AllocError, Global};
 use trace_text::Trace;

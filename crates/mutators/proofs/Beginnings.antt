@@ -18,8 +18,8 @@ use Rattle.program_runner.specs.Kinds.{FitsThread}
 use Rattle.program_runner.specs.Threads.{ProgramThread, program_machine}
 use Rattle.serving.specs.declared.serving.ServingEnd.{ServingEnd}
 use Rattle.serving.specs.Serving.{MayBeServed}
-use Rattle.setups.specs.Setups.{begun_at}
-use Rattle.setups.specs.SafeSetups.{begins, is_heap_for}
+use Rattle.program_runner.specs.Setups.{begun_at}
+use Rattle.program_runner.specs.SafeSetups.{begins, is_heap_for}
 use Rattle.trace_text.specs.Arrivals.{is_late}
 use Rattle.trace_text.specs.Traces.{IsStartOf}
 use Rattle.trace_text.specs.declared.trace.Setup.{Setup}

@@ -5,7 +5,7 @@ use Rattle.pools.specs.declared.word_kind.WordKind.{WordKind}
 use Rattle.layout.specs.Globals.{globals_of}
 use Rattle.layout.specs.Layouts.{LaidOut}
 use Rattle.program_runner.specs.Heaps.{heap_of, value_of_global}
-use Rattle.setups.specs.SetupHeaps.{is_setup}
+use Rattle.program_runner.specs.SetupHeaps.{is_setup}
 use Rattle.trace_text.specs.Arrivals.{is_late}
 use Rattle.trace_text.specs.declared.trace.Setup.{Setup}
 use Rattle.trace_text.specs.declared.trace.Start.{Start}

@@ -8,9 +8,9 @@ use Rattle.facts.specs.Claims.{promised_below}
 use Rattle.block_rules.specs.Promises.{promises_in}
 use Rattle.machine.specs.Start.{StartsByReference, StartsWrongly}
 use Rattle.program_runner.specs.Threads.{MeetPromises}
-use Rattle.setups.specs.Setups.{MayBegin, EachBefore}
-use Rattle.setups.specs.declared.setup_fault.SetupFault.{SetupFault}
-use Rattle.setups.specs.declared.setup_fault.SetupFault.TheVariants.{WrongArguments, ReferenceParameter, Memory}
+use Rattle.program_runner.specs.Setups.{MayBegin, EachBefore}
+use Rattle.program_runner.specs.declared.setup_fault.SetupFault.{SetupFault}
+use Rattle.program_runner.specs.declared.setup_fault.SetupFault.TheVariants.{WrongArguments, ReferenceParameter, Memory}
 use Rattle.trace_text.specs.declared.trace.Setup.{Setup}
 use Rattle.trace_text.specs.declared.trace.Start.{Start}
 

@@ -7,7 +7,7 @@ use Rattle.program_runner.specs.Kinds.{FitsThread}
 use Rattle.program_runner.specs.Threads.{ProgramThread, program_machine}
 use Rattle.serving.specs.declared.beside.Job.{Job}
 use Rattle.serving.specs.Jobs.{MayBegin}
-use Rattle.setups.specs.Setups.{starts_of}
+use Rattle.program_runner.specs.Setups.{starts_of}
 use Rattle.trace_text.specs.declared.trace.Setup.{Setup}
 
 -- it is the thread with this number, at the beginning of its function, and the heap may serve it

@@ -17,7 +17,7 @@ use Rattle.serving.specs.declared.beside.Limits.{Limits}
 use Rattle.serving.specs.declared.serving.ServingEnd.{ServingEnd}
 use Rattle.serving.specs.declared.serving.ServingEnd.TheVariants as outcome
 use Rattle.serving.specs.Endings.{EndsSo}
-use Rattle.setups.specs.Setups.{starts_of}
+use Rattle.program_runner.specs.Setups.{starts_of}
 use Rattle.trace_text.specs.declared.trace.Setup.{Setup}
 use Rattle.mutators.specs.declared.report.RunReport.{RunReport}
 use Rattle.mutators.specs.declared.thread_end.ThreadEnd.{ThreadEnd}

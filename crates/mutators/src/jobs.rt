@@ -1,7 +1,7 @@
 ghost use Rattle.std.specs.Prelude.{◌≡◌, ◌≢◌, Some, length, slice_get, IfOk, IfErr};
 ghost use Rattle.trace_text.specs.Traces.{IsStartOf};
-ghost use Rattle.setups.specs.Setups.{IsSetupOf};
-ghost use Rattle.setups.specs.declared.setup_fault.SetupFault.TheVariants as fault;
+ghost use Rattle.program_runner.specs.Setups.{IsSetupOf};
+ghost use Rattle.program_runner.specs.declared.setup_fault.SetupFault.TheVariants as fault;
 ghost use Rattle.program_runner.specs.Heaps.{heap_of};
 ghost use Rattle.heap_table.specs.Opening.{IsNew, AreNew};
 ghost use Rattle.mutators.specs.Faults.{MayStart, IsStartFault, IsRunFault, HasNoRunFault};
@@ -11,9 +11,8 @@ use crate::promises::are_under;
 use block_rules::promises_in;
 use heap_table::{Heap, Mutator};
 use module_check::Accepted;
-use program_runner::{ProgramThread, begun_law};
+use program_runner::{ProgramThread, SetupFault, begun_law, begun_thread};
 use serving::{Job, ServingEnd};
-use setups::{SetupFault, begun_thread};
 use std::alloc::Global;
 use trace_text::{Setup, Start};
 

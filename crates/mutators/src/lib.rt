@@ -8,8 +8,8 @@ mod running;
 mod thread_end;
 
 pub use gate::{Gate, OpenGate};
+pub use program_runner::SetupFault as RunFault;
 pub use report::RunReport;
 pub use running::run;
 pub use serving::Limits;
-pub use setups::SetupFault as RunFault;
 pub use thread_end::ThreadEnd;

@@ -11,3 +11,6 @@ pub mod Roots
 pub mod Keeps
 pub mod Steps
 pub mod Newest
+pub mod Setups
+pub mod SetupHeaps
+pub mod SafeSetups

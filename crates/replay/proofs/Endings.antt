@@ -33,7 +33,7 @@ use Rattle.program_runner.specs.Heaps as heaps
 use Rattle.program_runner.specs.Kinds.{FitsThread}
 use Rattle.trace_text.specs.declared.trace.Setup as traced
 use Rattle.replay.specs.Keeping.{ending_in, ending_after}
-use Rattle.setups.specs.Setups.{starts_of}
+use Rattle.program_runner.specs.Setups.{starts_of}
 use Rattle.replay.specs.Worlds.{AreEndings, ending_at, ending_of, run_of}
 
 -- ---- one thread

@@ -21,7 +21,7 @@ use Rattle.stepping.specs.Ends as stepping
 use Rattle.program_runner.specs.Threads.{program_machine}
 use Rattle.program_runner.specs.Heaps as heaps
 use Rattle.program_runner.specs.Kinds.{FitsThread}
-use Rattle.setups.specs.Setups.{starts_of}
+use Rattle.program_runner.specs.Setups.{starts_of}
 use Rattle.replay.specs.Worlds.{World, AreEndings, IsAfter, run_of}
 
 -- ---- the words

@@ -9,7 +9,7 @@ use Rattle.runs.specs.Broken.{IsBroken, IsCause}
 use Rattle.replay.specs.Runs.{program_machine, heap_of}
 use Rattle.trace_text.specs.declared.trace.Setup.{Setup}
 use Rattle.moves.specs.declared.actor.Actor.{Actor}
-use Rattle.setups.specs.Setups.{starts_of}
+use Rattle.program_runner.specs.Setups.{starts_of}
 use Rattle.replay.specs.Worlds.{run_of}
 use Rattle.replay.specs.declared.outcome.Break.{Break}
 use Rattle.replay.specs.Lists.{IsBrokenAt, IsSoundList, IsFirstBreak, cause_in}

@@ -7,9 +7,9 @@ use Rattle.rayon.specs.Lists.{filter_by_mask}
 use Rattle.rayon.proofs.ListFacts.{AllZip-weaken}
 use Rattle.layout.specs.Layouts.{LaidOut}
 use Rattle.trace_text.specs.declared.trace.Setup.{Setup}
-use Rattle.setups.specs.Setups.{IsSetupFault}
-use Rattle.setups.specs.declared.setup_fault.SetupFault.{SetupFault}
-use Rattle.setups.specs.declared.setup_fault.SetupFault.TheVariants.{Memory}
+use Rattle.program_runner.specs.Setups.{IsSetupFault}
+use Rattle.program_runner.specs.declared.setup_fault.SetupFault.{SetupFault}
+use Rattle.program_runner.specs.declared.setup_fault.SetupFault.TheVariants.{Memory}
 use Rattle.replay.specs.declared.outcome.Break.{Break}
 use Rattle.replay.specs.declared.soaking.SeedEnd.{SeedEnd}
 use Rattle.replay.specs.Soaks.{IsSoundSeed, IsTold, is_sound, answer_in, IsLeastFrom}

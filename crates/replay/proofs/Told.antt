@@ -17,7 +17,7 @@ use Rattle.replay.specs.declared.thread_outcome.ThreadOutcome.{ThreadOutcome}
 use Rattle.replay.specs.declared.thread_outcome.ThreadOutcome.TheVariants as thread
 use Rattle.replay.specs.declared.world.World.TheInside.{Inside}
 use Rattle.replay.specs.Keeping.{end_at, end_told}
-use Rattle.setups.specs.Setups.{starts_of}
+use Rattle.program_runner.specs.Setups.{starts_of}
 use Rattle.replay.specs.ThreadEnds.{AreEndsOf, end_in, end_of}
 use Rattle.replay.specs.Worlds.{World, IsAfter, ending_of, run_of}
 use Rattle.replay.specs.WorldView.{world_seen}

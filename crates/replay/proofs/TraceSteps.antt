@@ -12,7 +12,7 @@ use Rattle.trace_text.specs.declared.trace.Setup.{Setup}
 use Rattle.trace_text.specs.declared.trace.Steps.{Steps}
 use Rattle.trace_text.specs.declared.trace.Trace.{Trace}
 use Rattle.moves.specs.declared.actor.Actor.{Actor}
-use Rattle.setups.specs.Setups.{starts_of, IsSetupOf, IsSafeSetup}
+use Rattle.program_runner.specs.Setups.{starts_of, IsSetupOf, IsSafeSetup}
 use Rattle.replay.specs.declared.outcome.Break.{Break}
 use Rattle.replay.specs.declared.watch.Watch.{Watch}
 use Rattle.replay.specs.Lists.{actors_of, IsFirstBreak, cause_in, run_at}

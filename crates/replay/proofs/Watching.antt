@@ -17,7 +17,7 @@ use Rattle.stepping.specs.declared.walk.Walk.{Walk}
 use Rattle.stepping.specs.Covers.{IsOver, IsCoverAfter, IsCovered}
 use Rattle.stepping.specs.Ends.{IsStepOrNone}
 use Rattle.replay.specs.declared.thread_outcome.ThreadOutcome.{ThreadOutcome}
-use Rattle.setups.specs.Setups.{starts_of}
+use Rattle.program_runner.specs.Setups.{starts_of}
 use Rattle.replay.specs.ThreadEnds.{AreEndsOf, AreEndsAfter}
 use Rattle.replay.specs.Worlds.{World, run_of, IsAfter, IsStepAfter, IsBrokenWorld, IsCoveredWorld, IsOverIn}
 use Rattle.replay.specs.declared.outcome.BreakCause.{BreakCause}

@@ -25,13 +25,13 @@ use Rattle.trace_text.specs.declared.trace.Setup.{Setup}
 use Rattle.trace_text.specs.declared.trace.Start.{Start}
 use Rattle.replay.specs.declared.world.World.TheInside.{Inside}
 use Rattle.replay.specs.Keeping.{endings_after}
-use Rattle.setups.specs.Setups.{HasNoFault, IsCertifiedSetup, AreBegun, begun_at, new_thread, starts_of}
+use Rattle.program_runner.specs.Setups.{HasNoFault, IsCertifiedSetup, AreBegun, begun_at, new_thread, starts_of}
 use Rattle.replay.specs.Worlds.{World, AreEndings, IsAfter, IsStepAfter, IsBrokenWorld, IsOverIn, run_of}
 use Rattle.replay.specs.WorldView.{world_seen, IsKept}
 use Rattle.replay.proofs.Endings.{kept, kept_by_collector, none_ended}
 use Rattle.replay.proofs.Ends.{afterwards, from_map}
-use Rattle.setups.specs.SafeSetups.{certified_setup, each_may_begin}
-use Rattle.setups.specs.SetupHeaps.{is_setup}
+use Rattle.program_runner.specs.SafeSetups.{certified_setup, each_may_begin}
+use Rattle.program_runner.specs.SetupHeaps.{is_setup}
 
 -- the actors of a world are those after the steps that led to it
 pub are_after : (i : Inside) (w : World) (before : List Actor) → world_seen i ≡ w → IsKept i → IsAfter w before

@@ -11,7 +11,7 @@ use Rattle.moves.specs.declared.actor.Actor.{Actor}
 use Rattle.moves.specs.Causes as step
 use Rattle.stepping.specs.declared.gone.Gone.{Gone}
 use Rattle.stepping.specs.declared.gone.Gone.TheVariants.{Blue, Reborn}
-use Rattle.setups.specs.Setups.{starts_of}
+use Rattle.program_runner.specs.Setups.{starts_of}
 use Rattle.replay.specs.Worlds.{run_of}
 use Rattle.replay.specs.declared.outcome.Break.{Break}
 use Rattle.replay.specs.declared.outcome.BreakCause.{BreakCause}

@@ -6,9 +6,9 @@ use Rattle.trace_text.specs.declared.trace.Setup.{Setup}
 use Rattle.moves.specs.declared.actor.Actor.{Actor}
 use Rattle.moves.specs.declared.actor.Actor.TheVariants.{Thread, Collector}
 use Rattle.replay.specs.declared.outcome.Break.{Break}
-use Rattle.setups.specs.Setups.{IsSetupFault}
-use Rattle.setups.specs.declared.setup_fault.SetupFault.{SetupFault}
-use Rattle.setups.specs.declared.setup_fault.SetupFault.TheVariants.{Memory}
+use Rattle.program_runner.specs.Setups.{IsSetupFault}
+use Rattle.program_runner.specs.declared.setup_fault.SetupFault.{SetupFault}
+use Rattle.program_runner.specs.declared.setup_fault.SetupFault.TheVariants.{Memory}
 use Rattle.replay.specs.declared.outcome.SeedBreak.{SeedBreak}
 use Rattle.replay.specs.declared.outcome.SoakOutcome.{SoakOutcome}
 use Rattle.replay.specs.declared.outcome.SoakOutcome.TheVariants.{Broken, Sound}

@@ -9,7 +9,7 @@ use Rattle.trace_text.specs.declared.trace.Setup.{Setup}
 use Rattle.moves.specs.declared.actor.Actor.{Actor}
 use Rattle.replay.specs.declared.thread_outcome.ThreadOutcome.{ThreadOutcome}
 use Rattle.replay.specs.declared.thread_outcome.ThreadOutcome.TheVariants as thread
-use Rattle.setups.specs.Setups.{starts_of}
+use Rattle.program_runner.specs.Setups.{starts_of}
 use Rattle.replay.specs.Worlds.{World, run_of, ending_of}
 
 -- where a thread in this phase is, at this stage, and how it ended if it has

@@ -2,7 +2,7 @@
 use Rattle.program_runner.specs.Heaps.{heap_of}
 use Rattle.stepping.specs.Reach.{IsSchemaOf}
 use Rattle.replay.specs.declared.world.World.TheInside.{Inside}
-use Rattle.setups.specs.Setups.{IsSetupOf, HasNoFault}
+use Rattle.program_runner.specs.Setups.{IsSetupOf, HasNoFault}
 use Rattle.replay.specs.Worlds.{World, IsMade}
 
 -- the world that the code holds

@@ -31,7 +31,7 @@ use Rattle.stepping.specs.declared.happening.MadeStep.{MadeStep}
 use Rattle.stepping.specs.Ends.{IsEnd, IsStepOrNone}
 use Rattle.replay.specs.declared.thread_outcome.ThreadOutcome.{ThreadOutcome}
 use Rattle.replay.specs.declared.thread_outcome.ThreadOutcome.TheVariants as thread
-use Rattle.setups.specs.Setups.{starts_of}
+use Rattle.program_runner.specs.Setups.{starts_of}
 
 -- a world: the program, the setup from which it began, the state of its actors and words, and how the threads that have ended did so
 pub record World : Type 0 where

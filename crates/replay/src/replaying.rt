@@ -1,14 +1,14 @@
 ghost use Rattle.std.specs.Prelude.{◌≢◌, List, IfOk, IfErr};
 ghost use Rattle.certs.specs.declared.section.Section.{Section};
 ghost use Rattle.trace_text.specs.Traces.{IsTraceOf};
-ghost use Rattle.setups.specs.Setups.{IsSetupFault, HasNoFault, IsCertifiedSetup};
-ghost use Rattle.setups.specs.declared.setup_fault.SetupFault.TheVariants as fault;
+ghost use Rattle.program_runner.specs.Setups.{IsSetupFault, HasNoFault, IsCertifiedSetup};
+ghost use Rattle.program_runner.specs.declared.setup_fault.SetupFault.TheVariants as fault;
 ghost use Rattle.replay.specs.Outcomes.{IsOutcome, IsSound};
 
 use crate::outcome::Outcome;
 use crate::watch::Watch;
 use layout::Program;
-use setups::{SetupFault, setup_law};
+use program_runner::{SetupFault, setup_law};
 use std::alloc::Global;
 use trace_text::Trace;
 

@@ -1,7 +1,7 @@
 ghost use Rattle.std.specs.Prelude.{◌≡◌, ◌≢◌, ◌≤◌, List, not, IfOk, IfErr};
 ghost use Rattle.certs.specs.declared.section.Section.{Section};
-ghost use Rattle.setups.specs.Setups.{IsSetupOf, IsSetupFault, HasNoFault, IsCertifiedSetup};
-ghost use Rattle.setups.specs.declared.setup_fault.SetupFault.TheVariants as fault;
+ghost use Rattle.program_runner.specs.Setups.{IsSetupOf, IsSetupFault, HasNoFault, IsCertifiedSetup};
+ghost use Rattle.program_runner.specs.declared.setup_fault.SetupFault.TheVariants as fault;
 ghost use Rattle.replay.specs.Soaks.{IsSoakOutcome, IsSoundSoak, IsEndOfSeed, IsTold, IsLeastFrom, is_sound, answer_in};
 
 use crate::drawing::actor_drawn;
@@ -9,8 +9,8 @@ use crate::outcome::{Break, SeedBreak, SoakOutcome};
 use crate::seeds::{draw, seeded};
 use crate::watch::Watch;
 use layout::Program;
+use program_runner::{SetupFault, setup_law};
 use rayon::prelude::*;
-use setups::{SetupFault, setup_law};
 use std::alloc::Global;
 use std::thread::Threads;
 use trace_text::Setup;

@@ -2,11 +2,11 @@ ghost use Rattle.std.specs.Prelude.{◌≡◌, ◌≢◌, ◌<◌, None, Some, L
 ghost use Rattle.moves.specs.Runs.{IsActor};
 ghost use Rattle.certs.specs.declared.section.Section.{Section};
 ghost use Rattle.moves.specs.declared.actor.Actor.{Actor as AnActor};
-ghost use Rattle.setups.specs.Setups.{IsSetupOf, IsSetupFault, HasNoFault, IsCertifiedSetup};
+ghost use Rattle.program_runner.specs.Setups.{IsSetupOf, IsSetupFault, HasNoFault, IsCertifiedSetup};
 ghost use Rattle.replay.specs.Worlds.{IsAfter, ended_by, IsStepAfter, IsBrokenWorld, IsCoveredWorld, IsOverIn, IsFirstGoneOf};
 ghost use Rattle.replay.specs.Keeping.{ending_after, end_told};
 ghost use Rattle.replay.specs.ThreadEnds.{AreEndsOf};
-ghost use Rattle.setups.specs.declared.setup_fault.SetupFault.TheVariants as fault;
+ghost use Rattle.program_runner.specs.declared.setup_fault.SetupFault.TheVariants as fault;
 ghost use Rattle.replay.specs.declared.thread_outcome.ThreadOutcome.TheVariants as end;
 
 use crate::thread_outcome::ThreadOutcome;
@@ -14,8 +14,9 @@ use items::Items;
 use layout::Program;
 use machine::{Ending, Thread};
 use moves::{Actor, CallPhase, ThreadState};
-use program_runner::{ProgramThread, begun_law, program_law};
-use setups::{SetupFault, begun_threads, values_at_start};
+use program_runner::{
+    ProgramThread, SetupFault, begun_law, begun_threads, program_law, values_at_start,
+};
 use std::alloc::{AllocError, Global};
 use std::marker::Model;
 use stepping::{Actors, Cover, Gone, HeapSchema, MadeStep};

@@ -6,8 +6,8 @@ use Rattle.moves.specs.declared.actor.Actor.{Actor}
 use Rattle.moves.specs.declared.actor.Actor.TheVariants as actor
 use Rattle.machine.specs.declared.value.Value.{Value}
 use Rattle.machine.specs.declared.value.Value.TheVariants as value
-use Rattle.setups.specs.declared.setup_fault.SetupFault.{SetupFault}
-use Rattle.setups.specs.declared.setup_fault.SetupFault.TheVariants as setup
+use Rattle.program_runner.specs.declared.setup_fault.SetupFault.{SetupFault}
+use Rattle.program_runner.specs.declared.setup_fault.SetupFault.TheVariants as setup
 use Rattle.replay.specs.declared.thread_outcome.ThreadOutcome.{ThreadOutcome}
 use Rattle.replay.specs.declared.thread_outcome.ThreadOutcome.TheVariants as thread
 use Rattle.replay.specs.declared.outcome.Break.{Break}

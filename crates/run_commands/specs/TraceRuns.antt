@@ -6,9 +6,9 @@ use Rattle.certs.specs.declared.certs.Certs.{Certs}
 use Rattle.certs.specs.declared.section.Section.{Section}
 use Rattle.module_check.specs.Accepted.{IsProgramCertified, shaped}
 use Rattle.trace_text.specs.declared.trace.Trace.{Trace}
-use Rattle.setups.specs.Setups.{HasNoFault, IsSetupFault}
-use Rattle.setups.specs.declared.setup_fault.SetupFault.{SetupFault}
-use Rattle.setups.specs.declared.setup_fault.SetupFault.TheVariants as setup
+use Rattle.program_runner.specs.Setups.{HasNoFault, IsSetupFault}
+use Rattle.program_runner.specs.declared.setup_fault.SetupFault.{SetupFault}
+use Rattle.program_runner.specs.declared.setup_fault.SetupFault.TheVariants as setup
 use Rattle.replay.specs.Outcomes.{IsOutcome}
 use Rattle.replay.specs.declared.outcome.Outcome.{Outcome}
 use Rattle.serving.specs.declared.beside.Limits.{Limits}

@@ -6,7 +6,7 @@ use Rattle.trace_text.specs.declared.trace.Setup.{Setup}
 use Rattle.runs.specs.ModuleRuns.{IsModuleRun}
 use Rattle.runs.specs.Broken.{IsBroken, IsCause}
 use Rattle.moves.specs.declared.actor.Actor.{Actor}
-use Rattle.setups.specs.Setups.{starts_of}
+use Rattle.program_runner.specs.Setups.{starts_of}
 use Rattle.replay.specs.Runs.{program_machine, heap_of}
 use Rattle.replay.specs.Worlds.{run_of}
 use Rattle.replay.specs.Draws.{one_draw, draws_from, seeded, drawn}

@@ -16,9 +16,9 @@ use Rattle.command_line.specs.declared.asked.Shrink.TheVariants.{AsDrawn, WithTr
 use Rattle.trace_text.specs.Print.{trace_shown}
 use Rattle.trace_text.specs.declared.trace.Setup.{Setup}
 use Rattle.trace_text.specs.declared.trace.Trace.{Trace}
-use Rattle.setups.specs.Setups.{HasNoFault, IsSetupFault}
-use Rattle.setups.specs.declared.setup_fault.SetupFault.{SetupFault}
-use Rattle.setups.specs.declared.setup_fault.SetupFault.TheVariants as setup
+use Rattle.program_runner.specs.Setups.{HasNoFault, IsSetupFault}
+use Rattle.program_runner.specs.declared.setup_fault.SetupFault.{SetupFault}
+use Rattle.program_runner.specs.declared.setup_fault.SetupFault.TheVariants as setup
 use Rattle.replay.specs.Soaks.{AreSoundFrom, IsLeastBreak}
 use Rattle.replay.specs.declared.outcome.Break.{Break}
 use Rattle.replay.specs.declared.outcome.SeedBreak.{SeedBreak}

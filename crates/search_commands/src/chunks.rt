@@ -1,7 +1,7 @@
 //! Seeds by uniform draws, some at a time.
 ghost use Rattle.std.specs.Prelude.{◌≡◌, ◌≢◌, IfOk, IfErr};
-ghost use Rattle.setups.specs.Setups.{IsSetupOf, IsSetupFault, HasNoFault};
-ghost use Rattle.setups.specs.declared.setup_fault.SetupFault.TheVariants as fault;
+ghost use Rattle.program_runner.specs.Setups.{IsSetupOf, IsSetupFault, HasNoFault};
+ghost use Rattle.program_runner.specs.declared.setup_fault.SetupFault.TheVariants as fault;
 ghost use Rattle.search_commands.specs.Searches.{IsSoaked, past_seed};
 
 use crate::onlooker::{Onlooker, SoFar};

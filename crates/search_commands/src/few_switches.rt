@@ -3,8 +3,8 @@ ghost use Rattle.std.specs.Prelude.{◌≡◌, ◌≢◌, false, is_some, IfOk, 
 ghost use Rattle.std.specs.Io.KnownBytes.{Appends};
 ghost use Rattle.command_line.specs.declared.asked.Shrink.TheVariants as shrink;
 ghost use Rattle.trace_text.specs.Traces.{IsTraceOf};
-ghost use Rattle.setups.specs.Setups.{HasNoFault, IsSetupFault};
-ghost use Rattle.setups.specs.declared.setup_fault.SetupFault.TheVariants as fault;
+ghost use Rattle.program_runner.specs.Setups.{HasNoFault, IsSetupFault};
+ghost use Rattle.program_runner.specs.declared.setup_fault.SetupFault.TheVariants as fault;
 ghost use Rattle.reports.specs.Report.{IsTold};
 ghost use Rattle.reports.specs.Said.{Says};
 ghost use Rattle.search_commands.specs.Searches.{IsBiasedSoaked, IsFound, OfBiased, biased_text, of_biased, of_biased_shorter, of_biased_sound};

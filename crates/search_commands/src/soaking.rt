@@ -3,7 +3,7 @@ ghost use Rattle.std.specs.Prelude.{◌≡◌, ◌≤◌, ℕ, true, false, leng
 ghost use Rattle.std.specs.Io.KnownBytes.{Appends};
 ghost use Rattle.command_line.specs.declared.asked.Shrink.TheVariants as shrink;
 ghost use Rattle.trace_text.specs.Traces.{IsTraceOf};
-ghost use Rattle.setups.specs.Setups.{HasNoFault};
+ghost use Rattle.program_runner.specs.Setups.{HasNoFault};
 ghost use Rattle.replay.specs.Lists.{IsFirstBreak};
 ghost use Rattle.replay.specs.Soaks.{actors_drawn};
 ghost use Rattle.shortening.specs.Shorter.{kind_of};

@@ -6,7 +6,7 @@ use Rattle.std.proofs.Math.Seq.{take-append_seam}
 use Rattle.layout.specs.Layouts.{LaidOut}
 use Rattle.moves.specs.declared.actor.Actor.{Actor}
 use Rattle.moves.specs.Runs.{IsActor, AreActors}
-use Rattle.setups.specs.Setups.{starts_of}
+use Rattle.program_runner.specs.Setups.{starts_of}
 use Rattle.stepping.specs.Ends.{IsStepOrNone}
 use Rattle.moves.specs.declared.actor.Actor.TheVariants.{Thread, Collector}
 use Rattle.trace_text.specs.declared.trace.Setup.{Setup}

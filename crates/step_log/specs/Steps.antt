@@ -2,7 +2,7 @@
 use Rattle.std.specs.Prelude.{◌≡◌, List, [], ◌∷◌, ◌++◌}
 use Rattle.layout.specs.Layouts.{LaidOut}
 use Rattle.moves.specs.declared.actor.Actor.{Actor}
-use Rattle.setups.specs.Setups.{starts_of}
+use Rattle.program_runner.specs.Setups.{starts_of}
 use Rattle.stepping.specs.Ends.{IsStepOrNone}
 use Rattle.trace_text.specs.declared.trace.Setup.{Setup}
 use Rattle.replay.specs.Runs.{heap_of, program_machine}

@@ -4,8 +4,8 @@ ghost use Rattle.layout.specs.Layouts.{LaidOut};
 ghost use Rattle.moves.specs.declared.actor.Actor.{Actor as AnActor};
 ghost use Rattle.trace_text.specs.Traces.{IsTraceOf};
 ghost use Rattle.trace_text.specs.declared.trace.Setup.{Setup as ASetup};
-ghost use Rattle.setups.specs.Setups.{IsSetupOf, IsSetupFault};
-ghost use Rattle.setups.specs.declared.setup_fault.SetupFault.TheVariants as fault;
+ghost use Rattle.program_runner.specs.Setups.{IsSetupOf, IsSetupFault};
+ghost use Rattle.program_runner.specs.declared.setup_fault.SetupFault.TheVariants as fault;
 ghost use Rattle.replay.specs.Lists.{actors_of};
 ghost use Rattle.step_log.specs.Steps.{AreSteps, IsRecorded};
 
@@ -16,8 +16,8 @@ use items::Items;
 use layout::Program;
 use machine::FramePlace;
 use moves::Actor;
+use program_runner::SetupFault;
 use replay::World;
-use setups::SetupFault;
 use std::alloc::{AllocError, Global};
 use trace_text::{Setup, Trace};
 

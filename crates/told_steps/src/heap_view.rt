@@ -6,7 +6,7 @@ use items::Items;
 use layout::Program;
 use moves::{Move, WordValue};
 use pools::{Layouts, Pools, WordKind};
-use setups::values_at_start;
+use program_runner::values_at_start;
 use std::alloc::{AllocError, Global};
 use step_log::LogStep;
 use stepping::{Happening, MadeStep};

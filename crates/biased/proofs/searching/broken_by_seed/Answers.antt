@@ -1,6 +1,6 @@
 -- The trace that is replayed begins as the given one.
 use Rattle.std.proofs.Common.{sym, subst}
-use Rattle.setups.specs.Setups.{IsCertifiedSetup}
+use Rattle.program_runner.specs.Setups.{IsCertifiedSetup}
 use Rattle.trace_text.specs.declared.trace.Setup.{Setup}
 use Rattle.biased.proofs.searching.broken_by_seed.Goals as goal
 

@@ -2,7 +2,7 @@ use Rattle.std.proofs.Common.{inr, ◌∙◌, Some, sym, ap, subst, refl}
 use Rattle.std.specs.Option.{option_copied}
 use Rattle.layout.specs.Layouts.{LaidOut}
 use Rattle.program_safety.specs.Safety.{IsCarefulProgram}
-use Rattle.setups.specs.Setups.{MayBegin, begun_at}
+use Rattle.program_runner.specs.Setups.{MayBegin, begun_at}
 use Rattle.mutators.proofs.Beginnings.{job_of}
 use Rattle.mutators.proofs.Bounds.{met_by, not_met_by}
 use Rattle.mutators.proofs.jobs.new_job.Goals as goal

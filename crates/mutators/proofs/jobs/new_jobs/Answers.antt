@@ -1,7 +1,7 @@
 use Rattle.std.proofs.Common.{◌≡◌, ◌<◌, List, [], ◌∷◌, Some, length, slice_get, refl, sym, ap, subst, arith, add-one, length-append}
 use Rattle.std.proofs.lemmas.Option.{slice_get_read}
 use Rattle.std.proofs.lemmas.Result.{err_from_is_err_and}
-use Rattle.setups.specs.SafeSetups.{one_more}
+use Rattle.program_runner.specs.SafeSetups.{one_more}
 use Rattle.trace_text.specs.declared.trace.Start.{Start}
 use Rattle.mutators.specs.Jobs.{AreJobs}
 use Rattle.mutators.proofs.Tokens.{first_token, other_tokens, one_job_more, no_jobs}

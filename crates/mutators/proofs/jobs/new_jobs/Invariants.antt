@@ -1,6 +1,6 @@
 use Rattle.std.proofs.Common.{◌≡◌, ◌+◌, length}
 use Rattle.heap_table.specs.Opening.{AreNew}
-use Rattle.setups.specs.Setups.{EachBefore}
+use Rattle.program_runner.specs.Setups.{EachBefore}
 use Rattle.mutators.specs.Faults.{MayStart}
 use Rattle.mutators.specs.Jobs.{AreJobs}
 use Rattle.mutators.proofs.jobs.new_jobs.Given as goal

@@ -4,7 +4,7 @@ use Rattle.ir_ast.specs.declared.module.Module.{Module}
 use Rattle.layout.specs.Globals.{globals_of}
 use Rattle.layout.specs.Layouts.{LaidOut}
 use Rattle.program_runner.specs.Heaps.{value_of_global}
-use Rattle.setups.specs.SetupHeaps.{few_words}
+use Rattle.program_runner.specs.SetupHeaps.{few_words}
 use Rattle.mutators.proofs.Plans.{plan_is, plan_fits}
 use Rattle.mutators.proofs.running.run.Goals as goal
 

@@ -3,8 +3,8 @@ use Rattle.std.proofs.Common.{◌≡◌, ◌∙◌, ℕ, sym, ap, subst}
 use Rattle.std.specs.Prelude.{IfOk, IfErr, ◌≢◌}
 use Rattle.std.specs.List.{AllZip}
 use Rattle.rayon.specs.Numbers.{nat_range}
-use Rattle.setups.specs.Setups.{IsSetupFault}
-use Rattle.setups.specs.declared.setup_fault.SetupFault.TheVariants.{Memory}
+use Rattle.program_runner.specs.Setups.{IsSetupFault}
+use Rattle.program_runner.specs.declared.setup_fault.SetupFault.TheVariants.{Memory}
 use Rattle.replay.specs.declared.soaking.SeedEnd.{SeedEnd}
 use Rattle.replay.specs.Soaks.{IsTold, IsLeastFrom}
 use Rattle.replay.proofs.Firsts.{Found}

@@ -4,7 +4,7 @@ use Rattle.replay.specs.Runs.{program_machine, heap_of}
 use Rattle.moves.specs.Causes.{IsStepCause}
 use Rattle.moves.specs.Runs.{run_by}
 use Rattle.stepping.specs.Reach.{IsFirstGone}
-use Rattle.setups.specs.Setups.{starts_of}
+use Rattle.program_runner.specs.Setups.{starts_of}
 use Rattle.replay.specs.Worlds.{IsStepAfter}
 use Rattle.replay.proofs.StepsTaken.{cause_told, nothing_lost, none_made, unbroken_by, gone_is_cause}
 use Rattle.replay.proofs.watch.cause_after.Goals as goal

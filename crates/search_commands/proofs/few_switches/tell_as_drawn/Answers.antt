@@ -1,6 +1,6 @@
 use Rattle.std.proofs.Common.{refl, sym, subst}
 use Rattle.std.proofs.lemmas.Result.{IfOk-weaker}
-use Rattle.setups.specs.declared.setup_fault.SetupFault.TheVariants.{Memory}
+use Rattle.program_runner.specs.declared.setup_fault.SetupFault.TheVariants.{Memory}
 use Rattle.replay.specs.declared.outcome.SeedBreak.{SeedBreak}
 use Rattle.reports.specs.Said.{OnOutput, OnError}
 use Rattle.search_commands.specs.Searches.{IsFound, biased_broken, biased_not_started}

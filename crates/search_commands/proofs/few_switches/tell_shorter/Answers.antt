@@ -1,6 +1,6 @@
 use Rattle.std.proofs.Common.{◌∙◌, refl, sym, ap, subst}
 use Rattle.std.proofs.lemmas.Result.{IfOk-weaker}
-use Rattle.setups.specs.declared.setup_fault.SetupFault.TheVariants.{Memory}
+use Rattle.program_runner.specs.declared.setup_fault.SetupFault.TheVariants.{Memory}
 use Rattle.trace_text.specs.Print.{trace_shown}
 use Rattle.replay.specs.declared.outcome.SeedBreak.{SeedBreak}
 use Rattle.shortening.specs.Shorter.{kind_of}

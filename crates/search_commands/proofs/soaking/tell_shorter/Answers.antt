@@ -1,6 +1,6 @@
 use Rattle.std.proofs.Common.{refl, subst}
 use Rattle.std.proofs.lemmas.Result.{IfOk-weaker}
-use Rattle.setups.specs.declared.setup_fault.SetupFault.TheVariants.{Memory}
+use Rattle.program_runner.specs.declared.setup_fault.SetupFault.TheVariants.{Memory}
 use Rattle.trace_text.specs.Print.{trace_shown}
 use Rattle.reports.specs.Said.{OnOutput, OnError}
 use Rattle.search_commands.specs.Searches.{IsAdded, shortened, too_long, not_started, of_too_long}

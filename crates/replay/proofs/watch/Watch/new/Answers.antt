@@ -1,7 +1,7 @@
 -- Nothing is counted before the first step, and the run is not broken there.
 use Rattle.std.proofs.Common.{[], refl, sym, subst}
 use Rattle.moves.specs.Runs.{run_by}
-use Rattle.setups.specs.Setups.{starts_of}
+use Rattle.program_runner.specs.Setups.{starts_of}
 use Rattle.stepping.specs.declared.cover.Cover.{Cover}
 use Rattle.stepping.specs.Covers.{IsCovered}
 use Rattle.replay.specs.Runs.{program_machine, heap_of}

@@ -3,7 +3,7 @@ use Rattle.std.proofs.Common.{◌≡◌, suc, ◌∷◌, length, sym, ap, subst,
 use Rattle.stepping.specs.declared.cover.Cover.{Cover}
 use Rattle.stepping.specs.Covers.{IsCovered}
 use Rattle.replay.specs.Runs.{program_machine, heap_of}
-use Rattle.setups.specs.Setups.{starts_of}
+use Rattle.program_runner.specs.Setups.{starts_of}
 use Rattle.replay.specs.Worlds.{World, IsAfter, IsOverIn, run_of}
 use Rattle.replay.specs.Watched.{IsCauseAfter}
 use Rattle.replay.proofs.Lists.{first_break}

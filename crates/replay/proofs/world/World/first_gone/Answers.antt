@@ -1,6 +1,6 @@
 use Rattle.std.proofs.Common.{◌∷◌}
 use Rattle.program_runner.specs.Heaps.{heap_of}
-use Rattle.setups.specs.Setups.{starts_of}
+use Rattle.program_runner.specs.Setups.{starts_of}
 use Rattle.replay.proofs.WorldSteps.{are_after, over_in}
 use Rattle.replay.proofs.world.World.first_gone.Goals as goal
 

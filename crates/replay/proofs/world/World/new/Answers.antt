@@ -1,8 +1,8 @@
 use Rattle.std.proofs.Common.{[], length, map, refl, sym, ap, ◌∙◌}
 use Rattle.ir_ast.specs.declared.module.Module.{Module}
 use Rattle.program_runner.specs.Heaps.{heap_of, value_of_global}
-use Rattle.setups.specs.Setups.{starts_of}
-use Rattle.setups.specs.SetupHeaps.{few_words, is_setup}
+use Rattle.program_runner.specs.Setups.{starts_of}
+use Rattle.program_runner.specs.SetupHeaps.{few_words, is_setup}
 use Rattle.replay.proofs.WorldSteps.{as_many, late_threads, each_begun, is_first}
 use Rattle.replay.proofs.world.World.new.Goals as goal
 

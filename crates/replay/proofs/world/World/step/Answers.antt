@@ -2,7 +2,7 @@ use Rattle.std.proofs.Common.{◌≡◌, slice_get, slice_set, refl}
 use Rattle.program_runner.specs.Heaps.{heap_of}
 use Rattle.moves.specs.declared.actor.Actor.TheVariants.{Thread, Collector}
 use Rattle.replay.specs.Keeping.{ending_after}
-use Rattle.setups.specs.Setups.{starts_of}
+use Rattle.program_runner.specs.Setups.{starts_of}
 use Rattle.replay.specs.WorldView.{world_seen}
 use Rattle.replay.proofs.WorldSteps.{are_after, is_thread, keeps, tells, stays_safe}
 use Rattle.replay.proofs.world.World.step.Goals as goal

@@ -1,6 +1,6 @@
 use Rattle.std.proofs.Common.{◌≡◌, map, take}
-use Rattle.setups.specs.Setups.{MayBeginBefore, new_thread}
-use Rattle.setups.proofs.starts.begun_threads.Given as goal
+use Rattle.program_runner.specs.Setups.{MayBeginBefore, new_thread}
+use Rattle.program_runner.proofs.starts.begun_threads.Given as goal
 
 -- n threads have begun, and each of them may
 abbrev pub invariant-loop-number : goal.invariant-loop-number

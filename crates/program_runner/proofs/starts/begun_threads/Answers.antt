@@ -4,9 +4,9 @@ use Rattle.std.proofs.lemmas.Result.{err_from_is_err_and}
 use Rattle.program_runner.specs.Threads.{ProgramThread}
 use Rattle.stepping.specs.declared.beginning.NewThread.{NewThread}
 use Rattle.trace_text.specs.declared.trace.Start.{Start}
-use Rattle.setups.specs.Setups.{new_thread}
-use Rattle.setups.specs.SafeSetups.{first_fault, no_fault_before, one_more, one_more_begun, all_begun}
-use Rattle.setups.proofs.starts.begun_threads.Goals as goal
+use Rattle.program_runner.specs.Setups.{new_thread}
+use Rattle.program_runner.specs.SafeSetups.{first_fault, no_fault_before, one_more, one_more_begun, all_begun}
+use Rattle.program_runner.proofs.starts.begun_threads.Goals as goal
 
 pub loop-number-init : goal.loop-number-init
 loop-number-init c = (c.as_slice-begun-items.ensures, c.new-threads.ensures.items, λ u begun lt at. absurd (omega arith))

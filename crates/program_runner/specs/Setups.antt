@@ -16,8 +16,8 @@ use Rattle.trace_text.specs.Traces.{IsStartOf}
 use Rattle.trace_text.specs.declared.trace.Setup.{Setup}
 use Rattle.trace_text.specs.declared.trace.Start.{Start}
 use Rattle.stepping.specs.declared.beginning.NewThread.{NewThread}
-use Rattle.setups.specs.declared.setup_fault.SetupFault.{SetupFault}
-use Rattle.setups.specs.declared.setup_fault.SetupFault.TheVariants.{WrongArguments, ReferenceParameter, Memory}
+use Rattle.program_runner.specs.declared.setup_fault.SetupFault.{SetupFault}
+use Rattle.program_runner.specs.declared.setup_fault.SetupFault.TheVariants.{WrongArguments, ReferenceParameter, Memory}
 
 -- ---- the threads
 

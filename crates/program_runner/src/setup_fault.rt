@@ -16,7 +16,7 @@ pub enum SetupFault {
 
 impl From<AllocError> for SetupFault {
     ghost use Rattle.std.specs.Prelude.{◌≡◌};
-    ghost use Rattle.setups.specs.declared.setup_fault.SetupFault.TheVariants.{Memory};
+    ghost use Rattle.program_runner.specs.declared.setup_fault.SetupFault.TheVariants.{Memory};
 
     ghost from_gives = { λ _ e. e ≡ Memory };
 
@@ -27,7 +27,7 @@ impl From<AllocError> for SetupFault {
 
 impl<T: Drop> From<AllocFailed<T>> for SetupFault {
     ghost use Rattle.std.specs.Prelude.{◌≡◌};
-    ghost use Rattle.setups.specs.declared.setup_fault.SetupFault.TheVariants.{Memory};
+    ghost use Rattle.program_runner.specs.declared.setup_fault.SetupFault.TheVariants.{Memory};
 
     ghost from_gives = { λ _ e. e ≡ Memory };
 

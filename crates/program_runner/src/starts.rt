@@ -1,12 +1,12 @@
 ghost use Rattle.std.specs.Prelude.{ℕ, ◌≡◌, ◌≢◌, Some, length, slice_get, IfOk, IfErr};
 ghost use Rattle.trace_text.specs.Traces.{IsStartOf};
-ghost use Rattle.setups.specs.Setups.{IsSetupOf, IsSetupFault, HasNoFault, AreBegun, MayBegin, IsFaultOf, begun_at, fault_of};
-ghost use Rattle.setups.specs.declared.setup_fault.SetupFault.TheVariants as fault;
+ghost use Rattle.program_runner.specs.Setups.{IsSetupOf, IsSetupFault, HasNoFault, AreBegun, MayBegin, IsFaultOf, begun_at, fault_of};
+ghost use Rattle.program_runner.specs.declared.setup_fault.SetupFault.TheVariants as fault;
 
+use crate::program_thread::ProgramThread;
 use crate::setup_fault::SetupFault;
 use layout::Program;
 use machine::{StartFault, Thread};
-use program_runner::ProgramThread;
 use std::alloc::Global;
 use stepping::NewThread;
 use trace_text::{Setup, Start};

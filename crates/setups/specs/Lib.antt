@@ -1,3 +1,0 @@
-pub mod Setups
-pub mod SetupHeaps
-pub mod SafeSetups
