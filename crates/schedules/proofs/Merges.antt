@@ -23,11 +23,11 @@ actors_of-append (s ∷ one) other =
 pub two_as_one : (one other both : Steps) → both.actor ≡ one.actor → one.actor ≡ other.actor → both.count ≡ one.count + other.count → actors_of (both ∷ []) ≡ actors_of (one ∷ other ∷ [])
 two_as_one one other both same alike count =
     let first = one.actor in
-    ap (λ (a : Actor). replicate both.count a ++ []) (ap same)
+    ap (λ (a : Actor). replicate both.count a ++ []) same
     ∙ ap (λ n. replicate n first ++ []) count
     ∙ ap (λ l. l ++ []) (sym (replicate-append-replicate one.count other.count first))
     ∙ append_assoc (replicate one.count first) (replicate other.count first) []
-    ∙ ap (λ (a : Actor). replicate one.count first ++ (replicate other.count a ++ [])) (ap alike)
+    ∙ ap (λ (a : Actor). replicate one.count first ++ (replicate other.count a ++ [])) alike
 
 -- there are as many actors as steps
 pub length-actors_of : (steps : List Steps) → length (actors_of steps) ≡ step_sum steps
