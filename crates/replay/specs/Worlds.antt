@@ -18,7 +18,6 @@ use Rattle.program_runner.specs.Heaps.{heap_of}
 use Rattle.program_runner.specs.Kinds.{FitsThread}
 use Rattle.trace_text.specs.declared.trace.Setup.{Setup}
 use Rattle.moves.specs.declared.actor.Actor.{Actor}
-use Rattle.moves.specs.declared.actor.Actor.TheVariants.{Thread, Collector}
 use Rattle.moves.specs.declared.thread_state.ThreadState.{ThreadState}
 use Rattle.moves.specs.declared.shared.Shared.{Shared}
 use Rattle.moves.specs.Runs.{run_by, AreActors}

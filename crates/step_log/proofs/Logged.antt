@@ -8,7 +8,6 @@ use Rattle.moves.specs.declared.actor.Actor.{Actor}
 use Rattle.moves.specs.Runs.{IsActor, AreActors}
 use Rattle.program_runner.specs.Setups.{starts_of}
 use Rattle.stepping.specs.Ends.{IsStepOrNone}
-use Rattle.moves.specs.declared.actor.Actor.TheVariants.{Thread, Collector}
 use Rattle.trace_text.specs.declared.trace.Setup.{Setup}
 use Rattle.trace_text.specs.declared.trace.Steps.{Steps}
 use Rattle.replay.specs.Lists.{actors_of}

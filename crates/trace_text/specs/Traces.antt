@@ -12,8 +12,6 @@ use Rattle.name_text.specs.Readings.{IsShort}
 use Rattle.name_text.specs.declared.blank.Blank.TheVariants as blank
 use Rattle.pools.specs.Heap.{cells_in}
 use Rattle.trace_text.specs.Names.{function_named, layout_named}
-use Rattle.moves.specs.declared.actor.Actor.{Actor}
-use Rattle.moves.specs.declared.actor.Actor.TheVariants as actor
 use Rattle.trace_text.specs.declared.trace.Start.{Start}
 use Rattle.trace_text.specs.declared.trace.Steps.{Steps}
 use Rattle.trace_text.specs.declared.trace.Trace.{Trace}
