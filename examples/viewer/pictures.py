@@ -91,6 +91,11 @@ def main():
     want("#data", browser.body(url_of(lines)), broken)
     # at the answer to Async(1) cell 2 is only in @top; the path is not red, since the cell is not free
     want("step 35", browser.body(url_of(lines, 35)), {"path": "@top -> cell 2", "red": "0"})
+    # a file that begins at a later step leads to the same heap
+    _, late = lines_of(asked.dgc, f"{SWAP}/plain.ll", f"{SWAP}/race.trace", "--shapes", f"{SWAP}/swap.shapes", "--from", "40")
+    title = "Broken at step 65: cell 2 is lost. Here are 40 to 65 of 65"
+    want("from step 40", browser.body(url_of(late)), broken | {"ready": "26", "title": title})
+    want("before step 40", browser.body(url_of(late, 39)), {"path": "@top -> cell 2", "red": "0"})
     _, sound = lines_of(asked.dgc, f"{SWAP}/barrier.ll", f"{SWAP}/race.trace", "--shapes", f"{SWAP}/swap.shapes")
     want("a sound run", browser.body(url_of(sound)), {"title": "Sound: 65 steps", "path": "", "red": "0"})
     want("no run", browser.body(url_of("what is this")), {"ready": "error", "title": "This file cannot be read"})

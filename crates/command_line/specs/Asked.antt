@@ -14,7 +14,7 @@ use Rattle.command_line.specs.declared.asked.Refusals.{Refusals}
 use Rattle.command_line.specs.declared.asked.Search.{Search}
 use Rattle.command_line.specs.declared.asked.Shrink.{Shrink}
 use Rattle.command_line.specs.declared.asked.StepsTold.{StepsTold}
-use Rattle.command_line.specs.declared.asked.StepsTold.TheVariants.{NotTold}
+use Rattle.command_line.specs.declared.asked.StepsTold.TheVariants.{NotTold, WrittenBetween}
 use Rattle.command_line.specs.declared.asked.Why.{Why}
 
 -- whether the kind of error is out of memory
@@ -119,9 +119,10 @@ is_explained (soak module_path trace_path shapes_path search shrink save_path ex
 is_explained (run module_path certificate_path trace_path turns steps explained) = is_wanted explained
 is_explained _ = false
 
--- whether any steps of a replay are told
+-- whether any steps of a replay are told in words
 abbrev pub are_told : StepsTold → Bool
 are_told NotTold = false
+are_told (WrittenBetween first last) = false
 are_told _ = true
 
 -- whether the line asks for steps

@@ -19,7 +19,7 @@ use Rattle.command_line.specs.declared.asked.Search.{Search}
 use Rattle.command_line.specs.declared.asked.Shrink.{Shrink}
 use Rattle.command_line.specs.declared.asked.Shrink.TheVariants.{AsDrawn, WithTries}
 use Rattle.command_line.specs.declared.asked.StepsTold.{StepsTold}
-use Rattle.command_line.specs.declared.asked.StepsTold.TheVariants.{NotTold, Last, Between}
+use Rattle.command_line.specs.declared.asked.StepsTold.TheVariants.{NotTold, Last, Between, WrittenBetween}
 use Rattle.command_line.specs.declared.asked.Why.{Why}
 use Rattle.command_line.specs.declared.asked.Why.TheVariants.{Wanted, NotWanted}
 
@@ -257,13 +257,18 @@ abbrev pub steps_between : (first last : Option ℕ) → StepsTold
 steps_between None None = Last
 steps_between first last = Between (unwrap_or first 1) (unwrap_or last 4294967295)
 
--- which steps are told: none without the option `steps`, and then no numbers may be given
+-- the steps between these numbers are written as JSON and not told in words, if a file for that is given
+abbrev pub written_between : (json_path : Option Text) (first last : Option ℕ) → Option StepsTold
+written_between None first last = None
+written_between (Some json_path) first last = Some (WrittenBetween (unwrap_or first 1) (unwrap_or last 4294967295))
+
+-- which steps are told: none without the option `steps`, and then numbers may be given only with the option `json`
 abbrev pub steps_of : List Row → Option StepsTold
 steps_of given =
     let first = number_of (codes "from") given in
     let last = number_of (codes "to") given in
     if flag_of (codes "steps") given then Some (steps_between first last)
-    else if is_some first || is_some last then None
+    else if is_some first || is_some last then written_between (first_of (codes "json") given) first last
     else Some NotTold
 
 -- `replay` with what was given to it, if that is a module and a trace, and which steps are told, and when a refusal is explained

@@ -59,14 +59,17 @@ pub struct RecheckLine<'a> {
     pub explained: Explained,
 }
 
-/// Which steps of a replay are told.
+/// Which steps of a replay are told in words, and which are written where a line asks for JSON. Steps are counted from 1.
 #[derive(Clone, Copy)]
 pub enum StepsTold {
+    /// None in words. The last ones are written.
     NotTold,
-    /// The last ones, and those that matter for the break.
+    /// The last ones, and in words those that matter for the break.
     Last,
-    /// Those whose numbers lie between these. Steps are counted from 1.
+    /// Those whose numbers lie between these.
     Between(u32, u32),
+    /// None in words. Those whose numbers lie between these are written.
+    WrittenBetween(u32, u32),
 }
 
 /// Make the steps of a trace of a module.
@@ -245,11 +248,11 @@ fn traced_paths<'a>(
 }
 
 impl StepsTold {
-    /// Whether any are.
+    /// Whether any are told in words.
     pub fn is_wanted(self) -> bool
         ensures { result ≡ are_told self }
     {
-        !matches!(self, StepsTold::NotTold)
+        !matches!(self, StepsTold::NotTold | StepsTold::WrittenBetween(_, _))
     }
 }
 

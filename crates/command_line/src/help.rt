@@ -34,11 +34,12 @@ pub(crate) const STEPS: &str = "How many steps each seed makes";
 pub(crate) const REPLAY_STEPS: &str =
     "Also tell the steps: the last 40, and those that matter for the break (docs/STEPS.md)";
 
-pub(crate) const FROM: &str = "With --steps: the first step that is told, from 1";
+pub(crate) const FROM: &str = "With --steps or --json: the first step that is told, from 1";
 
-pub(crate) const TO: &str = "With --steps: the last step that is told";
+pub(crate) const TO: &str = "With --steps or --json: the last step that is told";
 
-pub(crate) const JSON: &str = "The file to which all steps are written as JSON, a line for each";
+pub(crate) const JSON: &str =
+    "The file to which the steps are written as JSON, a line for each: the last 100000, or those that --from and --to say";
 
 pub(crate) const FIRST: &str = "The first seed";
 

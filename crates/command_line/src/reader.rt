@@ -2,7 +2,7 @@
 ghost use Rattle.std.specs.Prelude.{◌≡◌, ◌≤◌, IfOk, IfErr, IfSome, IsOk, [], map, option_map, false};
 ghost use Rattle.clap.specs.Words.{fault_of, first_of, found_of, rows_of};
 ghost use Rattle.command_line.specs.Asked.{asked_by, HasWorkers};
-ghost use Rattle.command_line.specs.Grammar.{asked_in, asked_of, check_of, dgc_app, draws_of, explain_of, explained_by, explained_of, flag_of, hunt_of, hunted_of, IsRefusalOf, make_of, migrate_of, number_of, paths_in, recheck_of, refusals_of, replay_of, run_of, search_of, shrink_of, soak_of, steps_between, steps_of, why_of, workers_of};
+ghost use Rattle.command_line.specs.Grammar.{asked_in, asked_of, check_of, dgc_app, draws_of, explain_of, explained_by, explained_of, flag_of, hunt_of, hunted_of, IsRefusalOf, make_of, migrate_of, number_of, paths_in, recheck_of, refusals_of, replay_of, run_of, search_of, shrink_of, soak_of, steps_between, steps_of, why_of, workers_of, written_between};
 
 use crate::asked::{
     CheckLine, Draws, ExplainLine, Explained, HuntLine, Line, LineFault, MakeLine, MigrateLine,
@@ -171,7 +171,21 @@ fn steps_between(first: Option<u32>, last: Option<u32>) -> StepsTold
     }
 }
 
-/// Which steps of a replay are told, by the options `steps`, `from` and `to`.
+/// The steps between these numbers are written as JSON and not told in words, if a file for that is given.
+fn written_between(
+    json_path: Option<&str>,
+    first: Option<u32>,
+    last: Option<u32>,
+) -> Option<StepsTold>
+    ensures { result ≡ written_between (option_map (λ path. path.now) json_path.entry) first last }
+{
+    match json_path {
+        Some(_) => Some(StepsTold::WrittenBetween(first.unwrap_or(1), last.unwrap_or(u32::MAX))),
+        None => None,
+    }
+}
+
+/// Which steps of a replay are told, by the options `steps`, `from`, `to` and `json`.
 fn steps_given(given: &ArgMatches<'_>) -> Option<StepsTold>
     ensures { result ≡ steps_of (rows_of (found_of given.now)) }
 {
@@ -180,7 +194,8 @@ fn steps_given(given: &ArgMatches<'_>) -> Option<StepsTold>
     if flag_given(given, "steps") {
         Some(steps_between(first, last))
     } else if first.is_some() || last.is_some() {
-        None
+        let json_path = text_given(given, "json");
+        written_between(json_path, first, last)
     } else {
         Some(StepsTold::NotTold)
     }
@@ -379,7 +394,7 @@ fn hint_of_check(given: &ArgMatches<'_>) -> &'static str {
 fn hint_of(name: &str, given: &ArgMatches<'_>) -> &'static str {
     match name {
         "check" => hint_of_check(given),
-        "replay" => "--from and --to need --steps",
+        "replay" => "--from and --to need --steps or --json",
         "soak" => "--tries needs --shrink",
         _ => EXPLAIN_HINT,
     }

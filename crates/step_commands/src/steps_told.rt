@@ -23,8 +23,8 @@ use trace_text::TraceFault;
 enum Form {
     /// These steps, in words.
     Words(Steps),
-    /// All steps, as JSON.
-    Json,
+    /// These steps, as JSON.
+    Json(Steps),
 }
 
 /// How many steps a run made.
@@ -38,7 +38,9 @@ fn steps_in(outcome: &Outcome) -> u64 {
 /// Which steps a line asks for.
 fn steps_asked(steps: StepsTold) -> Steps {
     match steps {
-        StepsTold::Between(first, last) => Steps::Between(first as usize, last as usize),
+        StepsTold::Between(first, last) | StepsTold::WrittenBetween(first, last) => {
+            Steps::Between(first as usize, last as usize)
+        }
         _ => Steps::Last,
     }
 }
@@ -64,7 +66,7 @@ fn put_log(
     };
     match form {
         Form::Words(steps) => put_told(alloc, out, &told, steps),
-        Form::Json => put_json(alloc, out, &told),
+        Form::Json(steps) => put_json(alloc, out, &told, steps),
     }
 }
 
@@ -164,12 +166,13 @@ pub fn tell_steps<O: Write>(words: &[u8], out: &mut O) -> io::Result<()>
     out.write_all(words)
 }
 
-/// Appends all steps of a run as JSON. Nothing is appended where the files are not read, and where a thread may not begin.
+/// Appends the steps that a line asks for as JSON. Nothing is appended where the files are not read, and where a thread may not begin.
 pub fn save_steps(
     alloc: Global,
     asked: ReplayLine<'_>,
     files: &[Option<Vec<u8>>],
     saved: &mut Vec<u8>,
 ) -> Result<(), AllocError> {
-    put_files(alloc, saved, asked, files, Form::Json)
+    let form = Form::Json(steps_asked(asked.steps));
+    put_files(alloc, saved, asked, files, form)
 }

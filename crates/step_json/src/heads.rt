@@ -22,10 +22,15 @@ fn cell_of(cause: &BreakCause) -> Option<u64> {
     }
 }
 
-fn put_run(alloc: Global, out: &mut Vec<u8>, told: &Told) -> Result<(), AllocError> {
-    let steps = told.log.steps.len();
-    let cells = told.setup.pools.cells();
-    let line = json!(in alloc; {"kind": "run", "format": FORMAT, "steps": steps, "cells": cells});
+/// The line of the run, of whose steps this is the first that is written.
+fn put_run(alloc: Global, out: &mut Vec<u8>, told: &Told, first: usize) -> Result<(), AllocError> {
+    let line = json!(in alloc; {
+        "kind": "run",
+        "format": FORMAT,
+        "steps": told.log.steps.len(),
+        "cells": told.setup.pools.cells(),
+        "first": first,
+    });
     put_made(alloc, out, line)
 }
 
@@ -204,37 +209,20 @@ fn put_text(alloc: Global, out: &mut Vec<u8>, listing: &Listing) -> Result<(), A
     Ok(())
 }
 
-/// The threads, the pools and the globals, where the heap is as before the first step.
-fn put_beginning(
-    alloc: Global,
-    out: &mut Vec<u8>,
-    told: &Told,
-    heap: &HeapView,
-) -> Result<(), AllocError> {
-    let names = Names {
-        alloc,
-        module: told.program.module(),
-        heap,
-    };
-    put_threads(&names, out, told)?;
-    put_pools(&names, out, told)?;
-    put_globals(&names, out)
-}
-
-/// The lines before those of the steps.
+/// The lines before those of the steps, of which this is the first that is written. The heap is as before it.
 pub fn put_heads(
-    alloc: Global,
+    names: &Names,
     out: &mut Vec<u8>,
     told: &Told,
     listing: &Listing,
+    first: usize,
 ) -> Result<(), AllocError> {
-    put_run(alloc, out, told)?;
+    put_run(names.alloc, out, told, first)?;
     if let Some(broken) = told.broken {
-        put_broken(alloc, out, told, broken)?;
+        put_broken(names.alloc, out, told, broken)?;
     }
-    let heap = HeapView::new(alloc, told.program, told.setup)?;
-    let put = put_beginning(alloc, out, told, &heap);
-    drop(heap);
-    put?;
-    put_text(alloc, out, listing)
+    put_threads(names, out, told)?;
+    put_pools(names, out, told)?;
+    put_globals(names, out)?;
+    put_text(names.alloc, out, listing)
 }

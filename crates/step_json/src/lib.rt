@@ -2,7 +2,9 @@
 //! contract says more than that they are made.
 #![tactic(auto)]
 
+mod frames;
 mod heads;
+mod state;
 mod steps;
 mod texts;
 

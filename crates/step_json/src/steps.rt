@@ -1,10 +1,35 @@
-//! The lines of steps and frames.
+//! The lines of steps, after those that come before.
+use crate::frames::put_frames;
 use crate::heads::put_heads;
-use crate::texts::{function_name, place_name, put_made, text_in, thread_in};
+use crate::state::{notes_before, put_state};
+use crate::texts::{place_name, put_made, text_in, thread_in};
+use moves::Actor;
 use serde_json::{Value, json};
 use std::alloc::{AllocError, Global};
-use step_log::{FrameNote, LogStep, StepLog};
-use told_steps::{Event, HeapView, Listing, Names, Texts, Told, put_done, put_root_name};
+use step_log::{LogStep, StepLog};
+use told_steps::{Event, HeapView, Listing, Names, Steps, Texts, Told, put_done};
+
+/// How many of the last steps are written where no others are asked for.
+const LAST_STEPS: usize = 100_000;
+
+/// The numbers of the first and of the last step that are written.
+#[derive(Clone, Copy)]
+struct Span {
+    first: usize,
+    last: usize,
+}
+
+/// Which steps of this number are written.
+fn span_of(steps: Steps, count: usize) -> Span {
+    let (first, last) = match steps {
+        Steps::Last => (count.saturating_sub(LAST_STEPS).saturating_add(1), count),
+        Steps::Between(first, last) => (first, last),
+    };
+    Span {
+        first: first.max(1).min(count.saturating_add(1)),
+        last,
+    }
+}
 
 /// The line and the place of the instruction at which a thread stands.
 fn put_members(
@@ -89,96 +114,6 @@ fn colour_value(names: &Names, event: &Event) -> Result<Value, AllocError> {
     }
 }
 
-/// A root slot with what it refers to.
-fn root_value(
-    names: &Names,
-    note: &FrameNote,
-    root: usize,
-    cell: u32,
-) -> Result<Value, AllocError> {
-    let mut name = Vec::new(names.alloc);
-    if let Some(function) = names.module.functions.get(note.function.number() as usize) {
-        put_root_name(names, &mut name, function, root)?;
-    }
-    let text = text_in(name.as_slice());
-    json!(in names.alloc; {"name": text, "cell": cell})
-}
-
-/// The root slots of a frame.
-fn roots_of(names: &Names, log: &StepLog, note: &FrameNote) -> Result<Vec<Value>, AllocError> {
-    let mut roots = Vec::new(names.alloc);
-    for root in 0..note.roots {
-        if let Some(cell) = log.cells.get(note.first.saturating_add(root)).copied() {
-            let value = root_value(names, note, root, cell)?;
-            roots.push(value)?;
-        }
-    }
-    Ok(roots)
-}
-
-/// The line of a frame.
-fn put_frame(
-    names: &Names,
-    out: &mut Vec<u8>,
-    log: &StepLog,
-    note: &FrameNote,
-) -> Result<(), AllocError> {
-    let name = function_name(names, note.function)?;
-    let roots = roots_of(names, log, note)?;
-    let value = json!(in names.alloc; {
-        "kind": "frame",
-        "after": note.steps,
-        "thread": note.thread,
-        "frames": note.frames,
-        "function": text_in(name.as_slice()),
-        "roots": roots,
-    });
-    drop(name);
-    put_made(names.alloc, out, value)
-}
-
-/// The lines of the frames that changed by this many steps, from this note on. Returns the next note.
-fn put_frames(
-    names: &Names,
-    out: &mut Vec<u8>,
-    log: &StepLog,
-    next: usize,
-    steps: usize,
-) -> Result<usize, AllocError> {
-    let mut at = next;
-    for number in next..log.notes.len() {
-        match log.notes.get(number) {
-            Some(note) if note.steps <= steps => put_frame(names, out, log, note)?,
-            _ => return Ok(at),
-        }
-        at = number.saturating_add(1);
-    }
-    Ok(at)
-}
-
-/// The lines of a run, whose module is listed.
-fn put_lines(
-    alloc: Global,
-    out: &mut Vec<u8>,
-    told: &Told,
-    texts: Texts,
-) -> Result<(), AllocError> {
-    put_heads(alloc, out, told, texts.listing)?;
-    put_steps(alloc, out, told, texts)
-}
-
-/// All lines of a run.
-pub fn put_json(alloc: Global, out: &mut Vec<u8>, told: &Told) -> Result<(), AllocError> {
-    let listing = Listing::new(alloc, told.program.module())?;
-    let texts = Texts {
-        log: told.log,
-        listing: &listing,
-    };
-    let put = put_lines(alloc, out, told, texts);
-    drop(listing);
-    put
-}
-
 /// The lines of a step, and of the frames that it changes. Returns the next note.
 fn put_step_lines(
     names: &Names,
@@ -193,43 +128,112 @@ fn put_step_lines(
     put_frames(names, out, texts.log, next, number)
 }
 
-/// The lines of the steps, each with those of the frames that it changes.
+/// The lines of the steps between two numbers, each with those of the frames that it changes. The heap is as before the first one.
 fn put_steps(
     alloc: Global,
     out: &mut Vec<u8>,
     told: &Told,
     texts: Texts,
+    heap: &mut HeapView,
+    span: Span,
 ) -> Result<(), AllocError> {
-    let mut heap = HeapView::new(alloc, told.program, told.setup)?;
-    let put = put_steps_from(alloc, out, told, texts, &mut heap);
-    drop(heap);
-    put
+    let mut next = notes_before(told.log, span.first);
+    for (at, step) in told.log.steps.as_slice().iter().enumerate() {
+        let number = at.saturating_add(1);
+        if span.first <= number && number <= span.last {
+            let event = heap.step(step);
+            let names = Names {
+                alloc,
+                module: told.program.module(),
+                heap,
+            };
+            next = put_step_lines(&names, out, texts, number, step, &event, next)?;
+        }
+    }
+    Ok(())
 }
 
-/// The same, where the heap is as before the first step.
-fn put_steps_from(
+/// Makes the steps before the one with this number. Returns what the collector did last.
+fn go_to(log: &StepLog, heap: &mut HeapView, number: usize) -> Option<Event> {
+    let mut last = None;
+    for (at, step) in log.steps.as_slice().iter().enumerate() {
+        if at.saturating_add(1) >= number {
+            return last;
+        }
+        let event = heap.step(step);
+        if let Actor::Collector = step.actor {
+            last = Some(event);
+        }
+    }
+    last
+}
+
+/// The lines before those of the steps, of which this is the first that is written. The heap is as before it, and the collector did
+/// this last.
+fn put_before(
+    names: &Names,
+    out: &mut Vec<u8>,
+    told: &Told,
+    listing: &Listing,
+    first: usize,
+    last: Option<Event>,
+) -> Result<(), AllocError> {
+    put_heads(names, out, told, listing, first)?;
+    put_state(names, out, told, first, last)
+}
+
+/// The lines of these steps and those before, where the heap is as before the first step of the run.
+fn put_lines_from(
     alloc: Global,
     out: &mut Vec<u8>,
     told: &Told,
     texts: Texts,
     heap: &mut HeapView,
+    span: Span,
 ) -> Result<(), AllocError> {
-    let module = told.program.module();
+    let last = go_to(told.log, heap, span.first);
     let names = Names {
         alloc,
-        module,
+        module: told.program.module(),
         heap,
     };
-    let mut next = put_frames(&names, out, told.log, 0, 0)?;
-    for (at, step) in told.log.steps.as_slice().iter().enumerate() {
-        let event = heap.step(step);
-        let names = Names {
-            alloc,
-            module,
-            heap,
-        };
-        let number = at.saturating_add(1);
-        next = put_step_lines(&names, out, texts, number, step, &event, next)?;
-    }
-    Ok(())
+    put_before(&names, out, told, texts.listing, span.first, last)?;
+    put_steps(alloc, out, told, texts, heap, span)
+}
+
+/// The same of a run whose module is listed.
+fn put_lines(
+    alloc: Global,
+    out: &mut Vec<u8>,
+    told: &Told,
+    texts: Texts,
+    span: Span,
+) -> Result<(), AllocError> {
+    let mut heap = HeapView::new(alloc, told.program, told.setup)?;
+    let put = put_lines_from(alloc, out, told, texts, &mut heap, span);
+    drop(heap);
+    put
+}
+
+/// The lines of a run, of whose steps these are written.
+pub fn put_json(
+    alloc: Global,
+    out: &mut Vec<u8>,
+    told: &Told,
+    steps: Steps,
+) -> Result<(), AllocError> {
+    let listing = Listing::new(alloc, told.program.module())?;
+    let texts = Texts {
+        log: told.log,
+        listing: &listing,
+    };
+    let put = put_lines(
+        alloc,
+        out,
+        told,
+        texts,
+        span_of(steps, told.log.steps.len()),
+    );
+    drop(listing);
+    put
 }

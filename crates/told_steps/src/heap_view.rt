@@ -173,6 +173,15 @@ impl<'a> HeapView<'a> {
             })
     }
 
+    /// The stage that the collector posted last; of a thread the one that it stored last, and none where it has ended.
+    pub fn stage(&self, thread: Option<u32>) -> Option<u64> {
+        let Some(number) = thread else {
+            return Some(self.posted);
+        };
+        let stage = self.thread(number).stage;
+        if stage == DONE { None } else { Some(stage) }
+    }
+
     fn put_thread(&mut self, number: u32, view: ThreadView) {
         if (number as usize) < self.threads.len() {
             self.threads.set(number as usize, view);

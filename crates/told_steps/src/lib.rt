@@ -17,7 +17,7 @@ pub use events::Event;
 pub use heap_view::HeapView;
 pub use lines::{Texts, put_done};
 pub use listing::Listing;
-pub use paths::{Hop, path_to, put_path_to, put_root_name};
+pub use paths::{Hop, frames_under_way, path_to, put_path_to, put_root_name};
 pub use put_event::Names;
 pub use shade::Shade;
 pub use told::{Steps, Told, put_told};

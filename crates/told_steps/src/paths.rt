@@ -71,26 +71,27 @@ impl Search {
         Ok(())
     }
 
-    /// What the root slots of all frames refer to, those of a thread's newest frame first. A frame is under way where no later note
-    /// of its thread has as few frames or fewer.
+    /// What the root slots of the frames of these notes refer to.
+    fn look_at_notes(&mut self, log: &StepLog, places: &Items<usize>) -> Result<(), AllocError> {
+        for at in places.as_slice() {
+            if let Some(note) = log.notes.get(*at) {
+                self.look_at(log, *at, note)?;
+            }
+        }
+        Ok(())
+    }
+
+    /// What the root slots of all frames refer to, those of a thread's newest frame first.
     fn look_at_frames(
         &mut self,
         alloc: Global,
         log: &StepLog,
         threads: usize,
     ) -> Result<(), AllocError> {
-        let fewest: Vec<usize> = vec![in alloc; usize::MAX; threads]?;
-        let mut fewest = Items::from_vec(fewest);
-        let count = log.notes.len();
-        for back in 0..count {
-            let at = count.saturating_sub(back).saturating_sub(1);
-            if let Some(note) = log.notes.get(at) {
-                if is_fewer(&mut fewest, note) {
-                    self.look_at(log, at, note)?;
-                }
-            }
-        }
-        Ok(())
+        let places = frames_under_way(alloc, log, threads, log.notes.len())?;
+        let looked = self.look_at_notes(log, &places);
+        drop(places);
+        looked
     }
 
     /// All that those cells lead to which were reached so far.
@@ -118,6 +119,28 @@ fn is_fewer(fewest: &mut Items<usize>, note: &FrameNote) -> bool {
         fewest.set(thread, note.frames);
     }
     true
+}
+
+/// The places of the last notes of all frames that are under way after this number of notes, the last one first. A frame is under way
+/// where no later note of its thread has as few frames or fewer.
+pub fn frames_under_way(
+    alloc: Global,
+    log: &StepLog,
+    threads: usize,
+    count: usize,
+) -> Result<Items<usize>, AllocError> {
+    let fewest: Vec<usize> = vec![in alloc; usize::MAX; threads]?;
+    let mut fewest = Items::from_vec(fewest);
+    let mut places = Items::new(alloc);
+    for back in 0..count {
+        let at = count.saturating_sub(back).saturating_sub(1);
+        if let Some(note) = log.notes.get(at) {
+            if is_fewer(&mut fewest, note) {
+                places.push(at)?;
+            }
+        }
+    }
+    Ok(places)
 }
 
 /// The hops of a shortest path to a cell, the last one first; none where nothing leads to it.
