@@ -43,7 +43,11 @@ fn printed_with(
         return Ok(SectionOutcome::NotRead);
     }
     match replace_section(alloc, certs, module, FuncId::new(NUMBER), section) {
-        Ok(certs) => Ok(SectionOutcome::Printed(print_cert(alloc, &certs, module)?)),
+        Ok(certs) => {
+            let printed = print_cert(alloc, &certs, module);
+            drop(certs);
+            Ok(SectionOutcome::Printed(printed?))
+        }
         Err(fault) => Ok(SectionOutcome::Refused(fault)),
     }
 }
@@ -54,7 +58,11 @@ fn outcome_in(
     section: &[u8],
 ) -> Result<SectionOutcome, AllocError> {
     match read_cert(alloc, CERTIFICATES.as_bytes(), module) {
-        Ok(certs) => printed_with(alloc, &certs, module, section),
+        Ok(certs) => {
+            let outcome = printed_with(alloc, &certs, module, section);
+            drop(certs);
+            outcome
+        }
         Err(_) => Ok(SectionOutcome::NotRead),
     }
 }
@@ -184,7 +192,11 @@ impl<'a> Reader for Sections<'a> {
         }
         let function = FuncId::new(NUMBER);
         match replace_section(self.alloc, self.certs, self.of_module, function, text) {
-            Ok(certs) => Front::Read(certs.sections.as_slice().len()),
+            Ok(certs) => {
+                let sections = certs.sections.as_slice().len();
+                drop(certs);
+                Front::Read(sections)
+            }
             Err(fault) => cut_certificates(fault),
         }
     }
@@ -199,7 +211,9 @@ fn fronts_in(alloc: Global, of_module: &Module, section: &str) -> Fronts {
                 certs: &certs,
                 of_module,
             };
-            fronts_of(&reader, section.as_bytes())
+            let fronts = fronts_of(&reader, section.as_bytes());
+            drop(certs);
+            fronts
         }
         Err(_) => NONE,
     }
