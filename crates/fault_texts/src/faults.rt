@@ -172,6 +172,23 @@ fn advice_of(code: Code) -> &'static str {
     }
 }
 
+/// The name that was perhaps meant by another one, if there is one. Returns whether there is one.
+fn put_question(
+    pen: Pen,
+    out: &mut Vec<u8>,
+    name: &[u8],
+    meant: Option<&[u8]>,
+) -> Result<bool, AllocError> {
+    let Some(meant) = meant else {
+        return Ok(false);
+    };
+    put_inked(out, pen.look, Ink::Mend, "  mend:  ")?;
+    put(out, "is ")?;
+    put_like(out, name, meant)?;
+    put(out, " meant?\n")?;
+    Ok(true)
+}
+
 /// The name of the module that was perhaps meant by this one. Returns whether there is one.
 pub(crate) fn put_near(
     pen: Pen,
@@ -182,16 +199,10 @@ pub(crate) fn put_near(
     let Some(lexed) = lexed_of(pen.alloc, module)? else {
         return Ok(false);
     };
-    match near(module.text, lexed.tokens.as_slice(), name) {
-        Some(other) => {
-            put_inked(out, pen.look, Ink::Mend, "  mend:  ")?;
-            put(out, "is ")?;
-            put_like(out, name, other)?;
-            put(out, " meant?\n")?;
-            Ok(true)
-        }
-        None => Ok(false),
-    }
+    let meant = near(module.text, lexed.tokens.as_slice(), name);
+    let put = put_question(pen, out, name, meant);
+    drop(lexed);
+    put
 }
 
 /// The name of the module that was perhaps meant by one that is not defined; if there is none, how to go on.
