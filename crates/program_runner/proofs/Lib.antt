@@ -3,3 +3,4 @@ pub mod CellsRead
 mod FrameNames
 mod Tails
 mod Kept
+mod Overs

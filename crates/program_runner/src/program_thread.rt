@@ -75,7 +75,10 @@ impl<'a> ProgramThread<'a> {
     pub fn ending(&self) -> Ending
         ensures { result ≡ ending self.now.program self.now.state }
     {
-        self.thread.ending()
+        match self.asked {
+            Action::End | Action::Wrong => self.thread.ending(),
+            _ => Ending::Over,
+        }
     }
 
     /// The thread itself.
