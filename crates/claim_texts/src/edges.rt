@@ -107,8 +107,10 @@ fn unshown_of(scene: &Scene, target: BlockId, claim: &Claim) -> Unshown {
 
 /// The claim that an edge does not imply, and what is missing of it.
 pub fn unshown_on(scene: &Scene, detail: &Detail) -> Option<Unshown> {
-    let claim = claim_at(scene, detail)?;
-    Some(unshown_of(scene, detail.target, &claim))
+    match claim_at(scene, detail) {
+        Some(claim) => Some(unshown_of(scene, detail.target, &claim)),
+        None => None,
+    }
 }
 
 fn label_of(scene: &Scene, block: BlockId) -> Option<Operand> {
