@@ -68,11 +68,7 @@ fn makes_first_turns(alloc: Global) -> Result<(bool, u64), Fail> {
     let (layouts, pools) = ground(alloc, 1)?;
     let globals = one_reference();
     let mut collector = Collector::new(&pools, &layouts, &globals, 0);
-    let made = (makes(&mut collector, &FIRST_TURNS), collector.cycles());
-    drop(collector);
-    drop(pools);
-    drop(layouts);
-    Ok(made)
+    Ok((makes(&mut collector, &FIRST_TURNS), collector.cycles()))
 }
 
 #[test]

@@ -52,21 +52,14 @@ fn kept(
     requires pools { 0 < length pools.now }
 {
     let globals = two_references();
-    let (heap, mut mutators, sweeper) = open(alloc, layouts, pools, &globals, 2, &[])?;
-    let kept = kept_by_two(rt, &heap, &mut mutators);
-    drop(mutators);
-    drop(sweeper);
-    drop(heap);
-    Ok(kept)
+    let (heap, mut mutators, _sweeper) = open(alloc, layouts, pools, &globals, 2, &[])?;
+    Ok(kept_by_two(rt, &heap, &mut mutators))
 }
 
 /// On a pool of two cells.
 fn kept_of_two_cells(rt: &impl Threads, alloc: Global) -> Result<Option<Kept>, Fail> {
     let (layouts, pools) = ground(alloc, 2)?;
-    let made = kept(rt, alloc, &layouts, &pools);
-    drop(pools);
-    drop(layouts);
-    made
+    kept(rt, alloc, &layouts, &pools)
 }
 
 #[test]
@@ -102,21 +95,14 @@ fn beside(alloc: Global, layouts: &Layouts, pools: &Pools) -> Result<Option<Read
     requires pools { 0 < length pools.now }
 {
     let globals = one_reference();
-    let (heap, mut mutators, sweeper) = open(alloc, layouts, pools, &globals, 2, &[])?;
-    let read = read_beside(&heap, &mut mutators);
-    drop(mutators);
-    drop(sweeper);
-    drop(heap);
-    Ok(read)
+    let (heap, mut mutators, _sweeper) = open(alloc, layouts, pools, &globals, 2, &[])?;
+    Ok(read_beside(&heap, &mut mutators))
 }
 
 /// On a pool of one cell.
 fn beside_of_one_cell(alloc: Global) -> Result<Option<ReadBeside>, Fail> {
     let (layouts, pools) = ground(alloc, 1)?;
-    let made = beside(alloc, &layouts, &pools);
-    drop(pools);
-    drop(layouts);
-    made
+    beside(alloc, &layouts, &pools)
 }
 
 #[test]
@@ -164,10 +150,11 @@ fn share_and_close(
 {
     let taken = taken_by_two(rt, &heap, &mut threads.0, &mut threads.1);
     let closed = close_two(alloc, heap, threads, sweeper)?;
-    let stages = (closed.posted(), stages_of_two(&closed));
-    let colours = colours_of(&closed);
-    drop(closed);
-    Ok((taken, stages, colours))
+    Ok((
+        taken,
+        (closed.posted(), stages_of_two(&closed)),
+        colours_of(&closed),
+    ))
 }
 
 /// Opens a heap for that.
@@ -182,25 +169,16 @@ fn shared(
 {
     let globals = no_globals();
     let (heap, mut mutators, sweeper) = open(alloc, layouts, pools, &globals, 2, &[])?;
-    let threads = two_tokens(&heap, &mut mutators);
-    drop(mutators);
-    match threads {
+    match two_tokens(&heap, &mut mutators) {
         Some(threads) => share_and_close(rt, alloc, heap, threads, sweeper),
-        None => {
-            drop(sweeper);
-            drop(heap);
-            Err(Fail::new("two tokens"))
-        }
+        None => Err(Fail::new("two tokens")),
     }
 }
 
 /// On a pool of two cells.
 fn shared_of_two_cells(rt: &impl Threads, alloc: Global) -> Result<Shared, Fail> {
     let (layouts, pools) = ground(alloc, 2)?;
-    let made = shared(rt, alloc, &layouts, &pools);
-    drop(pools);
-    drop(layouts);
-    made
+    shared(rt, alloc, &layouts, &pools)
 }
 
 #[test]
@@ -234,10 +212,11 @@ fn wait_and_close(heap: Heap<'_>, mutators: Vec<Mutator>, mut sweeper: Sweeper<'
 {
     let waited = waits(&heap, &mut sweeper);
     let closed = close_new(heap, mutators, sweeper);
-    let stages = (closed.posted(), closed.stage(0));
-    let colours = colours_of(&closed);
-    drop(closed);
-    (waited, stages, colours)
+    (
+        waited,
+        (closed.posted(), closed.stage(0)),
+        colours_of(&closed),
+    )
 }
 
 /// Opens that heap.
@@ -253,10 +232,7 @@ fn waited(alloc: Global, layouts: &Layouts, pools: &Pools) -> Result<Waited, Fai
 /// On a pool of two cells.
 fn waited_of_two_cells(alloc: Global) -> Result<Waited, Fail> {
     let (layouts, pools) = ground(alloc, 2)?;
-    let made = waited(alloc, &layouts, &pools);
-    drop(pools);
-    drop(layouts);
-    made
+    waited(alloc, &layouts, &pools)
 }
 
 #[test]
@@ -308,9 +284,7 @@ fn cycle_and_close(
 {
     let made = two_cycles(&heap, &mut me, &mut sweeper);
     let closed = close_one(alloc, heap, me, sweeper)?;
-    let end = (closed.posted(), colours_of(&closed));
-    drop(closed);
-    Ok((made, end))
+    Ok((made, (closed.posted(), colours_of(&closed))))
 }
 
 /// Opens that heap.
@@ -320,25 +294,16 @@ fn cycled(alloc: Global, layouts: &Layouts, pools: &Pools) -> Result<CycleEnd, F
 {
     let globals = one_reference();
     let (heap, mut mutators, sweeper) = open(alloc, layouts, pools, &globals, 1, &[])?;
-    let token = last_token(&heap, &mut mutators);
-    drop(mutators);
-    match token {
+    match last_token(&heap, &mut mutators) {
         Some(me) => cycle_and_close(alloc, heap, me, sweeper),
-        None => {
-            drop(sweeper);
-            drop(heap);
-            Err(Fail::new("a token"))
-        }
+        None => Err(Fail::new("a token")),
     }
 }
 
 /// On a pool of two cells.
 fn cycled_of_two_cells(alloc: Global) -> Result<CycleEnd, Fail> {
     let (layouts, pools) = ground(alloc, 2)?;
-    let made = cycled(alloc, &layouts, &pools);
-    drop(pools);
-    drop(layouts);
-    made
+    cycled(alloc, &layouts, &pools)
 }
 
 #[test]
@@ -364,9 +329,10 @@ fn turn_and_close(heap: Heap<'_>, mutators: Vec<Mutator>, mut sweeper: Sweeper<'
 {
     let are_first = turns_are(&heap, &mut sweeper, &FIRST_TURNS);
     let closed = close_new(heap, mutators, sweeper);
-    let end = (closed.posted(), closed.colour(0), closed.word(0, 0));
-    drop(closed);
-    (are_first, end)
+    (
+        are_first,
+        (closed.posted(), closed.colour(0), closed.word(0, 0)),
+    )
 }
 
 /// Opens that heap.
@@ -381,10 +347,7 @@ fn turned(alloc: Global, layouts: &Layouts, pools: &Pools) -> Result<FirstTurns,
 /// On a pool of one cell.
 fn turned_of_one_cell(alloc: Global) -> Result<FirstTurns, Fail> {
     let (layouts, pools) = ground(alloc, 1)?;
-    let made = turned(alloc, &layouts, &pools);
-    drop(pools);
-    drop(layouts);
-    made
+    turned(alloc, &layouts, &pools)
 }
 
 #[test]
@@ -412,23 +375,6 @@ fn taken_around_a_cycle(heap: &Heap<'_>, me: &mut Mutator, sweeper: &mut Sweeper
     (first, answered, (take_two(heap, me), take(heap, me)))
 }
 
-/// Does this with the last of the tokens.
-fn taken_by_the_last(
-    heap: &Heap<'_>,
-    mutators: &mut Vec<Mutator>,
-    sweeper: &mut Sweeper<'_>,
-) -> Option<TakenAround>
-    requires present { heap.now.setup.late ≡ [] }
-    requires tokens { AreNew heap.now 0 mutators.old.items }
-    requires sweeper { IsSweeperOf heap.now sweeper.old }
-    requires layout { 0 < length heap.now.setup.pools }
-{
-    let mut me = last_token(heap, mutators)?;
-    let taken = taken_around_a_cycle(heap, &mut me, sweeper);
-    drop(me);
-    Some(taken)
-}
-
 /// Opens a heap for that.
 fn taken_around(
     alloc: Global,
@@ -440,20 +386,16 @@ fn taken_around(
 {
     let globals = no_globals();
     let (heap, mut mutators, mut sweeper) = open(alloc, layouts, pools, &globals, 1, &[])?;
-    let taken = taken_by_the_last(&heap, &mut mutators, &mut sweeper);
-    drop(mutators);
-    drop(sweeper);
-    drop(heap);
-    Ok(taken)
+    let Some(mut me) = last_token(&heap, &mut mutators) else {
+        return Ok(None);
+    };
+    Ok(Some(taken_around_a_cycle(&heap, &mut me, &mut sweeper)))
 }
 
 /// On a pool of two cells.
 fn taken_of_two_cells(alloc: Global) -> Result<Option<TakenAround>, Fail> {
     let (layouts, pools) = ground(alloc, 2)?;
-    let made = taken_around(alloc, &layouts, &pools);
-    drop(pools);
-    drop(layouts);
-    made
+    taken_around(alloc, &layouts, &pools)
 }
 
 #[test]
@@ -489,20 +431,13 @@ fn begun_late(alloc: Global, layouts: &Layouts, pools: &Pools) -> Result<Option<
 {
     let globals = no_globals();
     let (heap, mut mutators, mut sweeper) = open(alloc, layouts, pools, &globals, 1, &[true])?;
-    let begun = begin_after_turns(&heap, &mut mutators, &mut sweeper);
-    drop(mutators);
-    drop(sweeper);
-    drop(heap);
-    Ok(begun)
+    Ok(begin_after_turns(&heap, &mut mutators, &mut sweeper))
 }
 
 /// On a pool of one cell.
 fn begun_of_one_cell(alloc: Global) -> Result<Option<(u64, u32)>, Fail> {
     let (layouts, pools) = ground(alloc, 1)?;
-    let made = begun_late(alloc, &layouts, &pools);
-    drop(pools);
-    drop(layouts);
-    made
+    begun_late(alloc, &layouts, &pools)
 }
 
 #[test]
@@ -531,9 +466,7 @@ fn read_and_close(
 {
     let read = read_late(rt, &heap, &mut threads.0, &mut threads.1, &mut sweeper);
     let closed = close_two(alloc, heap, threads, sweeper)?;
-    let stages = (closed.posted(), stages_of_two(&closed));
-    drop(closed);
-    Ok((read, stages))
+    Ok((read, (closed.posted(), stages_of_two(&closed))))
 }
 
 /// Opens a heap of two threads for that, of which the second is late.
@@ -549,25 +482,16 @@ fn read_on_a_new_heap(
     let globals = one_reference();
     let opened = open(alloc, layouts, pools, &globals, 2, &[false, true]);
     let (heap, mut mutators, sweeper) = opened?;
-    let threads = present_and_late(&heap, &mut mutators);
-    drop(mutators);
-    match threads {
+    match present_and_late(&heap, &mut mutators) {
         Some(threads) => read_and_close(rt, alloc, heap, threads, sweeper),
-        None => {
-            drop(sweeper);
-            drop(heap);
-            Err(Fail::new("two tokens"))
-        }
+        None => Err(Fail::new("two tokens")),
     }
 }
 
 /// On a pool of two cells.
 fn read_of_two_cells(rt: &impl Threads, alloc: Global) -> Result<LateRead, Fail> {
     let (layouts, pools) = ground(alloc, 2)?;
-    let made = read_on_a_new_heap(rt, alloc, &layouts, &pools);
-    drop(pools);
-    drop(layouts);
-    made
+    read_on_a_new_heap(rt, alloc, &layouts, &pools)
 }
 
 /// The cell, what was read, and the stages of the threads, where the late one has begun at one that was posted after a whole cycle.

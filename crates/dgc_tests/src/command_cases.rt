@@ -2,8 +2,9 @@
 use crate::printed::Printed;
 use crate::row::printed_of;
 use crate::row_failure::RowFailure;
+use crate::texts::files_of;
 use commands::{CheckLine, Explained, Line, Look, Nobody, Refusals, status_of, work};
-use std::alloc::AllocError;
+use std::alloc::{AllocError, Global};
 use std::io;
 use std::io::Write;
 use std::rt::Runtime;
@@ -17,13 +18,18 @@ const CHECK: Line<'static> = Line::Check(CheckLine {
     refusals: Refusals::First,
 });
 
-/// What `check` prints of a module of spaces, one more than a module may have bytes. There is no certificate.
+/// Spaces, one more than a module may have bytes, and no certificate.
+fn long_files(alloc: Global) -> Result<Vec<Option<Vec<u8>>>, AllocError> {
+    let mut files = Vec::new(alloc);
+    files.push(Some(vec![in alloc; b' '; 16_777_217]?))?;
+    files.push(None)?;
+    Ok(files)
+}
+
+/// What `check` prints of a module that is too long.
 fn long_text(rt: &(impl Runtime + AllocGlobal + Threads + Sync)) -> Result<Printed, AllocError> {
-    let text = vec![in rt.alloc(); b' '; 16_777_217]?;
-    let files = [Some(text), None];
-    let printed = printed_of(rt, &CHECK, files.as_slice());
-    drop(files);
-    Ok(printed)
+    let files = long_files(rt.alloc())?;
+    Ok(printed_of(rt, &CHECK, files.as_slice()))
 }
 
 /// A writer that takes nothing.
@@ -40,34 +46,23 @@ impl Write for Full {
     }
 }
 
-/// The status of `check` of these files with these outputs.
-fn status_with<O: Write, E: Write>(
-    rt: &(impl Runtime + AllocGlobal + Threads + Sync),
-    files: &[Option<Vec<u8>>],
-    out: &mut O,
-    err: &mut E,
-) -> u8 {
+/// The status of `check` where there are no files, and the standard error takes nothing.
+fn status_without_error(rt: &(impl Runtime + AllocGlobal + Threads + Sync)) -> u8 {
     let alloc = rt.alloc();
-    let mut saved = Vec::new(alloc);
-    let answered = work(
+    let files: Vec<Option<Vec<u8>>> = Vec::new(alloc);
+    let mut out = Vec::new(alloc);
+    let printed = work(
         rt,
         alloc,
         Look::Plain,
         &CHECK,
-        files,
-        &mut saved,
-        out,
-        err,
+        files.as_slice(),
+        &mut Vec::new(alloc),
+        &mut out,
+        &mut Full,
         &mut Nobody,
     );
-    drop(saved);
-    status_of(answered)
-}
-
-/// The status of `check` where there are no files, and the standard error takes nothing.
-fn status_without_error(rt: &(impl Runtime + AllocGlobal + Threads + Sync)) -> u8 {
-    let mut out = Vec::new(rt.alloc());
-    status_with(rt, [].as_slice(), &mut out, &mut Full)
+    status_of(printed)
 }
 
 /// The status of `check` where the module is accepted, and the standard output takes nothing.
@@ -75,12 +70,20 @@ fn status_without_output(
     rt: &(impl Runtime + AllocGlobal + Threads + Sync),
 ) -> Result<u8, AllocError> {
     let alloc = rt.alloc();
-    let certificate = Vec::from_slice(alloc, b"cert 1")?;
-    let files = [Some(Vec::new(alloc)), Some(certificate)];
+    let files = files_of(alloc, [[""].as_slice(), ["cert 1"].as_slice()].as_slice())?;
     let mut err = Vec::new(alloc);
-    let status = status_with(rt, files.as_slice(), &mut Full, &mut err);
-    drop(files);
-    Ok(status)
+    let printed = work(
+        rt,
+        alloc,
+        Look::Plain,
+        &CHECK,
+        files.as_slice(),
+        &mut Vec::new(alloc),
+        &mut Full,
+        &mut err,
+        &mut Nobody,
+    );
+    Ok(status_of(printed))
 }
 
 /// Writes a line for each of these cases.
@@ -89,10 +92,7 @@ pub fn write_cases<O: Write>(
     out: &mut O,
 ) -> Result<(), RowFailure> {
     write!(out, "refuses_a_long_text")?;
-    let printed = long_text(rt)?;
-    let written = printed.write(out);
-    drop(printed);
-    written?;
+    long_text(rt)?.write(out)?;
     let (first, second) = (status_without_error(rt), status_without_output(rt)?);
     writeln!(out, "ends_with_a_failed_write: {first} {second}")?;
     Ok(())
