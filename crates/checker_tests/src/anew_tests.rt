@@ -96,39 +96,29 @@ fn refusal_of(alloc: Global, edit: &str) -> Result<Option<Told>, AllocError> {
     }
 }
 
-/// The faults of five edits, if they are refused.
-type Refusals = (
-    Option<Told>,
-    Option<Told>,
-    Option<Told>,
-    Option<Told>,
-    Option<Told>,
-);
+/// Edits of `@middle` with the fault of each: another name, before what is missing and before the same name defined twice; another
+/// item; an item after the function; and nothing at all.
+const REFUSED: [(&str, Told); 5] = [
+    ("define void @other() {\n", ("L3", 1, 13)),
+    (LAST, ("L3", 1, 13)),
+    ("@h = global i64 0\n", ("L3", 1, 1)),
+    (TWO_MIDDLES, ("L3", 5, 1)),
+    ("", ("L2", 1, 1)),
+];
 
-/// What comes of another name, before what is missing and before the same name defined twice; of another item; of an item after
-/// the function; and of nothing at all.
-fn refusals(alloc: Global) -> Result<Refusals, AllocError> {
-    Ok((
-        refusal_of(alloc, "define void @other() {\n")?,
-        refusal_of(alloc, LAST)?,
-        refusal_of(alloc, "@h = global i64 0\n")?,
-        refusal_of(alloc, TWO_MIDDLES)?,
-        refusal_of(alloc, "")?,
-    ))
+/// How many of these edits are refused for the fault beside them, up to the first that is not.
+fn refused(alloc: Global, edits: &[(&str, Told)]) -> Result<usize, AllocError> {
+    for (number, (edit, wanted)) in edits.iter().enumerate() {
+        if refusal_of(alloc, edit)? != Some(*wanted) {
+            return Ok(number);
+        }
+    }
+    Ok(edits.len())
 }
 
 #[test]
 fn refuses_what_is_not_one_function_of_the_name(rt: HostRuntime) -> Result<(), Fail> {
-    assert_eq!(rt;
-        refusals(rt.alloc())?,
-        (
-            Some(("L3", 1, 13)),
-            Some(("L3", 1, 13)),
-            Some(("L3", 1, 1)),
-            Some(("L3", 5, 1)),
-            Some(("L2", 1, 1)),
-        )
-    );
+    assert_eq!(rt; refused(rt.alloc(), REFUSED.as_slice())?, 5);
     Ok(())
 }
 
@@ -138,11 +128,11 @@ const STORES: &str = "define i64 @middle(i64 %a) {\nentry:\n  store i8* ";
 /// What comes after it.
 const ENDS: &str = ", i8** null\n  ret i64 %a\n}\n";
 
-/// The fault of an edit, if it is refused, and whether a form is left out that begins with the word of its operand.
-type OperandRefusal = Option<(Told, bool)>;
+/// The fault of an edit, and whether a form is left out that begins with the word of its operand.
+type OperandFault = (Told, bool);
 
-/// What comes of an edit with this operand.
-fn operand_refusal(alloc: Global, operand: &str) -> Result<OperandRefusal, AllocError> {
+/// The fault of an edit with this operand, if it is refused.
+fn operand_refusal(alloc: Global, operand: &str) -> Result<Option<OperandFault>, AllocError> {
     let edit = joined(alloc, [STORES, operand, ENDS].as_slice())?;
     match after_edit(alloc, edit.as_slice())? {
         Edited::Refused(fault) => Ok(Some((told_of_module(&fault), is_word(&fault, operand)))),
@@ -158,34 +148,29 @@ fn is_word(fault: &ReadFault, wanted: &str) -> bool {
     }
 }
 
-/// What comes of four edits.
-type OperandRefusals = (
-    OperandRefusal,
-    OperandRefusal,
-    OperandRefusal,
-    OperandRefusal,
-);
+/// Operands with what comes of them: functions before this one, this one and one after it, which are no operands, and an unknown name.
+const REFUSED_OPERANDS: [(&str, OperandFault); 4] = [
+    ("@first", (("L7", 3, 13), true)),
+    ("@middle", (("L7", 3, 13), true)),
+    ("@last", (("L7", 3, 13), true)),
+    ("@nowhere", (("L5", 3, 13), false)),
+];
 
-/// What comes of functions before this one, of this one and of one after it, which are no operands, and of an unknown name.
-fn operand_refusals(alloc: Global) -> Result<OperandRefusals, AllocError> {
-    Ok((
-        operand_refusal(alloc, "@first")?,
-        operand_refusal(alloc, "@middle")?,
-        operand_refusal(alloc, "@last")?,
-        operand_refusal(alloc, "@nowhere")?,
-    ))
+/// How many of these operands are refused for the fault beside them, up to the first that is not.
+fn refused_operands(alloc: Global, operands: &[(&str, OperandFault)]) -> Result<usize, AllocError> {
+    for (number, (operand, wanted)) in operands.iter().enumerate() {
+        if operand_refusal(alloc, operand)? != Some(*wanted) {
+            return Ok(number);
+        }
+    }
+    Ok(operands.len())
 }
 
 #[test]
 fn judges_names_by_the_whole_module(rt: HostRuntime) -> Result<(), Fail> {
     assert_eq!(rt;
-        operand_refusals(rt.alloc())?,
-        (
-            Some((("L7", 3, 13), true)),
-            Some((("L7", 3, 13), true)),
-            Some((("L7", 3, 13), true)),
-            Some((("L5", 3, 13), false)),
-        )
+        refused_operands(rt.alloc(), REFUSED_OPERANDS.as_slice())?,
+        4
     );
     Ok(())
 }

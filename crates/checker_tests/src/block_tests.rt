@@ -15,10 +15,9 @@ const TEST: u32 = 1;
 /// A value that is a number.
 const NUMBER: u32 = 2;
 
-/// Facts of three values and one slot.
-fn sample(alloc: Global) -> Result<Facts, AllocError> {
+/// Says of three values and one slot what a sample says.
+fn fill(facts: &mut Facts) -> Result<(), AllocError> {
     let reference = ValueId::new(REFERENCE);
-    let mut facts = Facts::new(alloc, 3, 1)?;
     facts.define_new(
         reference,
         LayoutId::new(0),
@@ -30,8 +29,19 @@ fn sample(alloc: Global) -> Result<Facts, AllocError> {
     let known = facts.known(reference);
     facts.store_slot(SlotId::new(0), known)?;
     facts.define_test(ValueId::new(TEST), null_test(reference))?;
-    facts.define(ValueId::new(NUMBER), number())?;
-    Ok(facts)
+    facts.define(ValueId::new(NUMBER), number())
+}
+
+/// Facts of three values and one slot.
+fn sample(alloc: Global) -> Result<Facts, AllocError> {
+    let mut facts = Facts::new(alloc, 3, 1)?;
+    match fill(&mut facts) {
+        Ok(()) => Ok(facts),
+        Err(refused) => {
+            drop(facts);
+            Err(refused)
+        }
+    }
 }
 
 /// The comparison of a value with null.
@@ -159,7 +169,9 @@ fn is_alike(one: &Facts, other: &Facts) -> bool {
 /// Whether these facts are those of a sample.
 fn is_sample(alloc: Global, facts: &Facts) -> Result<bool, AllocError> {
     let sample = sample(alloc)?;
-    Ok(is_alike(facts, &sample))
+    let is_sample = is_alike(facts, &sample);
+    drop(sample);
+    Ok(is_sample)
 }
 
 /// A call that changes what a sample says.
@@ -228,16 +240,27 @@ fn make(alloc: Global, facts: &mut Facts, change: FactCall) -> Result<(), AllocE
     }
 }
 
-/// A sharer of a sample that is changed, and whether the change is made in it alone.
-fn changed_sharer(
+/// Whether a change of the second sharer of a sample is made in it alone.
+fn changes_second(
     alloc: Global,
     first: &Facts,
+    second: &mut Facts,
     change: FactCall,
-) -> Result<(Facts, bool), AllocError> {
-    let mut second = first.share()?;
-    make(alloc, &mut second, change)?;
-    let is_alone = is_sample(alloc, first)? && !is_sample(alloc, &second)?;
-    Ok((second, is_alone))
+) -> Result<bool, AllocError> {
+    make(alloc, second, change)?;
+    Ok(is_sample(alloc, first)? && !is_sample(alloc, second)?)
+}
+
+/// Whether a change of a sample makes it like the sharer that was changed before, and is not made in the third one.
+fn changes_two(
+    alloc: Global,
+    first: &mut Facts,
+    second: &Facts,
+    third: &Facts,
+    change: FactCall,
+) -> Result<bool, AllocError> {
+    make(alloc, first, change)?;
+    Ok(is_alike(first, second) && is_sample(alloc, third)?)
 }
 
 /// Whether a change of a sample makes it like its other sharer, and is not made in a third one.
@@ -248,15 +271,36 @@ fn changes_first(
     change: FactCall,
 ) -> Result<bool, AllocError> {
     let third = first.share()?;
-    make(alloc, first, change)?;
-    Ok(is_alike(first, second) && is_sample(alloc, &third)?)
+    let changes = changes_two(alloc, first, second, &third, change);
+    drop(third);
+    changes
+}
+
+/// Whether a change is made only in the sharer that is written, first in the second one and then in the first.
+fn changes_each(
+    alloc: Global,
+    first: &mut Facts,
+    second: &mut Facts,
+    change: FactCall,
+) -> Result<bool, AllocError> {
+    let is_alone = changes_second(alloc, first, second, change)?;
+    Ok(changes_first(alloc, first, second, change)? && is_alone)
+}
+
+/// Does this with a sharer of a sample.
+fn changes_shared(alloc: Global, first: &mut Facts, change: FactCall) -> Result<bool, AllocError> {
+    let mut second = first.share()?;
+    let changes = changes_each(alloc, first, &mut second, change);
+    drop(second);
+    changes
 }
 
 /// Whether a change is made only in the sharer that is written, be it the first or the second.
 fn is_apart(alloc: Global, change: FactCall) -> Result<bool, AllocError> {
     let mut first = sample(alloc)?;
-    let (second, is_alone) = changed_sharer(alloc, &first, change)?;
-    Ok(changes_first(alloc, &mut first, &second, change)? && is_alone)
+    let is_apart = changes_shared(alloc, &mut first, change);
+    drop(first);
+    is_apart
 }
 
 /// How many of the changes are made only in the sharer that is written.
@@ -276,31 +320,68 @@ fn sharers_stay_as_they_were(rt: HostRuntime) -> Result<(), Fail> {
     Ok(())
 }
 
+/// Whether facts are a sample once these are copied into them.
+fn is_sample_after(alloc: Global, copied: &mut Facts, facts: &Facts) -> Result<bool, AllocError> {
+    copied.set_from(alloc, facts)?;
+    is_sample(alloc, copied)
+}
+
+/// Whether a copy of these facts is a sample.
+fn is_sample_copied(alloc: Global, facts: &Facts) -> Result<bool, AllocError> {
+    let mut copied = Facts::new(alloc, 0, 0)?;
+    let is_sample = is_sample_after(alloc, &mut copied, facts);
+    drop(copied);
+    is_sample
+}
+
+/// Whether facts are a sample once they are opened of what is kept of one.
+fn is_sample_opened(
+    alloc: Global,
+    opened: &mut Facts,
+    kept: &KeptFacts,
+) -> Result<bool, AllocError> {
+    opened.open(alloc, kept)?;
+    is_sample(alloc, opened)
+}
+
+/// Whether facts are a sample after a change.
+fn is_sample_changed(alloc: Global, facts: &mut Facts) -> Result<bool, AllocError> {
+    make(alloc, facts, FactCall::Forget)?;
+    is_sample(alloc, facts)
+}
+
 /// Whether facts that are opened of what is kept of a sample are alike, also again after a change; whether they are unlike in
 /// between; and whether a copy of them is alike.
-fn openings(alloc: Global, kept: &KeptFacts) -> Result<[bool; 4], AllocError> {
+fn openings(alloc: Global, opened: &mut Facts, kept: &KeptFacts) -> Result<[bool; 4], AllocError> {
+    let is_alike_at_first = is_sample_opened(alloc, opened, kept)?;
+    let is_unlike = !is_sample_changed(alloc, opened)?;
+    let is_alike_again = is_sample_opened(alloc, opened, kept)?;
+    let is_copy_alike = is_sample_copied(alloc, opened)?;
+    Ok([is_alike_at_first, is_unlike, is_alike_again, is_copy_alike])
+}
+
+/// Does this with facts of nothing at first.
+fn openings_of(alloc: Global, kept: &KeptFacts) -> Result<[bool; 4], AllocError> {
     let mut opened = Facts::new(alloc, 0, 0)?;
-    opened.open(alloc, kept)?;
-    let is_alike_at_first = is_sample(alloc, &opened)?;
-    make(alloc, &mut opened, FactCall::Forget)?;
-    let is_unlike = !is_sample(alloc, &opened)?;
-    opened.open(alloc, kept)?;
-    let is_alike_again = is_sample(alloc, &opened)?;
-    let mut copied = Facts::new(alloc, 0, 0)?;
-    copied.set_from(alloc, &opened)?;
-    Ok([
-        is_alike_at_first,
-        is_unlike,
-        is_alike_again,
-        is_sample(alloc, &copied)?,
-    ])
+    let openings = openings(alloc, &mut opened, kept);
+    drop(opened);
+    openings
+}
+
+/// What is kept of a sample.
+fn kept_sample(alloc: Global) -> Result<KeptFacts, AllocError> {
+    let facts = sample(alloc)?;
+    let kept = facts.keep(alloc);
+    drop(facts);
+    kept
 }
 
 /// Does this with what is kept of a sample.
 fn openings_of_a_sample(alloc: Global) -> Result<[bool; 4], AllocError> {
-    let facts = sample(alloc)?;
-    let kept = facts.keep(alloc)?;
-    openings(alloc, &kept)
+    let kept = kept_sample(alloc)?;
+    let openings = openings_of(alloc, &kept);
+    drop(kept);
+    openings
 }
 
 #[test]
@@ -309,25 +390,62 @@ fn what_is_kept_stays_as_it_was(rt: HostRuntime) -> Result<(), Fail> {
     Ok(())
 }
 
-/// A million sharers, each of the one before it, the last of which is given apart.
-fn sharers_of(alloc: Global, facts: &Facts) -> Result<(Vec<Facts>, Facts), AllocError> {
-    let mut last = facts.share()?;
-    let mut sharers = Vec::new(alloc);
-    for _step in 0..1_000_000u32 {
-        let next = last.share()?;
-        sharers.push(last)?;
-        last = next;
+/// A sharer of the last of these sharers of some facts, or of the facts themselves.
+fn next_sharer(sharers: &[Facts], facts: &Facts) -> Result<Facts, AllocError> {
+    match sharers.last() {
+        Some(last) => last.share(),
+        None => facts.share(),
     }
-    Ok((sharers, last))
+}
+
+/// Adds a million sharers of some facts, each of the one before it.
+fn add_sharers(sharers: &mut Vec<Facts>, facts: &Facts) -> Result<(), AllocError> {
+    for _step in 0..1_000_000u32 {
+        let next = next_sharer(sharers.as_slice(), facts)?;
+        sharers.push(next)?;
+    }
+    Ok(())
+}
+
+/// A sharer of the last of a million sharers, which is changed.
+fn changed_last(
+    alloc: Global,
+    sharers: &mut Vec<Facts>,
+    facts: &Facts,
+) -> Result<Facts, AllocError> {
+    add_sharers(sharers, facts)?;
+    let mut last = next_sharer(sharers.as_slice(), facts)?;
+    match make(alloc, &mut last, FactCall::Forget) {
+        Ok(()) => Ok(last),
+        Err(refused) => {
+            drop(last);
+            Err(refused)
+        }
+    }
+}
+
+/// The same, once the million sharers are dropped.
+fn last_alone(alloc: Global, facts: &Facts) -> Result<Facts, AllocError> {
+    let mut sharers = Vec::new(alloc);
+    let last = changed_last(alloc, &mut sharers, facts);
+    drop(sharers);
+    last
+}
+
+/// Whether some facts are still a sample, and whether the last of their sharers, which was changed, is one.
+fn outlives_sharers_of(alloc: Global, facts: &Facts) -> Result<(bool, bool), AllocError> {
+    let last = last_alone(alloc, facts)?;
+    let is_sample_too = is_sample(alloc, &last);
+    drop(last);
+    Ok((is_sample(alloc, facts)?, is_sample_too?))
 }
 
 /// Whether the last of a million sharers is changed alone, and stays so where the others are dropped.
 fn outlives_sharers(alloc: Global) -> Result<(bool, bool), AllocError> {
     let facts = sample(alloc)?;
-    let (sharers, mut last) = sharers_of(alloc, &facts)?;
-    make(alloc, &mut last, FactCall::Forget)?;
-    drop(sharers);
-    Ok((is_sample(alloc, &facts)?, is_sample(alloc, &last)?))
+    let outlives = outlives_sharers_of(alloc, &facts);
+    drop(facts);
+    outlives
 }
 
 #[test]

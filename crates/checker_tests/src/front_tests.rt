@@ -85,7 +85,11 @@ struct Certificates<'a> {
 impl<'a> Reader for Certificates<'a> {
     fn front(&self, text: &[u8]) -> Front {
         match read_cert(self.alloc, text, self.of_module) {
-            Ok(certs) => Front::Read(certs.sections.as_slice().len()),
+            Ok(certs) => {
+                let sections = certs.sections.as_slice().len();
+                drop(certs);
+                Front::Read(sections)
+            }
             Err(fault) => cut_certificates(fault),
         }
     }

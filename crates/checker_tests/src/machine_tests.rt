@@ -74,39 +74,41 @@ fn tried(alloc: Global, text: &str, number: u64) -> Result<Option<Fate>, AllocEr
     }
 }
 
-/// What comes of the deepest calls for which there is room, and of one more.
-fn depths(alloc: Global) -> Result<(Option<Fate>, Option<Fate>), AllocError> {
-    Ok((tried(alloc, DOWN, 9_999)?, tried(alloc, DOWN, 10_000)?))
+/// How many of these numbers lead to the fate beside them, up to the first that does not.
+fn fated(alloc: Global, text: &str, numbers: &[(u64, Fate)]) -> Result<usize, AllocError> {
+    for (place, (number, wanted)) in numbers.iter().enumerate() {
+        if tried(alloc, text, *number)? != Some(*wanted) {
+            return Ok(place);
+        }
+    }
+    Ok(numbers.len())
 }
 
-// Four steps a level on the way down, three in the deepest, one for each return but the last. A call that has no room for its
-// frame ends the thread.
+/// The deepest calls for which there is room, and one more.
+///
+/// Four steps a level on the way down, three in the deepest, one for each return but the last. A call that has no room for its
+/// frame ends the thread.
+const DEPTHS: [(u64, Fate); 2] = [
+    (9_999, (4 * 9_999 + 3 + 9_998, "end", 0)),
+    (10_000, (4 * 9_999 + 3, "end", 0)),
+];
+
 #[test]
 fn a_thread_has_ten_thousand_frames(rt: HostRuntime) -> Result<(), Fail> {
-    assert_eq!(rt;
-        depths(rt.alloc())?,
-        (
-            Some((4 * 9_999 + 3 + 9_998, "end", 0)),
-            Some((4 * 9_999 + 3, "end", 0)),
-        )
-    );
+    assert_eq!(rt; fated(rt.alloc(), DOWN, DEPTHS.as_slice())?, 2);
     Ok(())
 }
 
-/// What comes of an even number, and of an odd one.
-fn parities(alloc: Global) -> Result<(Option<Fate>, Option<Fate>), AllocError> {
-    Ok((tried(alloc, PARITY, 1_000)?, tried(alloc, PARITY, 7)?))
-}
+/// An even number, and an odd one.
+///
+/// A call, four steps a level on the way down, three in the deepest, a return for each of the others, the test of the result.
+const PARITIES: [(u64, Fate); 2] = [
+    (1_000, (1 + 4 * 1_000 + 3 + 1_000 + 2, "alloc", 0)),
+    (7, (1 + 4 * 7 + 3 + 7 + 2, "end", 0)),
+];
 
-// A call, four steps a level on the way down, three in the deepest, a return for each of the others, the test of the result.
 #[test]
 fn functions_call_each_other(rt: HostRuntime) -> Result<(), Fail> {
-    assert_eq!(rt;
-        parities(rt.alloc())?,
-        (
-            Some((1 + 4 * 1_000 + 3 + 1_000 + 2, "alloc", 0)),
-            Some((1 + 4 * 7 + 3 + 7 + 2, "end", 0)),
-        )
-    );
+    assert_eq!(rt; fated(rt.alloc(), PARITY, PARITIES.as_slice())?, 2);
     Ok(())
 }

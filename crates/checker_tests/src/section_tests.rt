@@ -43,7 +43,11 @@ fn printed_with(
         return Ok(SectionOutcome::NotRead);
     }
     match replace_section(alloc, certs, module, FuncId::new(NUMBER), section) {
-        Ok(certs) => Ok(SectionOutcome::Printed(print_cert(alloc, &certs, module)?)),
+        Ok(certs) => {
+            let printed = print_cert(alloc, &certs, module);
+            drop(certs);
+            Ok(SectionOutcome::Printed(printed?))
+        }
         Err(fault) => Ok(SectionOutcome::Refused(fault)),
     }
 }
@@ -54,7 +58,11 @@ fn outcome_in(
     section: &[u8],
 ) -> Result<SectionOutcome, AllocError> {
     match read_cert(alloc, CERTIFICATES.as_bytes(), module) {
-        Ok(certs) => printed_with(alloc, &certs, module, section),
+        Ok(certs) => {
+            let outcome = printed_with(alloc, &certs, module, section);
+            drop(certs);
+            outcome
+        }
         Err(_) => Ok(SectionOutcome::NotRead),
     }
 }
@@ -104,68 +112,70 @@ fn refusal_of(alloc: Global, section: &str) -> Result<Option<Told>, AllocError> 
     }
 }
 
-/// The faults of three sections, if they are refused.
-type Refusals = (Option<Told>, Option<Told>, Option<Told>);
-
-/// The faults of these sections.
-fn refusals(alloc: Global, sections: [&str; 3]) -> Result<Refusals, AllocError> {
-    let [first, second, third] = sections;
-    Ok((
-        refusal_of(alloc, first)?,
-        refusal_of(alloc, second)?,
-        refusal_of(alloc, third)?,
-    ))
+/// How many of these sections are refused for the fault beside them, up to the first that is not.
+fn refused(alloc: Global, sections: &[(&str, Told)]) -> Result<usize, AllocError> {
+    for (number, (section, wanted)) in sections.iter().enumerate() {
+        if refusal_of(alloc, section)? != Some(*wanted) {
+            return Ok(number);
+        }
+    }
+    Ok(sections.len())
 }
 
-/// Sections of another function, of one that is unknown, and of what is no name.
-const OTHER_NAMES: [&str; 3] = [
-    "function @two none\nblock %no\nblock %ok\nend\n",
-    "\nfunction @five none\nend\n",
-    "function four none\nblock %no\nblock %ok\nend\n",
+/// Sections of another function, of one that is unknown, and of what is no name, with their faults.
+const OTHER_NAMES: [(&str, Told); 3] = [
+    (
+        "function @two none\nblock %no\nblock %ok\nend\n",
+        ("C1", 1, 10),
+    ),
+    ("\nfunction @five none\nend\n", ("C1", 2, 10)),
+    (
+        "function four none\nblock %no\nblock %ok\nend\n",
+        ("C1", 1, 10),
+    ),
 ];
 
 #[test]
 fn refuses_a_section_of_another_name(rt: HostRuntime) -> Result<(), Fail> {
-    assert_eq!(rt;
-        refusals(rt.alloc(), OTHER_NAMES)?,
-        (
-            Some(("C1", 1, 10)),
-            Some(("C1", 2, 10)),
-            Some(("C1", 1, 10)),
-        )
-    );
+    assert_eq!(rt; refused(rt.alloc(), OTHER_NAMES.as_slice())?, 3);
     Ok(())
 }
 
-/// A section before another one, one with two ends, and one after the first line of certificates.
-const MORE_THAN_SECTIONS: [&str; 3] = [
-    "function @four may\nblock %no\nblock %ok\nend\nfunction @two none\nblock %no\nblock %ok\nend\n",
-    "function @four may\nblock %no\nend\nend\n",
-    "cert 1\nfunction @four may\nblock %no\nblock %ok\nend\n",
+/// A section before another one, one with two ends, and one after the first line of certificates, with their faults.
+const MORE_THAN_SECTIONS: [(&str, Told); 3] = [
+    (
+        "function @four may\nblock %no\nblock %ok\nend\nfunction @two none\nblock %no\nblock %ok\nend\n",
+        ("C1", 5, 1),
+    ),
+    ("function @four may\nblock %no\nend\nend\n", ("C1", 4, 1)),
+    (
+        "cert 1\nfunction @four may\nblock %no\nblock %ok\nend\n",
+        ("C1", 1, 1),
+    ),
 ];
 
 #[test]
 fn refuses_more_than_one_section(rt: HostRuntime) -> Result<(), Fail> {
-    assert_eq!(rt;
-        refusals(rt.alloc(), MORE_THAN_SECTIONS)?,
-        (Some(("C1", 5, 1)), Some(("C1", 4, 1)), Some(("C1", 1, 1)))
-    );
+    assert_eq!(rt; refused(rt.alloc(), MORE_THAN_SECTIONS.as_slice())?, 3);
     Ok(())
 }
 
-/// A section of a block that is unknown, one without the last block, and one of a block twice.
-const OTHER_BLOCKS: [&str; 3] = [
-    "function @four may\nblock %no\nblock %yes\nend\n",
-    "function @four may\nblock %no\nend\n",
-    "function @four may\nblock %no\nblock %no\nblock %ok\nend\n",
+/// A section of a block that is unknown, one without the last block, and one of a block twice, with their faults.
+const OTHER_BLOCKS: [(&str, Told); 3] = [
+    (
+        "function @four may\nblock %no\nblock %yes\nend\n",
+        ("C3", 3, 7),
+    ),
+    ("function @four may\nblock %no\nend\n", ("C5", 1, 2)),
+    (
+        "function @four may\nblock %no\nblock %no\nblock %ok\nend\n",
+        ("C4", 3, 7),
+    ),
 ];
 
 #[test]
 fn refuses_blocks_that_are_unknown_or_missing(rt: HostRuntime) -> Result<(), Fail> {
-    assert_eq!(rt;
-        refusals(rt.alloc(), OTHER_BLOCKS)?,
-        (Some(("C3", 3, 7)), Some(("C5", 1, 2)), Some(("C4", 3, 7)))
-    );
+    assert_eq!(rt; refused(rt.alloc(), OTHER_BLOCKS.as_slice())?, 3);
     Ok(())
 }
 
@@ -184,7 +194,11 @@ impl<'a> Reader for Sections<'a> {
         }
         let function = FuncId::new(NUMBER);
         match replace_section(self.alloc, self.certs, self.of_module, function, text) {
-            Ok(certs) => Front::Read(certs.sections.as_slice().len()),
+            Ok(certs) => {
+                let sections = certs.sections.as_slice().len();
+                drop(certs);
+                Front::Read(sections)
+            }
             Err(fault) => cut_certificates(fault),
         }
     }
@@ -199,7 +213,9 @@ fn fronts_in(alloc: Global, of_module: &Module, section: &str) -> Fronts {
                 certs: &certs,
                 of_module,
             };
-            fronts_of(&reader, section.as_bytes())
+            let fronts = fronts_of(&reader, section.as_bytes());
+            drop(certs);
+            fronts
         }
         Err(_) => NONE,
     }

@@ -68,7 +68,11 @@ fn makes_first_turns(alloc: Global) -> Result<(bool, u64), Fail> {
     let (layouts, pools) = ground(alloc, 1)?;
     let globals = one_reference();
     let mut collector = Collector::new(&pools, &layouts, &globals, 0);
-    Ok((makes(&mut collector, &FIRST_TURNS), collector.cycles()))
+    let made = (makes(&mut collector, &FIRST_TURNS), collector.cycles());
+    drop(collector);
+    drop(pools);
+    drop(layouts);
+    Ok(made)
 }
 
 #[test]

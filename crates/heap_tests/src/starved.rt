@@ -1,6 +1,7 @@
 //! A thread that finds no memory for a list of its roots, beside the collector.
 ghost use Rattle.std.specs.Prelude.{◌≡◌, ◌<◌, [], ◌∷◌, length};
 ghost use Rattle.heap_table.specs.Holders.{MayCall};
+ghost use Rattle.heap_table.specs.Opening.{AreNew};
 ghost use Rattle.heap_table.specs.Sweepers.{IsSweeperOf};
 
 use crate::opening::{ground, last_token, no_globals, open};
@@ -72,6 +73,27 @@ fn starve(
     (matches!(end, ServingEnd::Memory), sweeper.cycles() > 0)
 }
 
+/// Does this with the last of the tokens.
+fn starve_the_last(
+    alloc: Global,
+    heap: &Heap<'_>,
+    mutators: &mut Vec<Mutator>,
+    sweeper: &mut Sweeper<'_>,
+) -> Result<(bool, bool), Fail>
+    requires present { heap.now.setup.late ≡ [] }
+    requires tokens { AreNew heap.now 0 mutators.old.items }
+    requires sweeper { IsSweeperOf heap.now sweeper.old }
+{
+    match last_token(heap, mutators) {
+        Some(mut me) => {
+            let starved = starve(alloc, heap, &mut me, sweeper);
+            drop(me);
+            Ok(starved)
+        }
+        None => Err(Fail::new("a token")),
+    }
+}
+
 /// Opens a heap for that.
 fn starved_anew(alloc: Global, layouts: &Layouts, pools: &Pools) -> Result<(bool, bool), Fail>
     requires layouts { layouts.now ≡ [] ∷ [] }
@@ -79,16 +101,20 @@ fn starved_anew(alloc: Global, layouts: &Layouts, pools: &Pools) -> Result<(bool
 {
     let globals = no_globals();
     let (heap, mut mutators, mut sweeper) = open(alloc, layouts, pools, &globals, 1, &[])?;
-    match last_token(&heap, &mut mutators) {
-        Some(mut me) => Ok(starve(alloc, &heap, &mut me, &mut sweeper)),
-        None => Err(Fail::new("a token")),
-    }
+    let starved = starve_the_last(alloc, &heap, &mut mutators, &mut sweeper);
+    drop(mutators);
+    drop(sweeper);
+    drop(heap);
+    starved
 }
 
 /// On a pool of one cell.
 fn starved_of_one_cell(alloc: Global) -> Result<(bool, bool), Fail> {
     let (layouts, pools) = ground(alloc, 1)?;
-    starved_anew(alloc, &layouts, &pools)
+    let starved = starved_anew(alloc, &layouts, &pools);
+    drop(pools);
+    drop(layouts);
+    starved
 }
 
 #[test]

@@ -52,14 +52,21 @@ fn kept(
     requires pools { 0 < length pools.now }
 {
     let globals = two_references();
-    let (heap, mut mutators, _sweeper) = open(alloc, layouts, pools, &globals, 2, &[])?;
-    Ok(kept_by_two(rt, &heap, &mut mutators))
+    let (heap, mut mutators, sweeper) = open(alloc, layouts, pools, &globals, 2, &[])?;
+    let kept = kept_by_two(rt, &heap, &mut mutators);
+    drop(mutators);
+    drop(sweeper);
+    drop(heap);
+    Ok(kept)
 }
 
 /// On a pool of two cells.
 fn kept_of_two_cells(rt: &impl Threads, alloc: Global) -> Result<Option<Kept>, Fail> {
     let (layouts, pools) = ground(alloc, 2)?;
-    kept(rt, alloc, &layouts, &pools)
+    let made = kept(rt, alloc, &layouts, &pools);
+    drop(pools);
+    drop(layouts);
+    made
 }
 
 #[test]
@@ -95,14 +102,21 @@ fn beside(alloc: Global, layouts: &Layouts, pools: &Pools) -> Result<Option<Read
     requires pools { 0 < length pools.now }
 {
     let globals = one_reference();
-    let (heap, mut mutators, _sweeper) = open(alloc, layouts, pools, &globals, 2, &[])?;
-    Ok(read_beside(&heap, &mut mutators))
+    let (heap, mut mutators, sweeper) = open(alloc, layouts, pools, &globals, 2, &[])?;
+    let read = read_beside(&heap, &mut mutators);
+    drop(mutators);
+    drop(sweeper);
+    drop(heap);
+    Ok(read)
 }
 
 /// On a pool of one cell.
 fn beside_of_one_cell(alloc: Global) -> Result<Option<ReadBeside>, Fail> {
     let (layouts, pools) = ground(alloc, 1)?;
-    beside(alloc, &layouts, &pools)
+    let made = beside(alloc, &layouts, &pools);
+    drop(pools);
+    drop(layouts);
+    made
 }
 
 #[test]
@@ -150,11 +164,10 @@ fn share_and_close(
 {
     let taken = taken_by_two(rt, &heap, &mut threads.0, &mut threads.1);
     let closed = close_two(alloc, heap, threads, sweeper)?;
-    Ok((
-        taken,
-        (closed.posted(), stages_of_two(&closed)),
-        colours_of(&closed),
-    ))
+    let stages = (closed.posted(), stages_of_two(&closed));
+    let colours = colours_of(&closed);
+    drop(closed);
+    Ok((taken, stages, colours))
 }
 
 /// Opens a heap for that.
@@ -169,16 +182,25 @@ fn shared(
 {
     let globals = no_globals();
     let (heap, mut mutators, sweeper) = open(alloc, layouts, pools, &globals, 2, &[])?;
-    match two_tokens(&heap, &mut mutators) {
+    let threads = two_tokens(&heap, &mut mutators);
+    drop(mutators);
+    match threads {
         Some(threads) => share_and_close(rt, alloc, heap, threads, sweeper),
-        None => Err(Fail::new("two tokens")),
+        None => {
+            drop(sweeper);
+            drop(heap);
+            Err(Fail::new("two tokens"))
+        }
     }
 }
 
 /// On a pool of two cells.
 fn shared_of_two_cells(rt: &impl Threads, alloc: Global) -> Result<Shared, Fail> {
     let (layouts, pools) = ground(alloc, 2)?;
-    shared(rt, alloc, &layouts, &pools)
+    let made = shared(rt, alloc, &layouts, &pools);
+    drop(pools);
+    drop(layouts);
+    made
 }
 
 #[test]
@@ -212,11 +234,10 @@ fn wait_and_close(heap: Heap<'_>, mutators: Vec<Mutator>, mut sweeper: Sweeper<'
 {
     let waited = waits(&heap, &mut sweeper);
     let closed = close_new(heap, mutators, sweeper);
-    (
-        waited,
-        (closed.posted(), closed.stage(0)),
-        colours_of(&closed),
-    )
+    let stages = (closed.posted(), closed.stage(0));
+    let colours = colours_of(&closed);
+    drop(closed);
+    (waited, stages, colours)
 }
 
 /// Opens that heap.
@@ -232,7 +253,10 @@ fn waited(alloc: Global, layouts: &Layouts, pools: &Pools) -> Result<Waited, Fai
 /// On a pool of two cells.
 fn waited_of_two_cells(alloc: Global) -> Result<Waited, Fail> {
     let (layouts, pools) = ground(alloc, 2)?;
-    waited(alloc, &layouts, &pools)
+    let made = waited(alloc, &layouts, &pools);
+    drop(pools);
+    drop(layouts);
+    made
 }
 
 #[test]
@@ -284,7 +308,9 @@ fn cycle_and_close(
 {
     let made = two_cycles(&heap, &mut me, &mut sweeper);
     let closed = close_one(alloc, heap, me, sweeper)?;
-    Ok((made, (closed.posted(), colours_of(&closed))))
+    let end = (closed.posted(), colours_of(&closed));
+    drop(closed);
+    Ok((made, end))
 }
 
 /// Opens that heap.
@@ -294,16 +320,25 @@ fn cycled(alloc: Global, layouts: &Layouts, pools: &Pools) -> Result<CycleEnd, F
 {
     let globals = one_reference();
     let (heap, mut mutators, sweeper) = open(alloc, layouts, pools, &globals, 1, &[])?;
-    match last_token(&heap, &mut mutators) {
+    let token = last_token(&heap, &mut mutators);
+    drop(mutators);
+    match token {
         Some(me) => cycle_and_close(alloc, heap, me, sweeper),
-        None => Err(Fail::new("a token")),
+        None => {
+            drop(sweeper);
+            drop(heap);
+            Err(Fail::new("a token"))
+        }
     }
 }
 
 /// On a pool of two cells.
 fn cycled_of_two_cells(alloc: Global) -> Result<CycleEnd, Fail> {
     let (layouts, pools) = ground(alloc, 2)?;
-    cycled(alloc, &layouts, &pools)
+    let made = cycled(alloc, &layouts, &pools);
+    drop(pools);
+    drop(layouts);
+    made
 }
 
 #[test]
@@ -329,10 +364,9 @@ fn turn_and_close(heap: Heap<'_>, mutators: Vec<Mutator>, mut sweeper: Sweeper<'
 {
     let are_first = turns_are(&heap, &mut sweeper, &FIRST_TURNS);
     let closed = close_new(heap, mutators, sweeper);
-    (
-        are_first,
-        (closed.posted(), closed.colour(0), closed.word(0, 0)),
-    )
+    let end = (closed.posted(), closed.colour(0), closed.word(0, 0));
+    drop(closed);
+    (are_first, end)
 }
 
 /// Opens that heap.
@@ -347,7 +381,10 @@ fn turned(alloc: Global, layouts: &Layouts, pools: &Pools) -> Result<FirstTurns,
 /// On a pool of one cell.
 fn turned_of_one_cell(alloc: Global) -> Result<FirstTurns, Fail> {
     let (layouts, pools) = ground(alloc, 1)?;
-    turned(alloc, &layouts, &pools)
+    let made = turned(alloc, &layouts, &pools);
+    drop(pools);
+    drop(layouts);
+    made
 }
 
 #[test]
@@ -375,6 +412,23 @@ fn taken_around_a_cycle(heap: &Heap<'_>, me: &mut Mutator, sweeper: &mut Sweeper
     (first, answered, (take_two(heap, me), take(heap, me)))
 }
 
+/// Does this with the last of the tokens.
+fn taken_by_the_last(
+    heap: &Heap<'_>,
+    mutators: &mut Vec<Mutator>,
+    sweeper: &mut Sweeper<'_>,
+) -> Option<TakenAround>
+    requires present { heap.now.setup.late ≡ [] }
+    requires tokens { AreNew heap.now 0 mutators.old.items }
+    requires sweeper { IsSweeperOf heap.now sweeper.old }
+    requires layout { 0 < length heap.now.setup.pools }
+{
+    let mut me = last_token(heap, mutators)?;
+    let taken = taken_around_a_cycle(heap, &mut me, sweeper);
+    drop(me);
+    Some(taken)
+}
+
 /// Opens a heap for that.
 fn taken_around(
     alloc: Global,
@@ -386,16 +440,20 @@ fn taken_around(
 {
     let globals = no_globals();
     let (heap, mut mutators, mut sweeper) = open(alloc, layouts, pools, &globals, 1, &[])?;
-    let Some(mut me) = last_token(&heap, &mut mutators) else {
-        return Ok(None);
-    };
-    Ok(Some(taken_around_a_cycle(&heap, &mut me, &mut sweeper)))
+    let taken = taken_by_the_last(&heap, &mut mutators, &mut sweeper);
+    drop(mutators);
+    drop(sweeper);
+    drop(heap);
+    Ok(taken)
 }
 
 /// On a pool of two cells.
 fn taken_of_two_cells(alloc: Global) -> Result<Option<TakenAround>, Fail> {
     let (layouts, pools) = ground(alloc, 2)?;
-    taken_around(alloc, &layouts, &pools)
+    let made = taken_around(alloc, &layouts, &pools);
+    drop(pools);
+    drop(layouts);
+    made
 }
 
 #[test]
@@ -431,13 +489,20 @@ fn begun_late(alloc: Global, layouts: &Layouts, pools: &Pools) -> Result<Option<
 {
     let globals = no_globals();
     let (heap, mut mutators, mut sweeper) = open(alloc, layouts, pools, &globals, 1, &[true])?;
-    Ok(begin_after_turns(&heap, &mut mutators, &mut sweeper))
+    let begun = begin_after_turns(&heap, &mut mutators, &mut sweeper);
+    drop(mutators);
+    drop(sweeper);
+    drop(heap);
+    Ok(begun)
 }
 
 /// On a pool of one cell.
 fn begun_of_one_cell(alloc: Global) -> Result<Option<(u64, u32)>, Fail> {
     let (layouts, pools) = ground(alloc, 1)?;
-    begun_late(alloc, &layouts, &pools)
+    let made = begun_late(alloc, &layouts, &pools);
+    drop(pools);
+    drop(layouts);
+    made
 }
 
 #[test]
@@ -466,7 +531,9 @@ fn read_and_close(
 {
     let read = read_late(rt, &heap, &mut threads.0, &mut threads.1, &mut sweeper);
     let closed = close_two(alloc, heap, threads, sweeper)?;
-    Ok((read, (closed.posted(), stages_of_two(&closed))))
+    let stages = (closed.posted(), stages_of_two(&closed));
+    drop(closed);
+    Ok((read, stages))
 }
 
 /// Opens a heap of two threads for that, of which the second is late.
@@ -482,16 +549,25 @@ fn read_on_a_new_heap(
     let globals = one_reference();
     let opened = open(alloc, layouts, pools, &globals, 2, &[false, true]);
     let (heap, mut mutators, sweeper) = opened?;
-    match present_and_late(&heap, &mut mutators) {
+    let threads = present_and_late(&heap, &mut mutators);
+    drop(mutators);
+    match threads {
         Some(threads) => read_and_close(rt, alloc, heap, threads, sweeper),
-        None => Err(Fail::new("two tokens")),
+        None => {
+            drop(sweeper);
+            drop(heap);
+            Err(Fail::new("two tokens"))
+        }
     }
 }
 
 /// On a pool of two cells.
 fn read_of_two_cells(rt: &impl Threads, alloc: Global) -> Result<LateRead, Fail> {
     let (layouts, pools) = ground(alloc, 2)?;
-    read_on_a_new_heap(rt, alloc, &layouts, &pools)
+    let made = read_on_a_new_heap(rt, alloc, &layouts, &pools);
+    drop(pools);
+    drop(layouts);
+    made
 }
 
 /// The cell, what was read, and the stages of the threads, where the late one has begun at one that was posted after a whole cycle.
