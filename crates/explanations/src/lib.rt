@@ -1,11 +1,26 @@
-//! What is told of a refusal besides its line: its place in the text, the rule, what is known there, and what mends it. Which
-//! explanation that is, its rule says. These are texts: no contract says more than that they are made.
+//! What is told of a refusal besides its line: its place in the text, the rule, what is known there, and what mends it.
+//! These are texts: no contract says more than that they are made.
 #![tactic(auto)]
 
+mod barrier_lines;
+mod cells;
 mod edges;
+mod mismatches;
+mod missing;
+mod missing_blocks;
+mod notes;
+mod null_tests;
+mod nulls;
+mod phis;
+mod promised;
 mod refusals;
 mod rules;
-mod unavailable;
+mod stale;
+mod told;
+mod unfresh;
+mod unknown;
+mod unrooted;
+mod write_barrier;
 
 pub use refusals::{Texts, put_refusal};
 pub use scenes::Source;

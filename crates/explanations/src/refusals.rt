@@ -1,29 +1,39 @@
-//! What is told of a refused instruction: the explanation that its rule takes.
-use crate::edges::put_edge;
+//! What is told of a refused instruction.
+use crate::cells::{
+    element_base, mistyped_in, operand_of, put_inside, put_outside, put_outside_line, put_types,
+    put_words_of,
+};
+use crate::edges::{learn_branch, put_edge};
+use crate::mismatches::{mismatch_of, put_mismatch};
+use crate::notes::{put_line, put_mend, put_mend_word, put_or};
+use crate::nulls::{put_base_note, put_place_line, put_shown, put_source_note};
+use crate::promised::{
+    broken_promise, call_of, put_kept, put_mark, put_own_line, put_promise, returned, unkept_result,
+};
 use crate::rules::{Page, page_of};
-use crate::unavailable::put_unknown;
-use barrier_texts::{base_of, put_other_object, put_unbarred};
+use crate::stale::{lost_before, put_reload, put_stale_since};
+use crate::told::{Told, put_text, value_in};
+use crate::unfresh::put_unfresh;
+use crate::unrooted::put_unrooted;
+use crate::write_barrier::{base_of, put_barrier, put_object, put_stored_line};
+use crate::{cells, phis, promised, unknown};
 use block_rules::{Refusal, Rule, RuleContext};
 use certs::Certs;
-use claim_texts::{broken_promise, put_argument, put_entries, put_mark, put_result, returned};
 use diagnosis::facts_before;
 use facts::Facts;
 use ir_ast::{Function, Operand, Runtime};
 use layout::Program;
-use message_parts::{
-    Told, call_of, learn_branch, put_line, put_mend, put_mend_word, put_or, put_text, value_in,
-};
 use messages::{Ink, NamedText, Pen, begin_ink, end_ink, put, put_inked};
 use offered_lines::{Pointers, declare_of};
-use reference_texts::{put_nullable, put_stale_here, put_unrooted};
+use origins::{Sought, local};
 use scenes::{
-    Scene, Source, arguments_of, is_runtime_call, operands_of, place_of, put_spot, subject_of,
+    Scene, Source, arguments_of, is_runtime_call, operands_of, place_of, put_known, put_spot,
+    subject_of,
 };
 use shadow_stack::slots_of;
 use std::alloc::AllocError;
-use typing_texts::{mismatch_of, put_mismatch, put_mistyped, put_out_of_cell};
 
-fn name_of(rule: Rule) -> &'static str {
+pub fn name_of(rule: Rule) -> &'static str {
     match rule {
         Rule::K1 => "K1",
         Rule::K2 => "K2",
@@ -87,6 +97,142 @@ fn told_of<'a>(scene: &'a Scene<'a>, operands: &[Operand]) -> Told<'a> {
     }
 }
 
+/// K1.
+fn put_unavailable(out: &mut Vec<u8>, told: &Told) -> Result<(), AllocError> {
+    match value_in(told.it) {
+        Some(value) => unknown::put_unavailable(out, told, value),
+        None => put_by_page(out, told, page_of(Rule::K18)),
+    }
+}
+
+/// K2.
+fn put_mistyped(out: &mut Vec<u8>, told: &Told, operands: &[Operand]) -> Result<(), AllocError> {
+    let mistyped = mistyped_in(told.scene, operands, told.place);
+    let told = told.with_it(operand_of(&mistyped));
+    put_text(out, &told, cells::sentence_of(&mistyped))?;
+    put(out, "\n")?;
+    put_line(out, &told, told.it, "")?;
+    put_known(out, told.scene, operands)?;
+    put_types(out, &told, &mistyped)
+}
+
+/// K3.
+fn put_stale(out: &mut Vec<u8>, told: &Told, operands: &[Operand]) -> Result<(), AllocError> {
+    put_line(out, told, told.it, "")?;
+    let value = match told.it {
+        Some(operand) => local(operand),
+        None => None,
+    };
+    let scene = told.scene;
+    let spot = scene.spot();
+    let lost = lost_before(scene, &spot, value)?;
+    put_stale_since(out, told, &lost)?;
+    put_known(out, scene, operands)?;
+    put_reload(out, told, &lost)
+}
+
+/// K4.
+fn put_nullable(out: &mut Vec<u8>, told: &Told, operands: &[Operand]) -> Result<(), AllocError> {
+    put_place_line(out, told)?;
+    put_base_note(out, told)?;
+    if let Some(Operand::Local(value)) = told.it {
+        put_source_note(out, told, value)?;
+    }
+    put_known(out, told.scene, operands)?;
+    put_shown(out, told)
+}
+
+/// K5.
+fn put_out_of_cell(out: &mut Vec<u8>, told: &Told, operands: &[Operand]) -> Result<(), AllocError> {
+    let told = Told::of(told.scene, element_base(told.scene));
+    if let Some(mismatch) = mismatch_of(told.scene, told.it) {
+        return put_mismatch(out, &told, operands, &mismatch);
+    }
+    put_outside(out, &told)?;
+    put(out, "\n")?;
+    put_outside_line(out, &told)?;
+    put_known(out, told.scene, operands)?;
+    put_words_of(out, told.scene, told.it)?;
+    put_inside(out, &told)
+}
+
+/// K19.
+fn put_led(out: &mut Vec<u8>, told: &Told, operands: &[Operand]) -> Result<(), AllocError> {
+    match mismatch_of(told.scene, told.it) {
+        Some(mismatch) => put_mismatch(out, told, operands, &mismatch),
+        None => put_by_page(out, told, page_of(Rule::K19)),
+    }
+}
+
+/// K6.
+fn put_unbarred(out: &mut Vec<u8>, told: &Told, operands: &[Operand]) -> Result<(), AllocError> {
+    put_stored_line(out, told)?;
+    put_unfresh(out, told)?;
+    put_known(out, told.scene, operands)?;
+    put_barrier(out, told)
+}
+
+/// K7.
+fn put_other_object(
+    out: &mut Vec<u8>,
+    told: &Told,
+    operands: &[Operand],
+) -> Result<(), AllocError> {
+    let label = if told.base.is_some() {
+        "the place is in the cell of {base}"
+    } else {
+        "the place is in the cell of no object"
+    };
+    put_line(out, told, told.it, label)?;
+    put_known(out, told.scene, operands)?;
+    put_object(out, told)
+}
+
+/// K13.
+fn put_argument(out: &mut Vec<u8>, told: &Told) -> Result<(), AllocError> {
+    let Some(broken) = broken_promise(told.scene) else {
+        return put_by_page(out, told, page_of(Rule::K18));
+    };
+    let told = Told::of(told.scene, Some(broken.operand));
+    let word = Some(broken.word);
+    put_text(out, &told, promised::sentence_of(word))?;
+    put(out, " of this parameter of ")?;
+    put_text(out, &told, "{callee}\n")?;
+    put_line(out, &told, told.it, "")?;
+    put_promise(out, &told, broken.parameter)?;
+    put_known(out, told.scene, [broken.operand].as_slice())?;
+    put_kept(out, &told, word)
+}
+
+/// K14.
+fn put_result(out: &mut Vec<u8>, told: &Told) -> Result<(), AllocError> {
+    let told = Told::of(told.scene, returned(told.scene));
+    let word = unkept_result(told.scene);
+    put_text(out, &told, promised::sentence_of(word))?;
+    put(out, " of the result\n")?;
+    put_line(out, &told, told.it, "")?;
+    put_own_line(out, &told, &Sought::Result, "the promise")?;
+    put_known(out, told.scene, operands_of_result(told.it).as_slice())?;
+    put_kept(out, &told, word)
+}
+
+fn operands_of_result(operand: Option<Operand>) -> [Operand; 1] {
+    match operand {
+        Some(operand) => [operand],
+        None => [Operand::Constant(ir_ast::Constant::Null)],
+    }
+}
+
+/// K16.
+fn put_entries(out: &mut Vec<u8>, told: &Told) -> Result<(), AllocError> {
+    let entries = phis::entries_of(told.scene)?;
+    let told = phis::told_of(told, &entries);
+    put_text(out, &told, phis::sentence_of(&entries))?;
+    put(out, "\n")?;
+    put_line(out, &told, None, "")?;
+    put_mend(out, &told, phis::mend_of(&entries))
+}
+
 fn put_other_way(out: &mut Vec<u8>, told: &Told, text: &str) -> Result<(), AllocError> {
     if text.is_empty() {
         Ok(())
@@ -102,30 +248,6 @@ fn put_by_page(out: &mut Vec<u8>, told: &Told, page: Page) -> Result<(), AllocEr
     put_line(out, told, told.it, page.label)?;
     put_mend(out, told, page.mend)?;
     put_other_way(out, told, page.other)
-}
-
-/// K1.
-fn put_unavailable(out: &mut Vec<u8>, told: &Told) -> Result<(), AllocError> {
-    match value_in(told.it) {
-        Some(value) => put_unknown(out, told, value),
-        None => put_by_page(out, told, page_of(Rule::K18)),
-    }
-}
-
-/// K19.
-fn put_led(out: &mut Vec<u8>, told: &Told, operands: &[Operand]) -> Result<(), AllocError> {
-    match mismatch_of(told.scene, told.it) {
-        Some(mismatch) => put_mismatch(out, told, operands, &mismatch),
-        None => put_by_page(out, told, page_of(Rule::K19)),
-    }
-}
-
-/// K13.
-fn put_promised(out: &mut Vec<u8>, told: &Told) -> Result<(), AllocError> {
-    match broken_promise(told.scene) {
-        Some(broken) => put_argument(out, told.scene, &broken),
-        None => put_by_page(out, told, page_of(Rule::K18)),
-    }
 }
 
 /// The function of the runtime whose name is called.
@@ -153,57 +275,64 @@ fn put_unknown_callee(out: &mut Vec<u8>, told: &Told) -> Result<(), AllocError> 
     let Some(runtime) = runtime_named(told.scene) else {
         return put_by_page(out, told, page_of(Rule::K18));
     };
-    put_text(out, told, page_of(Rule::K18).sentence)?;
-    put(out, "\n")?;
+    put_sentence(out, told)?;
     put_line(out, told, told.it, "")?;
     put_declared(out, told.scene, &runtime)
 }
 
-/// An instruction that breaks a promise or a rule of another kind.
-fn put_by_claims(out: &mut Vec<u8>, told: &Told) -> Result<(), AllocError> {
+/// K17.
+fn put_unmarked(out: &mut Vec<u8>, told: &Told) -> Result<(), AllocError> {
+    put_line(out, told, None, "")?;
+    put_mark(out, told)
+}
+
+/// The sentence of a page, and the end of its line.
+fn put_sentence(out: &mut Vec<u8>, told: &Told) -> Result<(), AllocError> {
+    let scene = told.scene;
+    put_text(out, told, page_of(scene.refusal.rule).sentence)?;
+    put(out, "\n")
+}
+
+/// An instruction that breaks a rule on what is known of its operands.
+fn put_by_facts(out: &mut Vec<u8>, told: &Told, operands: &[Operand]) -> Result<(), AllocError> {
+    put_sentence(out, told)?;
     let scene = told.scene;
     match scene.refusal.rule {
-        Rule::K13 => put_promised(out, told),
-        Rule::K14 => put_result(out, scene),
-        Rule::K16 => put_entries(out, told),
-        Rule::K17 => put_mark(out, told),
-        Rule::K12 => put_by_page(out, &told.with_it(returned(scene)), page_of(Rule::K12)),
-        rule => put_by_page(out, told, page_of(rule)),
+        Rule::K3 => put_stale(out, told, operands),
+        Rule::K4 => put_nullable(out, told, operands),
+        Rule::K6 => put_unbarred(out, told, operands),
+        Rule::K7 => put_other_object(out, told, operands),
+        _ => put_unmarked(out, told),
     }
 }
 
 /// An instruction that breaks a rule by its operands.
 fn put_instruction(out: &mut Vec<u8>, told: &Told, operands: &[Operand]) -> Result<(), AllocError> {
-    match told.scene.refusal.rule {
+    let scene = told.scene;
+    match scene.refusal.rule {
         Rule::K1 => put_unavailable(out, told),
         Rule::K2 => put_mistyped(out, told, operands),
-        Rule::K3 => put_stale_here(out, told, operands),
-        Rule::K4 => put_nullable(out, told, operands),
         Rule::K5 => put_out_of_cell(out, told, operands),
-        Rule::K6 => put_unbarred(out, told, operands),
-        Rule::K7 => put_other_object(out, told, operands),
-        Rule::K8 => put_unrooted(out, told),
-        Rule::K18 => put_unknown_callee(out, told),
+        Rule::K13 => put_argument(out, told),
+        Rule::K14 => put_result(out, told),
+        Rule::K16 => put_entries(out, told),
         Rule::K19 => put_led(out, told, operands),
-        _ => put_by_claims(out, told),
+        Rule::K3 | Rule::K4 | Rule::K6 | Rule::K7 | Rule::K17 => put_by_facts(out, told, operands),
+        Rule::K8 => put_unrooted(out, told),
+        Rule::K12 => put_by_page(out, &told.with_it(returned(scene)), page_of(Rule::K12)),
+        Rule::K18 => put_unknown_callee(out, told),
+        rule => put_by_page(out, told, page_of(rule)),
     }
 }
 
 fn put_scene(out: &mut Vec<u8>, scene: &Scene) -> Result<(), AllocError> {
     put_head(out, scene)?;
-    match &scene.refusal.detail {
-        Some(detail) => put_edge(out, scene, detail),
-        None => put_of_operands(out, scene),
+    if let Some(detail) = &scene.refusal.detail {
+        return put_edge(out, scene, detail);
     }
-}
-
-/// What is told of an instruction that breaks a rule by itself.
-fn put_of_operands(out: &mut Vec<u8>, scene: &Scene) -> Result<(), AllocError> {
     let operands = operands_of(scene.pen.alloc, scene.there())?;
     let told = told_of(scene, operands.as_slice());
-    let put = put_instruction(out, &told, operands.as_slice());
-    drop(operands);
-    put
+    put_instruction(out, &told, operands.as_slice())
 }
 
 /// The texts of a module and its certificate.
@@ -219,59 +348,6 @@ fn learn_edge(facts: &mut Facts, function: &Function, refusal: &Refusal) -> Resu
         Some(detail) => learn_branch(facts, function, refusal.block, detail.target),
         None => Ok(()),
     }
-}
-
-/// A refusal, and what it is of.
-#[derive(Clone, Copy)]
-struct Refused<'a> {
-    pen: Pen,
-    texts: Texts<'a>,
-    context: RuleContext<'a>,
-    refusal: Refusal,
-}
-
-/// What is told of a refusal before whose instruction this is known.
-fn put_known_refusal(
-    out: &mut Vec<u8>,
-    refused: &Refused,
-    facts: &Facts,
-) -> Result<(), AllocError> {
-    let scene = Scene {
-        pen: refused.pen,
-        source: refused.texts.source,
-        certificate: refused.texts.certificate,
-        context: refused.context,
-        facts,
-        refusal: refused.refusal,
-    };
-    put_scene(out, &scene)
-}
-
-/// What is known before the instruction of a refusal, or on its edge.
-fn facts_of(refused: &Refused) -> Result<Facts, AllocError> {
-    let refusal = refused.refusal;
-    let mut facts = facts_before(
-        refused.pen.alloc,
-        &refused.context,
-        refusal.func,
-        refusal.block,
-        refusal.instr,
-    )?;
-    match learn_edge(&mut facts, refused.context.function, &refusal) {
-        Ok(()) => Ok(facts),
-        Err(error) => {
-            drop(facts);
-            Err(error)
-        }
-    }
-}
-
-/// What is told of a refusal in this context.
-fn put_refused(out: &mut Vec<u8>, refused: &Refused) -> Result<(), AllocError> {
-    let facts = facts_of(refused)?;
-    let put = put_known_refusal(out, refused, &facts);
-    drop(facts);
-    put
 }
 
 /// What is told of an instruction of this function.
@@ -291,15 +367,23 @@ fn put_refusal_in(
         function,
         slots: &slots,
     };
-    let refused = Refused {
+    let mut facts = facts_before(
+        pen.alloc,
+        &context,
+        refusal.func,
+        refusal.block,
+        refusal.instr,
+    )?;
+    learn_edge(&mut facts, function, &refusal)?;
+    let scene = Scene {
         pen,
-        texts,
+        source: texts.source,
+        certificate: texts.certificate,
         context,
+        facts: &facts,
         refusal,
     };
-    let put = put_refused(out, &refused);
-    drop(slots);
-    put
+    put_scene(out, &scene)
 }
 
 /// What is told of a refusal besides its line, by the texts of the module and of the certificate.

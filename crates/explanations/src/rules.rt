@@ -42,6 +42,12 @@ fn of_functions(rule: Rule) -> Page {
             mend: "write `gc \"shadow-stack\"` after the parameters of {function}",
             other: "",
         },
+        Rule::K17 => Page {
+            sentence: "{function} is marked `none`, and {callee} may reach a safepoint",
+            label: "",
+            mend: "",
+            other: "",
+        },
         Rule::K18 => Page {
             sentence: "{callee} is no function of the module or of the runtime with these types",
             label: "",
@@ -60,6 +66,30 @@ fn of_functions(rule: Rule) -> Page {
 /// What is told of a rule where nothing more depends on its instruction.
 pub fn page_of(rule: Rule) -> Page {
     match rule {
+        Rule::K3 => Page {
+            sentence: "{it} is stale here",
+            label: "",
+            mend: "",
+            other: "",
+        },
+        Rule::K4 => Page {
+            sentence: "{it} may be null",
+            label: "",
+            mend: "",
+            other: "",
+        },
+        Rule::K6 => Page {
+            sentence: "{it} is stored into {place} without llvm.gcwrite",
+            label: "",
+            mend: "",
+            other: "",
+        },
+        Rule::K7 => Page {
+            sentence: "{callee} names {it} as the object, and the place is not known to be in that",
+            label: "",
+            mend: "",
+            other: "",
+        },
         Rule::K19 => Page {
             sentence: "{it} is led to a type that is not its own",
             label: "",

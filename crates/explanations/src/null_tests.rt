@@ -1,6 +1,8 @@
 //! On which edge a comparison with null shows that a value is not null.
+use crate::edges::decided;
+use crate::nulls::is_value;
+use crate::unknown::instr_in;
 use ir_ast::{BlockId, Comparison, Constant, Function, Instr, NumberOp, Op, Operand, ValueId};
-use message_parts::{decided, instr_in, is_value};
 use origins::{Definition, definition_of};
 
 /// Whether one operand is a value, and the other one null.

@@ -1,15 +1,34 @@
 //! K4: a base that may be null, where it came in, and what would show that it is not.
-use ir_ast::{Instr, Op, Operand, ValueId};
-use message_parts::{
-    Told, UNCOMPARED, instr_in, is_made_here, is_value, put_definition_as, put_line, put_mend,
-    put_note, put_or, put_text, slot_loaded, spot_of, value_in,
-};
+use crate::notes::{put_line, put_mend, put_note, put_or};
+use crate::told::{Told, value_in};
+use crate::unknown::instr_in;
+use crate::write_barrier::spot_of;
+use ir_ast::{Instr, MemoryOp, Op, Operand, ValueId};
 use origins::{Definition, definition_of, local};
-use scenes::{Scene, Spot, put_known};
+use scenes::{Scene, Spot};
 use std::alloc::AllocError;
 
 /// Over how many instructions a place is followed back at most.
 const STEPS: usize = 64;
+
+/// Whether an instruction of the body of the refused one's block defines a value.
+pub fn is_made_here(scene: &Scene, value: ValueId) -> bool {
+    let block = scene.refusal.block;
+    match spot_of(scene, value) {
+        Some(spot) => {
+            spot.block.number() == block.number() && spot.place >= scene.phis_of(block)
+        }
+        None => false,
+    }
+}
+
+/// Whether an operand names a value.
+pub fn is_value(value: ValueId, operand: Option<Operand>) -> bool {
+    match value_in(operand) {
+        Some(other) => value.number() == other.number(),
+        None => false,
+    }
+}
 
 fn is_same(one: Option<Operand>, other: Option<Operand>) -> bool {
     match value_in(one) {
@@ -19,7 +38,7 @@ fn is_same(one: Option<Operand>, other: Option<Operand>) -> bool {
 }
 
 /// The place, whose base may be null.
-fn put_place_line(out: &mut Vec<u8>, told: &Told) -> Result<(), AllocError> {
+pub fn put_place_line(out: &mut Vec<u8>, told: &Told) -> Result<(), AllocError> {
     if told.place.is_none() || is_same(told.it, told.place) {
         return put_line(out, told, told.it, "used as the base of a place");
     }
@@ -57,7 +76,7 @@ fn made_of(scene: &Scene, base: ValueId, place: ValueId) -> Option<Made> {
 }
 
 /// Where the base came in.
-fn put_base_note(out: &mut Vec<u8>, told: &Told) -> Result<(), AllocError> {
+pub fn put_base_note(out: &mut Vec<u8>, told: &Told) -> Result<(), AllocError> {
     let (Some(place), Some(base)) = (value_in(told.place), value_in(told.it)) else {
         return Ok(());
     };
@@ -73,10 +92,34 @@ fn put_base_note(out: &mut Vec<u8>, told: &Told) -> Result<(), AllocError> {
     }
 }
 
+/// The slot from which a value is loaded.
+pub fn slot_loaded(scene: &Scene, value: ValueId) -> Option<Operand> {
+    let spot = spot_of(scene, value)?;
+    let instr = instr_in(scene.context.function, &spot)?;
+    match &instr.op {
+        Op::Memory(MemoryOp::Load { place, .. }) => match place {
+            Operand::Local(slot) => {
+                scene.context.slots.slot_of(*slot)?;
+                Some(*place)
+            }
+            _ => None,
+        },
+        _ => None,
+    }
+}
+
 /// Where the value that may be null comes from.
-fn put_source_note(out: &mut Vec<u8>, told: &Told) -> Result<(), AllocError> {
-    match told.it {
-        Some(Operand::Local(value)) => put_definition_as(out, told, value, UNCOMPARED),
+pub fn put_source_note(out: &mut Vec<u8>, told: &Told, value: ValueId) -> Result<(), AllocError> {
+    let scene = told.scene;
+    let definition = definition_of(scene.context.function, value);
+    match &definition {
+        Definition::At(spot) => put_note(
+            out,
+            told,
+            spot,
+            None,
+            "{it} is defined here, and not compared with null on the way",
+        ),
         _ => Ok(()),
     }
 }
@@ -138,24 +181,10 @@ fn put_claimed(out: &mut Vec<u8>, told: &Told, value: ValueId) -> Result<(), All
 }
 
 /// What shows that it is not null.
-fn put_shown(out: &mut Vec<u8>, told: &Told) -> Result<(), AllocError> {
+pub fn put_shown(out: &mut Vec<u8>, told: &Told) -> Result<(), AllocError> {
     put_test(out, told)?;
     match told.it {
         Some(Operand::Local(value)) => put_claimed(out, told, value),
         _ => Ok(()),
     }
-}
-
-/// K4.
-pub fn put_nullable(
-    out: &mut Vec<u8>,
-    told: &Told,
-    operands: &[Operand],
-) -> Result<(), AllocError> {
-    put_text(out, told, "{it} may be null\n")?;
-    put_place_line(out, told)?;
-    put_base_note(out, told)?;
-    put_source_note(out, told)?;
-    put_known(out, told.scene, operands)?;
-    put_shown(out, told)
 }

@@ -1,11 +1,10 @@
 //! The parts of a message: its head, lines with carets, notes on other places, and what mends it.
 use crate::told::{Told, put_text};
-use ir_ast::{Operand, ValueId};
+use ir_ast::Operand;
 use ir_tokens::{Position, Token};
 use messages::{
     Ink, Pen, begin_ink, end_ink, put, put_inked, put_path_at, put_position_line, put_token_line,
 };
-use origins::{Definition, Sought, cert_position, definition_of};
 use scenes::{Scene, Spot, put_spot, token_within};
 use std::alloc::AllocError;
 
@@ -87,48 +86,10 @@ pub fn put_cert_note(
     put(out, "\n")
 }
 
-/// Where the certificate of the function says this.
-pub fn put_own_line(
-    out: &mut Vec<u8>,
-    told: &Told,
-    line: &Sought,
-    text: &str,
-) -> Result<(), AllocError> {
-    let scene = told.scene;
-    let function = scene.context.function;
-    match cert_position(scene, function.symbol, line)? {
-        Some(position) => put_cert_note(out, told, position, text),
-        None => Ok(()),
-    }
-}
-
-/// Where a value is defined, if an instruction does that, as this text says it.
-pub fn put_definition_as(
-    out: &mut Vec<u8>,
-    told: &Told,
-    value: ValueId,
-    text: &str,
-) -> Result<(), AllocError> {
-    let scene = told.scene;
-    let definition = definition_of(scene.context.function, value);
-    match &definition {
-        Definition::At(spot) => put_note(out, told, spot, None, text),
-        _ => Ok(()),
-    }
-}
-
-/// Where a value is defined, if an instruction does that.
-pub fn put_definition(out: &mut Vec<u8>, told: &Told, value: ValueId) -> Result<(), AllocError> {
-    put_definition_as(out, told, value, "{it} is defined here")
-}
-
 /// What stands before the first way that mends it.
 pub fn put_mend_word(out: &mut Vec<u8>, scene: &Scene) -> Result<(), AllocError> {
     put_inked(out, scene.pen.look, Ink::Mend, "  mend:  ")
 }
-
-/// What is said where a value is defined that may be null.
-pub const UNCOMPARED: &str = "{it} is defined here, and not compared with null on the way";
 
 /// What stands before a further way.
 pub const MARGIN: &str = "         ";

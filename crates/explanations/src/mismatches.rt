@@ -1,10 +1,9 @@
 //! K5 and K19: a struct is written, and the reference refers to another one.
-use crate::inside::element_of;
-use crate::words::put_words;
+use crate::cells::{cell_layout, element_of, put_numbers, put_words};
+use crate::notes::{put_line, put_mend};
+use crate::told::{Told, put_text, value_in};
+use crate::unknown::put_definition;
 use ir_ast::{IrType, Module, Op, Operand, StructNameId, TypeId};
-use message_parts::{
-    Told, cell_layout, put_definition, put_line, put_mend, put_numbers, put_text, value_in,
-};
 use messages::put;
 use name_text::{Blank, put_layout};
 use pools::LayoutId;
@@ -15,8 +14,8 @@ use types::pointee;
 /// The layout of a reference, and that of the struct that is written.
 #[derive(Clone, Copy)]
 pub struct Mismatch {
-    found: LayoutId,
-    written: LayoutId,
+    pub found: LayoutId,
+    pub written: LayoutId,
 }
 
 fn layout_named(module: &Module, name: &StructNameId) -> Option<LayoutId> {

@@ -1,12 +1,12 @@
 //! K1: why nothing is known of a value, and what makes it known.
 use crate::missing_blocks::put_missing;
+use crate::notes::{put_cert_note, put_line, put_mend, put_note};
+use crate::stale::{lost_before, put_reload, put_stale_since};
+use crate::told::{Told, put_text};
 use certs::{Claim, Fact};
-use ir_ast::{BlockId, Op, ValueId};
-use message_parts::{
-    Told, instr_in, put_definition, put_definition_as, put_line, put_mend, put_own_line, put_text,
-};
+use ir_ast::{BlockId, Function, Instr, Op, ValueId};
 use messages::put;
-use origins::{Definition, Sought, claim_after, definition_of, is_bypassed, safepoint_before};
+use origins::{Definition, Sought, cert_position, claim_after, definition_of, is_bypassed};
 use scenes::{Scene, Spot};
 use std::alloc::AllocError;
 
@@ -25,14 +25,14 @@ pub enum Cause {
     OneWay(BlockId),
     /// A block on the way does not list it.
     Unlisted,
+    /// The same, and it would be stale.
+    Stale,
 }
 
-/// A value of which nothing is known.
-#[derive(Clone, Copy)]
-pub enum Unknown {
-    /// A block on the way does not list it, and it would be stale.
-    Stale,
-    By(Cause),
+/// The instruction of a body at a place of a function.
+pub fn instr_in<'a>(function: &'a Function, spot: &Spot) -> Option<&'a Instr> {
+    let block = function.blocks.get(spot.block.number() as usize)?;
+    block.body.get(spot.place.checked_sub(block.phis.len())?)
 }
 
 fn is_call(scene: &Scene, spot: &Spot) -> bool {
@@ -74,15 +74,15 @@ fn may_be_stale(fact: &Fact) -> bool {
     matches!(fact, Fact::Reference { .. } | Fact::Address { .. })
 }
 
-/// What became of a value that is known where it is defined.
-fn lost_on_the_way(scene: &Scene, value: ValueId, fact: Fact) -> Result<Unknown, AllocError> {
+/// The cause of a value that is known where it is defined.
+fn lost_on_the_way(scene: &Scene, value: ValueId, fact: Fact) -> Result<Cause, AllocError> {
     if !may_be_stale(&fact) {
-        return Ok(Unknown::By(Cause::Unlisted));
+        return Ok(Cause::Unlisted);
     }
     let spot = scene.spot();
-    match safepoint_before(scene, &spot, value)? {
-        Some(_) => Ok(Unknown::Stale),
-        None => Ok(Unknown::By(Cause::Unlisted)),
+    match lost_before(scene, &spot, Some(value))? {
+        Some(_) => Ok(Cause::Stale),
+        None => Ok(Cause::Unlisted),
     }
 }
 
@@ -97,31 +97,31 @@ fn one_way(scene: &Scene, definition: &Definition) -> Result<Option<BlockId>, Al
 }
 
 /// Why nothing is known of a value at the refused instruction.
-pub fn unknown_of(scene: &Scene, value: ValueId) -> Result<Unknown, AllocError> {
+pub fn cause_of(scene: &Scene, value: ValueId) -> Result<Cause, AllocError> {
     let definition = definition_of(scene.context.function, value);
     if is_below(scene, &definition) {
-        return Ok(Unknown::By(Cause::NotYet));
+        return Ok(Cause::NotYet);
     }
     if let Some(block) = one_way(scene, &definition)? {
-        return Ok(Unknown::By(Cause::OneWay(block)));
+        return Ok(Cause::OneWay(block));
     }
     match claim_after(scene, &definition, value)? {
-        Some(_) if scene.refusal.block.number() == 0 => Ok(Unknown::By(Cause::NotYet)),
+        Some(_) if scene.refusal.block.number() == 0 => Ok(Cause::NotYet),
         Some(Claim::Value { fact, .. }) => lost_on_the_way(scene, value, fact),
-        Some(Claim::Slot { .. }) | None => Ok(Unknown::By(unknown_from(scene, &definition))),
+        Some(Claim::Slot { .. }) | None => Ok(unknown_from(scene, &definition)),
     }
 }
 
 /// The same text with the block that defines the value.
-fn told_of<'a>(told: &Told<'a>, unknown: &Unknown) -> Told<'a> {
-    match unknown {
-        Unknown::By(Cause::OneWay(block)) => told.with_block(*block),
+fn told_of<'a>(told: &Told<'a>, cause: &Cause) -> Told<'a> {
+    match cause {
+        Cause::OneWay(block) => told.with_block(*block),
         _ => told.with_it(told.it),
     }
 }
 
 /// Why nothing is known of it, in one sentence.
-fn sentence_of(cause: &Cause) -> &'static str {
+pub fn sentence_of(cause: &Cause) -> &'static str {
     match cause {
         Cause::Parameter => {
             "{it} is not known here: the certificate does not say to which layout this parameter refers"
@@ -136,24 +136,64 @@ fn sentence_of(cause: &Cause) -> &'static str {
         Cause::FromNothing =>
             "{it} is not known here: it comes from a place that is not known, or from null",
         Cause::Unlisted => "{it} is not known here: {here} does not list it",
+        Cause::Stale => "{it} is stale here, and {here} does not list it",
     }
 }
 
-/// The same of a value that may be stale.
-fn sentence_of_unknown(unknown: &Unknown) -> &'static str {
-    match unknown {
-        Unknown::Stale => "{it} is stale here, and {here} does not list it",
-        Unknown::By(cause) => sentence_of(cause),
+/// Where a value is defined, if an instruction does that, as this text says it.
+fn put_definition_as(
+    out: &mut Vec<u8>,
+    told: &Told,
+    value: ValueId,
+    text: &str,
+) -> Result<(), AllocError> {
+    let scene = told.scene;
+    let definition = definition_of(scene.context.function, value);
+    match &definition {
+        Definition::At(spot) => put_note(out, told, spot, None, text),
+        _ => Ok(()),
+    }
+}
+
+/// Where a value is defined, if an instruction does that.
+pub fn put_definition(out: &mut Vec<u8>, told: &Told, value: ValueId) -> Result<(), AllocError> {
+    put_definition_as(out, told, value, "{it} is defined here")
+}
+
+/// Where the certificate has the claims of the block.
+pub fn put_block_note(out: &mut Vec<u8>, told: &Told, text: &str) -> Result<(), AllocError> {
+    let scene = told.scene;
+    let line = Sought::Block(scene.refusal.block);
+    let function = scene.context.function;
+    match cert_position(scene, function.symbol, &line)? {
+        Some(position) => put_cert_note(out, told, position, text),
+        None => Ok(()),
+    }
+}
+
+/// The line to add, and the blocks to which it is to be added.
+pub fn put_listing(
+    out: &mut Vec<u8>,
+    told: &Told,
+    value: ValueId,
+    fact: Fact,
+) -> Result<(), AllocError> {
+    let scene = told.scene;
+    let definition = definition_of(scene.context.function, value);
+    put_missing(out, told, &definition, value, &fact)
+}
+
+fn put_function_note(out: &mut Vec<u8>, told: &Told, text: &str) -> Result<(), AllocError> {
+    let scene = told.scene;
+    let function = scene.context.function;
+    match cert_position(scene, function.symbol, &Sought::Function)? {
+        Some(position) => put_cert_note(out, told, position, text),
+        None => Ok(()),
     }
 }
 
 fn put_parameter(out: &mut Vec<u8>, told: &Told) -> Result<(), AllocError> {
-    put_own_line(
-        out,
-        told,
-        &Sought::Function,
-        "the certificate of {function}",
-    )?;
+    put_function_note(out, told, "the certificate of {function}")?;
     put_mend(
         out,
         told,
@@ -183,28 +223,26 @@ fn put_one_way(out: &mut Vec<u8>, told: &Told, value: ValueId) -> Result<(), All
 /// A block on the way does not list it.
 fn put_unlisted(out: &mut Vec<u8>, told: &Told, value: ValueId) -> Result<(), AllocError> {
     put_definition(out, told, value)?;
+    put_block_note(out, told, "what {here} lists comes after this line")?;
     let scene = told.scene;
-    let line = Sought::Block(scene.refusal.block);
-    put_own_line(out, told, &line, "what {here} lists comes after this line")?;
     let definition = definition_of(scene.context.function, value);
     match claim_after(scene, &definition, value)? {
-        Some(Claim::Value { fact, .. }) => put_missing(out, told, &definition, value, &fact),
+        Some(Claim::Value { fact, .. }) => put_listing(out, told, value, fact),
         _ => Ok(()),
     }
 }
 
-/// It is defined from what is not known, or from null.
-fn put_from_nothing(out: &mut Vec<u8>, told: &Told, value: ValueId) -> Result<(), AllocError> {
-    put_definition(out, told, value)?;
-    put_mend(
-        out,
-        told,
-        "take it from a reference that is known where it is defined",
-    )
+/// It would be stale.
+fn put_stale(out: &mut Vec<u8>, told: &Told, value: ValueId) -> Result<(), AllocError> {
+    let scene = told.scene;
+    let spot = scene.spot();
+    let lost = lost_before(scene, &spot, Some(value))?;
+    put_stale_since(out, told, &lost)?;
+    put_reload(out, told, &lost)
 }
 
 /// Why nothing is known of it, and what mends it.
-pub fn put_cause(
+pub fn put_unknown(
     out: &mut Vec<u8>,
     told: &Told,
     value: ValueId,
@@ -215,18 +253,36 @@ pub fn put_cause(
         Cause::Result => put_result(out, told, value),
         Cause::NotYet => put_mend(out, told, "define {it} on each way to this instruction"),
         Cause::OneWay(block) => put_one_way(out, &told.with_block(*block), value),
-        Cause::FromNothing => put_from_nothing(out, told, value),
+        Cause::FromNothing => {
+            put_definition(out, told, value)?;
+            put_mend(
+                out,
+                told,
+                "take it from a reference that is known where it is defined",
+            )
+        }
         Cause::Unlisted => put_unlisted(out, told, value),
+        Cause::Stale => put_stale(out, told, value),
     }
 }
 
-/// K1: the sentence, and the line.
-pub fn put_unavailable(
-    out: &mut Vec<u8>,
-    told: &Told,
-    unknown: &Unknown,
-) -> Result<(), AllocError> {
-    put_text(out, &told_of(told, unknown), sentence_of_unknown(unknown))?;
+/// Why nothing is known of a value, and what mends it.
+pub fn put_cause(out: &mut Vec<u8>, told: &Told, value: ValueId) -> Result<(), AllocError> {
+    let cause = cause_of(told.scene, value)?;
+    put_unknown(out, told, value, &cause)
+}
+
+/// Whether nothing is known of a value since it would be stale.
+pub fn is_stale_cause(scene: &Scene, value: ValueId) -> Result<bool, AllocError> {
+    let cause = cause_of(scene, value)?;
+    Ok(matches!(cause, Cause::Stale))
+}
+
+/// K1: the sentence, the line, the cause, and what mends it.
+pub fn put_unavailable(out: &mut Vec<u8>, told: &Told, value: ValueId) -> Result<(), AllocError> {
+    let cause = cause_of(told.scene, value)?;
+    put_text(out, &told_of(told, &cause), sentence_of(&cause))?;
     put(out, "\n")?;
-    put_line(out, told, told.it, "")
+    put_line(out, told, told.it, "")?;
+    put_unknown(out, told, value, &cause)
 }

@@ -1,20 +1,18 @@
 //! K13, K14 and K17: what is promised of a parameter, of a result, or of a function, and where the certificate says so.
+use crate::notes::{put_cert_note, put_mend, put_or};
+use crate::told::Told;
 use block_rules::known_of;
 use certs::{Promise, Section};
 use facts::{Facts, Known};
-use ir_ast::{Constant, End, FuncId, Function, Operand, SymbolSort, ValueId};
-use message_parts::{
-    Told, call_of, put_cert_note, put_line, put_mend, put_or, put_own_line, put_text,
-};
-use messages::put;
+use ir_ast::{Call, Constant, End, FuncId, Function, Op, Operand, SymbolSort, ValueId};
 use origins::{Sought, cert_position};
 use pools::LayoutId;
-use scenes::{Scene, There, put_known};
+use scenes::{Scene, There};
 use std::alloc::AllocError;
 
 /// Which word of a promise is not kept.
 #[derive(Clone, Copy)]
-enum Unkept {
+pub enum Unkept {
     /// It is null.
     Null,
     Nonnull,
@@ -25,9 +23,9 @@ enum Unkept {
 /// An argument that does not keep what is promised of its parameter.
 #[derive(Clone, Copy)]
 pub struct Broken {
-    operand: Operand,
-    parameter: ValueId,
-    word: Unkept,
+    pub operand: Operand,
+    pub parameter: ValueId,
+    pub word: Unkept,
 }
 
 fn is_nonnull(facts: &Facts, known: &Known) -> bool {
@@ -87,6 +85,17 @@ fn is_small(promised: Option<u64>, known: &Known) -> bool {
             },
         ) => *below <= wanted,
         _ => false,
+    }
+}
+
+/// The refused call.
+pub fn call_of<'a>(scene: &Scene<'a>) -> Option<&'a Call> {
+    match scene.there() {
+        There::Body(instr) => match &instr.op {
+            Op::Call(call) => Some(call),
+            _ => None,
+        },
+        _ => None,
     }
 }
 
@@ -150,13 +159,13 @@ pub fn returned(scene: &Scene) -> Option<Operand> {
 }
 
 /// Which word of what is promised of the result is not kept.
-fn unkept_result(scene: &Scene) -> Option<Unkept> {
+pub fn unkept_result(scene: &Scene) -> Option<Unkept> {
     let promise = scene.context.certs.section(scene.refusal.func)?.result?;
     unkept_word(scene.facts, promise, &returned(scene)?)
 }
 
 /// What an operand is not known to be.
-fn sentence_of(word: Option<Unkept>) -> &'static str {
+pub fn sentence_of(word: Option<Unkept>) -> &'static str {
     match word {
         Some(Unkept::Null) => "this is null, and the certificate promises `nonnull`",
         Some(Unkept::Nonnull) => "{it} may be null, and the certificate promises `nonnull`",
@@ -167,13 +176,21 @@ fn sentence_of(word: Option<Unkept>) -> &'static str {
 }
 
 /// What shows a word of a promise.
-fn mend_of(word: Option<Unkept>) -> &'static str {
+pub fn mend_of(word: Option<Unkept>) -> &'static str {
     match word {
         Some(Unkept::Null) => "give a reference that is not null",
         Some(Unkept::Nonnull) => "compare {it} with null and branch before",
         Some(Unkept::Below) => "compare {it} by icmp ult and branch before",
         Some(Unkept::Layout) => "give a reference to the layout that is promised",
         None => "show it before",
+    }
+}
+
+/// Where the certificate promises it of a parameter of the function that is called.
+pub fn put_promise(out: &mut Vec<u8>, told: &Told, parameter: ValueId) -> Result<(), AllocError> {
+    match function_called(told.scene) {
+        Some(called) => put_promise_of(out, told, called, &Sought::Param(parameter)),
+        None => Ok(()),
     }
 }
 
@@ -191,16 +208,23 @@ fn put_promise_of(
     }
 }
 
-/// Where the certificate promises it of a parameter of the function that is called.
-fn put_promise(out: &mut Vec<u8>, told: &Told, parameter: ValueId) -> Result<(), AllocError> {
-    match function_called(told.scene) {
-        Some(called) => put_promise_of(out, told, called, &Sought::Param(parameter)),
+/// Where the certificate of the function says this.
+pub fn put_own_line(
+    out: &mut Vec<u8>,
+    told: &Told,
+    line: &Sought,
+    text: &str,
+) -> Result<(), AllocError> {
+    let scene = told.scene;
+    let function = scene.context.function;
+    match cert_position(scene, function.symbol, line)? {
+        Some(position) => put_cert_note(out, told, position, text),
         None => Ok(()),
     }
 }
 
 /// What mends a promise that is not kept.
-fn put_kept(out: &mut Vec<u8>, told: &Told, word: Option<Unkept>) -> Result<(), AllocError> {
+pub fn put_kept(out: &mut Vec<u8>, told: &Told, word: Option<Unkept>) -> Result<(), AllocError> {
     put_mend(out, told, mend_of(word))?;
     put_or(
         out,
@@ -209,45 +233,8 @@ fn put_kept(out: &mut Vec<u8>, told: &Told, word: Option<Unkept>) -> Result<(), 
     )
 }
 
-/// K13.
-pub fn put_argument(out: &mut Vec<u8>, scene: &Scene, broken: &Broken) -> Result<(), AllocError> {
-    let told = Told::of(scene, Some(broken.operand));
-    let word = Some(broken.word);
-    put_text(out, &told, sentence_of(word))?;
-    put_text(out, &told, " of this parameter of {callee}\n")?;
-    put_line(out, &told, told.it, "")?;
-    put_promise(out, &told, broken.parameter)?;
-    put_known(out, scene, [broken.operand].as_slice())?;
-    put_kept(out, &told, word)
-}
-
-fn operands_of_result(operand: Option<Operand>) -> [Operand; 1] {
-    match operand {
-        Some(operand) => [operand],
-        None => [Operand::Constant(ir_ast::Constant::Null)],
-    }
-}
-
-/// K14.
-pub fn put_result(out: &mut Vec<u8>, scene: &Scene) -> Result<(), AllocError> {
-    let told = Told::of(scene, returned(scene));
-    let word = unkept_result(scene);
-    put_text(out, &told, sentence_of(word))?;
-    put(out, " of the result\n")?;
-    put_line(out, &told, told.it, "")?;
-    put_own_line(out, &told, &Sought::Result, "the promise")?;
-    put_known(out, scene, operands_of_result(told.it).as_slice())?;
-    put_kept(out, &told, word)
-}
-
 /// K17: where the marks are, and what mends it.
 pub fn put_mark(out: &mut Vec<u8>, told: &Told) -> Result<(), AllocError> {
-    put_text(
-        out,
-        told,
-        "{function} is marked `none`, and {callee} may reach a safepoint\n",
-    )?;
-    put_line(out, told, None, "")?;
     put_own_line(out, told, &Sought::Function, "the mark of {function}")?;
     put_mend(
         out,

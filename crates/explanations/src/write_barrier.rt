@@ -1,12 +1,13 @@
 //! K6 and K7: the write barrier, and the object that it names.
 use crate::barrier_lines::{put_barrier_lines, put_object_lines};
-use crate::unfresh::put_unfresh;
+use crate::notes::{put_line, put_mend};
+use crate::told::Told;
 use certs::is_opaque_text;
 use facts::Known;
 use ir_ast::{Operand, Runtime, ValueId};
-use message_parts::{Told, put_line, put_mend, put_text};
 use offered_lines::put_wanted_declare;
-use scenes::{Scene, put_known, reference_of};
+use origins::{Definition, definition_of};
+use scenes::{Scene, Spot, reference_of};
 use std::alloc::AllocError;
 
 /// The reference in whose cell an operand is a place.
@@ -29,6 +30,11 @@ fn label_of(told: &Told) -> &'static str {
     }
 }
 
+/// K6: the place of the store.
+pub fn put_stored_line(out: &mut Vec<u8>, told: &Told) -> Result<(), AllocError> {
+    put_line(out, told, told.place, label_of(told))
+}
+
 /// The call in place of the store.
 fn put_call(out: &mut Vec<u8>, told: &Told) -> Result<(), AllocError> {
     let scene = told.scene;
@@ -44,13 +50,13 @@ fn put_call(out: &mut Vec<u8>, told: &Told) -> Result<(), AllocError> {
 }
 
 /// K6: the call in place of the store, and its declaration where there is none.
-fn put_barrier(out: &mut Vec<u8>, told: &Told) -> Result<(), AllocError> {
+pub fn put_barrier(out: &mut Vec<u8>, told: &Told) -> Result<(), AllocError> {
     put_call(out, told)?;
     put_wanted_declare(out, told.scene.context.module(), &Runtime::GcWrite)
 }
 
 /// K7: the object of the place.
-fn put_object(out: &mut Vec<u8>, told: &Told) -> Result<(), AllocError> {
+pub fn put_object(out: &mut Vec<u8>, told: &Told) -> Result<(), AllocError> {
     let scene = told.scene;
     match (told.base, is_opaque_text(scene.context.module())) {
         (None, true) => put_mend(out, told, "name null: the place is in no object"),
@@ -63,44 +69,10 @@ fn put_object(out: &mut Vec<u8>, told: &Told) -> Result<(), AllocError> {
     }
 }
 
-/// K6.
-pub fn put_unbarred(
-    out: &mut Vec<u8>,
-    told: &Told,
-    operands: &[Operand],
-) -> Result<(), AllocError> {
-    put_text(
-        out,
-        told,
-        "{it} is stored into {place} without llvm.gcwrite\n",
-    )?;
-    put_line(out, told, told.place, label_of(told))?;
-    put_unfresh(out, told)?;
-    put_known(out, told.scene, operands)?;
-    put_barrier(out, told)
-}
-
-/// Where the place of a barrier is.
-fn object_label(told: &Told) -> &'static str {
-    if told.base.is_some() {
-        "the place is in the cell of {base}"
-    } else {
-        "the place is in the cell of no object"
+/// Where a value is defined in the body of a block, or by a phi.
+pub fn spot_of(scene: &Scene, value: ValueId) -> Option<Spot> {
+    match definition_of(scene.context.function, value) {
+        Definition::At(spot) => Some(spot),
+        _ => None,
     }
-}
-
-/// K7.
-pub fn put_other_object(
-    out: &mut Vec<u8>,
-    told: &Told,
-    operands: &[Operand],
-) -> Result<(), AllocError> {
-    put_text(
-        out,
-        told,
-        "{callee} names {it} as the object, and the place is not known to be in that\n",
-    )?;
-    put_line(out, told, told.it, object_label(told))?;
-    put_known(out, told.scene, operands)?;
-    put_object(out, told)
 }

@@ -1,6 +1,6 @@
 //! K16: an entry of a phi that is missing, or one too many.
+use crate::told::Told;
 use ir_ast::{BlockId, Function, Incoming};
-use message_parts::{Told, put_line, put_mend, put_text};
 use number_tables::{put, row_or};
 use origins::{block_id, leads_to};
 use scenes::{Scene, There};
@@ -9,7 +9,7 @@ use types::target_of;
 
 /// What is wrong with the entries of a phi.
 #[derive(Clone, Copy)]
-enum Entries {
+pub enum Entries {
     Missing(BlockId),
     Extra(BlockId),
     /// Two of one block, or another fault.
@@ -49,6 +49,14 @@ fn first_wrong(function: &Function, entered: &[bool], here: BlockId) -> Entries 
     Entries::Other
 }
 
+/// What is wrong with the entries of the refused phi.
+pub fn entries_of(scene: &Scene) -> Result<Entries, AllocError> {
+    match scene.there() {
+        There::Phi(phi) => entries_in(scene, phi.incoming.as_slice()),
+        _ => Ok(Entries::Other),
+    }
+}
+
 /// What is wrong with these entries.
 fn entries_in(scene: &Scene, incoming: &[Incoming]) -> Result<Entries, AllocError> {
     let function = scene.context.function;
@@ -56,16 +64,8 @@ fn entries_in(scene: &Scene, incoming: &[Incoming]) -> Result<Entries, AllocErro
     Ok(first_wrong(function, entered.as_slice(), scene.refusal.block))
 }
 
-/// What is wrong with the entries of the refused phi.
-fn entries_of(scene: &Scene) -> Result<Entries, AllocError> {
-    match scene.there() {
-        There::Phi(phi) => entries_in(scene, phi.incoming.as_slice()),
-        _ => Ok(Entries::Other),
-    }
-}
-
 /// The same text with the block.
-fn told_of<'a>(told: &Told<'a>, entries: &Entries) -> Told<'a> {
+pub fn told_of<'a>(told: &Told<'a>, entries: &Entries) -> Told<'a> {
     match entries {
         Entries::Missing(block) | Entries::Extra(block) => told.with_block(*block),
         Entries::Other => told.with_number(0),
@@ -73,28 +73,19 @@ fn told_of<'a>(told: &Told<'a>, entries: &Entries) -> Told<'a> {
 }
 
 /// K16 in one sentence.
-fn sentence_of(entries: &Entries) -> &'static str {
+pub fn sentence_of(entries: &Entries) -> &'static str {
     match entries {
-        Entries::Missing(_) => "{it} has no entry for {to}, which leads to {here}\n",
-        Entries::Extra(_) => "{it} has an entry for {to}, which does not lead to {here}\n",
-        Entries::Other => "{it} does not have one entry for each block that leads to {here}\n",
+        Entries::Missing(_) => "{it} has no entry for {to}, which leads to {here}",
+        Entries::Extra(_) => "{it} has an entry for {to}, which does not lead to {here}",
+        Entries::Other => "{it} does not have one entry for each block that leads to {here}",
     }
 }
 
 /// What mends it.
-fn mend_of(entries: &Entries) -> &'static str {
+pub fn mend_of(entries: &Entries) -> &'static str {
     match entries {
         Entries::Missing(_) => "add an entry `[ VALUE, {to} ]`",
         Entries::Extra(_) => "take the entry for {to} out",
         Entries::Other => "write one entry for each block that leads here, and none for another",
     }
-}
-
-/// K16.
-pub fn put_entries(out: &mut Vec<u8>, told: &Told) -> Result<(), AllocError> {
-    let entries = entries_of(told.scene)?;
-    let told = told_of(told, &entries);
-    put_text(out, &told, sentence_of(&entries))?;
-    put_line(out, &told, None, "")?;
-    put_mend(out, &told, mend_of(&entries))
 }

@@ -1,8 +1,11 @@
 //! K6: where the cell in which a reference is stored lost `fresh`.
+use crate::notes::put_note;
+use crate::nulls::slot_loaded;
+use crate::told::{Told, value_in};
+use crate::write_barrier::spot_of;
 use diagnosis::{Change, last_change};
 use facts::{ClassId, Facts, Known};
 use ir_ast::{Operand, ValueId};
-use message_parts::{Told, put_note, slot_loaded, spot_of, value_in};
 use origins::safepoint_before;
 use scenes::{Scene, Spot};
 use shadow_stack::SlotId;

@@ -1,14 +1,15 @@
 //! Which blocks have to list a value, and do not; and what each of them may list.
+use crate::edges::learn_branch;
+use crate::notes::{MARGIN, put_mend_word};
 use crate::null_tests::shows_nonnull;
+use crate::told::Told;
 use certs::{Age, Fact};
 use facts::{Class, Facts, Known};
 use ir_ast::{BlockId, Function, ValueId};
-use message_parts::{MARGIN, Told, learn_branch, put_mend_word};
 use messages::put;
 use origins::{Definition, block_id, blocks_between, is_missing, leads_to};
 use scenes::{Scene, Spot, put_block, put_claim};
 use std::alloc::AllocError;
-use std::mem;
 
 /// How many blocks are named at most.
 const NAMED: usize = 6;
@@ -73,18 +74,6 @@ fn is_among(blocks: &[BlockId], block: BlockId) -> bool {
     blocks.iter().any(|other| other.number() == block.number())
 }
 
-/// The class of a reference on an edge, if it is not stale there, by what is known at the end of the first block.
-fn class_after(
-    facts: &mut Facts,
-    function: &Function,
-    value: ValueId,
-    from: BlockId,
-    to: BlockId,
-) -> Result<Option<Class>, AllocError> {
-    learn_branch(facts, function, from, to)?;
-    Ok(current_class(facts, value))
-}
-
 /// The class of a reference on an edge, if it is not stale there.
 fn class_on_edge(
     scene: &Scene,
@@ -96,9 +85,8 @@ fn class_on_edge(
         block: from,
         place: usize::MAX,
     })?;
-    let class = class_after(&mut facts, scene.context.function, value, from, to);
-    drop(facts);
-    class
+    learn_branch(&mut facts, scene.context.function, from, to)?;
+    Ok(current_class(&facts, value))
 }
 
 fn current_class(facts: &Facts, value: ValueId) -> Option<Class> {
@@ -190,28 +178,6 @@ fn still_nonnull(
     Ok(kept)
 }
 
-/// Takes out the blocks at which a value may be null, if all of them may list it as one that is not null. Returns whether there are none.
-fn take_nullable(
-    scene: &Scene,
-    value: ValueId,
-    listed: &mut Vec<BlockId>,
-) -> Result<bool, AllocError> {
-    let kept = still_nonnull(scene, value, listed.as_slice())?;
-    let is_settled = kept.len() == listed.len();
-    drop(mem::replace(listed, kept));
-    Ok(is_settled)
-}
-
-/// Takes out blocks until the others may list a value as one that is not null.
-fn settle(scene: &Scene, value: ValueId, listed: &mut Vec<BlockId>) -> Result<(), AllocError> {
-    for _turn in 0..listed.len() {
-        if take_nullable(scene, value, listed)? {
-            return Ok(());
-        }
-    }
-    Ok(())
-}
-
 /// Those of some blocks that may list a value as one that is not null.
 fn nonnull_among(
     scene: &Scene,
@@ -219,13 +185,15 @@ fn nonnull_among(
     blocks: &[BlockId],
 ) -> Result<Vec<BlockId>, AllocError> {
     let mut listed = Vec::from_slice(scene.pen.alloc, blocks)?;
-    match settle(scene, value, &mut listed) {
-        Ok(()) => Ok(listed),
-        Err(error) => {
-            drop(listed);
-            Err(error)
+    for _turn in 0..blocks.len() {
+        let kept = still_nonnull(scene, value, listed.as_slice())?;
+        let is_settled = kept.len() == listed.len();
+        listed = kept;
+        if is_settled {
+            return Ok(listed);
         }
     }
+    Ok(listed)
 }
 
 /// What edges show of a value at each of some blocks, if these may list it as not null.
@@ -291,20 +259,6 @@ fn not_shown(scene: &Scene, blocks: &[BlockId]) -> Result<Vec<Unlisted>, AllocEr
     Ok(found)
 }
 
-/// Some blocks with what the edges into them show of a value, where that is found.
-fn shown_in(
-    scene: &Scene,
-    value: ValueId,
-    fact: &Fact,
-    blocks: &[BlockId],
-) -> Result<Vec<Unlisted>, AllocError> {
-    if matches!(fact, Fact::Reference { .. }) && are_shown(scene, blocks) {
-        shown_at(scene, value, blocks)
-    } else {
-        not_shown(scene, blocks)
-    }
-}
-
 /// The blocks that have to list a value, with what the edges into them show.
 fn unlisted_blocks(
     scene: &Scene,
@@ -313,9 +267,11 @@ fn unlisted_blocks(
     fact: &Fact,
 ) -> Result<Vec<Unlisted>, AllocError> {
     let blocks = missing(scene, definition, value)?;
-    let found = shown_in(scene, value, fact, blocks.as_slice());
-    drop(blocks);
-    found
+    if matches!(fact, Fact::Reference { .. }) && are_shown(scene, blocks.as_slice()) {
+        shown_at(scene, value, blocks.as_slice())
+    } else {
+        not_shown(scene, blocks.as_slice())
+    }
 }
 
 /// What a group of blocks may list, by what is known where the value is defined.

@@ -1,9 +1,11 @@
 //! K8: a slot that is no root, and the lines that make it one.
-use crate::shapes::{put_shape_layout, put_shape_words};
+use crate::cells::cell_layout;
+use crate::notes::{MARGIN, put_line, put_mend, put_mend_word};
+use crate::told::{Told, put_text, value_in};
 use certs::{Family, family_of_type, is_opaque_text};
 use ir_ast::{Block, BlockId, Instr, MemoryOp, Op, Operand, Runtime, ValueId};
-use message_parts::{Told, cell_layout, put_line, put_mend, put_mend_word, put_text, value_in};
 use messages::put;
+use name_text::{Blank, put_layout};
 use offered_lines::{Slot, put_root_lines, put_wanted_declare};
 use origins::block_id;
 use pools::LayoutId;
@@ -101,6 +103,30 @@ fn layout_held(scene: &Scene, slot: ValueId) -> Result<Option<LayoutId>, AllocEr
         }
     }
     Ok(None)
+}
+
+/// How the line of the shapes begins that says to which layout a slot refers.
+pub fn put_shape_words(out: &mut Vec<u8>, told: &Told) -> Result<(), AllocError> {
+    put(out, MARGIN)?;
+    put_text(
+        out,
+        told,
+        "and this one to the shapes, in front of the certificate's sections: root {function} ",
+    )
+}
+
+/// How that line ends.
+pub fn put_shape_layout(
+    out: &mut Vec<u8>,
+    scene: &Scene,
+    layout: Option<LayoutId>,
+) -> Result<(), AllocError> {
+    put(out, " ref ")?;
+    match layout {
+        Some(layout) => put_layout(out, scene.context.module(), layout, Blank::Kept)?,
+        None => put(out, "L, where L is the layout to which it refers")?,
+    }
+    put(out, "\n")
 }
 
 /// The line of the shapes that says to which layout a slot refers.

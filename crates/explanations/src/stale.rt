@@ -1,13 +1,15 @@
-//! K3: a reference that is stale: since which call, and how it is loaded again.
-use crate::shapes::{put_shape_layout, put_shape_words};
+//! A reference that is stale: since which call, and how it is loaded again.
+use crate::cells::cell_layout;
+use crate::notes::{put_mend, put_note, put_or};
+use crate::told::Told;
+use crate::unrooted::{put_shape_layout, put_shape_words};
 use certs::is_opaque_text;
 use facts::{ClassId, Facts, Known};
 use ir_ast::{Instr, MemoryOp, Op, Operand, Runtime, ValueId};
-use message_parts::{Told, cell_layout, put_line, put_mend, put_note, put_or, put_text, value_in};
 use offered_lines::{Unheld, put_new_root_lines, put_slot_name, put_wanted_declare};
 use origins::{Lost, safepoint_before};
 use pools::LayoutId;
-use scenes::{Scene, put_known};
+use scenes::{Scene, Spot};
 use std::alloc::AllocError;
 
 fn class_of(facts: &Facts, value: ValueId) -> Option<ClassId> {
@@ -44,38 +46,40 @@ fn slot_among(scene: &Scene, facts: &Facts, class: ClassId) -> Option<ValueId> {
     None
 }
 
-/// The root slot that holds a reference.
-fn slot_of(scene: &Scene, facts: &Facts, value: ValueId) -> Option<ValueId> {
-    slot_among(scene, facts, class_of(facts, value)?)
-}
-
 /// The root slot that holds a reference when a call may reach a safepoint.
 fn slot_at(scene: &Scene, lost: &Lost) -> Result<Option<ValueId>, AllocError> {
     let facts = scene.facts_at(&lost.spot)?;
-    let slot = slot_of(scene, &facts, lost.value);
-    drop(facts);
-    Ok(slot)
+    match class_of(&facts, lost.value) {
+        Some(class) => Ok(slot_among(scene, &facts, class)),
+        None => Ok(None),
+    }
 }
 
-/// The call since which the reference of a text is stale at the refused instruction.
-fn lost_of(told: &Told) -> Result<Option<Lost>, AllocError> {
-    let scene = told.scene;
-    let spot = scene.spot();
-    match value_in(told.it) {
-        Some(value) => safepoint_before(scene, &spot, value),
+/// The call since which a value is stale at an instruction.
+pub fn lost_before(
+    scene: &Scene,
+    spot: &Spot,
+    value: Option<ValueId>,
+) -> Result<Option<Lost>, AllocError> {
+    match value {
+        Some(value) => safepoint_before(scene, spot, value),
         None => Ok(None),
     }
 }
 
 /// The call after which a reference is stale.
-fn put_stale_at(out: &mut Vec<u8>, told: &Told, lost: &Lost) -> Result<(), AllocError> {
+pub fn put_stale_at(out: &mut Vec<u8>, told: &Told, lost: &Lost) -> Result<(), AllocError> {
     let told = told.with_it(Some(Operand::Local(lost.value)));
     let text = "this call may reach a safepoint: {it} is stale from here on";
     put_note(out, &told, &lost.spot, None, text)
 }
 
 /// The same, if there is one.
-fn put_stale_since(out: &mut Vec<u8>, told: &Told, lost: &Option<Lost>) -> Result<(), AllocError> {
+pub fn put_stale_since(
+    out: &mut Vec<u8>,
+    told: &Told,
+    lost: &Option<Lost>,
+) -> Result<(), AllocError> {
     match lost {
         Some(lost) => put_stale_at(out, told, lost),
         None => Ok(()),
@@ -85,9 +89,7 @@ fn put_stale_since(out: &mut Vec<u8>, told: &Told, lost: &Option<Lost>) -> Resul
 /// The layout of a reference before the call at which it is lost.
 fn layout_at(scene: &Scene, lost: &Lost) -> Result<Option<LayoutId>, AllocError> {
     let facts = scene.facts_at(&lost.spot)?;
-    let layout = cell_layout(&facts.known(lost.value));
-    drop(facts);
-    Ok(layout)
+    Ok(cell_layout(&facts.known(lost.value)))
 }
 
 /// The line of the shapes that says to which layout a new slot refers.
@@ -131,7 +133,7 @@ fn put_unheld(out: &mut Vec<u8>, told: &Told, lost: &Lost) -> Result<(), AllocEr
 }
 
 /// How a stale reference is loaded again, where it was lost at a call.
-fn put_reload_after(out: &mut Vec<u8>, told: &Told, lost: &Lost) -> Result<(), AllocError> {
+pub fn put_reload_after(out: &mut Vec<u8>, told: &Told, lost: &Lost) -> Result<(), AllocError> {
     let told = told.with_it(Some(Operand::Local(lost.value)));
     match slot_at(told.scene, lost)? {
         Some(slot) => {
@@ -147,7 +149,7 @@ fn put_reload_after(out: &mut Vec<u8>, told: &Told, lost: &Lost) -> Result<(), A
 }
 
 /// How a stale reference is loaded again.
-fn put_reload(out: &mut Vec<u8>, told: &Told, lost: &Option<Lost>) -> Result<(), AllocError> {
+pub fn put_reload(out: &mut Vec<u8>, told: &Told, lost: &Option<Lost>) -> Result<(), AllocError> {
     match lost {
         Some(lost) => put_reload_after(out, told, lost),
         None => put_mend(
@@ -156,23 +158,4 @@ fn put_reload(out: &mut Vec<u8>, told: &Told, lost: &Option<Lost>) -> Result<(),
             "load {it} again from a root slot after the last safepoint, and use what is loaded",
         ),
     }
-}
-
-/// Since which call the reference of a text is stale, what is known of some operands, and how it is loaded again.
-pub fn put_stale(out: &mut Vec<u8>, told: &Told, operands: &[Operand]) -> Result<(), AllocError> {
-    let lost = lost_of(told)?;
-    put_stale_since(out, told, &lost)?;
-    put_known(out, told.scene, operands)?;
-    put_reload(out, told, &lost)
-}
-
-/// K3.
-pub fn put_stale_here(
-    out: &mut Vec<u8>,
-    told: &Told,
-    operands: &[Operand],
-) -> Result<(), AllocError> {
-    put_text(out, told, "{it} is stale here\n")?;
-    put_line(out, told, told.it, "")?;
-    put_stale(out, told, operands)
 }

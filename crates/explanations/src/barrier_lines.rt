@@ -1,6 +1,7 @@
 //! The lines of llvm.gcwrite in place of a store, in a text with typed pointers: the casts that it takes, and the call.
+use crate::nulls::is_value;
+use crate::told::{Told, type_of, value_in};
 use ir_ast::{Constant, MemoryOp, Op, Operand, TypeId, ValueId};
-use message_parts::{Told, is_value, type_of, value_in};
 use messages::put;
 use offered_lines::{CODE_MARGIN, put_new_name, put_type};
 use scenes::{Scene, There, put_operand};
@@ -73,22 +74,14 @@ fn barrier_for(told: &Told) -> Option<Barrier> {
     }
 }
 
-/// Whether a type is written so.
-fn is_written(scene: &Scene, has: TypeId, wanted: &str) -> Result<bool, AllocError> {
-    let mut written = Vec::new(scene.pen.alloc);
-    let put = put_type(scene.pen.alloc, &mut written, scene.context.module(), has);
-    let is_same = written.as_slice() == wanted.as_bytes();
-    drop(written);
-    put?;
-    Ok(is_same)
-}
-
 /// The value that has to be cast.
 fn uncast(scene: &Scene, given: &Given) -> Result<Option<ValueId>, AllocError> {
     let (Some(value), Some(has)) = (value_in(Some(given.operand)), given.has) else {
         return Ok(None);
     };
-    if is_written(scene, has, given.wanted)? {
+    let mut written = Vec::new(scene.pen.alloc);
+    put_type(scene.pen.alloc, &mut written, scene.context.module(), has)?;
+    if written.as_slice() == given.wanted.as_bytes() {
         Ok(None)
     } else {
         Ok(Some(value))

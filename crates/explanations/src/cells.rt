@@ -1,0 +1,514 @@
+//! K2 and K5: the words of a layout, the elements of an array, and which operand is no value.
+use crate::notes::{MARGIN, put_line, put_mend, put_mend_word, put_or};
+use crate::nulls::{is_made_here, is_value};
+use crate::promised::call_of;
+use crate::told::{Told, put_text, value_in};
+use facts::Known;
+use ir_ast::{Argument, Constant, Element, IrType, Op, Operand, Runtime, TypeId, ValueId};
+use messages::{Ink, put, put_inked};
+use name_text::{Blank, put_layout, put_number};
+use origins::{Definition, definition_of};
+use pools::{LayoutId, WordKind};
+use scenes::{Scene, There, arguments_of, is_runtime_call, slot_among};
+use std::alloc::AllocError;
+use types::{part_at, runtime_called};
+
+/// An index of an array that is not known to be small enough.
+#[derive(Clone, Copy)]
+pub struct LooseIndex {
+    pub index: Operand,
+    /// How many bits it has.
+    pub bits: u32,
+    /// How many elements the array has.
+    pub length: u64,
+}
+
+/// How many bits an integer type has.
+fn bits_of(scene: &Scene, written: TypeId) -> u32 {
+    match scene.context.module().types.get(written) {
+        Some(IrType::Integer(bits)) => bits,
+        _ => 64,
+    }
+}
+
+/// The array into which an index leads, if it leads into one and is no constant.
+fn loose(scene: &Scene, whole: TypeId, index: Argument) -> Option<LooseIndex> {
+    match (scene.context.module().types.get(whole), index.operand) {
+        (Some(IrType::Array { length, .. }), Operand::Local(_)) => Some(LooseIndex {
+            index: index.operand,
+            bits: bits_of(scene, index.written),
+            length,
+        }),
+        _ => None,
+    }
+}
+
+/// The first index into an array that is no constant.
+fn first_loose(scene: &Scene, source: TypeId, indices: &[Argument]) -> Option<LooseIndex> {
+    let mut whole = source;
+    for index in indices {
+        let found = loose(scene, whole, *index);
+        if found.is_some() {
+            return found;
+        }
+        whole = part_at(scene.context.module(), whole, *index)?;
+    }
+    None
+}
+
+pub fn element_of<'a>(scene: &Scene<'a>) -> Option<&'a Element> {
+    match scene.there() {
+        There::Body(instr) => match &instr.op {
+            Op::Element(element) => Some(element),
+            _ => None,
+        },
+        _ => None,
+    }
+}
+
+/// The index of the refused getelementptr that is not known to be small enough.
+pub fn loose_index(scene: &Scene) -> Option<LooseIndex> {
+    let element = element_of(scene)?;
+    match element.indices.as_slice() {
+        [_, parts @ ..] => first_loose(scene, element.source, parts),
+        [] => None,
+    }
+}
+
+/// Whether an index leads outside an array, or to no field.
+fn is_outside(scene: &Scene, whole: TypeId, index: Argument) -> bool {
+    let module = scene.context.module();
+    match (module.types.get(whole), number_of(index.operand)) {
+        (Some(IrType::Array { length, .. }), Some(number)) => number >= length,
+        _ => part_at(module, whole, index).is_none(),
+    }
+}
+
+fn number_of(operand: Operand) -> Option<u64> {
+    match operand {
+        Operand::Constant(Constant::Number(number)) => Some(number),
+        _ => None,
+    }
+}
+
+/// The first constant index that leads outside.
+fn first_outside(scene: &Scene, source: TypeId, indices: &[Argument]) -> Option<Operand> {
+    let mut whole = source;
+    for index in indices {
+        if is_outside(scene, whole, *index) {
+            return Some(index.operand);
+        }
+        whole = part_at(scene.context.module(), whole, *index)?;
+    }
+    None
+}
+
+/// The constant index of the refused getelementptr that leads outside.
+fn outside_index(scene: &Scene) -> Option<Operand> {
+    let element = element_of(scene)?;
+    match element.indices.as_slice() {
+        [_, parts @ ..] => first_outside(scene, element.source, parts),
+        [] => None,
+    }
+}
+
+/// Whether the refused getelementptr counts bytes.
+fn counts_bytes(scene: &Scene) -> bool {
+    match element_of(scene) {
+        Some(element) => matches!(
+            scene.context.module().types.get(element.source),
+            Some(IrType::Integer(_))
+        ),
+        None => false,
+    }
+}
+
+/// The base of the refused getelementptr.
+pub fn element_base(scene: &Scene) -> Option<Operand> {
+    match element_of(scene) {
+        Some(element) => Some(element.base),
+        None => None,
+    }
+}
+
+/// The layout in whose cell an operand leads.
+pub fn layout_of(scene: &Scene, operand: Option<Operand>) -> Option<LayoutId> {
+    let value = value_in(operand)?;
+    let known = scene.facts.known(value);
+    match base_in(&known) {
+        Some(base) => cell_layout(&scene.facts.known(base)),
+        None => cell_layout(&known),
+    }
+}
+
+/// The layout of the cell of a reference.
+pub fn cell_layout(known: &Known) -> Option<LayoutId> {
+    match known {
+        Known::Cell { layout, .. } => Some(*layout),
+        _ => None,
+    }
+}
+
+/// The base of an address.
+fn base_in(known: &Known) -> Option<ValueId> {
+    match known {
+        Known::Address { base, .. } => Some(*base),
+        _ => None,
+    }
+}
+
+fn put_kind(out: &mut Vec<u8>, scene: &Scene, kind: WordKind) -> Result<(), AllocError> {
+    match kind {
+        WordKind::Integer(bits) => {
+            put(out, " i")?;
+            put_number(scene.pen.alloc, out, bits as u64)
+        }
+        WordKind::Reference(layout) => {
+            put(out, " ref ")?;
+            put_layout(out, scene.context.module(), layout, Blank::Kept)
+        }
+    }
+}
+
+/// The words of a layout: `layout Node: 0 i64, 1 ref Node`.
+pub fn put_words(out: &mut Vec<u8>, scene: &Scene, layout: LayoutId) -> Result<(), AllocError> {
+    put_inked(out, scene.pen.look, Ink::Note, "  words: ")?;
+    put(out, "of ")?;
+    put_layout(out, scene.context.module(), layout, Blank::Kept)?;
+    let words = scene.context.program.layouts().words(layout);
+    for (number, kind) in words.iter().enumerate() {
+        put(out, if number == 0 { ": " } else { ", " })?;
+        put_number(scene.pen.alloc, out, number as u64)?;
+        put_kind(out, scene, *kind)?;
+    }
+    put(out, "\n")
+}
+
+/// The same, where an operand leads into a cell.
+pub fn put_words_of(
+    out: &mut Vec<u8>,
+    scene: &Scene,
+    operand: Option<Operand>,
+) -> Result<(), AllocError> {
+    match layout_of(scene, operand) {
+        Some(layout) => put_words(out, scene, layout),
+        None => Ok(()),
+    }
+}
+
+/// The numbers of the layouts: `0 Node, 1 Tree`.
+pub fn put_layouts(out: &mut Vec<u8>, scene: &Scene) -> Result<(), AllocError> {
+    let module = scene.context.module();
+    for number in 0..module.structs.len() {
+        if let Ok(number) = u32::try_from(number) {
+            put(out, if number == 0 { "" } else { ", " })?;
+            put_number(scene.pen.alloc, out, number as u64)?;
+            put(out, " ")?;
+            put_layout(out, module, LayoutId::new(number), Blank::Kept)?;
+        }
+    }
+    Ok(())
+}
+
+/// The numbers of the layouts, as a further line of what mends.
+pub fn put_numbers(out: &mut Vec<u8>, scene: &Scene) -> Result<(), AllocError> {
+    put(out, MARGIN)?;
+    put(out, "the numbers that dg_alloc takes: ")?;
+    put_layouts(out, scene)?;
+    put(out, "\n")
+}
+
+/// K5 in one sentence.
+pub fn put_outside(out: &mut Vec<u8>, told: &Told) -> Result<(), AllocError> {
+    match loose_index(told.scene) {
+        Some(loose) => {
+            let told = Told::of(told.scene, Some(loose.index)).with_number(loose.length);
+            put_text(out, &told, "{it} is not known to be below {number}")
+        }
+        None if counts_bytes(told.scene) => {
+            put(out, "an offset in bytes leads to no word that is known")
+        }
+        None => put_text(out, told, "this leads outside the words of {it}"),
+    }
+}
+
+/// K5: the index, or the base.
+pub fn put_outside_line(out: &mut Vec<u8>, told: &Told) -> Result<(), AllocError> {
+    match loose_index(told.scene) {
+        Some(loose) => {
+            let told = Told::of(told.scene, Some(loose.index)).with_number(loose.length);
+            put_line(
+                out,
+                &told,
+                told.it,
+                "an index into an array of {number} elements",
+            )
+        }
+        None => put_line(out, told, outside_index(told.scene).or(told.it), ""),
+    }
+}
+
+/// The comparison that shows that an index is small enough.
+fn put_comparison(out: &mut Vec<u8>, told: &Told, bits: u32) -> Result<(), AllocError> {
+    put_mend_word(out, told.scene)?;
+    put(out, "compare and branch before: icmp ult i")?;
+    let scene = told.scene;
+    put_number(scene.pen.alloc, out, bits as u64)?;
+    put_text(out, told, " {it}, {number}; use it where that is true\n")
+}
+
+fn put_bound(out: &mut Vec<u8>, told: &Told, bits: u32) -> Result<(), AllocError> {
+    put_comparison(out, told, bits)?;
+    let scene = told.scene;
+    if is_made_by_body(scene, told.it) {
+        return Ok(());
+    }
+    if scene.refusal.block.number() != 0 {
+        return put_or(
+            out,
+            told,
+            "or list {it} with `below {number}` under `block {here}`, where each edge into that implies it",
+        );
+    }
+    if is_parameter(scene, told.it) {
+        return put_or(
+            out,
+            told,
+            "or add `below {number}` to the `param {it}` line of the certificate; each call then has to keep it",
+        );
+    }
+    Ok(())
+}
+
+/// Whether the body of the refused instruction's block defines an operand.
+fn is_made_by_body(scene: &Scene, operand: Option<Operand>) -> bool {
+    match value_in(operand) {
+        Some(value) => is_made_here(scene, value),
+        None => false,
+    }
+}
+
+/// Whether an operand is a parameter of the function.
+fn is_parameter(scene: &Scene, operand: Option<Operand>) -> bool {
+    match value_in(operand) {
+        Some(value) => matches!(
+            definition_of(scene.context.function, value),
+            Definition::Parameter(_)
+        ),
+        None => false,
+    }
+}
+
+/// What mends K5.
+pub fn put_inside(out: &mut Vec<u8>, told: &Told) -> Result<(), AllocError> {
+    match loose_index(told.scene) {
+        Some(loose) => {
+            let told = Told::of(told.scene, Some(loose.index)).with_number(loose.length);
+            put_bound(out, &told, loose.bits)
+        }
+        None => put_mend(
+            out,
+            told,
+            "name a field by its index: getelementptr T, .., i32 0, i32 FIELD, with the struct type T of {it}",
+        ),
+    }
+}
+
+/// The first operand that is the address of a global, where a value is wanted.
+fn global_among(operands: &[Operand]) -> Option<Operand> {
+    for operand in operands {
+        if matches!(operand, Operand::Global(_) | Operand::CastGlobal { .. }) {
+            return Some(*operand);
+        }
+    }
+    None
+}
+
+/// The first operand that is the address of a word.
+fn address_among(scene: &Scene, operands: &[Operand]) -> Option<Operand> {
+    for operand in operands {
+        if let Operand::Local(value) = operand {
+            if matches!(
+                scene.facts.known(*value),
+                Known::Address { .. } | Known::GlobalAddress(_)
+            ) {
+                return Some(*operand);
+            }
+        }
+    }
+    None
+}
+
+/// Which operand has another type than the one that is written.
+#[derive(Clone, Copy)]
+pub enum Mistyped {
+    /// The number of a layout.
+    Layout(Operand),
+    /// The place of a load or a store.
+    Place(Operand),
+    /// An address where a value is wanted.
+    Address(Operand),
+    /// A slot where a value is wanted.
+    Slot(Operand),
+    /// The value that llvm.gcwrite stores.
+    Stored(Operand),
+    /// The only operand.
+    Only(Operand),
+    /// The only argument of a call.
+    Argument(Operand),
+    Other,
+}
+
+/// The value that the refused llvm.gcwrite stores.
+fn stored_by_barrier(scene: &Scene) -> Option<Operand> {
+    let call = call_of(scene)?;
+    match (
+        runtime_called(scene.context.module(), call.callee),
+        call.arguments.as_slice(),
+    ) {
+        (Some(Runtime::GcWrite), [value, ..]) => Some(value.operand),
+        _ => None,
+    }
+}
+
+/// A slot that is used as a value, and is not the place.
+fn slot_used(scene: &Scene, operands: &[Operand], place: &Option<Operand>) -> Option<Operand> {
+    let slot = value_in(slot_among(scene, operands))?;
+    if is_value(slot, *place) {
+        None
+    } else {
+        Some(Operand::Local(slot))
+    }
+}
+
+/// An address that is used as a value.
+fn address_used(scene: &Scene, operands: &[Operand]) -> Option<Operand> {
+    match global_among(operands) {
+        Some(operand) => Some(operand),
+        None => address_among(scene, operands),
+    }
+}
+
+/// What is wrong with the value that llvm.gcwrite stores.
+fn mistyped_stored(scene: &Scene, value: &Operand) -> Mistyped {
+    match address_used(scene, [*value].as_slice()) {
+        Some(operand) => Mistyped::Address(operand),
+        None => Mistyped::Stored(*value),
+    }
+}
+
+/// What is wrong where an instruction has no place.
+fn mistyped_among(scene: &Scene, operands: &[Operand]) -> Mistyped {
+    match (address_used(scene, operands), operands) {
+        (Some(operand), _) => Mistyped::Address(operand),
+        (None, [only]) if call_of(scene).is_some() => Mistyped::Argument(*only),
+        (None, [only]) => Mistyped::Only(*only),
+        _ => Mistyped::Other,
+    }
+}
+
+fn number_of_layout(scene: &Scene) -> Option<Operand> {
+    match arguments_of(scene) {
+        [only] if is_runtime_call(scene) => Some(only.operand),
+        _ => None,
+    }
+}
+
+/// Which operand a refusal by K2 speaks of.
+pub fn mistyped_in(scene: &Scene, operands: &[Operand], place: Option<Operand>) -> Mistyped {
+    if let Some(number) = number_of_layout(scene) {
+        return Mistyped::Layout(number);
+    }
+    if let Some(slot) = slot_used(scene, operands, &place) {
+        return Mistyped::Slot(slot);
+    }
+    if let Some(value) = stored_by_barrier(scene) {
+        return mistyped_stored(scene, &value);
+    }
+    match &place {
+        Some(place) => Mistyped::Place(*place),
+        None => mistyped_among(scene, operands),
+    }
+}
+
+/// K2: the operand.
+pub fn operand_of(mistyped: &Mistyped) -> Option<Operand> {
+    match mistyped {
+        Mistyped::Layout(operand)
+        | Mistyped::Place(operand)
+        | Mistyped::Address(operand)
+        | Mistyped::Slot(operand)
+        | Mistyped::Stored(operand)
+        | Mistyped::Argument(operand)
+        | Mistyped::Only(operand) => Some(*operand),
+        Mistyped::Other => None,
+    }
+}
+
+/// K2 in one sentence.
+pub fn sentence_of(mistyped: &Mistyped) -> &'static str {
+    match mistyped {
+        Mistyped::Layout(_) => "the module has no layout with the number {it}",
+        Mistyped::Place(_) =>
+            "what is read or written at {it} does not have the type of the word there",
+        Mistyped::Address(_) => "{it} is an address, and a value is wanted here",
+        Mistyped::Slot(_) => "{it} is a slot, and a value is wanted here",
+        Mistyped::Stored(_) => "{it} does not have the type of the word at {place}",
+        Mistyped::Argument(_) => "{it} does not have the type of the parameter of {callee}",
+        Mistyped::Only(_) => "{it} does not have the type that is written",
+        Mistyped::Other => "an operand does not have the type that is written",
+    }
+}
+
+/// The numbers that an allocation may write.
+fn put_numbered(out: &mut Vec<u8>, told: &Told) -> Result<(), AllocError> {
+    put_mend(
+        out,
+        told,
+        "write the number of a layout, which are the named structs in the order of the text:",
+    )?;
+    put(out, MARGIN)?;
+    put_layouts(out, told.scene)?;
+    put(out, "\n")
+}
+
+/// The words of a cell, and a way that mends what is read there or stored.
+fn put_word_types(
+    out: &mut Vec<u8>,
+    told: &Told,
+    cell: Option<Operand>,
+    text: &str,
+) -> Result<(), AllocError> {
+    put_words_of(out, told.scene, cell)?;
+    put_mend(out, told, text)?;
+    put_numbers(out, told.scene)
+}
+
+/// What mends an operand that is of the wrong type where it stands.
+fn mend_of(mistyped: &Mistyped) -> &'static str {
+    match mistyped {
+        Mistyped::Address(_) | Mistyped::Slot(_) => "load from {it} first, and use what is loaded",
+        Mistyped::Argument(_) => "give a value of the type that the parameter has",
+        _ => "write the type that the value has",
+    }
+}
+
+/// What mends K2.
+pub fn put_types(out: &mut Vec<u8>, told: &Told, mistyped: &Mistyped) -> Result<(), AllocError> {
+    match mistyped {
+        Mistyped::Layout(_) => put_numbered(out, told),
+        Mistyped::Place(_) => put_word_types(
+            out,
+            told,
+            told.it,
+            "write the type of the word, or lead to the right one; a reference is of one layout",
+        ),
+        Mistyped::Stored(_) => put_word_types(
+            out,
+            told,
+            told.place,
+            "store a reference to the layout of that word, which the certificate or the type of {place} says",
+        ),
+        mistyped => put_mend(out, told, mend_of(mistyped)),
+    }
+}
