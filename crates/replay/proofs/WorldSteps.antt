@@ -1,6 +1,6 @@
 -- A world after one more step.
-use Rattle.std.proofs.Common.{◌≡◌, ◌<◌, ℕ, Bool, Option, Some, List, [], ◌∷◌, length, map, slice_get, refl, sym, ap, ◌∙◌, subst}
-use Rattle.std.specs.Prelude.{IfSome}
+use Rattle.std.proofs.Common.{◌≡◌, ℕ, Bool, Option, Some, Result, Ok, List, [], ◌∷◌, length, map, slice_get, refl, sym, ap, ◌∙◌, subst}
+use Rattle.std.specs.Prelude.{IfSome, IfOk}
 use Rattle.pools.specs.Heap.{cells_in}
 use Rattle.std.proofs.lemmas.List.{length-map}
 use Rattle.layout.specs.Layouts.{LaidOut}
@@ -98,11 +98,22 @@ pub record IsMadeBy (i : Inside) (actor : Actor) (made : Option MadeStep) (actor
       → stepping.AreAfterSteps (heap_of i.program.now i.setup.now) program_machine (FitsThread (heap_of i.program.now i.setup.now)) (starts_of i.program.now i.setup.now) before i.actors
       → IsStepOf i before actor made actors
 
--- the actor is a thread of the world
-pub is_thread : (i : Inside) (w : World) (actor : Actor) (t : ℕ) → world_seen i ≡ w → actor ≡ Thread t → IsActor (length w.setup.starts) actor → t < length i.setup.now.starts
-is_thread i w actor t seen is of =
-    let q : t < length w.setup.starts = subst (IsActor (length w.setup.starts)) is of in
-    subst (λ (v : World). t < length v.setup.starts) (sym seen) q
+-- the actor is one of the world
+pub is_actor : (i : Inside) (w : World) (actor : Actor) → world_seen i ≡ w → IsActor (length w.setup.starts) actor → IsActor (length i.setup.now.starts) actor
+is_actor i w actor seen of = subst (λ (v : World). IsActor (length v.setup.starts) actor) (sym seen) of
+
+-- the code made the step where its actors made it, and kept the endings after it
+pub made_by : {E : Type 0} (i : Inside) (actor : Actor) (result : Result (Option MadeStep) E) (made : Option MadeStep) (actors : Actors ProgramThread) (endings : List ThreadOutcome)
+    → IsActor (length i.setup.now.starts) actor → endings ≡ endings_after actor i.actors.threads.items i.endings → result ≡ Ok made
+    → ((before : List Actor)
+    → stepping.AreAfterSteps (heap_of i.program.now i.setup.now) program_machine (FitsThread (heap_of i.program.now i.setup.now)) (starts_of i.program.now i.setup.now) before i.actors
+    → IfOk result (λ made. IsStepOf i before actor made actors))
+    → IsMadeBy i actor made actors endings
+made_by i actor result made actors endings is are ok makes = record {
+  is_actor = is;
+  endings_are = are;
+  makes = λ before b. subst (λ r. IfOk r (λ made. IsStepOf i before actor made actors)) ok (makes before b);
+}
 
 -- the world after it keeps what a world keeps
 pub keeps : (i : Inside) (actor : Actor) (made : Option MadeStep) (actors : Actors ProgramThread) (endings : List ThreadOutcome) → IsKept i → IsMadeBy i actor made actors endings
@@ -112,25 +123,25 @@ keeps i actor made actors endings kept by =
     (is_kept i actor made actors kept by.is_actor (by.makes kept.made.0 (are_after i (world_seen i) kept.made.0 refl kept kept.made.1)))
 
 -- the step is told, and the world is the one after it
-pub tells : (i : Inside) (w : World) (given actor : Actor) (made : Option MadeStep) (actors : Actors ProgramThread) (endings : List ThreadOutcome) → world_seen i ≡ w → given ≡ actor → IsKept i
+pub tells : (i : Inside) (w : World) (actor : Actor) (made : Option MadeStep) (actors : Actors ProgramThread) (endings : List ThreadOutcome) → world_seen i ≡ w → IsKept i
     → IsMadeBy i actor made actors endings → (before : List Actor) → IsAfter w before
-    → IsStepAfter w before given made × IsAfter (world_seen (record i { actors = actors; endings = endings })) (given ∷ before)
-tells i w given actor made actors endings seen is kept by before b =
+    → IsStepAfter w before actor made × IsAfter (world_seen (record i { actors = actors; endings = endings })) (actor ∷ before)
+tells i w actor made actors endings seen kept by before b =
     let here : IsAfter (world_seen i) before = subst (λ (v : World). IsAfter v before) (sym seen) b in
     let step = by.makes before (are_after i (world_seen i) before refl kept here) in
     let told : IsStepAfter (world_seen i) before actor made = step.made_is in
     let there : IsStepAfter w before actor made = subst (λ (v : World). IsStepAfter v before actor made) seen told in
     let leads : IsAfter (world_seen (record i { actors = actors; endings = endings })) (actor ∷ before) =
     subst (λ (e : List ThreadOutcome). IsAfter (world_seen (record i { actors = actors; endings = e })) (actor ∷ before)) (sym by.endings_are) (is_after i actor before made actors kept here by.is_actor step) in
-    (subst (λ (a : Actor). IsStepAfter w before a made) (sym is) there, subst (λ (a : Actor). IsAfter (world_seen (record i { actors = actors; endings = endings })) (a ∷ before)) (sym is) leads)
+    (there, leads)
 
 -- and it is not broken where the program is certified
-pub stays_safe : CertifiedIsSafe → (i : Inside) (w : World) (given actor : Actor) (made : Option MadeStep) (actors : Actors ProgramThread) (endings : List ThreadOutcome) → world_seen i ≡ w → given ≡ actor → IsKept i
+pub stays_safe : CertifiedIsSafe → (i : Inside) (w : World) (actor : Actor) (made : Option MadeStep) (actors : Actors ProgramThread) (endings : List ThreadOutcome) → world_seen i ≡ w → IsKept i
     → IsMadeBy i actor made actors endings → (certs : List Section) (before : List Actor) → IsCertifiedSetup w.program w.setup certs → IsAfter w before
-    → ¬ IsBrokenWorld (world_seen (record i { actors = actors; endings = endings })) (given ∷ before)
-stays_safe law i w given actor made actors endings seen is kept by certs before certified b =
-    is_safe law (record i { actors = actors; endings = endings }) certs (given ∷ before) (keeps i actor made actors endings kept by)
-    (subst (λ (v : World). IsCertifiedSetup v.program v.setup certs) (sym seen) certified) (tells i w given actor made actors endings seen is kept by before b).1
+    → ¬ IsBrokenWorld (world_seen (record i { actors = actors; endings = endings })) (actor ∷ before)
+stays_safe law i w actor made actors endings seen kept by certs before certified b =
+    is_safe law (record i { actors = actors; endings = endings }) certs (actor ∷ before) (keeps i actor made actors endings kept by)
+    (subst (λ (v : World). IsCertifiedSetup v.program v.setup certs) (sym seen) certified) (tells i w actor made actors endings seen kept by before b).1
 
 -- ---- the start
 

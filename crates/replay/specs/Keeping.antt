@@ -20,10 +20,19 @@ abbrev pub ending_after : Option (ThreadState ProgramThread) → (kept : Option 
 ending_after None kept = unwrap_or kept thread.Ended
 ending_after (Some thread_state) kept = ending_in thread_state.call_phase thread_state.state kept
 
--- the endings after a step of an actor; the collector ends no thread
+-- how an actor ends, if its next step is its last one; the collector ends no thread
+abbrev pub ending_to_keep : Actor → List (ThreadState ProgramThread) → List ThreadOutcome → ThreadOutcome
+ending_to_keep (Thread t) threads endings = ending_after (slice_get threads t) (slice_get endings t)
+ending_to_keep Collector threads endings = thread.Ended
+
+-- the endings with that of an actor, if it is a thread
+abbrev pub with_ending : Actor → ThreadOutcome → List ThreadOutcome → List ThreadOutcome
+with_ending (Thread t) ending endings = slice_set endings t ending
+with_ending Collector ending endings = endings
+
+-- the endings after a step of an actor
 abbrev pub endings_after : Actor → List (ThreadState ProgramThread) → List ThreadOutcome → List ThreadOutcome
-endings_after (Thread t) threads endings = slice_set endings t (ending_after (slice_get threads t) (slice_get endings t))
-endings_after Collector threads endings = endings
+endings_after actor threads endings = with_ending actor (ending_to_keep actor threads endings) endings
 
 -- where a thread in this phase of a call is, at this stage, and how it ended if it has
 abbrev pub end_at : CallPhase → (stage : ℕ) → (ending : ThreadOutcome) → ThreadOutcome

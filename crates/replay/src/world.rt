@@ -4,7 +4,7 @@ ghost use Rattle.certs.specs.declared.section.Section.{Section};
 ghost use Rattle.moves.specs.declared.actor.Actor.{Actor as AnActor};
 ghost use Rattle.program_runner.specs.Setups.{IsSetupOf, IsSetupFault, HasNoFault, IsCertifiedSetup};
 ghost use Rattle.replay.specs.Worlds.{IsAfter, ended_by, IsStepAfter, IsBrokenWorld, IsCoveredWorld, IsOverIn, IsFirstGoneOf};
-ghost use Rattle.replay.specs.Keeping.{ending_after, end_told};
+ghost use Rattle.replay.specs.Keeping.{ending_after, ending_to_keep, with_ending, end_told};
 ghost use Rattle.replay.specs.ThreadEnds.{AreEndsOf};
 ghost use Rattle.program_runner.specs.declared.setup_fault.SetupFault.TheVariants as fault;
 ghost use Rattle.replay.specs.declared.thread_outcome.ThreadOutcome.TheVariants as end;
@@ -88,17 +88,14 @@ impl<'a> World<'a> {
             → IfOk result (λ _. ¬ IsBrokenWorld self.new (actor ∷ before)) }
     {
         program_law();
-        match actor {
-            Actor::Collector => {
-                let made = self.actors.step(Actor::Collector)?;
-                Ok(made)
+        let ending = ending_to_keep(&self.actors, self.endings.as_slice(), actor);
+        let made = self.actors.step(actor);
+        match &made {
+            Ok(_) => {
+                keep_ending(&mut self.endings, actor, ending);
+                made
             }
-            Actor::Thread(thread) => {
-                let ending = ending_after(&self.actors, self.endings.as_slice(), thread as usize);
-                let made = self.actors.step(Actor::Thread(thread))?;
-                self.endings.set(thread as usize, ending);
-                Ok(made)
-            }
+            Err(_) => made,
         }
     }
 
@@ -187,6 +184,31 @@ fn ending_after(
             },
         ) => kept_end(endings, thread),
         Some(thread_state) => ended_by(&thread_state.state.ending()),
+    }
+}
+
+/// How an actor ends, if its next step is its last one. The collector ends no thread.
+fn ending_to_keep(
+    actors: &Actors<'_, ProgramThread<'_>>,
+    endings: &[ThreadOutcome],
+    actor: Actor,
+) -> ThreadOutcome
+    ensures { result ≡ ending_to_keep actor actors.now.threads.items endings.now }
+{
+    match actor {
+        Actor::Thread(thread) => ending_after(actors, endings, thread as usize),
+        Actor::Collector => ThreadOutcome::Ended,
+    }
+}
+
+/// Keeps how an actor ends, if it is a thread.
+fn keep_ending(endings: &mut Items<ThreadOutcome>, actor: Actor, ending: ThreadOutcome)
+    requires { IsActor (length endings.old) actor }
+    ensures { endings.new ≡ with_ending actor ending endings.old }
+{
+    match actor {
+        Actor::Thread(thread) => endings.set(thread as usize, ending),
+        Actor::Collector => {}
     }
 }
 
