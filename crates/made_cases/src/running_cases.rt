@@ -1,17 +1,17 @@
 //! Runs on real threads: what is printed of the threads, however their steps fall.
 use crate::meeting::Meeting;
-use crate::printed::{Printed, write_up_to};
-use crate::row::printed_of;
-use crate::row_failure::RowFailure;
-use crate::texts::{FOUR, HEAD, PUBLISHER_AND_CLEARER, joined, text_of, two_files};
+use crate::shown::write_up_to;
+use crate::texts::{FOUR, HEAD, PUBLISHER_AND_CLEARER, joined};
 use certificate::read_cert;
-use commands::{Explained, Line, RunLine, STATUS_YES};
+use command_line::{Explained, RunLine};
 use ir_text::read;
 use module_check::{Accepted, check};
 use mutators::{Limits, RunReport, ThreadEnd, run};
+use reports::{STATUS_YES, status_of};
+use run_commands::run_files;
 use std::alloc::{AllocError, Global};
+use std::io;
 use std::io::Write;
-use std::rt::Runtime;
 use std::thread::Threads;
 use trace_text::read_trace;
 
@@ -49,57 +49,91 @@ const TWENTY_THOUSAND: Limits = Limits {
     steps: 20_000,
 };
 
-/// What `run` prints of a case within these limits.
-fn printed_within(
-    rt: &(impl Runtime + AllocGlobal + Threads + Sync),
-    case: Case<'_>,
-    limits: Limits,
-) -> Result<Printed, AllocError> {
-    let (functions, certificates, trace) = case;
-    let line = Line::Run(RunLine {
+/// The line of `run` with these limits.
+fn line_within(limits: Limits) -> RunLine<'static> {
+    RunLine {
         module_path: "module.ll",
         certificate_path: "module.cert",
         trace_path: "module.trace",
         turns: limits.turns,
         steps: limits.steps,
         explained: Explained::Never,
-    });
-    let mut files = two_files(rt.alloc(), functions, certificates)?;
-    files.push(Some(Vec::from_slice(rt.alloc(), trace.as_bytes())?))?;
-    Ok(printed_of(rt, &line, files.as_slice()))
+    }
+}
+
+/// The files of a case.
+fn files_of(alloc: Global, case: Case<'_>) -> Result<[Option<Vec<u8>>; 3], AllocError> {
+    let (functions, certificates, trace) = case;
+    let of_module = joined(alloc, [HEAD, functions].as_slice())?;
+    let of_certificates = Vec::from_slice(alloc, certificates.as_bytes())?;
+    let of_trace = Vec::from_slice(alloc, trace.as_bytes())?;
+    Ok([Some(of_module), Some(of_certificates), Some(of_trace)])
+}
+
+/// The status of a run of these files, and what it prints.
+fn ran(
+    rt: &(impl Threads + Sync),
+    alloc: Global,
+    files: &[Option<Vec<u8>>],
+    limits: Limits,
+) -> (u8, Vec<u8>) {
+    let (mut out, mut err) = (Vec::new(alloc), Vec::new(alloc));
+    let answered = run_files(rt, alloc, line_within(limits), files, &mut out, &mut err);
+    drop(err);
+    (status_of(answered), out)
+}
+
+/// The status of a run of a case within these limits, and what it prints.
+fn ran_within(
+    rt: &(impl Threads + Sync),
+    alloc: Global,
+    case: Case<'_>,
+    limits: Limits,
+) -> Result<(u8, Vec<u8>), AllocError> {
+    let files = files_of(alloc, case)?;
+    let answer = ran(rt, alloc, files.as_slice(), limits);
+    drop(files);
+    Ok(answer)
 }
 
 /// Writes the status of a run, and what it prints up to the end of this text.
 fn write_run<O: Write>(
-    rt: &(impl Runtime + AllocGlobal + Threads + Sync),
+    rt: &(impl Threads + Sync),
+    alloc: Global,
     out: &mut O,
     case: Case<'_>,
     limits: Limits,
     last: &str,
-) -> Result<(), RowFailure> {
-    let printed = printed_within(rt, case, limits)?;
-    let text = text_of(rt.alloc(), printed.out.as_slice())?;
-    write!(out, " {} '", printed.status)?;
-    write_up_to(out, text.as_str(), last)?;
-    write!(out, "'")?;
-    Ok(())
+) -> io::Result<()> {
+    let (status, printed) = ran_within(rt, alloc, case, limits)?;
+    write!(out, " {status} '")?;
+    if let Ok(text) = str::from_utf8(printed.as_slice()) {
+        write_up_to(out, text, last)?;
+    }
+    write!(out, "'")
+}
+
+/// How a run ends whose only thread prints this, and whose collector makes no turn.
+fn end_in(status: u8, printed: &[u8]) -> &'static str {
+    if status != STATUS_YES {
+        "other"
+    } else if printed == b"t 0 stopped\ncollector turns 0 cycles 0\n".as_slice() {
+        "stopped"
+    } else if printed == b"t 0 returned\ncollector turns 0 cycles 0\n".as_slice() {
+        "returned"
+    } else {
+        "other"
+    }
 }
 
 /// How a run of the first case ends whose thread makes at most this number of steps, and whose collector makes none.
 fn end_after(
-    rt: &(impl Runtime + AllocGlobal + Threads + Sync),
+    rt: &(impl Threads + Sync),
+    alloc: Global,
     steps: u32,
 ) -> Result<&'static str, AllocError> {
-    let printed = printed_within(rt, FOUR_ALONE, Limits { turns: 0, steps })?;
-    if printed.status != STATUS_YES {
-        Ok("other")
-    } else if printed.out.as_slice() == b"t 0 stopped\ncollector turns 0 cycles 0\n".as_slice() {
-        Ok("stopped")
-    } else if printed.out.as_slice() == b"t 0 returned\ncollector turns 0 cycles 0\n".as_slice() {
-        Ok("returned")
-    } else {
-        Ok("other")
-    }
+    let (status, printed) = ran_within(rt, alloc, FOUR_ALONE, Limits { turns: 0, steps })?;
+    Ok(end_in(status, printed.as_slice()))
 }
 
 /// The module of a case, if it is accepted.
@@ -144,34 +178,50 @@ fn are_returned(report: &RunReport) -> bool {
     )
 }
 
-/// Whether two threads return where they and the collector wait for one another, and whether all three have met.
-fn meet(rt: &(impl Runtime + AllocGlobal + Threads + Sync)) -> Result<(bool, bool), AllocError> {
-    let gate = Meeting::of(3);
-    match report_of(rt, rt.alloc(), PUBLISHED_AND_CLEARED, &gate)? {
-        Some(report) => Ok((are_returned(&report), gate.is_over())),
-        None => Ok((false, gate.is_over())),
+/// Whether two threads return that pass this gate, and the collector beside them.
+fn are_returned_by(
+    rt: &(impl Threads + Sync),
+    alloc: Global,
+    gate: &Meeting,
+) -> Result<bool, AllocError> {
+    match report_of(rt, alloc, PUBLISHED_AND_CLEARED, gate)? {
+        Some(report) => Ok(are_returned(&report)),
+        None => Ok(false),
     }
 }
 
-/// Writes a line for each of these cases.
-pub fn write_cases<O: Write>(
-    rt: &(impl Runtime + AllocGlobal + Threads + Sync),
-    out: &mut O,
-) -> Result<(), RowFailure> {
+/// Whether two threads return where they and the collector wait for one another, and whether all three have met.
+fn meet(rt: &(impl Threads + Sync), alloc: Global) -> Result<(bool, bool), AllocError> {
+    let gate = Meeting::of(3);
+    let are_returned = are_returned_by(rt, alloc, &gate)?;
+    Ok((are_returned, gate.is_over()))
+}
+
+/// Writes how threads come to their ends, and to their limit.
+fn write_ends<O: Write>(rt: &(impl Threads + Sync), alloc: Global, out: &mut O) -> io::Result<()> {
     write!(out, "runs_threads_to_their_ends:")?;
     for case in [FOUR_ALONE, PUBLISHED_AND_CLEARED] {
-        write_run(rt, out, case, A_MILLION, "collector turns ")?;
+        write_run(rt, alloc, out, case, A_MILLION, "collector turns ")?;
     }
     write!(out, "\nruns_threads_to_their_limit:")?;
-    write_run(rt, out, CLAIMED_FOR_EVER, TWENTY_THOUSAND, "t 2 ")?;
-    write!(out, "\nstops_before_each_instruction:")?;
+    write_run(rt, alloc, out, CLAIMED_FOR_EVER, TWENTY_THOUSAND, "t 2 ")?;
+    writeln!(out, "")
+}
+
+/// Writes a line for each of these cases.
+pub(crate) fn write_lines<O: Write>(
+    rt: &(impl Threads + Sync),
+    alloc: Global,
+    out: &mut O,
+) -> io::Result<()> {
+    write_ends(rt, alloc, out)?;
+    write!(out, "stops_before_each_instruction:")?;
     for steps in 0..17u32 {
-        write!(out, " {}", end_after(rt, steps)?)?;
+        write!(out, " {}", end_after(rt, alloc, steps)?)?;
     }
-    let (are_returned, is_over) = meet(rt)?;
+    let (are_returned, is_over) = meet(rt, alloc)?;
     writeln!(
         out,
         "\nthreads_and_the_collector_run_at_the_same_time: {are_returned} {is_over}"
-    )?;
-    Ok(())
+    )
 }

@@ -1,13 +1,11 @@
 //! What a command prints, compared with what is wanted.
 use crate::row_failure::RowFailure;
 use commands::{STATUS_USAGE, STATUS_YES};
+use made_cases::write_front;
 use std::alloc::Global;
 use std::io::Write;
 use std::rt::Runtime;
 use std::{fs, io};
-
-/// The number of bytes that are shown of a text that differs.
-const SHOWN: usize = 100;
 
 /// The exit status of a command, and the bytes of its two outputs.
 #[derive(Drop)]
@@ -32,31 +30,39 @@ fn status_at(rt: &(impl Runtime + AllocGlobal), folder: &str) -> Result<u8, RowF
     status_in(status.as_str())
 }
 
+/// Reads a file of a folder.
+fn bytes_in(
+    rt: &(impl Runtime + AllocGlobal),
+    folder: &str,
+    name: &str,
+) -> Result<Vec<u8>, RowFailure> {
+    let path = format!(in rt.alloc(); "{folder}/{name}")?;
+    let bytes = fs::read(rt, path.as_str())?;
+    Ok(bytes)
+}
+
 impl Printed {
     /// Reads the files `status`, `stdout` and `stderr` of a folder.
     pub fn read(rt: &(impl Runtime + AllocGlobal), folder: &str) -> Result<Printed, RowFailure> {
-        let alloc = rt.alloc();
-        Ok(Printed {
-            status: status_at(rt, folder)?,
-            out: fs::read(rt, format!(in alloc; "{folder}/stdout")?.as_str())?,
-            err: fs::read(rt, format!(in alloc; "{folder}/stderr")?.as_str())?,
-        })
+        let status = status_at(rt, folder)?;
+        let out = bytes_in(rt, folder, "stdout")?;
+        let err = bytes_in(rt, folder, "stderr")?;
+        Ok(Printed { status, out, err })
     }
 
     /// A text of `clap`: a fault, or the help or version that was asked for.
     pub fn of_clap(alloc: Global, text: Vec<u8>, is_fault: bool) -> Printed {
-        let nothing = Vec::new(alloc);
         if is_fault {
             Printed {
                 status: STATUS_USAGE,
-                out: nothing,
+                out: Vec::new(alloc),
                 err: text,
             }
         } else {
             Printed {
                 status: STATUS_YES,
                 out: text,
-                err: nothing,
+                err: Vec::new(alloc),
             }
         }
     }
@@ -106,27 +112,4 @@ fn write_difference<W: Write>(
     write!(out, "', not '")?;
     write_front(out, text)?;
     writeln!(out, "'")
-}
-
-/// Writes a text up to the end of the first place where the other one stands in it; all of it where there is none.
-pub fn write_up_to<W: Write>(out: &mut W, text: &str, last: &str) -> io::Result<()> {
-    match text.split_once(last) {
-        Some((front, _)) => {
-            write_front(out, front.as_bytes())?;
-            write_front(out, last.as_bytes())
-        }
-        None => write_front(out, text.as_bytes()),
-    }
-}
-
-/// Writes the first bytes of a text, a line end as `\n`.
-pub fn write_front<W: Write>(out: &mut W, text: &[u8]) -> io::Result<()> {
-    for byte in text.iter().take(SHOWN) {
-        if *byte == b'\n' {
-            out.write_all(b"\\n".as_slice())?;
-        } else {
-            out.write_all([*byte].as_slice())?;
-        }
-    }
-    Ok(())
 }

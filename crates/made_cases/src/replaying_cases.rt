@@ -1,30 +1,30 @@
 //! Replays of traces that are made here: one that a seed draws, and those in which an actor stops for good.
-use crate::printed::write_front;
-use crate::row::{printed_and_saved, printed_of};
-use crate::row_failure::RowFailure;
-use crate::texts::{FOUR, HEAD, PUBLISHER_AND_CLEARER, joined, text_of, two_files};
-use commands::{Draws, Explained, Line, ReplayLine, Search, Shrink, SoakLine, StepsTold};
-use ir_text::read;
+use crate::shown::write_front;
+use crate::texts::{FOUR, PUBLISHER_AND_CLEARER, program_of, two_files};
+use command_line::{Draws, Explained, ReplayLine, Search, Shrink, SoakLine, StepsTold};
 use layout::Program;
 use moves::Actor;
 use replay::drawn_trace;
+use run_commands::replay_files;
+use search_commands::{Nobody, soak_files};
 use std::alloc::{AllocError, Global};
+use std::io;
 use std::io::Write;
-use std::rt::Runtime;
 use std::thread::Threads;
+use std::time::Clock;
 use trace_text::{Trace, print_trace, read_trace};
 
-const REPLAY: Line<'static> = Line::Replay(ReplayLine {
+const REPLAY: ReplayLine<'static> = ReplayLine {
     module_path: "module.ll",
     trace_path: "module.trace",
     shapes_path: None,
     steps: StepsTold::NotTold,
     json_path: None,
     explained: Explained::Never,
-});
+};
 
 /// By the row `register_kept_for_ever` seed 50 breaks the run of the keeper at step 45.
-const SOAK: Line<'static> = Line::Soak(SoakLine {
+const SOAK: SoakLine<'static> = SoakLine {
     module_path: "module.ll",
     trace_path: "module.trace",
     shapes_path: None,
@@ -38,7 +38,7 @@ const SOAK: Line<'static> = Line::Soak(SoakLine {
     shrink: Shrink::AsDrawn,
     save_path: Some("saved.trace"),
     explained: Explained::Never,
-});
+};
 
 /// The functions of a module and a trace of them.
 type Case<'a> = (&'a str, &'a str);
@@ -66,73 +66,80 @@ const KEEPER: &str =
 
 const KEPT: &str = "trace 1\npool Node 1\nstart @keeper\nsteps\nend\n";
 
-/// The program with these functions.
-fn program_of(alloc: Global, functions: &str) -> Result<Option<Program>, AllocError> {
-    let text = joined(alloc, [HEAD, functions].as_slice())?;
-    match read(alloc, text.as_slice()) {
-        Ok(of_module) => Ok(Program::new(alloc, of_module).ok()),
-        Err(_) => Ok(None),
-    }
-}
-
 /// What a replay of this trace of these functions prints on the standard output.
-fn answer_to(
-    rt: &(impl Runtime + AllocGlobal + Threads + Sync),
-    functions: &str,
-    trace: &str,
-) -> Result<String, AllocError> {
-    let files = two_files(rt.alloc(), functions, trace)?;
-    let printed = printed_of(rt, &REPLAY, files.as_slice());
-    text_of(rt.alloc(), printed.out.as_slice())
+fn answer_to(alloc: Global, functions: &str, trace: &[u8]) -> Result<Vec<u8>, AllocError> {
+    let files = two_files(alloc, functions, trace)?;
+    let (mut out, mut err) = (Vec::new(alloc), Vec::new(alloc));
+    let answered = replay_files(alloc, REPLAY, files.as_slice(), &mut out, &mut err);
+    drop(answered);
+    drop(err);
+    drop(files);
+    Ok(out)
 }
 
-/// The text of the trace that a seed draws for this program.
-fn drawn_from(alloc: Global, program: &Program, seed: u32) -> Result<String, AllocError> {
+/// The text of the trace that a seed draws for this program. It is empty if there is none.
+fn drawn_from(alloc: Global, program: &Program, seed: u32) -> Result<Vec<u8>, AllocError> {
     match read_trace(alloc, KEPT.as_bytes(), program) {
         Ok(trace) => {
             let drawn = drawn_trace(alloc, trace, seed, 45)?;
             let printed = print_trace(alloc, &drawn, program);
             drop(drawn);
-            text_of(alloc, printed?.as_slice())
+            printed
         }
-        Err(_) => Ok(String::new(alloc)),
+        Err(_) => Ok(Vec::new(alloc)),
     }
 }
 
 /// The text of the trace that a seed draws for the keeper.
-fn drawn_text(alloc: Global, seed: u32) -> Result<String, AllocError> {
+fn drawn_text(alloc: Global, seed: u32) -> Result<Vec<u8>, AllocError> {
     match program_of(alloc, KEEPER)? {
         Some(program) => {
             let text = drawn_from(alloc, &program, seed);
             drop(program);
             text
         }
-        None => Ok(String::new(alloc)),
+        None => Ok(Vec::new(alloc)),
     }
 }
 
 /// What a replay prints of the trace that a seed draws for the keeper.
-fn drawn_answer(
-    rt: &(impl Runtime + AllocGlobal + Threads + Sync),
-    seed: u32,
-) -> Result<String, AllocError> {
-    let text = drawn_text(rt.alloc(), seed)?;
-    answer_to(rt, KEEPER, text.as_str())
+fn drawn_answer(alloc: Global, seed: u32) -> Result<Vec<u8>, AllocError> {
+    let text = drawn_text(alloc, seed)?;
+    answer_to(alloc, KEEPER, text.as_slice())
+}
+
+/// What a soak of these files saves.
+fn saved_of(
+    rt: &(impl Threads + Clock + Sync),
+    alloc: Global,
+    files: &[Option<Vec<u8>>],
+) -> Vec<u8> {
+    let mut saved = Vec::new(alloc);
+    let (mut out, mut err) = (Vec::new(alloc), Vec::new(alloc));
+    let answered = soak_files(
+        rt,
+        alloc,
+        SOAK,
+        files,
+        &mut saved,
+        &mut out,
+        &mut err,
+        &mut Nobody,
+    );
+    drop(answered);
+    saved
 }
 
 /// What a soak of the keeper saves.
-fn saved_text(rt: &(impl Runtime + AllocGlobal + Threads + Sync)) -> Result<String, AllocError> {
-    let files = two_files(rt.alloc(), KEEPER, KEPT)?;
-    let mut saved = Vec::new(rt.alloc());
-    let printed = printed_and_saved(rt, &SOAK, files.as_slice(), &mut saved);
-    drop(printed);
-    text_of(rt.alloc(), saved.as_slice())
+fn saved_text(rt: &(impl Threads + Clock + Sync), alloc: Global) -> Result<Vec<u8>, AllocError> {
+    let files = two_files(alloc, KEEPER, KEPT.as_bytes())?;
+    Ok(saved_of(rt, alloc, files.as_slice()))
 }
 
 /// What a replay prints of what a soak of the keeper saves.
-fn saved_answer(rt: &(impl Runtime + AllocGlobal + Threads + Sync)) -> Result<String, AllocError> {
-    let text = saved_text(rt)?;
-    answer_to(rt, KEEPER, text.as_str())
+fn saved_answer(rt: &(impl Threads + Clock + Sync), alloc: Global) -> Result<Vec<u8>, AllocError> {
+    let text = saved_text(rt, alloc)?;
+    answer_to(alloc, KEEPER, text.as_slice())
 }
 
 /// The actor of each step of a trace.
@@ -210,7 +217,7 @@ fn actors_at(alloc: Global, functions: &str, trace: &str) -> Result<Vec<Actor>, 
 
 /// Whether no step breaks the run of these actors in which one of them makes no step after the last place.
 fn is_sound(
-    rt: &(impl Runtime + AllocGlobal + Threads + Sync),
+    alloc: Global,
     case: Case<'_>,
     actors: &[Actor],
     last: usize,
@@ -220,20 +227,17 @@ fn is_sound(
     let Some((head, _)) = trace.split_once("steps\n") else {
         return Ok(false);
     };
-    let text = stopped(rt.alloc(), head, actors, last, stops)?;
-    let answer = answer_to(rt, functions, text.as_str())?;
-    Ok(answer.as_str().starts_with("sound "))
+    let text = stopped(alloc, head, actors, last, stops)?;
+    let answer = answer_to(alloc, functions, text.as_str().as_bytes())?;
+    Ok(answer.as_slice().starts_with(b"sound ".as_slice()))
 }
 
 /// The number of steps of a trace, and for how many of them no step breaks the run in which its actor makes no further step.
-fn sound_stops(
-    rt: &(impl Runtime + AllocGlobal + Threads + Sync),
-    case: Case<'_>,
-) -> Result<(usize, u32), AllocError> {
-    let actors = actors_at(rt.alloc(), case.0, case.1)?;
+fn sound_stops(alloc: Global, case: Case<'_>) -> Result<(usize, u32), AllocError> {
+    let actors = actors_at(alloc, case.0, case.1)?;
     let mut sound = 0u32;
     for (last, stops) in actors.iter().enumerate() {
-        if is_sound(rt, case, actors.as_slice(), last, *stops)? {
+        if is_sound(alloc, case, actors.as_slice(), last, *stops)? {
             sound = sound.saturating_add(1);
         }
     }
@@ -287,25 +291,46 @@ fn is_read_again(alloc: Global, functions: &str, trace: &str) -> Result<bool, Al
     }
 }
 
-/// Writes a line for each of these cases.
-pub fn write_cases<O: Write>(
-    rt: &(impl Runtime + AllocGlobal + Threads + Sync),
+/// Writes what a replay prints of the trace of a broken seed: of one that is drawn here, and of one that a soak saves.
+fn write_broken<O: Write>(
+    rt: &(impl Threads + Clock + Sync),
+    alloc: Global,
     out: &mut O,
-) -> Result<(), RowFailure> {
+) -> io::Result<()> {
     // By the row `register_kept_for_ever` 50 is the least seed whose run is broken.
     write!(out, "replays_what_a_broken_seed_draws: '")?;
-    write_front(out, drawn_answer(rt, 50)?.as_str().as_bytes())?;
+    write_front(out, drawn_answer(alloc, 50)?.as_slice())?;
     write!(out, "'\nsaves_what_a_broken_seed_draws: '")?;
-    write_front(out, saved_answer(rt)?.as_str().as_bytes())?;
-    write!(out, "'\nlets_actors_stop_for_good:")?;
+    write_front(out, saved_answer(rt, alloc)?.as_slice())?;
+    writeln!(out, "'")
+}
+
+/// Writes for how many steps of each trace its actor may make no further one.
+fn write_stops<O: Write>(alloc: Global, out: &mut O) -> io::Result<()> {
+    write!(out, "lets_actors_stop_for_good:")?;
     for case in CASES {
-        let (steps, sound) = sound_stops(rt, case)?;
+        let (steps, sound) = sound_stops(alloc, case)?;
         write!(out, " {sound} of {steps}")?;
     }
-    write!(out, "\nreads_printed_traces_again:")?;
+    writeln!(out, "")
+}
+
+/// Writes whether what is printed of each trace is read again.
+fn write_traced<O: Write>(alloc: Global, out: &mut O) -> io::Result<()> {
+    write!(out, "reads_printed_traces_again:")?;
     for (functions, trace) in CASES {
-        write!(out, " {}", is_read_again(rt.alloc(), functions, trace)?)?;
+        write!(out, " {}", is_read_again(alloc, functions, trace)?)?;
     }
-    writeln!(out, "")?;
-    Ok(())
+    writeln!(out, "")
+}
+
+/// Writes a line for each of these cases.
+pub(crate) fn write_lines<O: Write>(
+    rt: &(impl Threads + Clock + Sync),
+    alloc: Global,
+    out: &mut O,
+) -> io::Result<()> {
+    write_broken(rt, alloc, out)?;
+    write_stops(alloc, out)?;
+    write_traced(alloc, out)
 }

@@ -2,9 +2,8 @@
 use crate::printed::Printed;
 use crate::row::printed_of;
 use crate::row_failure::RowFailure;
-use crate::texts::files_of;
 use commands::{CheckLine, Explained, Line, Look, Nobody, Refusals, status_of, work};
-use std::alloc::{AllocError, Global};
+use std::alloc::AllocError;
 use std::io;
 use std::io::Write;
 use std::rt::Runtime;
@@ -18,18 +17,13 @@ const CHECK: Line<'static> = Line::Check(CheckLine {
     refusals: Refusals::First,
 });
 
-/// Spaces, one more than a module may have bytes, and no certificate.
-fn long_files(alloc: Global) -> Result<Vec<Option<Vec<u8>>>, AllocError> {
-    let mut files = Vec::new(alloc);
-    files.push(Some(vec![in alloc; b' '; 16_777_217]?))?;
-    files.push(None)?;
-    Ok(files)
-}
-
-/// What `check` prints of a module that is too long.
+/// What `check` prints of a module of spaces, one more than a module may have bytes. There is no certificate.
 fn long_text(rt: &(impl Runtime + AllocGlobal + Threads + Sync)) -> Result<Printed, AllocError> {
-    let files = long_files(rt.alloc())?;
-    Ok(printed_of(rt, &CHECK, files.as_slice()))
+    let text = vec![in rt.alloc(); b' '; 16_777_217]?;
+    let files = [Some(text), None];
+    let printed = printed_of(rt, &CHECK, files.as_slice());
+    drop(files);
+    Ok(printed)
 }
 
 /// A writer that takes nothing.
@@ -46,23 +40,34 @@ impl Write for Full {
     }
 }
 
-/// The status of `check` where there are no files, and the standard error takes nothing.
-fn status_without_error(rt: &(impl Runtime + AllocGlobal + Threads + Sync)) -> u8 {
+/// The status of `check` of these files with these outputs.
+fn status_with<O: Write, E: Write>(
+    rt: &(impl Runtime + AllocGlobal + Threads + Sync),
+    files: &[Option<Vec<u8>>],
+    out: &mut O,
+    err: &mut E,
+) -> u8 {
     let alloc = rt.alloc();
-    let files: Vec<Option<Vec<u8>>> = Vec::new(alloc);
-    let mut out = Vec::new(alloc);
-    let printed = work(
+    let mut saved = Vec::new(alloc);
+    let answered = work(
         rt,
         alloc,
         Look::Plain,
         &CHECK,
-        files.as_slice(),
-        &mut Vec::new(alloc),
-        &mut out,
-        &mut Full,
+        files,
+        &mut saved,
+        out,
+        err,
         &mut Nobody,
     );
-    status_of(printed)
+    drop(saved);
+    status_of(answered)
+}
+
+/// The status of `check` where there are no files, and the standard error takes nothing.
+fn status_without_error(rt: &(impl Runtime + AllocGlobal + Threads + Sync)) -> u8 {
+    let mut out = Vec::new(rt.alloc());
+    status_with(rt, [].as_slice(), &mut out, &mut Full)
 }
 
 /// The status of `check` where the module is accepted, and the standard output takes nothing.
@@ -70,20 +75,12 @@ fn status_without_output(
     rt: &(impl Runtime + AllocGlobal + Threads + Sync),
 ) -> Result<u8, AllocError> {
     let alloc = rt.alloc();
-    let files = files_of(alloc, [[""].as_slice(), ["cert 1"].as_slice()].as_slice())?;
+    let certificate = Vec::from_slice(alloc, b"cert 1")?;
+    let files = [Some(Vec::new(alloc)), Some(certificate)];
     let mut err = Vec::new(alloc);
-    let printed = work(
-        rt,
-        alloc,
-        Look::Plain,
-        &CHECK,
-        files.as_slice(),
-        &mut Vec::new(alloc),
-        &mut Full,
-        &mut err,
-        &mut Nobody,
-    );
-    Ok(status_of(printed))
+    let status = status_with(rt, files.as_slice(), &mut Full, &mut err);
+    drop(files);
+    Ok(status)
 }
 
 /// Writes a line for each of these cases.
@@ -92,7 +89,10 @@ pub fn write_cases<O: Write>(
     out: &mut O,
 ) -> Result<(), RowFailure> {
     write!(out, "refuses_a_long_text")?;
-    long_text(rt)?.write(out)?;
+    let printed = long_text(rt)?;
+    let written = printed.write(out);
+    drop(printed);
+    written?;
     let (first, second) = (status_without_error(rt), status_without_output(rt)?);
     writeln!(out, "ends_with_a_failed_write: {first} {second}")?;
     Ok(())

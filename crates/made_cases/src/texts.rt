@@ -1,4 +1,6 @@
 //! Module texts for several cases, and files of such texts.
+use ir_text::read;
+use layout::Program;
 use std::alloc::{AllocError, Global};
 
 /// The seven lines before the functions.
@@ -22,36 +24,21 @@ pub(crate) fn joined(alloc: Global, texts: &[&str]) -> Result<Vec<u8>, AllocErro
     Ok(bytes)
 }
 
-/// These bytes as text; empty where they are none.
-pub(crate) fn text_of(alloc: Global, bytes: &[u8]) -> Result<String, AllocError> {
-    match str::from_utf8(bytes) {
-        Ok(text) => text.to_owned(alloc),
-        Err(_) => Ok(String::new(alloc)),
-    }
-}
-
 /// A file of the head and these functions, and one of this text.
 pub(crate) fn two_files(
     alloc: Global,
     functions: &str,
-    text: &str,
-) -> Result<Vec<Option<Vec<u8>>>, AllocError> {
-    let mut files = Vec::new(alloc);
-    let mut of_module = Vec::from_slice(alloc, HEAD.as_bytes())?;
-    of_module.extend_from_slice(functions.as_bytes())?;
-    files.push(Some(of_module))?;
-    files.push(Some(Vec::from_slice(alloc, text.as_bytes())?))?;
-    Ok(files)
+    text: &[u8],
+) -> Result<[Option<Vec<u8>>; 2], AllocError> {
+    let of_module = joined(alloc, [HEAD, functions].as_slice())?;
+    Ok([Some(of_module), Some(Vec::from_slice(alloc, text)?)])
 }
 
-/// A file for each of these lists of texts, which stand in it one after the other.
-pub(crate) fn files_of(
-    alloc: Global,
-    each: &[&[&str]],
-) -> Result<Vec<Option<Vec<u8>>>, AllocError> {
-    let mut files = Vec::new(alloc);
-    for texts in each {
-        files.push(Some(joined(alloc, texts)?))?;
+/// The program with these functions.
+pub(crate) fn program_of(alloc: Global, functions: &str) -> Result<Option<Program>, AllocError> {
+    let text = joined(alloc, [HEAD, functions].as_slice())?;
+    match read(alloc, text.as_slice()) {
+        Ok(of_module) => Ok(Program::new(alloc, of_module).ok()),
+        Err(_) => Ok(None),
     }
-    Ok(files)
 }

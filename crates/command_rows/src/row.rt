@@ -38,16 +38,24 @@ fn bytes_of(rt: &(impl Runtime + AllocGlobal), path: &str) -> Result<Option<Vec<
     }
 }
 
-/// The words of the command line of the row in a folder, the program's name first.
-fn words_of(rt: &(impl Runtime + AllocGlobal), folder: &str) -> Result<Vec<String>, RowFailure> {
-    let alloc = rt.alloc();
-    let args = fs::read_to_string(rt, format!(in alloc; "{folder}/args")?.as_str())?;
+/// The words that stand one a line in a text, the program's name before them.
+fn words_in(alloc: Global, args: &str) -> Result<Vec<String>, AllocError> {
     let mut words = Vec::new(alloc);
     words.push("dgc".to_owned(alloc)?)?;
     for word in args.lines() {
         words.push(word.to_owned(alloc)?)?;
     }
     Ok(words)
+}
+
+/// The words of the command line of the row in a folder, the program's name first.
+fn words_of(rt: &(impl Runtime + AllocGlobal), folder: &str) -> Result<Vec<String>, RowFailure> {
+    let path = format!(in rt.alloc(); "{folder}/args")?;
+    let args = fs::read_to_string(rt, path.as_str())?;
+    drop(path);
+    let words = words_in(rt.alloc(), args.as_str());
+    drop(args);
+    Ok(words?)
 }
 
 /// A text of the shapes of a certificate, if it has some: its lines between the first one and the first section.
@@ -86,8 +94,9 @@ fn printed_migrated(
 fn is_printed_again(alloc: Global, text: &[u8]) -> Result<bool, AllocError> {
     match read(alloc, text) {
         Ok(of_module) => {
-            let printed = print(alloc, &of_module)?;
-            Ok(printed.as_slice() == text)
+            let printed = print(alloc, &of_module);
+            drop(of_module);
+            Ok(printed?.as_slice() == text)
         }
         Err(_) => Ok(false),
     }
@@ -134,13 +143,12 @@ impl CommandRow {
         self.wanted.status == STATUS_YES
     }
 
-    /// Runs the command line with these words after it.
-    pub fn printed(
-        &self,
-        rt: &(impl Runtime + AllocGlobal + Threads + Sync),
-        more: &[&str],
-    ) -> Result<Printed, RowFailure> {
-        let alloc = rt.alloc();
+    /// Its words with these after them.
+    fn words_with<'a>(
+        &'a self,
+        alloc: Global,
+        more: &[&'a str],
+    ) -> Result<Vec<&'a str>, AllocError> {
         let mut words = Vec::new(alloc);
         for word in self.words.as_slice() {
             words.push(word.as_str())?;
@@ -148,17 +156,33 @@ impl CommandRow {
         for word in more {
             words.push(*word)?;
         }
-        match line(alloc, words.as_slice()) {
+        Ok(words)
+    }
+
+    /// Runs the command line with these words after it.
+    pub fn printed(
+        &self,
+        rt: &(impl Runtime + AllocGlobal + Threads + Sync),
+        more: &[&str],
+    ) -> Result<Printed, RowFailure> {
+        let words = self.words_with(rt.alloc(), more)?;
+        match line(rt.alloc(), words.as_slice()) {
             Ok(line) => self.done(rt, &line),
-            Err(LineFault::Words(error)) => {
-                let text = format!(in alloc; "{error}")?;
-                Ok(Printed::of_clap(alloc, text.into_bytes(), error.use_stderr()))
+            Err(fault) => printed_fault(rt.alloc(), &fault),
+        }
+    }
+
+    /// A text of the shapes of the certificate, if it can be read and has some.
+    fn shapes(&self, rt: &(impl Runtime + AllocGlobal)) -> Result<Option<Vec<u8>>, RowFailure>
+        requires { length self.now.words.items ≡ 4 }
+    {
+        match self.bytes_at(rt, self.words[3].as_str())? {
+            Some(certificate) => {
+                let shapes = shapes_of(rt.alloc(), certificate.as_slice());
+                drop(certificate);
+                Ok(shapes?)
             }
-            Err(LineFault::NoCommand(lack)) => {
-                let text = format!(in alloc; "error: {lack}\n")?;
-                Ok(Printed::of_clap(alloc, text.into_bytes(), true))
-            }
-            Err(LineFault::Memory) => Err(RowFailure::Memory),
+            None => Ok(None),
         }
     }
 
@@ -169,25 +193,21 @@ impl CommandRow {
     ) -> Result<Printed, RowFailure>
         requires { length self.now.words.items ≡ 4 }
     {
-        let alloc = rt.alloc();
         let module_path = self.words[2].as_str();
-        let mut files = Vec::new(alloc);
-        files.push(self.bytes_at(rt, module_path)?)?;
-        let mut shapes_path = None;
-        if let Some(certificate) = self.bytes_at(rt, self.words[3].as_str())? {
-            let shapes = shapes_of(alloc, certificate.as_slice())?;
-            if shapes.is_some() {
-                shapes_path = Some("module.shapes");
-                files.push(shapes)?;
-            }
-        }
+        let of_module = self.bytes_at(rt, module_path)?;
+        let shapes = self.shapes(rt)?;
+        let shapes_path = if shapes.is_some() {
+            Some("module.shapes")
+        } else {
+            None
+        };
         let line = Line::Make(MakeLine {
             module_path,
             shapes_path,
             why: Why::NotWanted,
             explained: Explained::Never,
         });
-        Ok(printed_of(rt, &line, files.as_slice()))
+        Ok(printed_of_two(rt, &line, of_module, shapes))
     }
 
     /// Makes a certificate of the module that is checked, and checks the module with it.
@@ -197,33 +217,77 @@ impl CommandRow {
     ) -> Result<Printed, RowFailure>
         requires { length self.now.words.items ≡ 4 }
     {
-        let made = self.made(rt)?;
-        if made.status != STATUS_YES {
-            return Ok(made);
+        match text_in(self.made(rt)?) {
+            Ok(certificate) => {
+                let of_module = self.bytes_at(rt, self.words[2].as_str())?;
+                Ok(checked(rt, of_module, certificate))
+            }
+            Err(printed) => Ok(printed),
         }
-        let of_module = self.bytes_at(rt, self.words[2].as_str())?;
-        checked(rt, of_module, made.out)
     }
 
-    /// What `migrate` prints of the module that is checked, or of its certificate.
-    fn migrated(
+    /// What `migrate` prints of the module that is checked.
+    fn migrated_module(
         &self,
         rt: &(impl Runtime + AllocGlobal + Threads + Sync),
-        certificate_path: Option<&str>,
     ) -> Result<Printed, RowFailure>
         requires { length self.now.words.items ≡ 4 }
     {
         let module_path = self.words[2].as_str();
-        let mut files = Vec::new(rt.alloc());
-        files.push(self.bytes_at(rt, module_path)?)?;
-        if let Some(path) = certificate_path {
-            files.push(self.bytes_at(rt, path)?)?;
-        }
+        let files = [self.bytes_at(rt, module_path)?];
         let line = Line::Migrate(MigrateLine {
             module_path,
-            certificate_path,
+            certificate_path: None,
         });
-        Ok(printed_of(rt, &line, files.as_slice()))
+        let printed = printed_of(rt, &line, files.as_slice());
+        drop(files);
+        Ok(printed)
+    }
+
+    /// What `migrate` prints of its certificate.
+    fn migrated_certificate(
+        &self,
+        rt: &(impl Runtime + AllocGlobal + Threads + Sync),
+    ) -> Result<Printed, RowFailure>
+        requires { length self.now.words.items ≡ 4 }
+    {
+        let (module_path, certificate_path) = (self.words[2].as_str(), self.words[3].as_str());
+        let of_module = self.bytes_at(rt, module_path)?;
+        let certificate = self.bytes_at(rt, certificate_path)?;
+        let line = Line::Migrate(MigrateLine {
+            module_path,
+            certificate_path: Some(certificate_path),
+        });
+        Ok(printed_of_two(rt, &line, of_module, certificate))
+    }
+
+    /// Whether the module that is checked is this text.
+    fn is_module(
+        &self,
+        rt: &(impl Runtime + AllocGlobal + Threads + Sync),
+        text: &[u8],
+    ) -> Result<bool, RowFailure>
+        requires { length self.now.words.items ≡ 4 }
+    {
+        match self.bytes_at(rt, self.words[2].as_str())? {
+            Some(own) => Ok(own.as_slice() == text),
+            None => Ok(false),
+        }
+    }
+
+    /// Whether this opaque text of the module is printed as it is, once it is read, or is the module that is checked.
+    fn is_as_printed(
+        &self,
+        rt: &(impl Runtime + AllocGlobal + Threads + Sync),
+        text: &[u8],
+    ) -> Result<bool, RowFailure>
+        requires { length self.now.words.items ≡ 4 }
+    {
+        if self.is_module(rt, text)? {
+            return Ok(true);
+        }
+        let is_same = is_printed_again(rt.alloc(), text)?;
+        Ok(is_same)
     }
 
     /// Whether the opaque text is printed as it is, once it is read. Text that has no typed pointer is left as it is.
@@ -233,14 +297,24 @@ impl CommandRow {
     ) -> Result<bool, RowFailure>
         requires { length self.now.words.items ≡ 4 }
     {
-        let of_module = self.migrated(rt, None)?;
-        if let Some(text) = self.bytes_at(rt, self.words[2].as_str())? {
-            if text.as_slice() == of_module.out.as_slice() {
-                return Ok(true);
-            }
+        let of_module = self.migrated_module(rt)?;
+        let is_same = self.is_as_printed(rt, of_module.out.as_slice());
+        drop(of_module);
+        is_same
+    }
+
+    /// Migrates the certificate, and checks this opaque text with it.
+    fn checked_with_migrated(
+        &self,
+        rt: &(impl Runtime + AllocGlobal + Threads + Sync),
+        of_module: Vec<u8>,
+    ) -> Result<Printed, RowFailure>
+        requires { length self.now.words.items ≡ 4 }
+    {
+        match text_in(self.migrated_certificate(rt)?) {
+            Ok(certificate) => Ok(checked(rt, Some(of_module), certificate)),
+            Err(printed) => Ok(printed),
         }
-        let is_same = is_printed_again(rt.alloc(), of_module.out.as_slice())?;
-        Ok(is_same)
     }
 
     /// Migrates the module that is checked and its certificate, and checks the one with the other.
@@ -250,15 +324,10 @@ impl CommandRow {
     ) -> Result<Printed, RowFailure>
         requires { length self.now.words.items ≡ 4 }
     {
-        let of_module = self.migrated(rt, None)?;
-        if of_module.status != STATUS_YES {
-            return Ok(of_module);
+        match text_in(self.migrated_module(rt)?) {
+            Ok(of_module) => self.checked_with_migrated(rt, of_module),
+            Err(printed) => Ok(printed),
         }
-        let certificate = self.migrated(rt, Some(self.words[3].as_str()))?;
-        if certificate.status != STATUS_YES {
-            return Ok(certificate);
-        }
-        checked(rt, Some(of_module.out), certificate.out)
     }
 
     /// The bytes of the file at this path of the row's folder, if it can be read.
@@ -271,6 +340,19 @@ impl CommandRow {
         bytes_of(rt, path.as_str())
     }
 
+    /// The bytes of the files of a line, as far as they can be read.
+    fn files_of(
+        &self,
+        rt: &(impl Runtime + AllocGlobal),
+        line: &Line<'_>,
+    ) -> Result<Vec<Option<Vec<u8>>>, RowFailure> {
+        let mut files = Vec::new(rt.alloc());
+        for path in line.paths(rt.alloc())? {
+            files.push(self.bytes_at(rt, path)?)?;
+        }
+        Ok(files)
+    }
+
     /// Runs the command of a line that is accepted.
     fn done(
         &self,
@@ -279,12 +361,34 @@ impl CommandRow {
     ) -> Result<Printed, RowFailure>
         requires { HasWorkers (asked_by line.now) }
     {
-        let alloc = rt.alloc();
-        let mut files = Vec::new(alloc);
-        for path in line.paths(alloc)? {
-            files.push(self.bytes_at(rt, path)?)?;
+        let files = self.files_of(rt, line)?;
+        let printed = printed_of(rt, line, files.as_slice());
+        drop(files);
+        Ok(printed)
+    }
+}
+
+/// What is printed of words that are no command line.
+fn printed_fault(alloc: Global, fault: &LineFault) -> Result<Printed, RowFailure> {
+    match fault {
+        LineFault::Words(error) => {
+            let text = format!(in alloc; "{error}")?;
+            Ok(Printed::of_clap(alloc, text.into_bytes(), error.use_stderr()))
         }
-        Ok(printed_of(rt, line, files.as_slice()))
+        LineFault::NoCommand(lack) => {
+            let text = format!(in alloc; "error: {lack}\n")?;
+            Ok(Printed::of_clap(alloc, text.into_bytes(), true))
+        }
+        LineFault::Memory => Err(RowFailure::Memory),
+    }
+}
+
+/// The text that was printed, if the status says so; otherwise what was printed.
+fn text_in(printed: Printed) -> Result<Vec<u8>, Printed> {
+    if printed.status == STATUS_YES {
+        Ok(printed.out)
+    } else {
+        Err(printed)
     }
 }
 
@@ -293,10 +397,7 @@ fn checked(
     rt: &(impl Runtime + AllocGlobal + Threads + Sync),
     of_module: Option<Vec<u8>>,
     certificate: Vec<u8>,
-) -> Result<Printed, RowFailure> {
-    let mut files = Vec::new(rt.alloc());
-    files.push(of_module)?;
-    files.push(Some(certificate))?;
+) -> Printed {
     let line = Line::Check(CheckLine {
         module_path: "module.ll",
         certificate_path: "module.cert",
@@ -304,7 +405,22 @@ fn checked(
         explained: Explained::Never,
         refusals: Refusals::First,
     });
-    Ok(printed_of(rt, &line, files.as_slice()))
+    printed_of_two(rt, &line, of_module, Some(certificate))
+}
+
+/// What the command of a line prints of two files.
+fn printed_of_two(
+    rt: &(impl Runtime + AllocGlobal + Threads + Sync),
+    line: &Line<'_>,
+    first: Option<Vec<u8>>,
+    second: Option<Vec<u8>>,
+) -> Printed
+    requires { HasWorkers (asked_by line.now) }
+{
+    let files = [first, second];
+    let printed = printed_of(rt, line, files.as_slice());
+    drop(files);
+    printed
 }
 
 /// What the command of a line prints of the bytes of its files.
@@ -315,35 +431,24 @@ pub fn printed_of(
 ) -> Printed
     requires { HasWorkers (asked_by line.now) }
 {
-    let mut saved = Vec::new(rt.alloc());
-    let printed = printed_and_saved(rt, line, files, &mut saved);
-    drop(saved);
-    printed
-}
-
-/// What the command of a line prints of the bytes of its files. What it saves is appended.
-pub fn printed_and_saved(
-    rt: &(impl Runtime + AllocGlobal + Threads + Sync),
-    line: &Line<'_>,
-    files: &[Option<Vec<u8>>],
-    saved: &mut Vec<u8>,
-) -> Printed
-    requires { HasWorkers (asked_by line.now) }
-{
     let alloc = rt.alloc();
-    let mut out = Vec::new(alloc);
-    let mut err = Vec::new(alloc);
+    let mut saved = Vec::new(alloc);
+    let (mut out, mut err) = (Vec::new(alloc), Vec::new(alloc));
     let answered = work(
         rt,
         alloc,
         Look::Plain,
         line,
         files,
-        saved,
+        &mut saved,
         &mut out,
         &mut err,
         &mut Nobody,
     );
-    let status = status_of(answered);
-    Printed { status, out, err }
+    drop(saved);
+    Printed {
+        status: status_of(answered),
+        out,
+        err,
+    }
 }
