@@ -8,7 +8,7 @@ ghost use Rattle.block_check.specs.Entries.{recorded_from};
 use crate::phi_operands::PhiOperands;
 use crate::predecessors::Predecessors;
 use block_rules::RuleContext;
-use certs::{Claim, Mark, Promise};
+use certs::{Claim, Mark, Promise, Section};
 use facts::KeptFacts;
 use ir_ast::{BlockId, End, FuncId, Function, Instr, Module, Operand, Phi};
 
@@ -17,6 +17,8 @@ use ir_ast::{BlockId, End, FuncId, Function, Instr, Module, Operand, Phi};
 pub struct FunctionUnderCheck<'a> {
     pub func: FuncId,
     pub context: RuleContext<'a>,
+    /// Its section of the certificate, if it has one.
+    pub section: Option<&'a Section>,
     pub predecessors: &'a Predecessors,
     /// What comes in to the phis of each block.
     pub operands: &'a [PhiOperands],
@@ -27,9 +29,9 @@ pub struct FunctionUnderCheck<'a> {
 impl<'a> FunctionUnderCheck<'a> {
     /// The claims of a block in the certificate.
     pub fn claims(&self, block: BlockId) -> &'a [Claim]
-        ensures { result.now ≡ claims_in (slice_get self.now.context.certs.now.sections self.now.func) block }
+        ensures { result.now ≡ claims_in (option_copied self.now.section) block }
     {
-        match self.context.certs.section(self.func) {
+        match self.section {
             Some(section) => match section.blocks.get(block.number() as usize) {
                 Some(claims) => claims.as_slice(),
                 None => &[],
@@ -57,9 +59,9 @@ impl<'a> FunctionUnderCheck<'a> {
 
     /// What is promised of each parameter.
     pub fn promises(&self) -> &'a [Option<Promise>]
-        ensures { result.now ≡ promises_in (slice_get self.now.context.certs.now.sections self.now.func) }
+        ensures { result.now ≡ promises_in (option_copied self.now.section) }
     {
-        match self.context.certs.section(self.func) {
+        match self.section {
             Some(section) => section.parameters.as_slice(),
             None => &[],
         }
@@ -67,9 +69,9 @@ impl<'a> FunctionUnderCheck<'a> {
 
     /// What is promised of the result.
     pub fn promised(&self) -> Option<Promise>
-        ensures { result ≡ promised_in (slice_get self.now.context.certs.now.sections self.now.func) }
+        ensures { result ≡ promised_in (option_copied self.now.section) }
     {
-        match self.context.certs.section(self.func) {
+        match self.section {
             Some(section) => section.result,
             None => None,
         }
@@ -77,9 +79,9 @@ impl<'a> FunctionUnderCheck<'a> {
 
     /// How it is marked.
     pub fn mark(&self) -> Mark
-        ensures { result ≡ own_mark (slice_get self.now.context.certs.now.sections self.now.func) }
+        ensures { result ≡ own_mark (option_copied self.now.section) }
     {
-        match self.context.certs.section(self.func) {
+        match self.section {
             Some(section) => section.mark,
             None => Mark::None,
         }

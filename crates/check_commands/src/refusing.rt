@@ -98,16 +98,14 @@ fn refuse_all<O: Write, E: Write>(
     ensures { IfOk result (Says (OfAll limit certified.of_module certified.certs) (O.contents out.old) (O.contents out.new) (E.contents err.old) (E.contents err.new)) }
 {
     let Certified { of_module, certs } = certified;
-    match UnderCheck::new(alloc, of_module, &certs) {
+    match UnderCheck::new(alloc, of_module, certs) {
         Ok(under) => {
-            let status = print_refusals(alloc, under.program(), &certs, limit, out, err);
+            let status = print_refusals(alloc, under.program(), under.certs(), limit, out, err);
             drop(under);
-            drop(certs);
             status
         }
         Err(refused) => {
             drop(refused);
-            drop(certs);
             memory(err)
         }
     }

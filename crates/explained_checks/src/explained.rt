@@ -7,11 +7,10 @@ use block_rules::{BlockFault, Refusal};
 use certs::Certs;
 use explanations::{Source, Texts, put_refusal};
 use fault_texts::{CheckedTexts, TracedTexts, put_cert_fault, put_layout_fault, put_read_fault};
-use ir_ast::Module;
 use ir_tokens::{TEXT_LIMIT, read_tokens};
 use layout::Program;
 use messages::{Look, NamedText, Pen, put};
-use module_check::{UnderCheck, fault_in_module};
+use module_check::{Reason, UnderCheck, fault_in_module};
 use refusals::first_refusals;
 use reports::{Certified, Unread, read_certified};
 use std::alloc::{AllocError, Global};
@@ -176,39 +175,30 @@ fn put_refused(
     }
 }
 
-/// Checks a module again, and explains why it is not accepted, or why its trace is not read.
+/// Checks what was read of the files again, and explains why the module is not accepted, or why its trace is not read.
 fn put_checked(
-    pen: Pen,
-    out: &mut Vec<u8>,
-    texts: AskedTexts,
-    of_module: Module,
-    certs: &Certs,
-) -> Result<(), AllocError> {
-    match UnderCheck::new(pen.alloc, of_module, certs) {
-        Ok(under) => {
-            let told = put_refused(pen, out, texts, under.program(), certs);
-            drop(under);
-            told
-        }
-        Err(refused) => {
-            let fault = refused.fault;
-            drop(refused);
-            put_layout_fault(pen, out, texts.checked.of_module, fault)
-        }
-    }
-}
-
-/// Checks what was read of the files again.
-fn put_certified(
     pen: Pen,
     out: &mut Vec<u8>,
     texts: AskedTexts,
     certified: Certified,
 ) -> Result<(), AllocError> {
-    let Certified { of_module, certs } = certified;
-    let told = put_checked(pen, out, texts, of_module, &certs);
-    drop(certs);
-    told
+    match UnderCheck::new(pen.alloc, certified.of_module, certified.certs) {
+        Ok(under) => {
+            let told = put_refused(pen, out, texts, under.program(), under.certs());
+            drop(under);
+            told
+        }
+        Err(refused) => {
+            let verdict = refused.verdict;
+            drop(refused);
+            match verdict {
+                Reason::Layout(fault) => {
+                    put_layout_fault(pen, out, texts.checked.of_module, fault)
+                }
+                _ => Err(AllocError),
+            }
+        }
+    }
 }
 
 /// Explains the first fault of the texts of the files.
@@ -240,7 +230,7 @@ fn put_files(
         of_certs: named(paths.1, files, 1),
     };
     match read_certified(pen.alloc, paths, files) {
-        Ok(certified) => put_certified(pen, out, AskedTexts { checked, asked }, certified),
+        Ok(certified) => put_checked(pen, out, AskedTexts { checked, asked }, certified),
         Err(unread) => {
             let told = put_unread(pen, out, checked, &unread);
             drop(unread);

@@ -24,12 +24,12 @@ fn put_under(
     out: &mut Vec<u8>,
     texts: CheckedTexts,
     of_module: Module,
-    tried: &Refused,
+    tried: Refused,
 ) -> Result<(), AllocError> {
-    match UnderCheck::new(pen.alloc, of_module, &tried.certs) {
+    let refusal = tried.refusal;
+    match UnderCheck::new(pen.alloc, of_module, tried.certs) {
         Ok(under) => {
-            let program = under.program();
-            let told = put_in_program(pen, out, texts, program, &tried.certs, tried.refusal);
+            let told = put_in_program(pen, out, texts, under.program(), under.certs(), refusal);
             drop(under);
             told
         }
@@ -46,7 +46,7 @@ fn put_tried(
     out: &mut Vec<u8>,
     of_file: NamedText,
     of_module: Module,
-    tried: &Refused,
+    tried: Refused,
 ) -> Result<(), AllocError> {
     match print_cert(pen.alloc, &tried.certs, &of_module) {
         Ok(text) => {
@@ -61,6 +61,7 @@ fn put_tried(
         }
         Err(error) => {
             drop(of_module);
+            drop(tried);
             Err(error)
         }
     }
@@ -75,12 +76,7 @@ fn put_shaped(
     tried: Refused,
 ) -> Result<(), AllocError> {
     match copy_shapes(pen.alloc, &of_module.shapes) {
-        Ok(shapes) => {
-            let tried = with_shapes(tried, shapes);
-            let told = put_tried(pen, out, of_file, of_module, &tried);
-            drop(tried);
-            told
-        }
+        Ok(shapes) => { put_tried(pen, out, of_file, of_module, with_shapes(tried, shapes)) }
         Err(error) => {
             drop(of_module);
             drop(tried);

@@ -94,6 +94,12 @@ pub record IsFirstRefusal (of_module : Module) (certs : List Section) (refusal :
   pub sized : AreSizes of_module sizes
   pub first : IsFirstInModule (record { of_module = of_module; layouts = layouts; sizes = sizes }) certs (length of_module.functions) refusal
 
+-- why no instruction of a module is checked: its layouts have this fault, or memory was refused
+abbrev pub IsLayoutReason : Module → Reason → Type 0
+IsLayoutReason of_module (Refused refusal) = ⊥
+IsLayoutReason of_module (Layout fault) = IsLayoutFault of_module fault
+IsLayoutReason of_module Memory = Unit
+
 -- why a module is not accepted
 abbrev pub IsVerdictOf : Module → List Section → Reason → Type 0
 IsVerdictOf of_module certs (Refused refusal) = IsFirstRefusal of_module certs refusal

@@ -92,22 +92,12 @@ pub fn check_with<R: Threads + Sync, G: Gate + Sync>(
     ensures only { IsAccepted (shaped of_module certs) certs.sections → IfErr result (λ refused. refused.verdict ≡ Reason.Memory) }
     ensures given_back { IfErr result (λ refused. (refused.of_module ≡ of_module) × (refused.certs ≡ certs)) }
 {
-    let under = match UnderCheck::new(alloc, of_module, &certs) {
-        Ok(under) => under,
-        Err(refused) => {
-            return Err(NotAccepted {
-                verdict: Reason::from(refused.fault),
-                of_module: refused.of_module,
-                certs,
-            });
+    let under = UnderCheck::new(alloc, of_module, certs)?;
+    match fault_in_module(rt, alloc, workers, gate, under.program(), under.certs()) {
+        None => {
+            let (program, certs) = under.into_parts();
+            Ok(Accepted::of(program, certs))
         }
-    };
-    match fault_in_module(rt, alloc, workers, gate, under.program(), &certs) {
-        None => Ok(Accepted::of(under.into_program(), certs)),
-        Some(fault) => Err(NotAccepted {
-            verdict: Reason::from(fault),
-            of_module: under.into_module(),
-            certs,
-        }),
+        Some(fault) => Err(under.refused(Reason::from(fault))),
     }
 }

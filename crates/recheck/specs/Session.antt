@@ -21,9 +21,3 @@ pub record IsAnswered (program : LaidOut) (certs : List Section) (answers : List
   pub sized : AreSizes program.of_module program.sizes
   pub one_each : length certs ≡ length program.of_module.functions
   pub are_answers : AreAnswers program certs answers
-
--- why no session begins: the layouts have this fault, or memory was refused
-abbrev pub IsBeginFault : Module → Reason → Type 0
-IsBeginFault m (Refused refusal) = ⊥
-IsBeginFault m (Layout fault) = IsLayoutFault m fault
-IsBeginFault m Memory = Unit

@@ -2,12 +2,11 @@ ghost use Rattle.std.specs.Prelude.{◌≡◌, ◌≢◌, List, length, IfOk, If
 ghost use Rattle.certs.specs.declared.section.Section.{Section as ASection};
 ghost use Rattle.ir_ast.specs.declared.module.Module.{Module as AModule};
 ghost use Rattle.layout.specs.Layouts.{AreLayouts};
-ghost use Rattle.module_check.specs.Accepted.{IsAccepted, IsFirstRefusal, shaped};
+ghost use Rattle.module_check.specs.Accepted.{IsAccepted, IsFirstRefusal, IsLayoutReason, shaped};
 ghost use Rattle.module_check.specs.declared.verdict.Reason.TheVariants as verdict;
 ghost use Rattle.pools.specs.declared.word_kind.WordKind.{WordKind as AWord};
 ghost use Rattle.recheck.specs.Edits.{IsRead, IsEdited, IsEditFault, IsEditAccepted, IsRefusedBy};
 ghost use Rattle.recheck.specs.Fitting.{HaveSameTables, IsFitting};
-ghost use Rattle.recheck.specs.Session.{IsBeginFault};
 ghost use Rattle.recheck.specs.declared.edit_fault.EditFault.{EditFault as AFault};
 ghost use Rattle.recheck.specs.declared.edit_fault.EditFault.TheVariants as fault;
 
@@ -54,25 +53,17 @@ impl Session {
         ensures of_module { IfOk result (λ session. session.program.of_module ≡ shaped of_module certs) }
         ensures certs { IfOk result (λ session. session.certs ≡ certs) }
         ensures rechecked { IfOk result (λ session. session.rechecked ≡ 0) }
-        ensures fault { IfErr result (λ refused. IsBeginFault (shaped of_module certs) refused.verdict) }
+        ensures fault { IfErr result (λ refused. IsLayoutReason (shaped of_module certs) refused.verdict) }
         ensures only { (layouts : List (List AWord)) → AreLayouts (shaped of_module certs) layouts → IfErr result (λ refused. refused.verdict ≡ verdict.Memory) }
         ensures given_back { IfErr result (λ refused. (refused.of_module ≡ of_module) × (refused.certs ≡ certs)) }
     {
-        let under = match UnderCheck::new(alloc, of_module, &certs) {
-            Ok(under) => under,
-            Err(refused) => {
-                return Err(NotAccepted {
-                    verdict: Reason::from(refused.fault),
-                    of_module: refused.of_module,
-                    certs,
-                });
-            }
-        };
-        match answers_to(alloc, under.program(), &certs) {
+        let under = UnderCheck::new(alloc, of_module, certs)?;
+        match answers_to(alloc, under.program(), under.certs()) {
             Ok(answers) => {
                 let rows = KeptRows::new(alloc, answers.len());
+                let (program, certs) = under.into_parts();
                 Ok(Session {
-                    program: under.into_program(),
+                    program,
                     certs,
                     kept: KeptWork {
                         functions: KeptFunctions { answers, rows },
@@ -81,11 +72,7 @@ impl Session {
                     rechecked: 0,
                 })
             }
-            Err(_) => Err(NotAccepted {
-                verdict: Reason::Memory,
-                of_module: under.into_module(),
-                certs,
-            }),
+            Err(_) => Err(under.refused(Reason::Memory)),
         }
     }
 

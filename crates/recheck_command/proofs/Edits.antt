@@ -6,14 +6,15 @@ use Rattle.ir_ast.specs.declared.module.Module.{Module}
 use Rattle.certs.specs.Fits.{fits, section_fits}
 use Rattle.certs.specs.declared.certs.Certs.{Certs}
 use Rattle.certs.specs.declared.section.Section.{Section}
-use Rattle.module_check.specs.Accepted.{shaped}
+use Rattle.module_check.specs.Accepted.{IsLayoutReason, shaped}
 use Rattle.edit_text.specs.declared.edit.Edit.{Edit}
 use Rattle.module_check.specs.declared.verdict.Reason.{Reason}
 use Rattle.module_check.specs.declared.verdict.Reason.TheVariants as verdict
-use Rattle.recheck.specs.Session.{State, IsBeginFault}
+use Rattle.recheck.specs.Session.{State}
 use Rattle.recheck_command.specs.EditedFiles.{OfRechecked, no_session, not_rechecked}
 use Rattle.reports.specs.Said.{OnError}
-use Rattle.recheck_command.specs.Rechecks.{OfEdit, OfEdits, of_begin_fault}
+use Rattle.reports.specs.Report.{of_layout_reason}
+use Rattle.recheck_command.specs.Rechecks.{OfEdit, OfEdits}
 
 -- certificates of a module are one for each function
 pub one_for_each : (m : Module) (certs : List Section) → fits m certs ≡ true → length certs ≡ length m.functions
@@ -46,7 +47,7 @@ edits_next s t u edits i e told line at before one =
     subst (λ k. OfEdits 1 s (take k edits) u (told ++ line)) place (edits_from 1 s t u edits i e told line at before (subst (λ k. OfEdit k t e u line) number one))
 
 -- what is printed where no session begins
-pub unbegun : (m : Module) (certs : Certs) (edits : List Edit) (v : Reason) → IsBeginFault (shaped m certs) v → OfRechecked m certs edits (OnError (of_begin_fault m v))
+pub unbegun : (m : Module) (certs : Certs) (edits : List Edit) (v : Reason) → IsLayoutReason (shaped m certs) v → OfRechecked m certs edits (OnError (of_layout_reason m v))
 unbegun m certs edits (verdict.Refused refusal) h = absurd h
 unbegun m certs edits (verdict.Layout fault) h = no_session fault h
 unbegun m certs edits verdict.Memory h = not_rechecked

@@ -10,20 +10,11 @@ use Rattle.certs.specs.declared.certs.Certs.{Certs}
 use Rattle.edit_text.specs.declared.edit.Edit.{Edit}
 use Rattle.block_rules.specs.declared.block_fault.Refusal.{Refusal}
 use Rattle.module_check.specs.Accepted.{IsAccepted, IsFirstRefusal, shaped}
-use Rattle.module_check.specs.declared.verdict.Reason.{Reason}
-use Rattle.module_check.specs.declared.verdict.Reason.TheVariants.{Layout}
 use Rattle.recheck.specs.Edits.{IsEdited, IsEditFault, module_in}
 use Rattle.recheck.specs.Session.{State}
 use Rattle.recheck.specs.declared.edit_fault.EditFault.{EditFault}
 use Rattle.recheck.specs.declared.edit_fault.EditFault.TheVariants as edit
-use Rattle.reports.specs.Report.{Answer, line_of, no, no_memory, of_layout_fault, yes}
-
--- ---- no session
-
--- why no session of a module begins
-abbrev pub of_begin_fault : Module → Reason → Answer
-of_begin_fault m (Layout fault) = of_layout_fault m fault
-of_begin_fault m _ = no_memory
+use Rattle.reports.specs.Report.{Answer, line_of, no, no_memory, yes}
 
 -- ---- faults by their codes
 

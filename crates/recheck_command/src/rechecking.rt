@@ -12,10 +12,9 @@ ghost use Rattle.recheck.specs.declared.edit_fault.EditFault.TheVariants as edit
 
 use crate::codes::code_of_edit;
 use command_line::RecheckLine;
-use module_check::{NotAccepted, Reason};
 use recheck::{Edit, EditFault, Session};
 use reports::{
-    Certified, STATUS_NO, STATUS_YES, accepted, edits_in, line_of_refusal, memory, no_layouts,
+    Certified, STATUS_NO, STATUS_YES, accepted, edits_in, line_of_refusal, memory, not_laid_out,
     read_certified, refused, unread,
 };
 use std::alloc::{AllocError, Global};
@@ -135,16 +134,6 @@ fn edit_session<O: Write, E: Write>(
     }
 }
 
-/// Prints why no session begins.
-fn print_unbegun<E: Write>(answer: &NotAccepted, err: &mut E) -> io::Result<u8>
-    ensures { IfOk result (λ status. IsTold (E.contents err.old) (E.contents err.new) status (spec.of_begin_fault answer.now.of_module answer.now.verdict)) }
-{
-    match answer.verdict {
-        Reason::Layout(fault) => no_layouts(err, &answer.of_module, fault),
-        _ => memory(err),
-    }
-}
-
 /// Begins a session of a module with its certificates, and edits it.
 fn recheck_certified<O: Write, E: Write>(
     alloc: Global,
@@ -163,7 +152,7 @@ fn recheck_certified<O: Write, E: Write>(
             status
         }
         Err(answer) => {
-            let status = print_unbegun(&answer, err);
+            let status = not_laid_out(err, &answer);
             drop(answer);
             status
         }

@@ -16,6 +16,8 @@ use Rattle.trace_text.specs.declared.fault.TraceFault.TheVariants as trace
 use Rattle.certs.specs.declared.section.Section.{Section}
 use Rattle.block_rules.specs.declared.block_fault.Detail.{Detail}
 use Rattle.block_rules.specs.declared.block_fault.Refusal.{Refusal}
+use Rattle.module_check.specs.declared.verdict.Reason.{Reason}
+use Rattle.module_check.specs.declared.verdict.Reason.TheVariants.{Layout}
 use Rattle.ir_print.specs.Names.{key_text}
 use Rattle.name_text.specs.Names.{name_text}
 use Rattle.name_text.specs.declared.blank.Blank.TheVariants as blank
@@ -112,6 +114,11 @@ of_layout_fault m (layout.TooManyWords number) = unread (codes "Y2 " ++ found_na
 of_layout_fault m (layout.NoSuchLayout number) = unread (codes "Y3")
 of_layout_fault m layout.ShapesWanted = unread (codes "Y5")
 of_layout_fault m layout.Memory = no_memory
+
+-- why no instruction of a module is checked
+abbrev pub of_layout_reason : Module → Reason → Answer
+of_layout_reason m (Layout fault) = of_layout_fault m fault
+of_layout_reason m _ = no_memory
 
 -- a text that is no text of edits; its one fault is C1
 abbrev pub of_edits_fault : CertFault → Answer

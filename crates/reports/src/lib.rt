@@ -18,4 +18,4 @@ pub use status::{
     STATUS_MEMORY, STATUS_NO, STATUS_UNREADABLE, STATUS_USAGE, STATUS_YES, status_of,
 };
 pub use unreadable::unread;
-pub use verdicts::{accepted, line_of_refusal, refused, report_verdict};
+pub use verdicts::{accepted, line_of_refusal, not_laid_out, refused, report_verdict};

@@ -120,6 +120,16 @@ fn report_refusal<O: Write, E: Write>(
     }
 }
 
+/// Why no instruction of a module is checked: the fault of its layouts, or that memory was refused.
+pub fn not_laid_out<W: Write>(err: &mut W, answer: &NotAccepted) -> io::Result<u8>
+    ensures { IfOk result (λ status. IsTold (W.contents err.old) (W.contents err.new) status (spec.of_layout_reason answer.now.of_module answer.now.verdict)) }
+{
+    match answer.verdict {
+        Reason::Layout(fault) => no_layouts(err, &answer.of_module, fault),
+        _ => memory(err),
+    }
+}
+
 /// Prints why a module is not accepted.
 pub fn report_verdict<O: Write, E: Write>(
     alloc: Global,

@@ -3,11 +3,10 @@ use Rattle.std.specs.Prelude.{◌≡◌, ◌≢◌, ◌⊎◌, ◌<◌, ◌≤�
 use Rattle.std.specs.Fmt.{decimal}
 use Rattle.std.specs.Io.KnownBytes.{Appends}
 use Rattle.ir_ast.specs.declared.module.Module.{Module}
-use Rattle.layout.specs.Layouts.{LaidOut, AreLayouts, IsLayoutFault}
-use Rattle.layout.specs.declared.fault.LayoutFault.{LayoutFault}
-use Rattle.layout.specs.declared.fault.LayoutFault.TheVariants as layout
+use Rattle.layout.specs.Layouts.{LaidOut, AreLayouts}
 use Rattle.certs.specs.declared.certs.Certs.{Certs}
-use Rattle.module_check.specs.Accepted.{shaped}
+use Rattle.module_check.specs.Accepted.{IsLayoutReason, shaped}
+use Rattle.module_check.specs.declared.verdict.Reason.{Reason}
 use Rattle.command_line.specs.declared.asked.Draws.{Draws}
 use Rattle.command_line.specs.declared.asked.Draws.TheVariants.{Uniform, Biased}
 use Rattle.command_line.specs.declared.asked.Search.{Search}
@@ -24,7 +23,7 @@ use Rattle.replay.specs.declared.outcome.Break.{Break}
 use Rattle.replay.specs.declared.outcome.SeedBreak.{SeedBreak}
 use Rattle.shortening.specs.Shorter.{IsBreaking, kind_of}
 use Rattle.reports.specs.Files.{HasProgram, IsNoProgram, of_unread}
-use Rattle.reports.specs.Report.{Answer, of_layout_fault, no_memory}
+use Rattle.reports.specs.Report.{Answer, of_layout_reason, no_memory}
 use Rattle.reports.specs.Said.{Said, OnOutput, OnError, OnBoth, OfCertified}
 use Rattle.reports.specs.declared.files.Unread.{Unread}
 use Rattle.run_commands.specs.Runs.{of_setup_fault, break_text}
@@ -197,8 +196,8 @@ pub data OfHuntShaped (wanted : Bool) (before after : List ℕ) (module_path : L
 
 -- what it says of a module with certificates, whose shapes it then has
 pub data OfHuntCerts (wanted : Bool) (before after : List ℕ) (m : Module) (certs : Certs) : Said → Type 0 where
-  not_laid_out : (fault : LayoutFault) → (fault ≢ layout.Memory → IsLayoutFault (shaped m certs) fault) → after ≡ before
-      → OfHuntCerts wanted before after m certs (OnError (of_layout_fault m fault))
+  not_laid_out : (reason : Reason) → IsLayoutReason (shaped m certs) reason → after ≡ before
+      → OfHuntCerts wanted before after m certs (OnError (of_layout_reason m reason))
   of_shaped : (p : LaidOut) (said : Said) → p.of_module ≡ shaped m certs → AreLayouts p.of_module p.layouts → OfHunt wanted before after p said
       → OfHuntCerts wanted before after m certs said
 

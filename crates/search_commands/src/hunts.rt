@@ -19,7 +19,8 @@ use hunting::{ALIKE, HuntLimits, HuntReport, Hunted, ShorterTrace, hunt};
 use layout::Program;
 use module_check::UnderCheck;
 use reports::{
-    Certified, STATUS_NO, STATUS_YES, Unread, memory, no_layouts, read_certified, shaped_in, unread,
+    Certified, STATUS_NO, STATUS_YES, Unread, memory, not_laid_out, read_certified, shaped_in,
+    unread,
 };
 use run_commands::write_break;
 use std::alloc::{AllocError, Global};
@@ -261,20 +262,18 @@ fn hunt_certified<O: Write, E: Write>(
     ensures kept { is_some asked.entry.save_path ≡ false → saved.new.items ≡ saved.old.items }
 {
     let Certified { of_module, certs } = certified;
-    match UnderCheck::new(alloc, of_module, &certs) {
+    match UnderCheck::new(alloc, of_module, certs) {
         Ok(under) => {
-            let sections = certs.sections.as_slice();
+            let sections = under.certs().sections.as_slice();
             let program = under.program();
             let status = hunt_program(
                 rt, alloc, program, sections, asked, saved, out, err, onlooker,
             );
             drop(under);
-            drop(certs);
             status
         }
         Err(refused) => {
-            drop(certs);
-            let status = no_layouts(err, &refused.of_module, refused.fault);
+            let status = not_laid_out(err, &refused);
             drop(refused);
             status
         }

@@ -2,8 +2,9 @@ use Rattle.std.proofs.Common.{refl, subst, sym}
 use Rattle.std.proofs.lemmas.Result.{IfOk-weaker}
 use Rattle.ir_ast.specs.declared.module.Module.{Module}
 use Rattle.recheck_command.specs.EditedFiles.{OfRechecked, rechecked}
+use Rattle.reports.specs.Report.{of_layout_reason}
 use Rattle.reports.specs.Said.{OnError}
-use Rattle.recheck_command.specs.Rechecks.{IsBegun, of_begin_fault}
+use Rattle.recheck_command.specs.Rechecks.{IsBegun}
 use Rattle.recheck_command.proofs.Edits.{one_for_each, unbegun}
 use Rattle.recheck_command.proofs.rechecking.recheck_certified.Goals as goal
 
@@ -23,5 +24,5 @@ returns-in-Err g c =
     let certs = c.args.certified.certs in
     let edits = c.args.edits.now in
     let back = sym c.in-Err.ensures.given_back.0 in
-    let said = subst (λ (given : Module). OfRechecked m certs edits (OnError (of_begin_fault given answer.verdict))) back (unbegun m certs edits answer.verdict c.in-Err.ensures.fault) in
-    IfOk-weaker c.print_unbegun-status.result _ _ (λ status told. (OnError _, said, (refl, told))) c.print_unbegun-status.ensures
+    let said = subst (λ (given : Module). OfRechecked m certs edits (OnError (of_layout_reason given answer.verdict))) back (unbegun m certs edits answer.verdict c.in-Err.ensures.fault) in
+    IfOk-weaker c.not_laid_out-status.result _ _ (λ status told. (OnError _, said, (refl, told))) c.not_laid_out-status.ensures

@@ -3,21 +3,21 @@ use Rattle.std.specs.Prelude.{is_some}
 use Rattle.std.proofs.lemmas.Result.{IfOk-weaker}
 use Rattle.ir_ast.specs.declared.module.Module.{Module}
 use Rattle.layout.specs.Layouts.{AreLayouts, LaidOut}
-use Rattle.reports.specs.Report.{IsTold, of_layout_fault}
+use Rattle.reports.specs.Report.{IsTold, of_layout_reason}
 use Rattle.reports.specs.Said.{OnError}
 use Rattle.search_commands.specs.Searches.{OfHunt, not_laid_out, of_shaped}
 use Rattle.search_commands.proofs.hunts.hunt_certified.Goals as goal
 
 pub returns-in-Err-clause-said : goal.returns-in-Err-clause-said
 returns-in-Err-clause-said g c =
-    let fault = c.in-Err.refused.fault in
-    IfOk-weaker c.no_layouts-status.result _ _
+    let reason = c.in-Err.refused.verdict in
+    IfOk-weaker c.not_laid_out-status.result _ _
     (λ status told. (
       OnError _,
-      not_laid_out fault c.in-Err.ensures.fault refl,
-      (refl, subst (λ (m : Module). IsTold (g.E.Write.contents c.args.err.now) (g.E.Write.contents c.no_layouts-status.new.err) status (of_layout_fault m fault)) c.in-Err.ensures.given_back told),
+      not_laid_out reason c.in-Err.ensures.fault refl,
+      (refl, subst (λ (m : Module). IsTold (g.E.Write.contents c.args.err.now) (g.E.Write.contents c.not_laid_out-status.new.err) status (of_layout_reason m reason)) c.in-Err.ensures.given_back.0 told),
     ))
-    c.no_layouts-status.ensures
+    c.not_laid_out-status.ensures
 
 pub returns-in-Ok-clause-said : goal.returns-in-Ok-clause-said
 returns-in-Ok-clause-said g c =
