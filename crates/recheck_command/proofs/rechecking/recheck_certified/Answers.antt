@@ -4,7 +4,8 @@ use Rattle.ir_ast.specs.declared.module.Module.{Module}
 use Rattle.recheck_command.specs.EditedFiles.{OfRechecked, rechecked}
 use Rattle.reports.specs.Said.{OnError}
 use Rattle.recheck_command.specs.Rechecks.{IsBegun, of_begin_fault}
-use Rattle.recheck_command.proofs.Edits.{one_for_each, unbegun}
+use Rattle.certs.specs.Plain.{one_for_each}
+use Rattle.recheck_command.proofs.Edits.{unbegun}
 use Rattle.recheck_command.proofs.rechecking.recheck_certified.Goals as goal
 
 pub new-requires : goal.new-requires
