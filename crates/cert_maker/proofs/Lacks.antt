@@ -11,7 +11,7 @@ use Rattle.block_rules.specs.declared.block_fault.BlockFault.TheVariants as bloc
 use Rattle.module_check.specs.Accepted.{IsAccepted, IsFirstRefusal}
 use Rattle.module_check.specs.Exclusive.{only_memory}
 use Rattle.cert_maker.specs.Made.{AreGood, AreRefused, AreTried, IfLayout, IsPlainlyRefused, IsRefusedWith, fault_of_layout, fault_of_make_failure}
-use Rattle.cert_maker.specs.Plain.{plain}
+use Rattle.certs.specs.Plain.{plain}
 use Rattle.cert_maker.specs.declared.made.MakeFault.{MakeFault}
 use Rattle.cert_maker.specs.declared.made.MakeFault.TheVariants as fault
 use Rattle.cert_maker.specs.declared.made.Refused.{Refused}

@@ -1,2 +1,1 @@
-mod Fits
 mod Lacks

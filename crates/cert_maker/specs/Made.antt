@@ -10,7 +10,7 @@ use Rattle.certs.specs.declared.section.Section.{Section}
 use Rattle.block_rules.specs.declared.block_fault.Refusal.{Refusal}
 use Rattle.module_check.specs.Accepted.{CertifiedProgram, IsAccepted, IsFirstInModule, IsFirstRefusal, IsModuleCertified}
 use Rattle.pools.specs.declared.word_kind.WordKind.{WordKind}
-use Rattle.cert_maker.specs.Plain.{plain}
+use Rattle.certs.specs.Plain.{plain}
 use Rattle.cert_maker.specs.declared.made.MakeFault.{MakeFault}
 use Rattle.cert_maker.specs.declared.made.MakeFault.TheVariants.{Layout, NoAnswer, Memory}
 use Rattle.cert_maker.specs.declared.made.NotMade.{NotMade}

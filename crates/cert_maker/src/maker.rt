@@ -1,7 +1,7 @@
 ghost use Rattle.std.specs.Prelude.{◌≡◌, ◌⊎◌, Some, IfOk, IfErr, IfSome};
 ghost use Rattle.layout.specs.Functions.{with_shapes};
 ghost use Rattle.cert_maker.specs.Made.{AreGood, AreRefused, AreTried, IsMade};
-ghost use Rattle.cert_maker.specs.Plain.{plain};
+ghost use Rattle.certs.specs.Plain.{plain};
 ghost use Rattle.cert_maker.specs.declared.tried.MakeFailure.TheVariants.{NoAnswer};
 
 use crate::made::{MakeFault, NotMade, Refused};

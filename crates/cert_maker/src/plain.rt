@@ -1,7 +1,7 @@
 //! The plain certificates of a module: they say the least.
 ghost use Rattle.std.specs.Prelude.{◌≡◌, [], None, map, true, IfOk};
 ghost use Rattle.certs.specs.Fits.{fits};
-ghost use Rattle.cert_maker.specs.Plain.{plain, plain_section};
+ghost use Rattle.certs.specs.Plain.{plain, plain_section};
 
 use certs::{Certs, Claim, Mark, Promise, Section};
 use ir_ast::{Block, Function, Module, Parameter};

@@ -3,7 +3,7 @@ use Rattle.std.proofs.Common.{◌≡◌, ℕ, zero, suc, ◌<◌, Bool, true, fa
 use Rattle.std.specs.Prelude.{◌==◌, if◌then◌else◌, replicate, map}
 use Rattle.std.specs.List.{list_all, list_any, zip}
 use Rattle.std.proofs.lemmas.Bool.{cases_eq, eqb-true, eq-eqb, ne_eqb}
-use Rattle.std.proofs.lemmas.List.{length-set}
+use Rattle.std.proofs.lemmas.List.{length-map, length-set}
 use Rattle.std.proofs.lemmas.Option.{slice_get_within}
 use Rattle.std.proofs.lemmas.List.Folds.{list_any-append}
 use Rattle.lemmas.specs.Lists.{length_replicate, all_end, set_here, set_other, set_either}
@@ -30,7 +30,8 @@ and_on : (a b c : Bool) → (a && b) ≡ true → (b ≡ true → c ≡ true) �
 and_on true b c e on = on e
 and_on false b c e on = absurd cc
 
-all_set : {A : Type 0} (test : A → Bool) (xs : List A) (i : ℕ) (y : A) → list_all test xs ≡ true → test y ≡ true → list_all test (slice_set xs i y) ≡ true
+-- what is put where all pass passes
+pub all_set : {A : Type 0} (test : A → Bool) (xs : List A) (i : ℕ) (y : A) → list_all test xs ≡ true → test y ≡ true → list_all test (slice_set xs i y) ≡ true
 all_set test [] i y all e = refl
 all_set test (x ∷ xs) zero y all e = and_true (test y) (list_all test xs) e (and_second (test x) (list_all test xs) all)
 all_set test (x ∷ xs) (suc i) y all e = and_on (test x) (list_all test xs) (list_all test (slice_set xs i y)) all (λ r. all_set test xs i y r e)
@@ -159,10 +160,6 @@ no_lines : (m : Module) (f : Function) {A : Type 0} (xs : List A) → list_all (
 no_lines m f [] = refl
 no_lines m f (x ∷ xs) = no_lines m f xs
 
-map_length : {A B : Type 0} (g : A → B) (xs : List A) → length (map g xs) ≡ length xs
-map_length g [] = refl
-map_length g (x ∷ xs) = ap suc (map_length g xs)
-
 first_empty : {A : Type 0} (xs : List A) → entry_is_empty (map (λ _. []) xs) ≡ true
 first_empty [] = refl
 first_empty (x ∷ xs) = refl
@@ -178,7 +175,7 @@ at_start m f = (
     roots = refl;
     promises = and_true (length (draft_of m f).parameters == length f.parameters) (list_all (λ p. parameter_fits m f p.0 p.1) (zip f.parameters (draft_of m f).parameters))
         (eq-eqb (length (draft_of m f).parameters) (length f.parameters) (length_replicate (length f.parameters) None)) (no_promises m f f.parameters);
-    as_many = map_length (λ _. []) f.blocks;
+    as_many = length-map f.blocks (λ _. []);
     entry = first_empty f.blocks;
     fit = no_lines m f f.blocks;
     entry_given = entry_set (length f.blocks);

@@ -36,18 +36,12 @@ use Rattle.certificate.specs.Text.{IsCert}
 use Rattle.certificate.specs.declared.mistake.Mistake.{Mistake}
 use Rattle.certificate.specs.declared.mistake.Mistake.TheVariants.{MissingGlobal, MissingRoot}
 use Rattle.certificate.specs.declared.shape_draft.ShapeDraft.{ShapeDraft}
+use Rattle.certificate.proofs.Between.{all_set}
 use Rattle.certificate.proofs.CertFits.{still_version}
 use Rattle.certificate.proofs.ReadShapes.{IsTarget, Gives, lines_hold, none_is_missing}
 use Rattle.certificate.proofs.ReadWords.{taken_is, still_expect, still_line_end}
 
 -- ---- lists
-
--- what is put where all pass passes
-all_put : {A : Type 0} (test : A → Bool) (xs : List A) (i : ℕ) (y : A) → list_all test xs ≡ true → test y ≡ true → list_all test (slice_set xs i y) ≡ true
-all_put test [] i y all e = refl
-all_put test (x ∷ xs) zero y all e = and_true (test y) (list_all test xs) e (and_second (test x) (list_all test xs) all)
-all_put test (x ∷ xs) (suc i) y all e =
-    and_true (test x) (list_all test (slice_set xs i y)) (and_first (test x) (list_all test xs) all) (all_put test xs i y (and_second (test x) (list_all test xs) all) e)
 
 -- one of them passes
 pub all_at : {A : Type 0} (test : A → Bool) (xs : List A) (i : ℕ) (x : A) → list_all test xs ≡ true → slice_get xs i ≡ Some x → test x ≡ true
@@ -133,11 +127,11 @@ module _ (m : Module) (pointers : List (List Bool)) where
   word_shaped d layout word target is to s =
       let n = name_of m layout in
       let row = slice_set (row_at d.shapes.words n) word (Some target) in
-      let row_fine : row_fits m row ≡ true = all_put (shape_fits m) (row_at d.shapes.words n) word (Some target) (row_fits_at m d.shapes.words n s.words) to in
+      let row_fine : row_fits m row ≡ true = all_set (shape_fits m) (row_at d.shapes.words n) word (Some target) (row_fits_at m d.shapes.words n s.words) to in
       record {
         rows = s.rows;
         slots = s.slots;
-        words = all_put (row_fits m) d.shapes.words n row s.words row_fine;
+        words = all_set (row_fits m) d.shapes.words n row s.words row_fine;
         globals = s.globals;
         roots = s.roots;
         of_words = λ name w e.
@@ -157,7 +151,7 @@ module _ (m : Module) (pointers : List (List Bool)) where
     rows = s.rows;
     slots = s.slots;
     words = s.words;
-    globals = all_put (shape_fits m) d.shapes.globals symbol (Some target) s.globals to;
+    globals = all_set (shape_fits m) d.shapes.globals symbol (Some target) s.globals to;
     roots = s.roots;
     of_words = s.of_words;
     of_globals = λ x e. (elim (put_either d.shapes.globals symbol target x e) [ inl before ↦ s.of_globals x before | inr same ↦ ap (is_opaque_global m) same ∙ is ]);
@@ -172,7 +166,7 @@ module _ (m : Module) (pointers : List (List Bool)) where
         slots = s.slots;
         words = s.words;
         globals = s.globals;
-        roots = all_put (root_row_fits m) d.shapes.roots f.symbol _ s.roots (all_end (shape_fits m) old.layouts (Some target) (roots_fit_at m d.shapes.roots f.symbol s.roots) to);
+        roots = all_set (root_row_fits m) d.shapes.roots f.symbol _ s.roots (all_end (shape_fits m) old.layouts (Some target) (roots_fit_at m d.shapes.roots f.symbol s.roots) to);
         of_words = s.of_words;
         of_globals = s.of_globals;
       }

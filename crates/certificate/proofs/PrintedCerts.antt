@@ -373,10 +373,6 @@ module _ (m : Module) (named : IsNamed m) where
   sections_begin (f ∷ fs) [] = refl
   sections_begin (f ∷ fs) (s ∷ ss) = refl
 
-  length_map : {A B : Type 0} (g : A → B) (xs : List A) → length (map g xs) ≡ length xs
-  length_map g [] = refl
-  length_map g (x ∷ xs) = ap suc (length_map g xs)
-
   sections_on_from : (fs : List Function) (ss : List Section) (n : ℕ) (i : Input) (done : List (Option Kept)) → ((k : ℕ) → slice_get m.functions (n + k) ≡ slice_get fs k) → length ss ≡ length fs
       → list_all (λ p. section_fits m p.0 p.1) (zip fs ss) ≡ true → length done ≡ n → i.read.sections ≡ done ++ map (λ _. None) fs
       → (o : Input) × (count : List (Unit {0})) × Listed ended (text.section m).says (at i (sections_text m fs ss)) count (at o []) × (o.read.sections ≡ done ++ kept_whole ss)

@@ -1,7 +1,8 @@
 -- The printed shapes of the words of all structs are read as they were printed.
-use Rattle.std.proofs.Common.{◌≡◌, ◌≢◌, inl, inr, ◌<◌, ◌≤◌, ◌^◌, ◌-◌, ◌||◌, ℕ, zero, suc, ◌+◌, Bool, true, false, [], ◌∷◌, ◌++◌, List, length, map, Option, Some, None, is_some, slice_get, unwrap_or, refl, ap, sym, subst, ◌∙◌, arith}
+use Rattle.std.proofs.Common.{◌≡◌, ◌≢◌, inl, inr, ◌<◌, ◌≤◌, ◌^◌, ◌-◌, ◌||◌, ℕ, zero, suc, ◌+◌, Bool, true, false, [], ◌∷◌, ◌++◌, List, length, Option, Some, None, is_some, slice_get, unwrap_or, refl, ap, sym, subst, ◌∙◌, arith}
 use Rattle.std.specs.List.{list_all, list_any, flat_map}
 use Rattle.std.proofs.lemmas.Bool.{cases_eq, eq-eqb}
+use Rattle.std.proofs.lemmas.List.{length-map}
 use Rattle.lemmas.specs.Bools.{or_first, or_second}
 use Rattle.lemmas.specs.Lists.{get_some}
 use Rattle.ir_ast.specs.Shapes.{shape_at, row_at}
@@ -38,16 +39,12 @@ pointer_few [] word e = absurd cc
 pointer_few (x ∷ row) zero e = omega arith
 pointer_few (x ∷ row) (suc word) e = let more = pointer_few row word e in omega (arith, more)
 
-length_map : {A B : Type 0} (g : A → B) (xs : List A) → length (map g xs) ≡ length xs
-length_map g [] = refl
-length_map g (x ∷ xs) = ap suc (length_map g xs)
-
 pub none_length : {A : Type 0} (xs : List A) → length (none_given xs) ≡ length xs
 none_length [] = refl
 none_length (x ∷ xs) = ap suc (none_length xs)
 
 row_small : (m : Module) (struct : StructType) (row : List Bool) (word : ℕ) → IsPointerRow m struct row → word < length row → word < 2 ^ 64
-row_small m struct row word (inl is) less = omega (arith, less, is.2, ap length is.3, length_map (is_opaque m) is.0)
+row_small m struct row word (inl is) less = omega (arith, less, is.2, ap length is.3, length-map is.0 (is_opaque m))
 row_small m struct row word (inr is) less = absurd (omega (arith, less, ap length is.1))
 
 pub from_zero : (k : ℕ) → k ≡ 0 + k

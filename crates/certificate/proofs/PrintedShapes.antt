@@ -2,6 +2,7 @@
 use Rattle.std.proofs.Common.{◌≡◌, ◌<◌, ℕ, zero, suc, ◌+◌, Bool, true, false, not, ◌&&◌, [], ◌∷◌, ◌++◌, List, length, map, Option, Some, None, is_some, slice_get, unwrap_or, refl, ap, sym, subst, ◌∙◌, append_assoc, arith}
 use Rattle.std.specs.Prelude.{if◌then◌else◌, is_none}
 use Rattle.std.specs.List.{list_all, flat_map}
+use Rattle.std.proofs.lemmas.List.{length-map}
 use Rattle.ir_ast.specs.Shapes.{shape_at, row_at}
 use Rattle.ir_ast.specs.declared.function.Function.{Function}
 use Rattle.ir_ast.specs.declared.items_of_module.Global.{Global}
@@ -81,10 +82,6 @@ in_range [] k x e = absurd cc
 in_range (y ∷ xs) zero x e = omega arith
 in_range (y ∷ xs) (suc k) x e = let more = in_range xs k x e in omega (arith, more)
 
-map_length : {A B : Type 0} (g : A → B) (xs : List A) → length (map g xs) ≡ length xs
-map_length g [] = refl
-map_length g (x ∷ xs) = ap suc (map_length g xs)
-
 -- what is read of printed shapes
 pub record ShapesOn (m : Module) (shapes : Shapes) (i : Input) (t : Text) : Type 0 where
   pub out : Input
@@ -105,7 +102,7 @@ module _ (m : Module) (named : IsNamed m) (globals : HasGlobals m) (structs : Ha
       let roots_are : roots_in i ≡ map (λ _. no_roots) m.sorts = ap (λ (d : ShapeDraft). d.shapes.roots) begun in
       let words = words_on m named structs shapes pointers rows fit_words full m.structs 0 i (g ++ (r ++ t)) (λ k. ap (slice_get m.structs) (sym (from_zero k))) (record {
         rows = ap (λ (d : ShapeDraft). d.pointers) begun;
-        there = λ layout s here. (let inside = in_range m.struct_of s.name (Some layout) (structs layout s here) in omega (arith, inside, ap length words_are, map_length (row_of pointers) m.struct_of));
+        there = λ layout s here. (let inside = in_range m.struct_of s.name (Some layout) (structs layout s here) in omega (arith, inside, ap length words_are, length-map m.struct_of (row_of pointers)));
         free = λ layout s le here. ap (λ x. row_at x s.name) words_are ∙ ap (λ (x : Option (List (Option ℕ))). unwrap_or x []) (map_at (row_of pointers) m.struct_of s.name (Some layout) (structs layout s here));
       }) (begins_globals m shapes m.globals (r ++ t) (begins_roots m shapes m.functions t e)) in
       let globals_then : globals_in words.out ≡ none_given m.sorts = sym (ap (λ (d : ShapeDraft). d.shapes.globals) words.rest) ∙ globals_are in
@@ -117,7 +114,7 @@ module _ (m : Module) (named : IsNamed m) (globals : HasGlobals m) (structs : Ha
       let slots_then : given.out.read.shapes.slots ≡ map (root_names m) m.functions = sym (ap (λ (d : ShapeDraft). d.slots) given.rest) ∙ sym (ap (λ (d : ShapeDraft). d.slots) words.rest) ∙ ap (λ (d : ShapeDraft). d.slots) begun in
       let roots = roots_on m named shapes rooted m.functions 0 given.out t (λ k. ap (slice_get m.functions) (sym (from_zero k))) (record {
         slots = slots_then;
-        there = λ k f here. (let inside = in_range m.sorts f.symbol (sort.Defined k) (named.functions k f here).1 in omega (arith, inside, ap length roots_then, map_length (λ (x : SymbolSort). no_roots) m.sorts));
+        there = λ k f here. (let inside = in_range m.sorts f.symbol (sort.Defined k) (named.functions k f here).1 in omega (arith, inside, ap length roots_then, length-map m.sorts (λ (x : SymbolSort). no_roots)));
         fresh = λ k f le here. ap (λ x. slice_get x f.symbol) roots_then ∙ map_at (λ (x : SymbolSort). no_roots) m.sorts f.symbol (sort.Defined k) (named.functions k f here).1;
       }) e in
       let o = roots.out in

@@ -4,3 +4,4 @@ pub mod RootNames
 pub mod Fits
 pub mod Families
 pub mod ShapesFit
+pub mod Plain

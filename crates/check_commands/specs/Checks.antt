@@ -9,7 +9,7 @@ use Rattle.certs.specs.Fits.{fits}
 use Rattle.certs.specs.declared.certs.Certs.{Certs}
 use Rattle.certs.specs.declared.section.Section.{Section}
 use Rattle.certificate.specs.Print.{cert_text}
-use Rattle.cert_maker.specs.Plain.{plain}
+use Rattle.certs.specs.Plain.{plain}
 use Rattle.block_rules.specs.declared.block_fault.Refusal.{Refusal}
 use Rattle.module_check.specs.Accepted.{IsAccepted, IsFirstRefusal, shaped}
 use Rattle.command_line.specs.declared.asked.Refusals.{Refusals}

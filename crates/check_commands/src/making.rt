@@ -4,7 +4,7 @@ ghost use Rattle.certs.specs.Fits.{fits};
 ghost use Rattle.module_check.specs.Accepted.{IsAccepted};
 ghost use Rattle.layout.specs.Layouts.{IsLayoutFault};
 ghost use Rattle.cert_maker.specs.Made.{IfLayout, IsRefusedWith};
-ghost use Rattle.cert_maker.specs.Plain.{plain};
+ghost use Rattle.certs.specs.Plain.{plain};
 ghost use Rattle.cert_maker.specs.declared.made.MakeFault.TheVariants as fault;
 ghost use Rattle.check_commands.specs.Checks.{OfMade, OfMake};
 ghost use Rattle.reports.specs.Said.{Says};

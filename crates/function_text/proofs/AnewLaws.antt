@@ -1,5 +1,5 @@
 -- What is read of one function is a text of it, and a text of it is read; what is refused has its fault first, and what has a fault first is refused for it.
-use Rattle.std.proofs.Common.{◌≡◌, ◌<◌, ◌≤◌, ℕ, length, Option, Some, None, Result, Ok, Err, refl, ap, subst, ◌∙◌, inl, inr, arith}
+use Rattle.std.proofs.Common.{◌≡◌, ◌<◌, ◌≤◌, ℕ, length, Option, Some, None, Result, Ok, Err, refl, ap, ◌∙◌, inl, inr, arith}
 use Rattle.std.specs.Prelude.{IfOk, IfErr, ◌≢◌}
 use Rattle.ir_tokens.specs.Bytes.{Text}
 use Rattle.ir_tokens.specs.declared.lexed.Lexed.{Lexed}
@@ -12,12 +12,8 @@ use Rattle.function_text.specs.declared.anew.Replacement.{Replacement}
 use Rattle.copies.specs.declared.tables.Tables.{Tables}
 use Rattle.ir_text.specs.declared.read_fault.ReadFault.{ReadFault}
 use Rattle.ir_text.specs.declared.read_fault.ReadFault.TheVariants.{Memory, Limit}
-use Rattle.ir_text.specs.Read.{Gives, located, text_limit}
+use Rattle.ir_text.specs.Read.{Gives, located, text_limit, gives_same}
 use Rattle.function_text.specs.Anew.{anew, late_anew, anew_of, start_anew, IsReadAnew, FailsAnew, IsTextAnew, IsFaultAnew, judged_anew, answered_anew, read_anew}
-
--- what is returned, where what is to be returned equals this
-pub gives_same : {X : Type 0} (r given : Result X ReadFault) (x : Result X ReadFault) → Gives r given → given ≡ x → Gives r x
-gives_same r given x g e = subst (Gives r) e g
 
 module _ (t : Tables) (func : ℕ) (name : Text) where
   judged_is : (bytes : Text) (o : Input) (late : Option Fault) (a : Replacement) → judged_anew t bytes o late ≡ Ok a → (late ≡ None) × (anew_of t o ≡ a)

@@ -7,11 +7,10 @@ use Rattle.function_text.specs.declared.anew.Replacement.{Replacement}
 use Rattle.copies.specs.declared.tables.Tables.{Tables}
 use Rattle.ir_text.specs.declared.read_fault.ReadFault.{ReadFault}
 use Rattle.ir_text.specs.declared.read_fault.ReadFault.TheVariants.{Memory}
-use Rattle.ir_text.specs.Read.{Gives}
+use Rattle.ir_text.specs.Read.{Gives, gives_same}
 use Rattle.function_text.specs.Anew.{IsTextAnew, IsFaultAnew}
 use Rattle.copies.specs.Tables.{tables_of}
 use Rattle.function_text.specs.Replaced.{name_of, with_replacement, IsReplaced, IsReplaceFault}
-use Rattle.function_text.proofs.AnewLaws.{gives_same}
 
 abbrev ok : {X : Type 0} → X → Result X ReadFault
 ok x = Ok x

@@ -1,7 +1,7 @@
 -- Why a word holds what its only writer stored last.
 use Rattle.std.proofs.Common.{◌≡◌, ◌≢◌, ℕ, ◌==◌, Bool, true, false, Some, None, List, [], ◌∷◌, if◌then◌else◌, inl, inr, refl, sym, ap, subst, ◌∙◌}
 use Rattle.lemmas.specs.Bools.{yes_or_no}
-use Rattle.lemmas.specs.Numbers.{test_yes, test_no, test_true, test_false}
+use Rattle.lemmas.specs.Numbers.{test_true, test_false}
 use Rattle.pools.specs.Heap.{Setup}
 use Rattle.colours.specs.declared.place.Place.TheVariants.{Word}
 use Rattle.colours.specs.declared.turn.Turn.{Turn}
@@ -11,6 +11,7 @@ use Rattle.colours.specs.Collector.{posted_of}
 use Rattle.colours.specs.Mutator.{stage_of}
 use Rattle.colours.specs.Steps.{Step, ReadWord, ReadOldValue, Mark, StoreAfterBarrier, StorePlain, Claim, ReadPosted, StoreStage, ReadPostedFirst, EnterStage, ReadPostedAgain, ask_of, turn_of, left_by}
 use Rattle.colours.specs.Runs.{Event, ByThread, ByCollector, log_of, turns_of, puts, value_put, word_after}
+use Rattle.heap_rule.specs.Shares.{own_log, other_log}
 use Rattle.heap_table.specs.OwnWords.{last_put, clears, WroteLast}
 
 -- a step that stores in no such word leaves it
@@ -48,12 +49,6 @@ left_by_turn cycle (Free c) cell word m e = refl
 never : (step : Step) (log : List Step) (cell word : ℕ) (b : Bool) → puts step cell word ≡ b → (if b then Some (value_put step) else last_put log cell word) ≡ None → (puts step cell word ≡ false) × (last_put log cell word ≡ None)
 never step log cell word true is e = absurd cc
 never step log cell word false is e = (is, e)
-
-own_log : (t : ℕ) (step : Step) (run : List Event) → log_of t (ByThread t step ∷ run) ≡ step ∷ log_of t run
-own_log t step run = rw (test_yes t t refl) refl
-
-other_log : (t u : ℕ) (step : Step) (run : List Event) → u ≢ t → log_of t (ByThread u step ∷ run) ≡ log_of t run
-other_log t u step run n = rw (test_no u t n) refl
 
 module _ (s : Setup) (thread cell word value : ℕ) where
   abbrev Holds : List Event → Type 0

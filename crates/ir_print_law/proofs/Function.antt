@@ -30,6 +30,7 @@ use Rattle.ir_text.specs.Blocks.{blocks}
 use Rattle.ir_text.specs.ItemsOfText.{collector_name, collector, head_end, defined_result_by, defined_result, function_name_by, function_name, open_body_by, open_body, head_after, body_after, with_function, end_function, earlier}
 use Rattle.ir_text.specs.declared.items_of_text.FunctionHead.{FunctionHead}
 use Rattle.ir_print_law.specs.Places.{moved}
+use Rattle.ir_print_law.proofs.Uses.{none_mapped}
 use Rattle.ir_print_law.proofs.Seats.{Seat, End, Symbols, Structs, Beside, Grown, grown_further, bare, placeless, spelled_same, sees_same}
 use Rattle.ir_print_law.proofs.Sim.{Any, Both, Same, Excused, past, both, and, gives, refuses, so, tells, by_kind}
 use Rattle.ir_print_law.proofs.AnewSteps.{skip_same, expect_same, rule, seen}
@@ -79,14 +80,10 @@ none_whole sorts (u ∷ uses) h = which (IsWrong sorts u) refl h (none_whole sor
       let less : NoneWrong (map bare sorts) (map placeless uses) = subst (λ (b : Bool). (if b then Some (placeless u) else find (IsWrong (map bare sorts)) (map placeless uses)) ≡ None) same found in
       rw e (further less)
 
-unmapped : {A B : Type 0} (g : A → B) (x : Option A) → option_map g x ≡ None → x ≡ None
-unmapped g None e = refl
-unmapped g (Some x) e = absurd cc
-
 -- no local name is missing in the second reading where none is in the first
 none_missing : (a b : Table LocalSort) (uses more : List LocalUse) → map bare a.sorts ≡ map bare b.sorts → map placeless uses ≡ map placeless more → first_missing a uses ≡ None → first_missing b more ≡ None
 none_missing a b uses more sorts same e =
-    let found = none_bare a.sorts uses (unmapped (λ (u : LocalUse). u.start) (find (IsWrong a.sorts) uses) e) in
+    let found = none_bare a.sorts uses (none_mapped (λ (u : LocalUse). u.start) (find (IsWrong a.sorts) uses) e) in
     let there : NoneWrong (map bare b.sorts) (map placeless more) =
     subst (λ (l : List LocalUse). NoneWrong (map bare b.sorts) l) same (subst (λ (l : List LocalSort). NoneWrong l (map placeless uses)) sorts found) in
     ap (option_map (λ (u : LocalUse). u.start)) (none_whole b.sorts more there)

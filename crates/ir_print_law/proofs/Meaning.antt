@@ -3,7 +3,7 @@ use Rattle.std.proofs.Common.{◌≡◌, ℕ, zero, suc, ◌<◌, Bool, true, fa
 use Rattle.std.proofs.lemmas.Bool.Decides.{nat_tests}
 use Rattle.std.proofs.lemmas.List.{append-nil, length-map}
 use Rattle.std.proofs.lemmas.Option.{slice_get-map, slice_get_within}
-use Rattle.std.specs.Prelude.{nat_lt, slice_get, option_and_then, option_map, unwrap_or}
+use Rattle.std.specs.Prelude.{nat_lt, slice_get, option_and_then, option_map}
 use Rattle.lemmas.specs.Lists.{get_some}
 use Rattle.ir_ast.specs.Names.{place_of, name_at}
 use Rattle.ir_ast.specs.declared.function.Function.{Function}
@@ -20,6 +20,7 @@ use Rattle.function_text.specs.Anew.{sort_before, sorts_before}
 use Rattle.ir_text.specs.Read.{module_of}
 use Rattle.ir_print_law.specs.Definitions.{defined_structs, defined_globals, declared_functions, defined_functions}
 use Rattle.ir_print_law.specs.ModuleNames.{HasModuleNames}
+pub use Rattle.ir_print_law.proofs.Operands.{named_at as name_here}
 use Rattle.ir_print_law.proofs.ModuleState.{no_one, Stands, Leads, symbols_of}
 use Rattle.ir_print_law.proofs.ModuleTables.{OwnsSymbol}
 use Rattle.ir_print_law.proofs.Tables.{Begins, begins_itself, stays}
@@ -40,9 +41,6 @@ named_at number names (x ∷ xs) (suc g) name e = named_at number names xs g nam
 pub name_of_item : {A : Type 0} (number : A → ℕ) (names : List Text) (xs : List A) (g : ℕ) (x : A) (name : Text) → slice_get xs g ≡ Some x → name_at names (number x) ≡ name
     → slice_get (map (λ x. name_at names (number x)) xs) g ≡ Some name
 name_of_item number names xs g x name at is = slice_get-map (λ y. name_at names (number y)) xs g ∙ ap (option_map (λ y. name_at names (number y))) at ∙ ap Some is
-
-pub name_here : (names : List Text) (n : ℕ) (name : Text) → slice_get names n ≡ Some name → name_at names n ≡ name
-name_here names n name e = ap (λ (o : Option Text). unwrap_or o []) e
 
 -- what an item has as the number of its name
 owned_at : {A : Type 0} (number : A → ℕ) (xs : List A) (g k : ℕ) → slice_get (map number xs ++ []) g ≡ Some k → (x : A) × (slice_get xs g ≡ Some x) × (number x ≡ k)

@@ -12,10 +12,10 @@ use Rattle.std.proofs.lemmas.List.Quantifiers.{position-Some}
 use Rattle.std.specs.Str.{bytes_eq}
 use Rattle.lemmas.specs.Lists.{get_end, get_front}
 use Rattle.ir_ast.specs.Names.{place_of, number_of, numbered}
-use Rattle.ir_ast.specs.Types.{place_of_type, number_of_type, numbered_type}
+use Rattle.ir_ast.specs.Types.{place_of_type, numbered_type}
 use Rattle.ir_ast.specs.declared.ir_type.IrType.{IrType}
-use Rattle.ir_ast.specs.TypePlaces.{stands}
 use Rattle.ir_tokens.specs.Bytes.{Text}
+pub use Rattle.ir_print_law.specs.NumberedTypes.{type_there, type_length}
 pub use Rattle.ir_print_law.specs.TypeOrder.{IsInOrder, AreInOrder, AreOrdered}
 
 -- the second list begins with the first
@@ -52,20 +52,6 @@ type_begins t types = by (is_some (place_of_type t types)) where
   by : (b : Bool) → Begins types (if b then types else types ++ t ∷ [])
   by true = begins_itself types
   by false = begins_with types (t ∷ [])
-
--- the type is at its number
-pub type_there : (t : IrType) (types : List IrType) → slice_get (numbered_type t types) (number_of_type t types) ≡ Some t
-type_there t types = by (place_of_type t types) refl where
-  by : (place : Option ℕ) → place_of_type t types ≡ place → slice_get (if is_some place then types else types ++ t ∷ []) (unwrap_or place (length types)) ≡ Some t
-  by None e = get_end types t
-  by (Some n) e = stands t types n e
-
--- one type comes at most
-pub type_length : (t : IrType) (types : List IrType) → length (numbered_type t types) ≤ length types + 1
-type_length t types = by (is_some (place_of_type t types)) where
-  by : (b : Bool) → length (if b then types else types ++ t ∷ []) ≤ length types + 1
-  by true = omega arith
-  by false = let e = length-append types (t ∷ []) in omega (arith, e)
 
 -- what is in the table stays there
 pub type_further : (t : IrType) (types : List IrType) (number : ℕ) → number < length types → number < length (numbered_type t types)

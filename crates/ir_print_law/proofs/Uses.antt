@@ -24,7 +24,8 @@ none_found p (y ∷ xs) e x there = by (p y) refl e (λ h there. none_found p xs
     | inr there ↦ further h there
   ]
 
-none_mapped : {A B : Type 0} (g : A → B) (x : Option A) → option_map g x ≡ None → x ≡ None
+-- what is none with something made of it is none
+pub none_mapped : {A B : Type 0} (g : A → B) (x : Option A) → option_map g x ≡ None → x ≡ None
 none_mapped g None e = refl
 none_mapped g (Some x) e = absurd cc
 

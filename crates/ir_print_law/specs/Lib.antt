@@ -1,5 +1,6 @@
 pub mod Shapes
 pub mod TypeOrder
+pub mod NumberedTypes
 pub mod Definitions
 pub mod Parts
 pub mod PartsAgain

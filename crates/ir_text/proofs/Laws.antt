@@ -1,5 +1,5 @@
 -- What is read is a text, and a text is read; what is refused has its fault first, and what has a fault first is refused for it.
-use Rattle.std.proofs.Common.{◌≡◌, ◌<◌, ◌≤◌, ℕ, List, length, Option, Some, None, Result, Ok, Err, refl, ap, subst, ◌∙◌, inl, inr, arith}
+use Rattle.std.proofs.Common.{◌≡◌, ◌<◌, ◌≤◌, ℕ, List, length, Option, Some, None, Result, Ok, Err, refl, ap, ◌∙◌, inl, inr, arith}
 use Rattle.std.specs.Prelude.{IfOk, IfErr, ◌≢◌}
 use Rattle.ir_tokens.specs.declared.lexed.Lexed.{Lexed}
 use Rattle.ir_tokens.specs.Tokens.{IsLexed}
@@ -12,7 +12,7 @@ use Rattle.ir_text.specs.declared.read_fault.ReadFault.{ReadFault}
 use Rattle.ir_text.specs.declared.read_fault.ReadFault.TheVariants.{Memory, Limit}
 use Rattle.ir_text.specs.ItemsOfText.{whole}
 use Rattle.ir_text.specs.Late.{late_fault}
-use Rattle.ir_text.specs.Read.{Gives, IsText, IsModule, IsFault, Fails, start, module_of, located, judged, answered, read_lexed, text_limit}
+use Rattle.ir_text.specs.Read.{Gives, IsText, IsModule, IsFault, Fails, start, module_of, located, judged, answered, read_lexed, text_limit, gives_same}
 
 judged_is : (bytes : List ℕ) (o : Input) (late : Option Fault) (m : Module) → judged bytes o late ≡ Ok m → (late ≡ None) × (module_of o ≡ m)
 judged_is bytes o None m e = (refl, cc)
@@ -56,9 +56,6 @@ pub fails : (bytes : List ℕ) (lexed : Lexed) (r : Result Module ReadFault) →
 unfolding read_lexed
 fails bytes lexed (Ok m) short is g = tt
 fails bytes lexed (Err e) short is g = λ ne. inr (short, lexed, is, answered_fails bytes (start bytes lexed) (whole.read (start bytes lexed)) e refl (g ne))
-
-pub gives_same : {X : Type 0} (r given : Result X ReadFault) (x : Result X ReadFault) → Gives r given → given ≡ x → Gives r x
-gives_same r given x g e = subst (Gives r) e g
 
 pub only : (bytes : List ℕ) (lexed : Lexed) (r : Result Module ReadFault) (m : Module) → ((other : Lexed) → IsLexed bytes other → lexed ≡ other)
     → Gives r (read_lexed bytes lexed) → IsText bytes m → Gives r (Ok m)

@@ -4,9 +4,9 @@ use Rattle.std.proofs.lemmas.Option.{slice_get_within}
 use Rattle.std.proofs.lemmas.List.{append-nil}
 use Rattle.lemmas.specs.Lists.{get_end, get_front, get_either, get_some}
 use Rattle.ir_ast.specs.Types.{place_of_type, number_of_type, numbered_type}
-use Rattle.ir_ast.specs.TypePlaces.{stands}
 use Rattle.ir_ast.specs.declared.ir_type.IrType.{IrType}
 use Rattle.ir_ast.specs.declared.ir_type.IrType.TheVariants as type
+use Rattle.ir_print_law.specs.NumberedTypes.{type_there, type_length}
 use Rattle.migration_law.specs.PartsBefore.{ComesAfterParts}
 use Rattle.opaque.specs.Opaque.{Renumbered, new_number, opaque_type, opaque_types, with_type, with_types}
 
@@ -17,18 +17,6 @@ type_stays t types n x e = by (is_some (place_of_type t types)) where
   by : (b : Bool) → slice_get (if b then types else types ++ t ∷ []) n ≡ Some x
   by true = e
   by false = get_front types (t ∷ []) n x e
-
-type_there : (t : IrType) (types : List IrType) → slice_get (numbered_type t types) (number_of_type t types) ≡ Some t
-type_there t types = by (place_of_type t types) refl where
-  by : (place : Option ℕ) → place_of_type t types ≡ place → slice_get (if is_some place then types else types ++ t ∷ []) (unwrap_or place (length types)) ≡ Some t
-  by None e = get_end types t
-  by (Some n) e = stands t types n e
-
-type_length : (t : IrType) (types : List IrType) → length (numbered_type t types) ≤ length types + 1
-type_length t types = by (is_some (place_of_type t types)) where
-  by : (b : Bool) → length (if b then types else types ++ t ∷ []) ≤ length types + 1
-  by true = omega arith
-  by false = let e = length-append types (t ∷ []) in omega (arith, e)
 
 -- ---- the fold
 

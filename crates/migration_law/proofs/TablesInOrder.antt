@@ -2,11 +2,11 @@
 use Rattle.std.proofs.Common.{◌≡◌, ◌<◌, ◌≤◌, ◌+◌, ℕ, suc, List, [], ◌∷◌, ◌++◌, length, slice_get, unwrap_or, is_some, if◌then◌else◌, Option, None, Some, inl, inr, refl, sym, ap, subst, arith, length-append, append_assoc}
 use Rattle.std.proofs.lemmas.Option.{slice_get_within}
 use Rattle.std.proofs.lemmas.List.{append-nil}
-use Rattle.lemmas.specs.Lists.{get_either, get_end, get_some}
-use Rattle.ir_ast.specs.TypePlaces.{stands}
+use Rattle.lemmas.specs.Lists.{get_either, get_some}
 use Rattle.ir_ast.specs.Types.{place_of_type, number_of_type, numbered_type}
 use Rattle.ir_ast.specs.declared.ir_type.IrType.{IrType}
 use Rattle.ir_ast.specs.declared.ir_type.IrType.TheVariants as type
+use Rattle.ir_print_law.specs.NumberedTypes.{type_there}
 use Rattle.migration_law.specs.PartsBefore.{ArePartsBefore, ComesAfterParts}
 use Rattle.opaque.specs.Opaque.{Renumbered, new_number, opaque_type, opaque_types, with_type, with_types}
 use Rattle.migration_law.proofs.Tables.{type_in_order}
@@ -16,12 +16,6 @@ record AreInOrder (done : List IrType) (r : Renumbered) : Type 0 where
   as_many : length r.numbers ≡ length done
   within : (k number : ℕ) → slice_get r.numbers k ≡ Some number → number < length r.types
   rests : (place first rest : ℕ) → slice_get r.types place ≡ Some (type.Struct first rest) → rest < place
-
-type_there : (t : IrType) (types : List IrType) → slice_get (numbered_type t types) (number_of_type t types) ≡ Some t
-type_there t types = by (place_of_type t types) refl where
-  by : (place : Option ℕ) → place_of_type t types ≡ place → slice_get (if is_some place then types else types ++ t ∷ []) (unwrap_or place (length types)) ≡ Some t
-  by None e = get_end types t
-  by (Some n) e = stands t types n e
 
 longer : (t : IrType) (types : List IrType) → length types ≤ length (numbered_type t types)
 longer t types = by (place_of_type t types) where

@@ -1,21 +1,17 @@
 -- Sections that fit a module fit it where one function or its section is replaced.
-use Rattle.std.proofs.Common.{◌≡◌, ◌∙◌, ℕ, zero, suc, List, [], ◌∷◌, Bool, Option, Some, None, true, ◌&&◌, length, map, refl, sym, ap, ap₂, subst}
+use Rattle.std.proofs.Common.{◌≡◌, ◌∙◌, ℕ, zero, suc, List, [], ◌∷◌, Bool, Option, Some, None, true, length, refl, sym, ap, subst}
 use Rattle.std.specs.Prelude.{◌==◌, slice_get, slice_set}
 use Rattle.std.specs.List.{list_all, zip}
-use Rattle.std.proofs.lemmas.Bool.{eq-eqb}
-use Rattle.std.proofs.lemmas.List.{length-map, length-set}
+use Rattle.std.proofs.lemmas.List.{length-set}
 use Rattle.lemmas.specs.Bools.{and_first, and_second, and_true}
 use Rattle.lemmas.specs.Numbers.{test_true, test_yes}
-use Rattle.ir_ast.specs.declared.block.Block.{Block}
 use Rattle.ir_ast.specs.declared.function.Function.{Function}
-use Rattle.ir_ast.specs.declared.function.Parameter.{Parameter}
 use Rattle.ir_ast.specs.declared.module.Module.{Module}
 use Rattle.ir_ast.specs.declared.shapes.Shapes.{Shapes}
 use Rattle.ir_tokens.specs.Bytes.{Text}
-use Rattle.certs.specs.Fits.{blocks_fit, claims_fit, entry_is_empty, fits, parameter_fits, parameters_fit, section_fits}
+use Rattle.certs.specs.Fits.{fits, section_fits}
 use Rattle.certs.specs.ShapesFit.{shapes_fit}
-use Rattle.certs.specs.declared.section.Claim.{Claim}
-use Rattle.certs.specs.declared.section.Mark.TheVariants.{May}
+use Rattle.certs.specs.Plain.{plain_section, plain_section_fits}
 use Rattle.certs.specs.declared.section.Section.{Section}
 use Rattle.certificate.specs.Anew.{IsSection}
 use Rattle.certificate.specs.Laws.{StayFitting}
@@ -30,41 +26,6 @@ use Rattle.recheck.specs.RootShapes.{missing_root}
 use Rattle.recheck.specs.Fitting.{EditsKeepFitting, IsFitting}
 use Rattle.recheck.specs.Session.{State}
 use Rattle.recheck.proofs.FittingShapes.{shapes_put}
-
--- ---- a section that says nothing
-
--- it fits each function
-plain : Function → Section
-plain f = record { mark = May; parameters = map (λ _. None) f.parameters; result = None; blocks = map (λ _. []) f.blocks }
-
-as_long : {A B : Type 0} (f : A → B) (xs : List A) → (length (map f xs) == length xs) ≡ true
-as_long f xs = eq-eqb _ _ (length-map xs f)
-
-promises_fit : (m : Module) (f : Function) (parameters : List Parameter) → list_all (λ p. parameter_fits m f p.0 p.1) (zip parameters (map (λ _. None) parameters)) ≡ true
-promises_fit m f [] = refl
-promises_fit m f (p ∷ parameters) = promises_fit m f parameters
-
-each_block_fits : (m : Module) (f : Function) (blocks : List Block) → list_all (claims_fit m f) (map (λ _. []) blocks) ≡ true
-each_block_fits m f [] = refl
-each_block_fits m f (b ∷ blocks) = each_block_fits m f blocks
-
-entry_fits : (blocks : List Block) → entry_is_empty (map (λ _. []) blocks) ≡ true
-entry_fits [] = refl
-entry_fits (b ∷ blocks) = refl
-
-parameters_fit_plain : (m : Module) (f : Function) → parameters_fit m f (map (λ _. None) f.parameters) ≡ true
-parameters_fit_plain m f = ap₂ (λ a b. a && b) (as_long (λ _. None) f.parameters) (promises_fit m f f.parameters)
-
-blocks_fit_plain : (m : Module) (f : Function) → blocks_fit m f (map (λ _. []) f.blocks) ≡ true
-blocks_fit_plain m f =
-    let blocks : List (List Claim) = map (λ _. []) f.blocks in
-    ap (λ a. a && entry_is_empty blocks && list_all (claims_fit m f) blocks) (as_long (λ _. []) f.blocks)
-    ∙ ap (λ a. true && a && list_all (claims_fit m f) blocks) (entry_fits f.blocks)
-    ∙ ap (λ a. true && true && a) (each_block_fits m f f.blocks)
-
-plain_fits : (m : Module) (f : Function) → section_fits m f (plain f) ≡ true
-unfolding plain
-plain_fits m f = ap₂ (λ a b. a && true && b) (parameters_fit_plain m f) (blocks_fit_plain m f)
 
 -- ---- one of the sections is another one
 
@@ -115,9 +76,9 @@ module _ (alone : FitAlone) (m : Module) (certs : List Section) (func : ℕ) (fi
       let found = all_same (pair_fits m) m.functions certs func past each in
       (found.0, as_all m.functions (slice_set certs func found.0) (length-set certs func found.0 ∙ many) found.1)
   others (Some f) past = (
-    plain f,
-    as_all (slice_set m.functions func f) (slice_set certs func (plain f)) (length-set certs func (plain f) ∙ many ∙ sym (length-set m.functions func f))
-        (all_with (pair_fits m) m.functions certs func f (plain f) (plain_fits m f) each),
+    plain_section f,
+    as_all (slice_set m.functions func f) (slice_set certs func (plain_section f)) (length-set certs func (plain_section f) ∙ many ∙ sym (length-set m.functions func f))
+        (all_with (pair_fits m) m.functions certs func f (plain_section f) (plain_section_fits m f) each),
   )
 
 -- ---- after an edit

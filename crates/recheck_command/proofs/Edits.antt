@@ -1,11 +1,7 @@
 -- Sessions under edits, and the lines that are printed of them.
-use Rattle.std.proofs.Common.{◌≡◌, ◌∙◌, ◌==◌, ℕ, zero, suc, ◌+◌, List, [], ◌∷◌, ◌++◌, Some, true, take, length, slice_get, unwrap_or, refl, sym, ap, subst, append_assoc, append-nil, eqb-true, arith}
-use Rattle.std.specs.List.{list_all, zip}
-use Rattle.lemmas.specs.Bools.{and_first}
+use Rattle.std.proofs.Common.{◌≡◌, ◌∙◌, ℕ, zero, suc, ◌+◌, List, [], ◌∷◌, ◌++◌, Some, take, slice_get, unwrap_or, refl, sym, ap, subst, append_assoc, append-nil, arith}
 use Rattle.ir_ast.specs.declared.module.Module.{Module}
-use Rattle.certs.specs.Fits.{fits, section_fits}
 use Rattle.certs.specs.declared.certs.Certs.{Certs}
-use Rattle.certs.specs.declared.section.Section.{Section}
 use Rattle.module_check.specs.Accepted.{IsLayoutReason, shaped}
 use Rattle.edit_text.specs.declared.edit.Edit.{Edit}
 use Rattle.module_check.specs.declared.verdict.Reason.{Reason}
@@ -15,11 +11,6 @@ use Rattle.recheck_command.specs.EditedFiles.{OfRechecked, no_session, not_reche
 use Rattle.reports.specs.Said.{OnError}
 use Rattle.reports.specs.Report.{of_layout_reason}
 use Rattle.recheck_command.specs.Rechecks.{OfEdit, OfEdits}
-
--- certificates of a module are one for each function
-pub one_for_each : (m : Module) (certs : List Section) → fits m certs ≡ true → length certs ≡ length m.functions
-one_for_each m certs h =
-    eqb-true (length certs) (length m.functions) (and_first (length certs == length m.functions) (list_all (λ p. section_fits m p.0 p.1) (zip m.functions certs)) h)
 
 -- the edits before a place, and then the one there, counted from some number
 edits_from : (n : ℕ) (s t u : State) (edits : List Edit) (i : ℕ) (e : Edit) (told line : List ℕ) → slice_get edits i ≡ Some e

@@ -1,55 +1,17 @@
 -- Sections of which one is replaced: the others fit as they did.
-use Rattle.std.proofs.Common.{◌≡◌, ◌∙◌, ℕ, zero, suc, List, [], ◌∷◌, Bool, Option, Some, None, true, ◌&&◌, length, map, refl, sym, ap₂}
+use Rattle.std.proofs.Common.{◌≡◌, ◌∙◌, ℕ, zero, suc, List, [], ◌∷◌, Bool, Option, Some, None, true, ◌&&◌, length, refl, sym}
 use Rattle.std.specs.Prelude.{◌==◌, slice_set}
 use Rattle.std.specs.List.{list_all, zip}
-use Rattle.std.proofs.lemmas.Bool.{eq-eqb}
-use Rattle.std.proofs.lemmas.List.{length-map, length-set}
+use Rattle.std.proofs.lemmas.List.{length-set}
 use Rattle.lemmas.specs.Bools.{and_first, and_second, and_true}
 use Rattle.lemmas.specs.Numbers.{test_true, test_yes}
-use Rattle.ir_ast.specs.declared.block.Block.{Block}
 use Rattle.ir_ast.specs.declared.function.Function.{Function}
-use Rattle.ir_ast.specs.declared.function.Parameter.{Parameter}
 use Rattle.ir_ast.specs.declared.module.Module.{Module}
-use Rattle.certs.specs.Fits.{blocks_fit, claims_fit, entry_is_empty, parameter_fits, parameters_fit, section_fits}
-use Rattle.certs.specs.declared.section.Claim.{Claim}
+use Rattle.certs.specs.Fits.{section_fits}
 use Rattle.certs.specs.declared.section.Mark.TheVariants.{May}
+use Rattle.certs.specs.Plain.{plain_section, plain_section_fits}
 use Rattle.certs.specs.declared.section.Section.{Section}
 use Rattle.function_text.specs.Replaced.{put_function}
-
--- ---- a section that says nothing
-
-plain : Function → Section
-plain f = record { mark = May; parameters = map (λ _. None) f.parameters; result = None; blocks = map (λ _. []) f.blocks }
-
-as_long : {A B : Type 0} (f : A → B) (xs : List A) → (length (map f xs) == length xs) ≡ true
-as_long f xs = eq-eqb _ _ (length-map xs f)
-
-module _ (m : Module) (f : Function) where
-  promises_fit : (parameters : List Parameter) → list_all (λ p. parameter_fits m f p.0 p.1) (zip parameters (map (λ _. None) parameters)) ≡ true
-  promises_fit [] = refl
-  promises_fit (p ∷ parameters) = promises_fit parameters
-
-  no_claims_fit : (blocks : List Block) → list_all (claims_fit m f) (map (λ _. []) blocks) ≡ true
-  no_claims_fit [] = refl
-  no_claims_fit (b ∷ blocks) = no_claims_fit blocks
-
-  entry_fits : (blocks : List Block) → entry_is_empty (map (λ _. []) blocks) ≡ true
-  entry_fits [] = refl
-  entry_fits (b ∷ blocks) = refl
-
-  parameters_fit_plain : parameters_fit m f (map (λ _. None) f.parameters) ≡ true
-  parameters_fit_plain = ap₂ (λ a b. a && b) (as_long (λ _. None) f.parameters) (promises_fit f.parameters)
-
-  blocks_fit_plain : blocks_fit m f (map (λ _. []) f.blocks) ≡ true
-  blocks_fit_plain =
-      let blocks : List (List Claim) = map (λ _. []) f.blocks in
-      and_true ((length blocks == length f.blocks) && entry_is_empty blocks) (list_all (claims_fit m f) blocks)
-      (and_true (length blocks == length f.blocks) (entry_is_empty blocks) (as_long (λ _. []) f.blocks) (entry_fits f.blocks)) (no_claims_fit f.blocks)
-
-  -- it fits each function
-  plain_fits : section_fits m f (plain f) ≡ true
-  unfolding plain
-  plain_fits = ap₂ (λ a b. a && true && b) parameters_fit_plain blocks_fit_plain
 
 -- ---- one of the sections is another one
 
@@ -94,9 +56,9 @@ others_fit m func put fs ss fit = by put where
       let long = length-set ss func found.0 ∙ many in
       (found.0, and_true (length (slice_set ss func found.0) == length fs) (list_all (λ p. section_fits m p.0 p.1) (zip fs (slice_set ss func found.0))) (test_yes (length (slice_set ss func found.0)) (length fs) long) found.1)
   by (Some f) =
-      let long = length-set ss func (plain f) ∙ many ∙ sym (length-set fs func f) in (
-        plain f,
-        and_true (length (slice_set ss func (plain f)) == length (slice_set fs func f)) (list_all (λ p. section_fits m p.0 p.1) (zip (slice_set fs func f) (slice_set ss func (plain f))))
-            (test_yes (length (slice_set ss func (plain f))) (length (slice_set fs func f)) long)
-            (all_with (λ p. section_fits m p.0 p.1) fs ss func f (plain f) (plain_fits m f) each),
+      let long = length-set ss func (plain_section f) ∙ many ∙ sym (length-set fs func f) in (
+        plain_section f,
+        and_true (length (slice_set ss func (plain_section f)) == length (slice_set fs func f)) (list_all (λ p. section_fits m p.0 p.1) (zip (slice_set fs func f) (slice_set ss func (plain_section f))))
+            (test_yes (length (slice_set ss func (plain_section f))) (length (slice_set fs func f)) long)
+            (all_with (λ p. section_fits m p.0 p.1) fs ss func f (plain_section f) (plain_section_fits m f) each),
       )

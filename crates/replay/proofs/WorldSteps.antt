@@ -1,6 +1,7 @@
 -- A world after one more step.
-use Rattle.std.proofs.Common.{◌≡◌, ℕ, Bool, Option, Some, Result, Ok, List, [], ◌∷◌, length, map, slice_get, refl, sym, ap, ◌∙◌, subst}
+use Rattle.std.proofs.Common.{◌≡◌, ℕ, Bool, true, false, Option, Some, Result, Ok, Err, List, [], ◌∷◌, length, map, slice_get, refl, sym, ap, ◌∙◌, subst}
 use Rattle.std.specs.Prelude.{IfSome, IfOk}
+use Rattle.std.specs.Result.{is_err}
 use Rattle.pools.specs.Heap.{cells_in}
 use Rattle.std.proofs.lemmas.List.{length-map}
 use Rattle.layout.specs.Layouts.{LaidOut}
@@ -90,43 +91,31 @@ pub is_safe : CertifiedIsSafe → (i : Inside) (certs : List Section) (before : 
     → ¬ IsBrokenWorld (world_seen i) before
 is_safe law i certs before kept certified b = certified_setup law i.program.now i.setup.now certs kept.setup kept.no_fault certified (run_of i.program.now i.setup.now before) b.ends.is_run
 
--- a step of an actor, as the code made it: which actor it was, the actors after it and the endings that are kept
-pub record IsMadeBy (i : Inside) (actor : Actor) (made : Option MadeStep) (actors : Actors ProgramThread) (endings : List ThreadOutcome) : Type 0 where
+-- a step of an actor, as the code made it if memory was there: which actor it was, the actors after it and the endings that are kept
+pub record IsMadeBy {E : Type 0} (i : Inside) (actor : Actor) (result : Result (Option MadeStep) E) (actors : Actors ProgramThread) (endings : List ThreadOutcome) : Type 0 where
   pub is_actor : IsActor (length i.setup.now.starts) actor
   pub endings_are : endings ≡ endings_after actor i.actors.threads.items i.endings
   pub makes : (before : List Actor)
       → stepping.AreAfterSteps (heap_of i.program.now i.setup.now) program_machine (FitsThread (heap_of i.program.now i.setup.now)) (starts_of i.program.now i.setup.now) before i.actors
-      → IsStepOf i before actor made actors
+      → IfOk result (λ made. IsStepOf i before actor made actors)
 
 -- the actor is one of the world
 pub is_actor : (i : Inside) (w : World) (actor : Actor) → world_seen i ≡ w → IsActor (length w.setup.starts) actor → IsActor (length i.setup.now.starts) actor
 is_actor i w actor seen of = subst (λ (v : World). IsActor (length v.setup.starts) actor) (sym seen) of
 
--- the code made the step where its actors made it, and kept the endings after it
-pub made_by : {E : Type 0} (i : Inside) (actor : Actor) (result : Result (Option MadeStep) E) (made : Option MadeStep) (actors : Actors ProgramThread) (endings : List ThreadOutcome)
-    → IsActor (length i.setup.now.starts) actor → endings ≡ endings_after actor i.actors.threads.items i.endings → result ≡ Ok made
-    → ((before : List Actor)
-    → stepping.AreAfterSteps (heap_of i.program.now i.setup.now) program_machine (FitsThread (heap_of i.program.now i.setup.now)) (starts_of i.program.now i.setup.now) before i.actors
-    → IfOk result (λ made. IsStepOf i before actor made actors))
-    → IsMadeBy i actor made actors endings
-made_by i actor result made actors endings is are ok makes = record {
-  is_actor = is;
-  endings_are = are;
-  makes = λ before b. subst (λ r. IfOk r (λ made. IsStepOf i before actor made actors)) ok (makes before b);
-}
-
 -- the world after it keeps what a world keeps
-pub keeps : (i : Inside) (actor : Actor) (made : Option MadeStep) (actors : Actors ProgramThread) (endings : List ThreadOutcome) → IsKept i → IsMadeBy i actor made actors endings
-    → IsKept (record i { actors = actors; endings = endings })
-keeps i actor made actors endings kept by =
+pub keeps : {E : Type 0} (i : Inside) (actor : Actor) (result : Result (Option MadeStep) E) (failed : Bool) (actors : Actors ProgramThread) (endings : List ThreadOutcome)
+    → IsKept i → failed ≡ is_err result → failed ≡ false → IsMadeBy i actor result actors endings → IsKept (record i { actors = actors; endings = endings })
+keeps i actor (Ok made) failed actors endings kept is not by =
     subst (λ (e : List ThreadOutcome). IsKept (record i { actors = actors; endings = e })) (sym by.endings_are)
     (is_kept i actor made actors kept by.is_actor (by.makes kept.made.0 (are_after i (world_seen i) kept.made.0 refl kept kept.made.1)))
+keeps i actor (Err e) failed actors endings kept is not by = cc
 
 -- the step is told, and the world is the one after it
-pub tells : (i : Inside) (w : World) (actor : Actor) (made : Option MadeStep) (actors : Actors ProgramThread) (endings : List ThreadOutcome) → world_seen i ≡ w → IsKept i
-    → IsMadeBy i actor made actors endings → (before : List Actor) → IsAfter w before
-    → IsStepAfter w before actor made × IsAfter (world_seen (record i { actors = actors; endings = endings })) (actor ∷ before)
-tells i w actor made actors endings seen kept by before b =
+pub tells : {E : Type 0} (i : Inside) (w : World) (actor : Actor) (result : Result (Option MadeStep) E) (actors : Actors ProgramThread) (endings : List ThreadOutcome)
+    → world_seen i ≡ w → IsKept i → IsMadeBy i actor result actors endings → (before : List Actor) → IsAfter w before
+    → IfOk result (λ made. IsStepAfter w before actor made × IsAfter (world_seen (record i { actors = actors; endings = endings })) (actor ∷ before))
+tells i w actor (Ok made) actors endings seen kept by before b =
     let here : IsAfter (world_seen i) before = subst (λ (v : World). IsAfter v before) (sym seen) b in
     let step = by.makes before (are_after i (world_seen i) before refl kept here) in
     let told : IsStepAfter (world_seen i) before actor made = step.made_is in
@@ -134,14 +123,16 @@ tells i w actor made actors endings seen kept by before b =
     let leads : IsAfter (world_seen (record i { actors = actors; endings = endings })) (actor ∷ before) =
     subst (λ (e : List ThreadOutcome). IsAfter (world_seen (record i { actors = actors; endings = e })) (actor ∷ before)) (sym by.endings_are) (is_after i actor before made actors kept here by.is_actor step) in
     (there, leads)
+tells i w actor (Err e) actors endings seen kept by before b = tt
 
 -- and it is not broken where the program is certified
-pub stays_safe : CertifiedIsSafe → (i : Inside) (w : World) (actor : Actor) (made : Option MadeStep) (actors : Actors ProgramThread) (endings : List ThreadOutcome) → world_seen i ≡ w → IsKept i
-    → IsMadeBy i actor made actors endings → (certs : List Section) (before : List Actor) → IsCertifiedSetup w.program w.setup certs → IsAfter w before
-    → ¬ IsBrokenWorld (world_seen (record i { actors = actors; endings = endings })) (actor ∷ before)
-stays_safe law i w actor made actors endings seen kept by certs before certified b =
-    is_safe law (record i { actors = actors; endings = endings }) certs (actor ∷ before) (keeps i actor made actors endings kept by)
-    (subst (λ (v : World). IsCertifiedSetup v.program v.setup certs) (sym seen) certified) (tells i w actor made actors endings seen kept by before b).1
+pub stays_safe : {E : Type 0} → CertifiedIsSafe → (i : Inside) (w : World) (actor : Actor) (result : Result (Option MadeStep) E) (actors : Actors ProgramThread) (endings : List ThreadOutcome)
+    → world_seen i ≡ w → IsKept i → IsMadeBy i actor result actors endings → (certs : List Section) (before : List Actor) → IsCertifiedSetup w.program w.setup certs → IsAfter w before
+    → IfOk result (λ _. ¬ IsBrokenWorld (world_seen (record i { actors = actors; endings = endings })) (actor ∷ before))
+stays_safe law i w actor (Ok made) actors endings seen kept by certs before certified b =
+    is_safe law (record i { actors = actors; endings = endings }) certs (actor ∷ before) (keeps i actor (Ok made) false actors endings kept refl refl by)
+    (subst (λ (v : World). IsCertifiedSetup v.program v.setup certs) (sym seen) certified) (tells i w actor (Ok made) actors endings seen kept by before b).1
+stays_safe law i w actor (Err e) actors endings seen kept by certs before certified b = tt
 
 -- ---- the start
 

@@ -4,7 +4,7 @@ ghost use Rattle.certs.specs.declared.section.Section.{Section};
 ghost use Rattle.moves.specs.declared.actor.Actor.{Actor as AnActor};
 ghost use Rattle.program_runner.specs.Setups.{IsSetupOf, IsSetupFault, HasNoFault, IsCertifiedSetup};
 ghost use Rattle.replay.specs.Worlds.{IsAfter, ended_by, IsStepAfter, IsBrokenWorld, IsCoveredWorld, IsOverIn, IsFirstGoneOf};
-ghost use Rattle.replay.specs.Keeping.{ending_after, ending_to_keep, with_ending, end_told};
+ghost use Rattle.replay.specs.Keeping.{ending_after, ending_to_keep, end_told};
 ghost use Rattle.replay.specs.ThreadEnds.{AreEndsOf};
 ghost use Rattle.program_runner.specs.declared.setup_fault.SetupFault.TheVariants as fault;
 ghost use Rattle.replay.specs.declared.thread_outcome.ThreadOutcome.TheVariants as end;
@@ -90,13 +90,13 @@ impl<'a> World<'a> {
         program_law();
         let ending = ending_to_keep(&self.actors, self.endings.as_slice(), actor);
         let made = self.actors.step(actor);
-        match &made {
-            Ok(_) => {
-                keep_ending(&mut self.endings, actor, ending);
-                made
-            }
-            Err(_) => made,
+        if made.is_err() {
+            return made;
         }
+        if let Actor::Thread(thread) = actor {
+            self.endings.set(thread as usize, ending);
+        }
+        made
     }
 
     /// The first thing that is gone and can be reached, after a step before which nothing was. If there is none, the cover is
@@ -198,17 +198,6 @@ fn ending_to_keep(
     match actor {
         Actor::Thread(thread) => ending_after(actors, endings, thread as usize),
         Actor::Collector => ThreadOutcome::Ended,
-    }
-}
-
-/// Keeps how an actor ends, if it is a thread.
-fn keep_ending(endings: &mut Items<ThreadOutcome>, actor: Actor, ending: ThreadOutcome)
-    requires { IsActor (length endings.old) actor }
-    ensures { endings.new ≡ with_ending actor ending endings.old }
-{
-    match actor {
-        Actor::Thread(thread) => endings.set(thread as usize, ending),
-        Actor::Collector => {}
     }
 }
 

@@ -1,4 +1,4 @@
-use Rattle.cert_maker.proofs.Fits.{plain_fits}
+use Rattle.certs.specs.Plain.{plain_fits}
 use Rattle.cert_maker.proofs.plain.plain.Goals as goal
 
 pub returns-in_err-sections-clause-fits : goal.returns-in_err-sections-clause-fits

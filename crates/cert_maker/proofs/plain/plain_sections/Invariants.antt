@@ -1,5 +1,5 @@
 use Rattle.std.proofs.Common.{◌≡◌, take, map}
-use Rattle.cert_maker.specs.Plain.{plain_section}
+use Rattle.certs.specs.Plain.{plain_section}
 use Rattle.cert_maker.proofs.plain.plain_sections.Given as goal
 
 abbrev pub invariant-loop-function : goal.invariant-loop-function

@@ -1,4 +1,4 @@
-use Rattle.explained_checks.proofs.Fitting.{one_for_each}
+use Rattle.certs.specs.Plain.{one_for_each}
 use Rattle.explained_checks.proofs.edited.put_begun.Goals as goal
 
 pub new-requires : goal.new-requires

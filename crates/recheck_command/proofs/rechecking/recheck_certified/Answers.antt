@@ -5,7 +5,8 @@ use Rattle.recheck_command.specs.EditedFiles.{OfRechecked, rechecked}
 use Rattle.reports.specs.Report.{of_layout_reason}
 use Rattle.reports.specs.Said.{OnError}
 use Rattle.recheck_command.specs.Rechecks.{IsBegun}
-use Rattle.recheck_command.proofs.Edits.{one_for_each, unbegun}
+use Rattle.certs.specs.Plain.{one_for_each}
+use Rattle.recheck_command.proofs.Edits.{unbegun}
 use Rattle.recheck_command.proofs.rechecking.recheck_certified.Goals as goal
 
 pub new-requires : goal.new-requires
