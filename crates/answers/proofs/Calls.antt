@@ -8,7 +8,8 @@ use Rattle.block_rules.specs.TypeKinds.{is_reference}
 use Rattle.block_rules.specs.declared.rule.Rule.TheVariants.{K1, K10, K12, K13, K17, K18, K2, K3, K9}
 use Rattle.block_rules.specs.declared.instr_context.InstrContext.{InstrContext}
 use Rattle.certs.specs.declared.section.Promise.{Promise}
-use Rattle.facts.specs.Facts.{FactSet, slot_at}
+use Rattle.fact_tables.specs.Rows.{slot_at}
+use Rattle.facts.specs.Facts.{FactSet}
 use Rattle.facts.specs.Claims.{receive}
 use Rattle.ir_ast.specs.declared.argument.Argument.{Argument}
 use Rattle.ir_ast.specs.declared.function.Function.{Function}

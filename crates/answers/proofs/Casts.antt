@@ -4,9 +4,10 @@ use Rattle.block_rules.specs.Casts.{after_cast, cast_constant, cast_number, cast
 use Rattle.block_rules.specs.Operands.{known_of}
 use Rattle.block_rules.specs.Places.{define_held, layout_of_word}
 use Rattle.block_rules.specs.TypeKinds.{fits_layout, may_be_reference}
-use Rattle.facts.specs.Facts.{FactSet, known_at}
-use Rattle.facts.specs.declared.known.Known.{Known}
-use Rattle.facts.specs.declared.known.Known.TheVariants.{Address, Cell, GlobalAddress, Nothing, Null, Number}
+use Rattle.fact_tables.specs.Rows.{known_at}
+use Rattle.facts.specs.Facts.{FactSet}
+use Rattle.fact_tables.specs.declared.known.Known.{Known}
+use Rattle.fact_tables.specs.declared.known.Known.TheVariants.{Address, Cell, GlobalAddress, Nothing, Null, Number}
 use Rattle.ir_ast.specs.declared.function.Function.{Function}
 use Rattle.ir_ast.specs.declared.module.Module.{Module}
 use Rattle.ir_ast.specs.declared.operand.Constant.{Constant}

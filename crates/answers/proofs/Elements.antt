@@ -4,9 +4,10 @@ use Rattle.std.specs.Prelude.{List, None, Option, Some, [], if◌then◌else◌,
 use Rattle.block_rules.specs.Elements.{after_element, are_indices, array_stride, base_layout, counted_words, define_words, element_part, element_words, is_index, is_zero, leads_from, leads_into, may_lead, part_led, part_reached, start_of, stays_at_first, stays_in, step_part, step_stride, strode, words_after}
 use Rattle.block_rules.specs.Operands.{number_of}
 use Rattle.block_rules.specs.TypeKinds.{is_integer}
-use Rattle.facts.specs.Facts.{FactSet, known_at}
-use Rattle.facts.specs.declared.known.Known.{Known}
-use Rattle.facts.specs.declared.known.Known.TheVariants.{GlobalAddress}
+use Rattle.fact_tables.specs.Rows.{known_at}
+use Rattle.facts.specs.Facts.{FactSet}
+use Rattle.fact_tables.specs.declared.known.Known.{Known}
+use Rattle.fact_tables.specs.declared.known.Known.TheVariants.{GlobalAddress}
 use Rattle.ir_ast.specs.declared.argument.Argument.{Argument}
 use Rattle.ir_ast.specs.declared.function.Function.{Function}
 use Rattle.ir_ast.specs.declared.ir_type.IrType.{IrType}

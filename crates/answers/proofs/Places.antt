@@ -8,9 +8,10 @@ use Rattle.block_rules.specs.TypeKinds.{is_any_reference, is_word, may_be_refere
 use Rattle.block_rules.specs.declared.rule.Rule.TheVariants.{K1, K10, K12, K19, K2, K3, K4, K7}
 use Rattle.block_rules.specs.declared.type_kind.TypeKind.{TypeKind}
 use Rattle.block_rules.specs.declared.type_kind.TypeKind.TheVariants.{AnyReference}
-use Rattle.facts.specs.Facts.{FactSet, known_at}
-use Rattle.facts.specs.declared.known.Known.{Known}
-use Rattle.facts.specs.declared.known.Known.TheVariants.{Address, Cell, GlobalAddress, Nothing}
+use Rattle.fact_tables.specs.Rows.{known_at}
+use Rattle.facts.specs.Facts.{FactSet}
+use Rattle.fact_tables.specs.declared.known.Known.{Known}
+use Rattle.fact_tables.specs.declared.known.Known.TheVariants.{Address, Cell, GlobalAddress, Nothing}
 use Rattle.ir_ast.specs.declared.argument.Argument.{Argument}
 use Rattle.ir_ast.specs.declared.function.Function.{Function}
 use Rattle.ir_ast.specs.declared.module.Module.{Module}

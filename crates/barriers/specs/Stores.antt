@@ -1,8 +1,9 @@
 -- Stores of references into cells: which may go without a barrier, and what is known after one.
 use Rattle.std.specs.Prelude.{◌↔◌, ℕ, Bool, false, not, ◌&&◌}
-use Rattle.facts.specs.declared.known.Known.{Known}
-use Rattle.facts.specs.declared.known.Known.TheVariants.{Cell}
-use Rattle.facts.specs.Facts.{FactSet, known_at, class_at, drop_fresh_of}
+use Rattle.fact_tables.specs.declared.known.Known.{Known}
+use Rattle.fact_tables.specs.declared.known.Known.TheVariants.{Cell}
+use Rattle.fact_tables.specs.Rows.{known_at, class_at}
+use Rattle.facts.specs.Facts.{FactSet, drop_fresh_of}
 use Rattle.facts.specs.Statements.{Statement, IsCurrent, IsFresh, Says, FreshOf}
 
 -- what is known of a value is that it is a reference that is not stale, of a class that is fresh

@@ -1,6 +1,6 @@
 -- How the scratch for an edge is filled again with what is known at the end of the block.
 use Rattle.std.specs.Prelude.{Bool, true, false, List}
-use Rattle.facts.specs.declared.known.Entry.{Entry}
+use Rattle.facts.specs.declared.entry.Entry.{Entry}
 use Rattle.facts.specs.Facts.{FactSet}
 use Rattle.facts.specs.TakenBack.{DifferBy}
 use Rattle.block_check.specs.declared.edges.Refill.{Refill}

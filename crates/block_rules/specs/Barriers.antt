@@ -7,9 +7,10 @@ use Rattle.ir_ast.specs.declared.operand.Operand.{Operand}
 use Rattle.ir_ast.specs.declared.runtime.Runtime.TheVariants.{GcRead, GcWrite}
 use Rattle.layout.specs.Layouts.{LaidOut}
 use Rattle.shadow_stack.specs.Slots.{SlotTable}
-use Rattle.facts.specs.declared.known.Known.{Known}
-use Rattle.facts.specs.declared.known.Known.TheVariants.{Nothing, Cell, Null, Address, GlobalAddress}
-use Rattle.facts.specs.Facts.{FactSet, known_at, is_of, define, drop_fresh_of}
+use Rattle.fact_tables.specs.declared.known.Known.{Known}
+use Rattle.fact_tables.specs.declared.known.Known.TheVariants.{Nothing, Cell, Null, Address, GlobalAddress}
+use Rattle.fact_tables.specs.Rows.{known_at, is_of}
+use Rattle.facts.specs.Facts.{FactSet, define, drop_fresh_of}
 use Rattle.barriers.specs.Stores.{may_store_plain}
 use Rattle.block_rules.specs.declared.rule.Rule.{Rule}
 use Rattle.block_rules.specs.declared.rule.Rule.TheVariants.{K1, K2, K3, K4, K7, K10, K12, K19}

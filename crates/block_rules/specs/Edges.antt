@@ -18,11 +18,12 @@ use Rattle.shadow_stack.specs.Slots.{SlotTable}
 use Rattle.certs.specs.declared.section.Claim.{Claim}
 use Rattle.certs.specs.declared.section.Promise.{Promise}
 use Rattle.certs.specs.declared.section.Section.{Section}
-use Rattle.facts.specs.declared.known.Entry.{Entry}
-use Rattle.facts.specs.declared.known.Given.{Given}
-use Rattle.facts.specs.declared.known.Known.{Known}
-use Rattle.facts.specs.declared.known.Known.TheVariants.{Nothing, Number, Null}
-use Rattle.facts.specs.Facts.{FactSet, test_at, learn_test, after_phis}
+use Rattle.facts.specs.declared.entry.Entry.{Entry}
+use Rattle.facts.specs.declared.given.Given.{Given}
+use Rattle.fact_tables.specs.declared.known.Known.{Known}
+use Rattle.fact_tables.specs.declared.known.Known.TheVariants.{Nothing, Number, Null}
+use Rattle.fact_tables.specs.Rows.{test_at}
+use Rattle.facts.specs.Facts.{FactSet, learn_test, after_phis}
 use Rattle.facts.specs.Claims.{facts_of_claims, facts_of_parameters, implies_claim}
 use Rattle.block_rules.specs.declared.type_kind.TypeKind.{TypeKind}
 use Rattle.block_rules.specs.declared.type_kind.TypeKind.TheVariants as kind

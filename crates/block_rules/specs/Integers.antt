@@ -8,8 +8,8 @@ use Rattle.ir_ast.specs.declared.numbers.Resize.{Resize}
 use Rattle.ir_ast.specs.declared.numbers.Resize.TheVariants as resize
 use Rattle.ir_ast.specs.declared.operand.Operand.{Operand}
 use Rattle.ir_ast.specs.declared.operand.Operand.TheVariants.{Constant as Written, Local}
-use Rattle.facts.specs.declared.known.Known.{Known}
-use Rattle.facts.specs.declared.known.Known.TheVariants.{Nothing, Number, Cell}
+use Rattle.fact_tables.specs.declared.known.Known.{Known}
+use Rattle.fact_tables.specs.declared.known.Known.TheVariants.{Nothing, Number, Cell}
 use Rattle.facts.specs.Facts.{FactSet, define, define_test, drop_fresh_of}
 use Rattle.block_rules.specs.declared.type_kind.TypeKind.{TypeKind}
 use Rattle.block_rules.specs.declared.type_kind.TypeKind.TheVariants.{Bits, Reference, AnyReference}

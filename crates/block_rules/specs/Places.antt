@@ -13,9 +13,10 @@ use Rattle.pools.specs.declared.word_kind.WordKind.TheVariants as word
 use Rattle.pools.specs.declared.word_set.WordSet.{WordSet}
 use Rattle.shadow_stack.specs.Slots.{SlotTable, slot_of, held_type}
 use Rattle.types.specs.References.{is_opaque}
-use Rattle.facts.specs.declared.known.Known.{Known}
-use Rattle.facts.specs.declared.known.Known.TheVariants.{Nothing, Number, Cell, Null, Address, GlobalAddress}
-use Rattle.facts.specs.Facts.{FactSet, known_at, define, define_new, drop_fresh_of, store_slot, load_slot}
+use Rattle.fact_tables.specs.declared.known.Known.{Known}
+use Rattle.fact_tables.specs.declared.known.Known.TheVariants.{Nothing, Number, Cell, Null, Address, GlobalAddress}
+use Rattle.fact_tables.specs.Rows.{known_at}
+use Rattle.facts.specs.Facts.{FactSet, define, define_new, drop_fresh_of, store_slot, load_slot}
 use Rattle.block_rules.specs.declared.wanted_word.WantedWord.{WantedWord}
 use Rattle.block_rules.specs.declared.wanted_word.WantedWord.TheVariants as want
 use Rattle.block_rules.specs.declared.type_kind.TypeKind.{TypeKind}

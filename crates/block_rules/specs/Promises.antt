@@ -7,10 +7,11 @@ use Rattle.certs.specs.declared.section.Mark.{Mark}
 use Rattle.certs.specs.declared.section.Mark.TheVariants as mark
 use Rattle.certs.specs.declared.section.Promise.{Promise}
 use Rattle.certs.specs.declared.section.Section.{Section}
-use Rattle.facts.specs.declared.known.Given.{Given}
-use Rattle.facts.specs.declared.known.Given.TheVariants as given
+use Rattle.facts.specs.declared.given.Given.{Given}
+use Rattle.facts.specs.declared.given.Given.TheVariants as given
 use Rattle.facts.specs.Facts.{FactSet}
-use Rattle.facts.specs.Claims.{implied, is_below}
+use Rattle.fact_tables.specs.Covers.{implied}
+use Rattle.facts.specs.Claims.{is_below}
 use Rattle.block_rules.specs.declared.type_kind.TypeKind.{TypeKind}
 use Rattle.block_rules.specs.declared.type_kind.TypeKind.TheVariants as kind
 use Rattle.block_rules.specs.Operands.{known_of, is_nonnull}

@@ -1,5 +1,5 @@
 ghost use Rattle.std.specs.Prelude.{◌≡◌, OnOk};
-ghost use Rattle.facts.specs.Facts.{is_of};
+ghost use Rattle.fact_tables.specs.Rows.{is_of};
 ghost use Rattle.block_rules.specs.FirstFailing.{first_failing};
 ghost use Rattle.block_rules.specs.Operands.{known_of};
 ghost use Rattle.block_rules.specs.Barriers.{is_own_place, needs_no_barrier, is_known_null, is_of_base, lies_in_object, names_object, may_read, is_read, read_conditions, after_read, after_read_call, may_write, is_write, write_conditions, after_write};

@@ -1,5 +1,5 @@
 ghost use Rattle.std.specs.Prelude.{◌≡◌, OnOk};
-ghost use Rattle.facts.specs.Facts.{is_on, off_base};
+ghost use Rattle.fact_tables.specs.Rows.{is_on, off_base};
 ghost use Rattle.block_rules.specs.FirstFailing.{first_failing};
 ghost use Rattle.block_rules.specs.Rules.{cast_conditions};
 ghost use Rattle.block_rules.specs.Casts.{casts_null, casts_constant, casts_slot, casts_words, casts_base, casts_to, casts_global, casts_operand, casts_known, casts_other, may_cast, layout_of_null, cast_number, cast_constant, cast_local, after_cast};

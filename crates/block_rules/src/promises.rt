@@ -1,7 +1,8 @@
 ghost use Rattle.std.specs.Prelude.{◌≡◌};
 ghost use Rattle.std.specs.List.{list_all, zip};
 ghost use Rattle.std.specs.Option.{option_copied};
-ghost use Rattle.facts.specs.Claims.{implied, is_below};
+ghost use Rattle.fact_tables.specs.Covers.{implied};
+ghost use Rattle.facts.specs.Claims.{is_below};
 ghost use Rattle.block_rules.specs.Promises.{promises_in, promised_in, own_mark, callee_mark, given_by, is_promised, keeps_promise, implies_promise, show_promises};
 
 use crate::choices::{known_layout, one_layout};

@@ -1,8 +1,9 @@
 -- Where a reference becomes stale, or its class loses `fresh`.
 use Rattle.std.specs.Prelude.{◌≡◌, ◌<◌, ℕ, ◌+◌, Bool, true, false, not, ◌&&◌, length, take}
-use Rattle.facts.specs.declared.known.Known.{Known}
-use Rattle.facts.specs.declared.known.Known.TheVariants as known
-use Rattle.facts.specs.Facts.{FactSet, known_at, class_at}
+use Rattle.fact_tables.specs.declared.known.Known.{Known}
+use Rattle.fact_tables.specs.declared.known.Known.TheVariants as known
+use Rattle.fact_tables.specs.Rows.{known_at, class_at}
+use Rattle.facts.specs.Facts.{FactSet}
 use Rattle.block_rules.specs.declared.context.RuleContext.{RuleContext as Given}
 use Rattle.block_rules.specs.Edges.{entry_facts_at}
 use Rattle.diagnosis.specs.Before.{seen, body_before, after_all}

@@ -8,9 +8,10 @@ use Rattle.certs.specs.declared.section.Fact.{Fact}
 use Rattle.certs.specs.declared.section.Fact.TheVariants as fact
 use Rattle.certs.specs.declared.section.Mark.TheVariants as mark
 use Rattle.certs.specs.declared.section.Section.{Section}
-use Rattle.facts.specs.declared.known.Known.{Known}
-use Rattle.facts.specs.declared.known.Known.TheVariants as known
-use Rattle.facts.specs.Facts.{FactSet, known_at, class_at}
+use Rattle.fact_tables.specs.declared.known.Known.{Known}
+use Rattle.fact_tables.specs.declared.known.Known.TheVariants as known
+use Rattle.fact_tables.specs.Rows.{known_at, class_at}
+use Rattle.facts.specs.Facts.{FactSet}
 
 -- whether a reference is stale, or fresh
 abbrev pub age_of : FactSet → (class : ℕ) → (stale : Bool) → Age

@@ -1,16 +1,19 @@
 -- What is known of a class changes: what is said of the values of the class changes, and nothing else.
-use Rattle.std.proofs.Common.{◌≡◌, ◌<◌, ◌≤◌, ◌⊎◌, not-le_of_lt, inl, inr, ℕ, List, length, refl, sym, ap, ◌∙◌, subst, true, false, Bool, Option, Some, None, slice_set}
+use Rattle.std.proofs.Common.{◌≡◌, ◌<◌, ◌≤◌, ◌⊎◌, not-le_of_lt, inl, inr, ℕ, List, length, get_or, refl, sym, ap, ◌∙◌, subst, true, false, Bool, Option, Some, None, slice_set}
 use Rattle.std.proofs.lemmas.Bool.{cases_lt}
-use Rattle.std.proofs.lemmas.List.{set_past, get_or-set_other}
+use Rattle.std.proofs.lemmas.List.{set_past, get_or_past, get_or-set_same, get_or-set_other, length-set}
+use Rattle.std.proofs.Math.ListN.{get_or-map}
+use Rattle.std.proofs.Math.Seq.{map-set_same}
 use Rattle.std.specs.Prelude.{◌==◌, ◌||◌, ◌↔◌}
+use Rattle.lemmas.specs.Bools.{or_second}
 use Rattle.lemmas.specs.Numbers.{test_true, test_yes}
-use Rattle.facts.specs.declared.known.Class.{Class}
-use Rattle.facts.specs.declared.known.Known.{Known}
-use Rattle.facts.specs.declared.known.Known.TheVariants.{Nothing, Number, Cell, Null, Address, GlobalAddress}
-use Rattle.facts.specs.declared.known.SlotFact.{SlotFact}
-use Rattle.facts.specs.Facts.{FactSet, known_at, slot_at, class_at, lost_class, holds_class, held_nonnull, slot_nonnull, drop_fresh, drop_fresh_of, learn_nonnull, learn_known_nonnull}
+use Rattle.fact_tables.specs.declared.known.Class.{Class}
+use Rattle.fact_tables.specs.declared.known.Known.{Known}
+use Rattle.fact_tables.specs.declared.known.Known.TheVariants.{Nothing, Number, Cell, Null, Address, GlobalAddress}
+use Rattle.fact_tables.specs.declared.known.SlotFact.{SlotFact}
+use Rattle.fact_tables.specs.Rows.{known_at, slot_at, class_at, lost_class, holds_class, held_nonnull, slot_nonnull}
+use Rattle.facts.specs.Facts.{FactSet, drop_fresh, drop_fresh_of, learn_nonnull, learn_known_nonnull}
 use Rattle.facts.specs.Statements.{Statement, IsNumber, IsBelow, RefersTo, IsCurrent, IsNonnull, IsFresh, IsSame, IsAddress, IsGlobal, SlotNonnull, SlotHolds, NumberOf, BelowOf, RefersOf, CurrentOf, OfClass, AddressOf, GlobalOf, Says, FreshOf, PublishEndsFresh, IsWithin, NonnullOf, LearnAddsNonnull}
-use Rattle.facts.proofs.Sets.{set_part, set_is, set_within, or_true}
 use Rattle.facts.proofs.Forgets.{class_map, class_any}
 
 -- what does not follow for the class of a value is not so of it
@@ -39,6 +42,10 @@ class_either P Q R Null g h = inl h
 class_either P Q R (Address base words) g h = inl h
 class_either P Q R (GlobalAddress x) g h = inl h
 
+-- a part of a class that is written as it was is as it was in each class
+part_kept : {X : Type 0} (q : Class → X) (classes : List Class) (c : ℕ) (class : Class) → q class ≡ q (class_at classes c) → (d : ℕ) → q (class_at (slice_set classes c class) d) ≡ q (class_at classes d)
+part_kept q classes c class same d = sym (get_or-map q (slice_set classes c class) d lost_class) ∙ ap (λ l. get_or l d (q lost_class)) (map-set_same q classes c class lost_class same) ∙ get_or-map q classes d lost_class
+
 -- ---- a class is fresh no more
 
 module _ (classes : List Class) (c : ℕ) where
@@ -46,7 +53,7 @@ module _ (classes : List Class) (c : ℕ) where
   published = slice_set classes c (record (class_at classes c) { fresh = false })
 
   published_null : (d : ℕ) → (class_at published d).nonnull ≡ (class_at classes d).nonnull
-  published_null d = set_part (λ x. x.nonnull) classes c d (record (class_at classes c) { fresh = false }) lost_class refl
+  published_null = part_kept (λ x. x.nonnull) classes c (record (class_at classes c) { fresh = false }) refl
 
   published_slot : (slot : SlotFact) → slot_nonnull published slot ≡ slot_nonnull classes slot
   published_slot slot = ap (λ b. slot.nonnull || b) (pick slot.holds) where
@@ -57,10 +64,14 @@ module _ (classes : List Class) (c : ℕ) where
   published_other : (d : ℕ) → (c ≡ d → ⊥) → (class_at published d).fresh ≡ (class_at classes d).fresh
   published_other d ne = ap (λ x. x.fresh) (get_or-set_other classes c d (record (class_at classes c) { fresh = false }) lost_class (λ same. ne (sym same)))
 
+  published_here : (c < length classes) ⊎ (length classes ≤ c) → (class_at published c).fresh ≡ false
+  published_here (inl lt) = ap (λ x. x.fresh) (get_or-set_same classes c (record (class_at classes c) { fresh = false }) lost_class lt)
+  published_here (inr past) = ap (λ x. x.fresh) (get_or_past published c lost_class (rw length-set past))
+
   published_less : (d : ℕ) → (class_at published d).fresh ≡ true → ((class_at classes d).fresh ≡ true) × (c ≡ d → ⊥)
   published_less d h = (sym (published_other d ne) ∙ h, ne) where
     ne : c ≡ d → ⊥
-    ne e = let gone = set_is (λ x. x.fresh) classes c (record (class_at classes c) { fresh = false }) lost_class false refl refl in let now = subst (λ x. (class_at published x).fresh ≡ true) (sym e) h in absurd cc
+    ne e = let gone = published_here (cases_lt c (length classes)) in let now = subst (λ x. (class_at published x).fresh ≡ true) (sym e) h in absurd cc
 
 module _ (f : FactSet) (v : ℕ) where
   -- a value that is no reference is of no class
@@ -128,7 +139,7 @@ module _ (classes : List Class) (c : ℕ) where
   learned = slice_set classes c (record (class_at classes c) { nonnull = (class_at classes c).nonnull || true })
 
   learned_fresh : (d : ℕ) → (class_at learned d).fresh ≡ (class_at classes d).fresh
-  learned_fresh d = set_part (λ x. x.fresh) classes c d (record (class_at classes c) { nonnull = (class_at classes c).nonnull || true }) lost_class refl
+  learned_fresh = part_kept (λ x. x.fresh) classes c (record (class_at classes c) { nonnull = (class_at classes c).nonnull || true }) refl
 
   learned_less : (d : ℕ) → (class_at learned d).nonnull ≡ true → ((class_at classes d).nonnull ≡ true) ⊎ (c ≡ d)
   learned_less d h = pick (c == d) refl where
@@ -137,7 +148,7 @@ module _ (classes : List Class) (c : ℕ) where
     pick false e = inl (sym (ap (λ x. x.nonnull) (get_or-set_other classes c d (record (class_at classes c) { nonnull = (class_at classes c).nonnull || true }) lost_class (λ same. let test = test_yes c d (sym same) in absurd cc))) ∙ h)
 
   learned_here : c < length classes → (d : ℕ) → c ≡ d → (class_at learned d).nonnull ≡ true
-  learned_here lt d e = subst (λ x. (class_at learned x).nonnull ≡ true) e (set_within (λ x. x.nonnull) classes c (record (class_at classes c) { nonnull = (class_at classes c).nonnull || true }) lost_class true lt (or_true (class_at classes c).nonnull))
+  learned_here lt d e = subst (λ x. (class_at learned x).nonnull ≡ true) e (ap (λ x. x.nonnull) (get_or-set_same classes c (record (class_at classes c) { nonnull = (class_at classes c).nonnull || true }) lost_class lt) ∙ or_second (class_at classes c).nonnull true refl)
 
   learned_more : c < length classes → (d : ℕ) → ((class_at classes d).nonnull ≡ true) ⊎ (c ≡ d) → (class_at learned d).nonnull ≡ true
   learned_more lt d (inr e) = learned_here lt d e

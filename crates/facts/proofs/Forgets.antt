@@ -1,22 +1,27 @@
 -- A definition of a value ends exactly the statements that name it.
-use Rattle.std.proofs.Common.{◌≡◌, ◌⊎◌, inl, inr, ℕ, List, map, refl, sym, ap, ◌∙◌, subst, true, false, Bool, Option, Some, None}
-use Rattle.std.proofs.lemmas.List.{get_or-set_other}
+use Rattle.std.proofs.Common.{◌≡◌, ◌⊎◌, inl, inr, ℕ, List, length, map, refl, sym, ap, ◌∙◌, subst, true, false, Bool, Option, Some, None}
+use Rattle.std.proofs.lemmas.Bool.{cases_lt}
+use Rattle.std.proofs.lemmas.List.{get_or_past, get_or-set_same, get_or-set_other, length-set}
+use Rattle.std.proofs.lemmas.List.Folds.{list_any_at}
 use Rattle.std.specs.Prelude.{◌==◌, ◌||◌, if◌then◌else◌, ◌↔◌}
 use Rattle.std.specs.List.{list_any}
 use Rattle.lemmas.specs.Lists.{at_map}
 use Rattle.lemmas.specs.Numbers.{test_true, test_yes}
 use Rattle.lemmas.specs.Bools.{or_false}
-use Rattle.facts.specs.declared.known.Class.{Class}
-use Rattle.facts.specs.declared.known.Known.{Known}
-use Rattle.facts.specs.declared.known.Known.TheVariants.{Nothing, Number, Cell, Null, Address, GlobalAddress}
-use Rattle.facts.specs.declared.known.SlotFact.{SlotFact}
-use Rattle.facts.specs.Facts.{FactSet, known_at, slot_at, class_at, open_slot, is_of, holds_class, held_nonnull, slot_nonnull, let_go, slots_without, is_on, off_base, values_without, forget}
+use Rattle.fact_tables.specs.declared.known.Class.{Class}
+use Rattle.fact_tables.specs.declared.known.Known.{Known}
+use Rattle.fact_tables.specs.declared.known.Known.TheVariants.{Nothing, Number, Cell, Null, Address, GlobalAddress}
+use Rattle.fact_tables.specs.declared.known.SlotFact.{SlotFact}
+use Rattle.fact_tables.specs.Rows.{known_at, slot_at, class_at, open_slot, is_of, holds_class, held_nonnull, slot_nonnull, let_go, is_on, off_base, values_without}
+use Rattle.facts.specs.Facts.{FactSet, slots_without, forget}
 use Rattle.facts.specs.Statements.{IsNumber, IsBelow, RefersTo, IsCurrent, IsNonnull, IsFresh, IsSame, IsAddress, IsGlobal, SlotNonnull, SlotHolds, NumberOf, BelowOf, RefersOf, CurrentOf, OfClass, AddressOf, GlobalOf, ForgetEndsNames}
-use Rattle.facts.proofs.Sets.{set_empty, found}
 
 module _ (v : ℕ) (values : List Known) where
   gone : known_at (values_without v values) v ≡ Nothing
-  gone = set_empty (map (off_base v) values) v Nothing
+  gone = elim (cases_lt v (length (map (off_base v) values))) [
+    | inl lt ↦ get_or-set_same (map (off_base v) values) v Nothing Nothing lt
+    | inr past ↦ get_or_past (values_without v values) v Nothing (rw length-set past)
+  ]
 
   other : (u : ℕ) → (u ≡ v → ⊥) → known_at (values_without v values) u ≡ off_base v (known_at values u)
   other u ne = get_or-set_other (map (off_base v) values) v u Nothing Nothing ne ∙ at_map (off_base v) values u Nothing refl
@@ -185,7 +190,10 @@ module _ (values : List Known) (classes : List Class) (slots : List SlotFact) (s
 
 -- a value is of its class
 class_found : (values : List Known) (u : ℕ) (P : ℕ → Type 0) (k : Known) → known_at values u ≡ k → OfClass P k → OfClass (λ c. P c × (list_any (is_of c) values ≡ true)) k
-class_found values u P (Cell c layout stale) e h = (h, found (is_of c) values u Nothing refl (ap (is_of c) e ∙ test_yes c c refl))
+class_found values u P (Cell c layout stale) e h = (h, elim (cases_lt u (length values)) [
+  | inl lt ↦ list_any_at (is_of c) values u Nothing lt (ap (is_of c) e ∙ test_yes c c refl)
+  | inr past ↦ let none = sym (get_or_past values u Nothing past) ∙ e in absurd cc
+])
 class_found values u P Nothing e h = h
 class_found values u P (Number bits below) e h = h
 class_found values u P Null e h = h

@@ -11,13 +11,13 @@ use Rattle.certs.specs.declared.section.Age.{Age}
 use Rattle.certs.specs.declared.section.Fact.{Fact}
 use Rattle.certs.specs.declared.section.Fact.TheVariants as fact
 use Rattle.certs.specs.declared.section.Claim.TheVariants as claim
-use Rattle.facts.specs.declared.known.Known.{Known}
-use Rattle.facts.specs.declared.known.Known.TheVariants.{Nothing, Number, Cell, Null, Address, GlobalAddress}
-use Rattle.facts.specs.Facts.{FactSet, known_at, slot_at, class_at, is_of, holds_class, slot_nonnull}
-use Rattle.facts.specs.Claims.{is_stale, is_fresh, implied, is_below, covers_value, covers_slot, covers, covers_known, is_fresh_in, is_same, is_alone, implies_reference, implies_number, implies_address, implies_global, implies_fact, holds_known, holds_value, implies_slot}
+use Rattle.fact_tables.specs.declared.known.Known.{Known}
+use Rattle.fact_tables.specs.declared.known.Known.TheVariants.{Nothing, Number, Cell, Null, Address, GlobalAddress}
+use Rattle.fact_tables.specs.Rows.{known_at, slot_at, class_at, is_of, holds_class, slot_nonnull}
+use Rattle.facts.specs.Facts.{FactSet}
+use Rattle.fact_tables.specs.Covers.{implied, covers_value, covers_slot, values_there, values_back, slots_there, slots_back}
+use Rattle.facts.specs.Claims.{is_stale, is_fresh, is_below, covers, covers_known, is_fresh_in, is_same, is_alone, implies_reference, implies_number, implies_address, implies_global, implies_fact, holds_known, holds_value, implies_slot}
 use Rattle.facts.specs.Statements.{NumberOf, UpTo, BelowOf, RefersOf, CurrentOf, OfClass, AddressOf, GlobalOf}
-use Rattle.facts.proofs.Marked.{all_pairs_there, all_pairs_back, none_covers}
-use Rattle.facts.proofs.SlotCovers.{slots_there, slots_back}
 use Rattle.facts.specs.Implied.{IfAsked, IfNamed, Named, FactImplied, ImpliesWhatIsSaid}
 
 -- ---- tests
@@ -99,14 +99,14 @@ module _ (here there : FactSet) where
   covers_there : (c d : ℕ) → covers here there c d ≡ true → Covered c d
   covers_there c d e =
       let parts = and_parts (list_all (covers_value c d) (zip here.values there.values)) (list_all (covers_slot c d there.slots) (enumerate_from 0 here.slots)) e in (
-        λ u. value_there c d (known_at here.values u) (known_at there.values u) (all_pairs_there (covers_value c d) here.values there.values Nothing Nothing (λ k. refl) (none_covers c d) parts.0 u),
+        λ u. value_there c d (known_at here.values u) (known_at there.values u) (values_there c d here.values there.values parts.0 u),
         λ s. slot_there (holds_class c (slot_at here.slots s).holds) (holds_class d (slot_at there.slots s).holds) (slots_there c d here.slots there.slots parts.1 s),
       )
 
   covers_back : (c d : ℕ) → Covered c d → covers here there c d ≡ true
   covers_back c d h =
       and_true (list_all (covers_value c d) (zip here.values there.values)) (list_all (covers_slot c d there.slots) (enumerate_from 0 here.slots))
-      (all_pairs_back (covers_value c d) here.values there.values Nothing Nothing (λ u. value_back c d (known_at here.values u) (known_at there.values u) (h.0 u)))
+      (values_back c d here.values there.values (λ u. value_back c d (known_at here.values u) (known_at there.values u) (h.0 u)))
       (slots_back c d here.slots there.slots (λ s. slot_back (holds_class c (slot_at here.slots s).holds) (holds_class d (slot_at there.slots s).holds) (h.1 s)))
 
   -- v, of class c here, and known there to be this, is listed with all that is the same

@@ -4,15 +4,15 @@ use Rattle.std.specs.Prelude.{◌||◌, if◌then◌else◌}
 use Rattle.std.proofs.lemmas.Bool.{cases_lt}
 use Rattle.std.proofs.lemmas.List.{get_or-set_same, length-map, map-set, set-set, set_past}
 use Rattle.lemmas.specs.Lists.{at_map}
-use Rattle.facts.specs.declared.known.Class.{Class}
-use Rattle.facts.specs.declared.known.Known.{Known}
-use Rattle.facts.specs.declared.known.Known.TheVariants.{Number, Cell}
-use Rattle.facts.specs.declared.known.SlotFact.{SlotFact}
-use Rattle.facts.specs.declared.known.Test.{Test}
-use Rattle.facts.specs.Facts.{FactSet, open_slot, known_at, slot_at, class_at, holds_class, let_go, off_test, values_without, tests_without, slots_without, forget, define, define_test, set_known, add_class, learn_nonnull, hold, load_held, load_slot}
-use Rattle.facts.specs.Contents.{new_of}
-use Rattle.facts.specs.SlotRows.{let_go_slot, let_go_last, let_go_others}
-use Rattle.facts.specs.Values.{ValueFacts, defined, learned}
+use Rattle.fact_tables.specs.declared.known.Class.{Class}
+use Rattle.fact_tables.specs.declared.known.Known.{Known}
+use Rattle.fact_tables.specs.declared.known.Known.TheVariants.{Number, Cell}
+use Rattle.fact_tables.specs.declared.known.SlotFact.{SlotFact}
+use Rattle.fact_tables.specs.declared.known.Test.{Test}
+use Rattle.fact_tables.specs.Rows.{open_slot, known_at, slot_at, class_at, holds_class, let_go, off_test, values_without, tests_without}
+use Rattle.facts.specs.Facts.{FactSet, slots_without, forget, define, define_test, set_known, add_class, learn_nonnull, hold, load_held, load_slot}
+use Rattle.fact_tables.specs.Values.{new_of, ValueFacts, defined, learned}
+use Rattle.fact_tables.specs.SlotRows.{let_go_slot, let_go_last, let_go_others}
 
 -- what is known of values and classes, and of slots
 abbrev pub facts_of : ValueFacts → List SlotFact → FactSet

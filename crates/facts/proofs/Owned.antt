@@ -9,11 +9,12 @@ use Rattle.certs.specs.declared.section.Fact.{Fact}
 use Rattle.certs.specs.declared.section.Fact.TheVariants as fact
 use Rattle.certs.specs.declared.section.Claim.{Claim}
 use Rattle.certs.specs.declared.section.Claim.TheVariants as claim
-use Rattle.facts.specs.declared.known.Known.{Known}
-use Rattle.facts.specs.declared.known.Known.TheVariants.{Nothing, Number, Cell, Address, GlobalAddress}
-use Rattle.facts.specs.Facts.{FactSet, known_at}
+use Rattle.fact_tables.specs.declared.known.Known.{Known}
+use Rattle.fact_tables.specs.declared.known.Known.TheVariants.{Nothing, Number, Cell, Address, GlobalAddress}
+use Rattle.fact_tables.specs.Rows.{known_at}
+use Rattle.facts.specs.Facts.{FactSet}
 use Rattle.facts.specs.Claims.{list_value, list_slot, list_claim, list_claims, is_stale}
-use Rattle.facts.specs.Ties.{is_own, AreOwn}
+use Rattle.facts.specs.Tied.{is_own, AreOwn}
 
 -- ---- what is listed
 

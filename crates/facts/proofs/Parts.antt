@@ -1,7 +1,7 @@
 -- The rest of some phis.
 use Rattle.std.proofs.Common.{◌≡◌, ◌<◌, ◌∙◌, ◌+◌, ◌++◌, ◌∷◌, [], ℕ, List, length, suc, get_or, take, drop, drop-cons, add-one, refl, sym, ap}
 use Rattle.std.proofs.lemmas.List.{take_more}
-use Rattle.facts.specs.declared.known.Entry.{Entry}
+use Rattle.facts.specs.declared.entry.Entry.{Entry}
 use Rattle.facts.specs.Facts.{FactSet, enter_phi, enter_phis}
 
 module _ (entries : List Entry) (i : ℕ) (lt : i < length entries) (entry : Entry) (is : entry ≡ get_or entries i entry) (now next : FactSet) (step : next ≡ enter_phi entry.phi entry.known now) where

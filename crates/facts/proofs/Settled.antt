@@ -1,18 +1,19 @@
 -- Values that were tied, each of the class that it has now.
-use Rattle.std.proofs.Common.{◌≡◌, ◌<◌, ◌≤◌, ◌⊎◌, inl, inr, ℕ, List, [], ◌∷◌, length, map, refl, sym, ap, ◌∙◌, subst, true, Option, Some, None, slice_set, Result, Ok, Err, OnOk}
-use Rattle.std.specs.Prelude.{◌==◌, ◌||◌, if◌then◌else◌}
+use Rattle.std.proofs.Common.{◌≡◌, ◌<◌, ◌≤◌, ◌⊎◌, inl, inr, ℕ, List, [], ◌∷◌, length, map, refl, sym, ap, ◌∙◌, subst, true, Option, Some, None, slice_set}
+use Rattle.std.specs.Prelude.{◌||◌}
 use Rattle.std.proofs.lemmas.Bool.{cases_eq, cases_lt}
 use Rattle.std.proofs.lemmas.List.{ext_get_or, get_or_past, get_or-set_same, get_or-set_other, length-set, length-map}
 use Rattle.lemmas.specs.Lists.{IsIn, at_map}
 use Rattle.lemmas.specs.Numbers.{test_true}
-use Rattle.facts.specs.declared.known.Class.{Class}
-use Rattle.facts.specs.declared.known.Known.{Known}
-use Rattle.facts.specs.declared.known.Known.TheVariants.{Nothing, Number, Cell, Null, Address, GlobalAddress}
-use Rattle.facts.specs.declared.ties.Ties.{Ties}
-use Rattle.facts.specs.Facts.{FactSet, known_at, class_at, set_class}
-use Rattle.facts.specs.Claims.{moved, move, join}
-use Rattle.facts.specs.Ties.{is_own, AreOwn, class_in, class_of_place, group_of, class_now, known_now, facts_now, settle_value, in_group, AreTies}
-use Rattle.facts.proofs.Groups.{merged_class}
+use Rattle.fact_tables.specs.declared.known.Class.{Class}
+use Rattle.fact_tables.specs.declared.known.Known.{Known}
+use Rattle.fact_tables.specs.declared.known.Known.TheVariants.{Nothing, Number, Cell, Null, Address, GlobalAddress}
+use Rattle.fact_tables.specs.declared.ties.Ties.{Ties}
+use Rattle.fact_tables.specs.Rows.{known_at, class_at}
+use Rattle.facts.specs.Facts.{FactSet, set_class}
+use Rattle.fact_tables.specs.Ties.{moved, class_of_place, group_of, class_now, known_now, AreTies}
+use Rattle.facts.specs.Claims.{move, join}
+use Rattle.facts.specs.Tied.{is_own, AreOwn, facts_now, settle_value}
 
 -- each value but the rest is what it is now, and each of the rest that or as before
 abbrev pub AreSettled : Ties → (rest : List ℕ) → (before after : List Known) → Type 0
@@ -127,18 +128,3 @@ module _ (ties next : Ties) (from to : ℕ) (moves : (c : ℕ) → class_now nex
   pub joined_facts : (f last : FactSet) (one other : Class) → one ≡ class_at f.classes from → other ≡ class_at f.classes to → last ≡ set_class to (record { nonnull = one.nonnull || other.nonnull; fresh = one.fresh || other.fresh }) f → facts_now next last ≡ join from to (facts_now ties f)
   joined_facts f last one other a b e = ap (facts_now next) (e ∙ ap (λ (x : Class). set_class to (record { nonnull = x.nonnull || other.nonnull; fresh = x.fresh || other.fresh }) f) a ∙ ap (λ (x : Class). set_class to (record { nonnull = (class_at f.classes from).nonnull || x.nonnull; fresh = (class_at f.classes from).fresh || x.fresh }) f) b)
       ∙ ap (λ (values : List Known). set_class to (record { nonnull = (class_at f.classes from).nonnull || (class_at f.classes to).nonnull; fresh = (class_at f.classes from).fresh || (class_at f.classes to).fresh }) (record f { values = values })) (moved_values f.values)
-
--- two things that hold where it went well
-pub on_ok_two : {A E P Q R : Type 0} (r : Result A E) → OnOk r P → OnOk r Q → (P → Q → R) → OnOk r R
-on_ok_two (Ok a) p q f = f p q
-on_ok_two (Err e) p q f = tt
-
--- the class of one group becomes that of another
-module _ (ties : Ties) (are : AreTies ties) (s t v w a b class : ℕ) (placed : group_of ties v ≡ Some a) (other : group_of ties w ≡ Some b) (of : class ≡ class_in ties.groups.items b) (ends : ((s ≡ a) × (t ≡ b)) ⊎ ((s ≡ b) × (t ≡ a))) where
-  pub class_tied : (next : Ties) → ((c : ℕ) → group_of next c ≡ in_group s t (group_of ties c)) → ((p : ℕ) → class_in next.groups.items p ≡ (if p == t then class else class_in ties.groups.items p)) → (c : ℕ) → class_now next c ≡ moved (class_now ties v) (class_now ties w) (class_now ties c)
-  class_tied next moves renamed c = merged_class (group_of ties) (group_of next) s t moves ties.groups.items next.groups.items are.1 class renamed v a b placed of ends c
-      ∙ ap (λ x. moved x class (class_now ties c)) (sym (ap (class_of_place ties.groups.items v) placed)) ∙ ap (λ x. moved (class_now ties v) x (class_now ties c)) (of ∙ sym (ap (class_of_place ties.groups.items w) other))
-
--- where classes were the same before
-pub class_through : (first ties next : Ties) (v w : ℕ) → ((c : ℕ) → class_now ties c ≡ class_now first c) → ((c : ℕ) → class_now next c ≡ moved (class_now ties v) (class_now ties w) (class_now ties c)) → (c : ℕ) → class_now next c ≡ moved (class_now first v) (class_now first w) (class_now first c)
-class_through first ties next v w same moves c = moves c ∙ ap (λ x. moved x (class_now ties w) (class_now ties c)) (same v) ∙ ap (λ x. moved (class_now first v) x (class_now ties c)) (same w) ∙ ap (moved (class_now first v) (class_now first w)) (same c)

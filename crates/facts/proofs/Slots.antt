@@ -2,10 +2,11 @@
 use Rattle.std.proofs.Common.{◌≡◌, ℕ, List, [], ◌∷◌, map, refl, ap, true, false, Bool}
 use Rattle.std.specs.Prelude.{◌||◌, if◌then◌else◌}
 use Rattle.std.specs.List.{list_any}
-use Rattle.facts.specs.declared.known.Class.{Class}
-use Rattle.facts.specs.declared.known.Known.{Known}
-use Rattle.facts.specs.declared.known.SlotFact.{SlotFact}
-use Rattle.facts.specs.Facts.{class_at, is_of, holds, let_go, slots_of_class}
+use Rattle.fact_tables.specs.declared.known.Class.{Class}
+use Rattle.fact_tables.specs.declared.known.Known.{Known}
+use Rattle.fact_tables.specs.declared.known.SlotFact.{SlotFact}
+use Rattle.fact_tables.specs.Rows.{class_at, is_of, holds, let_go}
+use Rattle.facts.specs.Facts.{slots_of_class}
 
 none_held : (c : ℕ) (nonnull : Bool) (slots : List SlotFact) → list_any (holds c) slots ≡ false → map (let_go c nonnull) slots ≡ slots
 none_held c nonnull [] e = refl

@@ -4,10 +4,11 @@ use Rattle.std.specs.Prelude.{◌↔◌}
 use Rattle.std.specs.List.{zip}
 use Rattle.lemmas.specs.Lists.{at_map}
 use Rattle.lemmas.specs.Bools.{or_false}
-use Rattle.facts.specs.declared.known.Class.{Class}
-use Rattle.facts.specs.declared.known.Known.{Known}
-use Rattle.facts.specs.declared.known.Known.TheVariants.{Nothing, Number, Cell, Null, Address, GlobalAddress}
-use Rattle.facts.specs.Facts.{FactSet, known_at, slot_at, class_at, open_slot, holds_class, slot_nonnull, stale_of, stale_class, end_hold, make_stale}
+use Rattle.fact_tables.specs.declared.known.Class.{Class}
+use Rattle.fact_tables.specs.declared.known.Known.{Known}
+use Rattle.fact_tables.specs.declared.known.Known.TheVariants.{Nothing, Number, Cell, Null, Address, GlobalAddress}
+use Rattle.fact_tables.specs.Rows.{known_at, slot_at, class_at, open_slot, holds_class, slot_nonnull, stale_of, stale_class, end_hold}
+use Rattle.facts.specs.Facts.{FactSet, make_stale}
 use Rattle.facts.specs.Stale.{stale_at}
 use Rattle.facts.specs.Statements.{IsNumber, IsBelow, RefersTo, IsCurrent, IsNonnull, IsFresh, IsSame, IsAddress, IsGlobal, SlotNonnull, SlotHolds, NumberOf, BelowOf, RefersOf, CurrentOf, OfClass, AddressOf, GlobalOf, SafepointEndsCurrent}
 use Rattle.facts.proofs.Forgets.{class_any}

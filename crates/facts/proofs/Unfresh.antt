@@ -8,10 +8,12 @@ use Rattle.certs.specs.declared.section.Fact.TheVariants as fact
 use Rattle.certs.specs.declared.section.Claim.{Claim}
 use Rattle.certs.specs.declared.section.Claim.TheVariants as claim
 use Rattle.shadow_stack.specs.Slots.{SlotTable}
-use Rattle.facts.specs.declared.known.Known.{Known}
-use Rattle.facts.specs.declared.known.Known.TheVariants.{Nothing, Number, Cell, Null, Address, GlobalAddress}
-use Rattle.facts.specs.Facts.{FactSet, known_at, class_at}
-use Rattle.facts.specs.Claims.{implied, covers, is_fresh_in, covers_known, is_same, implies_reference, implies_claim}
+use Rattle.fact_tables.specs.declared.known.Known.{Known}
+use Rattle.fact_tables.specs.declared.known.Known.TheVariants.{Nothing, Number, Cell, Null, Address, GlobalAddress}
+use Rattle.fact_tables.specs.Rows.{known_at, class_at}
+use Rattle.facts.specs.Facts.{FactSet}
+use Rattle.fact_tables.specs.Covers.{implied}
+use Rattle.facts.specs.Claims.{covers, is_fresh_in, covers_known, is_same, implies_reference, implies_claim}
 use Rattle.facts.specs.Covered.{both_classes, classes_listed, unfresh, IsRecorded, AreCovered}
 
 -- what is asked is implied where it is so

@@ -1,5 +1,5 @@
 -- What the claims of a certificate give and ask.
-use Rattle.std.specs.Prelude.{ℕ, ◌==◌, Bool, true, false, not, ◌&&◌, ◌||◌, if◌then◌else◌, List, [], ◌∷◌, map, nat_le, Option, Some, None}
+use Rattle.std.specs.Prelude.{ℕ, ◌==◌, Bool, true, false, not, ◌&&◌, ◌||◌, List, [], ◌∷◌, map, nat_le, Option, Some, None}
 use Rattle.std.specs.List.{list_all, enumerate_from, zip}
 use Rattle.pools.specs.WordSets.{has_all}
 use Rattle.shadow_stack.specs.Slots.{SlotTable, slot_of}
@@ -10,12 +10,14 @@ use Rattle.certs.specs.declared.section.Fact.TheVariants as fact
 use Rattle.certs.specs.declared.section.Claim.{Claim}
 use Rattle.certs.specs.declared.section.Claim.TheVariants as claim
 use Rattle.certs.specs.declared.section.Promise.{Promise}
-use Rattle.facts.specs.declared.known.Given.{Given}
-use Rattle.facts.specs.declared.known.Given.TheVariants as given
-use Rattle.facts.specs.declared.known.Known.{Known}
-use Rattle.facts.specs.declared.known.Known.TheVariants.{Nothing, Number, Cell, Null, Address, GlobalAddress}
-use Rattle.facts.specs.declared.known.SlotFact.{SlotFact}
-use Rattle.facts.specs.Facts.{FactSet, known_at, slot_at, class_at, nothing_known, is_of, holds_class, slot_nonnull, set_known, define, define_new, set_class, set_slot}
+use Rattle.facts.specs.declared.given.Given.{Given}
+use Rattle.facts.specs.declared.given.Given.TheVariants as given
+use Rattle.fact_tables.specs.declared.known.Known.{Known}
+use Rattle.fact_tables.specs.declared.known.Known.TheVariants.{Nothing, Number, Cell, Null, Address, GlobalAddress}
+use Rattle.fact_tables.specs.Rows.{known_at, slot_at, class_at, is_of, holds_class, slot_nonnull}
+use Rattle.fact_tables.specs.Covers.{implied, covers_value, covers_slot}
+use Rattle.fact_tables.specs.Ties.{moved}
+use Rattle.facts.specs.Facts.{FactSet, nothing_known, set_known, define, define_new, set_class, set_slot}
 
 -- ---- what a block begins with
 
@@ -50,10 +52,6 @@ list_claim slots (claim.Slot slot nonnull holds) f = list_slot (slot_of slots sl
 abbrev pub list_claims : SlotTable → List Claim → FactSet → FactSet
 list_claims slots [] f = f
 list_claims slots (claim ∷ claims) f = list_claims slots claims (list_claim slots claim f)
-
--- one class is another now
-abbrev pub moved : (from to c : ℕ) → ℕ
-moved from to c = if c == from then to else c
 
 -- a reference of one class is of another now
 abbrev pub move : (from to : ℕ) → Known → Known
@@ -163,24 +161,11 @@ facts_of_parameters values slots parameters = receive_all parameters (nothing_kn
 
 -- ---- what is implied
 
--- where this is asked it holds
-abbrev pub implied : (asked holds : Bool) → Bool
-implied asked holds = holds || not asked
-
 -- a number is below what is asked
 abbrev pub is_below : (below asked : Option ℕ) → Bool
 is_below below None = true
 is_below None (Some n) = false
 is_below (Some m) (Some n) = nat_le m n
-
--- a value that is of the class here and is listed as a reference there is of the other class there
-abbrev pub covers_value : (c d : ℕ) → Known × Known → Bool
-covers_value c d (here, Cell class layout stale) = implied (is_of c here) (class == d)
-covers_value c d (here, _) = true
-
--- a slot that holds the class here holds the other there
-abbrev pub covers_slot : (c d : ℕ) → (there : List SlotFact) → ℕ × SlotFact → Bool
-covers_slot c d there (s, here) = implied (holds_class c here.holds) (holds_class d (slot_at there s).holds)
 
 -- all that is listed there and is of the class here, and each slot that holds it, is listed there as of one class
 abbrev pub covers : FactSet → FactSet → (c d : ℕ) → Bool

@@ -1,16 +1,17 @@
 -- What is known at a place of a function, and how it changes.
-use Rattle.std.specs.Prelude.{◌≤◌, ℕ, suc, ◌==◌, Bool, true, false, ◌||◌, if◌then◌else◌, List, [], ◌∷◌, ◌++◌, map, length, replicate, slice_index_or, slice_set, nat_lt, Option, Some, None}
+use Rattle.std.specs.Prelude.{◌≤◌, ℕ, suc, Bool, true, false, ◌||◌, if◌then◌else◌, List, [], ◌∷◌, ◌++◌, map, length, replicate, slice_set, nat_lt, Option, Some, None}
 use Rattle.std.specs.List.{list_any, enumerate_from, zip}
 use Rattle.ir_ast.specs.declared.numbers.Comparison.{Comparison}
 use Rattle.ir_ast.specs.declared.numbers.Comparison.TheVariants.{Equal, NotEqual, UnsignedGreater, UnsignedGreaterOrEqual, UnsignedLess, UnsignedLessOrEqual}
 use Rattle.ir_ast.specs.declared.operand.Constant.{Constant}
 use Rattle.ir_ast.specs.declared.operand.Constant.TheVariants as constant
-use Rattle.facts.specs.declared.known.Class.{Class}
-use Rattle.facts.specs.declared.known.Entry.{Entry}
-use Rattle.facts.specs.declared.known.Known.{Known}
-use Rattle.facts.specs.declared.known.Known.TheVariants.{Nothing, Number, Cell, Null, Address}
-use Rattle.facts.specs.declared.known.SlotFact.{SlotFact}
-use Rattle.facts.specs.declared.known.Test.{Test}
+use Rattle.fact_tables.specs.declared.known.Class.{Class}
+use Rattle.facts.specs.declared.entry.Entry.{Entry}
+use Rattle.fact_tables.specs.declared.known.Known.{Known}
+use Rattle.fact_tables.specs.declared.known.Known.TheVariants.{Nothing, Number, Cell, Null}
+use Rattle.fact_tables.specs.declared.known.SlotFact.{SlotFact}
+use Rattle.fact_tables.specs.declared.known.Test.{Test}
+use Rattle.fact_tables.specs.Rows.{known_at, open_slot, slot_at, lost_class, class_at, is_of, let_go, off_test, values_without, tests_without, stale_of, stale_class, end_hold}
 
 -- what is known of each value, of each slot and of each class of equal references, and the comparison that gave each value. The first classes are one for each value, for references that are listed or went stale
 pub record FactSet : Type 0 where
@@ -23,60 +24,9 @@ pub record FactSet : Type 0 where
 abbrev pub AreFacts : FactSet → Type 0
 AreFacts f = length f.values ≤ length f.classes
 
--- what is known of a value
-abbrev pub known_at : List Known → ℕ → Known
-known_at values v = slice_index_or values v Nothing
-
--- a slot of which nothing is known
-abbrev pub open_slot : SlotFact
-open_slot = record { rooted = false; nonnull = false; holds = None }
-
--- what is known of a slot
-abbrev pub slot_at : List SlotFact → ℕ → SlotFact
-slot_at slots s = slice_index_or slots s open_slot
-
--- a class of which nothing is known
-abbrev pub lost_class : Class
-lost_class = record { nonnull = false; fresh = false }
-
--- what is known of a class
-abbrev pub class_at : List Class → ℕ → Class
-class_at classes c = slice_index_or classes c lost_class
-
--- the comparison that gave a value
-abbrev pub test_at : List (Option Test) → ℕ → Option Test
-test_at tests v = slice_index_or tests v None
-
 -- where nothing is known of this number of values and slots
 abbrev pub nothing_known : (values slots : ℕ) → FactSet
 nothing_known values slots = record { values = replicate values Nothing; slots = replicate slots open_slot; classes = replicate values lost_class; tests = replicate values None }
-
--- the value is a reference of this class
-abbrev pub is_of : ℕ → Known → Bool
-is_of c (Cell class layout stale) = class == c
-is_of c _ = false
-
--- the slot holds this class
-abbrev pub holds_class : ℕ → Option ℕ → Bool
-holds_class c None = false
-holds_class c (Some d) = d == c
-
--- a reference of the class that a slot holds is not null
-abbrev pub held_nonnull : List Class → (holds : Option ℕ) → Bool
-held_nonnull classes None = false
-held_nonnull classes (Some c) = (class_at classes c).nonnull
-
--- what a slot holds is not null
-abbrev pub slot_nonnull : List Class → SlotFact → Bool
-slot_nonnull classes slot = slot.nonnull || held_nonnull classes slot.holds
-
--- this slot holds this class
-abbrev pub holds : ℕ → SlotFact → Bool
-holds c slot = holds_class c slot.holds
-
--- a slot that holds this class holds it no more; it stays nonnull where the class is
-abbrev pub let_go : (c : ℕ) → (nonnull : Bool) → SlotFact → SlotFact
-let_go c nonnull slot = if holds_class c slot.holds then record slot { nonnull = slot.nonnull || nonnull; holds = None } else slot
 
 -- the slots that hold a class hold it on only while a value is of it
 abbrev pub slots_of_class : (c : ℕ) → List Known → List Class → List SlotFact → List SlotFact
@@ -86,28 +36,6 @@ slots_of_class c values classes slots = if list_any (is_of c) values then slots 
 abbrev pub slots_without : Known → List Known → List Class → List SlotFact → List SlotFact
 slots_without (Cell c layout stale) values classes slots = slots_of_class c values classes slots
 slots_without _ values classes slots = slots
-
--- the value is an address of which v is the base
-abbrev pub is_on : (v : ℕ) → Known → Bool
-is_on v (Address base words) = base == v
-is_on v _ = false
-
--- what is known of a value, if that is no address of which v is the base
-abbrev pub off_base : (v : ℕ) → Known → Known
-off_base v known = if is_on v known then Nothing else known
-
--- a comparison, but not one of v
-abbrev pub off_test : (v : ℕ) → Option Test → Option Test
-off_test v None = None
-off_test v (Some test) = if test.tested == v then None else Some test
-
--- the values where each statement that names v ends
-abbrev pub values_without : (v : ℕ) → List Known → List Known
-values_without v values = slice_set (map (off_base v) values) v Nothing
-
--- the comparisons where each statement that names v ends
-abbrev pub tests_without : (v : ℕ) → List (Option Test) → List (Option Test)
-tests_without v tests = slice_set (map (off_test v) tests) v None
 
 -- each statement that names v ends
 abbrev pub forget : ℕ → FactSet → FactSet
@@ -244,20 +172,6 @@ load_slot v s layout f =
     let rest = forget v f in
     let slot = slot_at rest.slots s in
     load_held v s layout slot.nonnull slot.holds rest
-
--- a stale reference, of the class that its value has for itself
-abbrev pub stale_of : ℕ × Known → Known
-stale_of (v, Cell c layout stale) = Cell v layout true
-stale_of (v, known) = known
-
--- what is known of the class that a value has for itself, once its value is stale: it is as null as it was
-abbrev pub stale_class : List Class → Class × Known → Class
-stale_class classes (own, Cell c layout stale) = record { nonnull = (class_at classes c).nonnull; fresh = false }
-stale_class classes (own, known) = own
-
--- a slot holds no class; it stays nonnull where the class is
-abbrev pub end_hold : List Class → SlotFact → SlotFact
-end_hold classes slot = record slot { nonnull = slot_nonnull classes slot; holds = None }
 
 -- a safepoint: each reference is stale and of a class of its own, and the slots hold no class
 abbrev pub make_stale : FactSet → FactSet

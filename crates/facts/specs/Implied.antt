@@ -6,7 +6,8 @@ use Rattle.certs.specs.declared.section.Fact.{Fact}
 use Rattle.certs.specs.declared.section.Fact.TheVariants as fact
 use Rattle.certs.specs.declared.section.Claim.{Claim}
 use Rattle.certs.specs.declared.section.Claim.TheVariants as claim
-use Rattle.facts.specs.Facts.{FactSet, known_at}
+use Rattle.fact_tables.specs.Rows.{known_at}
+use Rattle.facts.specs.Facts.{FactSet}
 use Rattle.facts.specs.Claims.{is_stale, is_fresh, implies_claim}
 use Rattle.facts.specs.Statements.{IsNumber, IsBelow, RefersTo, IsCurrent, IsNonnull, IsFresh, IsSame, IsAddress, IsGlobal, SlotNonnull, SlotHolds, OfClass, Says}
 

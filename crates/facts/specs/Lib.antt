@@ -2,16 +2,7 @@ pub mod Facts
 pub mod Stale
 pub mod Contents
 pub mod Claims
-pub mod Ties
-pub mod EachListed
-pub mod Sheets
-pub mod Owners
-pub mod Owned
-pub mod SlotRows
-pub mod Numbered
-pub mod Values
-pub mod Uses
-pub mod Chains
+pub mod Tied
 pub mod Statements
 pub mod Covered
 pub mod Implied

@@ -1,8 +1,8 @@
 -- What is known of a value after a safepoint.
 use Rattle.std.proofs.Common.{◌≡◌, ℕ, zero, suc, ◌+◌, List, [], ◌∷◌, map, refl, ap, ◌∙◌, arith}
 use Rattle.std.specs.List.{enumerate_from}
-use Rattle.facts.specs.declared.known.Known.{Known}
-use Rattle.facts.specs.Facts.{known_at, stale_of}
+use Rattle.fact_tables.specs.declared.known.Known.{Known}
+use Rattle.fact_tables.specs.Rows.{known_at, stale_of}
 
 -- what is known of a value, from the value with number n on
 stale_from : (n : ℕ) (values : List Known) (v : ℕ) → known_at (map stale_of (enumerate_from n values)) v ≡ stale_of (n + v, known_at values v)

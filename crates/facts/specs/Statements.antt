@@ -1,9 +1,10 @@
 -- What is known, as a set of statements.
 use Rattle.std.specs.Prelude.{◌≡◌, ◌<◌, ◌≤◌, ◌↔◌, ◌⊎◌, ℕ, true, false, List, length, Bool, Option, Some, None}
 use Rattle.pools.specs.WordSets.{has_all}
-use Rattle.facts.specs.declared.known.Known.{Known}
-use Rattle.facts.specs.declared.known.Known.TheVariants.{Number, Cell, Null, Address, GlobalAddress}
-use Rattle.facts.specs.Facts.{FactSet, AreFacts, known_at, slot_at, class_at, holds_class, slot_nonnull, forget, drop_fresh_of, learn_known_nonnull, make_stale}
+use Rattle.fact_tables.specs.declared.known.Known.{Known}
+use Rattle.fact_tables.specs.declared.known.Known.TheVariants.{Number, Cell, Null, Address, GlobalAddress}
+use Rattle.fact_tables.specs.Rows.{known_at, slot_at, class_at, holds_class, slot_nonnull}
+use Rattle.facts.specs.Facts.{FactSet, AreFacts, forget, drop_fresh_of, learn_known_nonnull, make_stale}
 
 -- a statement of values and slots
 pub data Statement : Type 0 where

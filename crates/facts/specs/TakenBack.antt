@@ -1,10 +1,11 @@
 -- What phis change, where it can be taken back.
 use Rattle.std.specs.Prelude.{◌≡◌, ◌<◌, ◌≤◌, ◌⊎◌, ℕ, true, List, [], ◌∷◌, length, slice_set}
-use Rattle.facts.specs.declared.known.Class.{Class}
-use Rattle.facts.specs.declared.known.Entry.{Entry}
-use Rattle.facts.specs.declared.known.Known.{Known}
-use Rattle.facts.specs.declared.known.Known.TheVariants.{Nothing, Cell}
-use Rattle.facts.specs.Facts.{FactSet, known_at, class_at, is_of, forget, set_known, set_class}
+use Rattle.fact_tables.specs.declared.known.Class.{Class}
+use Rattle.facts.specs.declared.entry.Entry.{Entry}
+use Rattle.fact_tables.specs.declared.known.Known.{Known}
+use Rattle.fact_tables.specs.declared.known.Known.TheVariants.{Nothing, Cell}
+use Rattle.fact_tables.specs.Rows.{known_at, class_at, is_of}
+use Rattle.facts.specs.Facts.{FactSet, forget, set_known, set_class}
 
 -- a value is one of these phis
 abbrev pub IsPhi : ℕ → List Entry → Type 0

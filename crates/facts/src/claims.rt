@@ -3,14 +3,14 @@ ghost use Rattle.std.specs.Prelude.{◌≡◌, ◌==◌, true, length, OnOk, OnE
 ghost use Rattle.facts.specs.Contents.{set_of};
 ghost use Rattle.facts.specs.Facts.{nothing_known};
 ghost use Rattle.facts.specs.Claims.{is_stale, is_fresh, list_value, list_slot, list_claim, list_claims, join, join_known, join_values, tie_value, tie_fact, tie_claim, tie_claims, hold_known, hold_value, hold_claim, hold_claims, facts_of_claims, promised_below, promised_nonnull, promised_layout, receive_reference, receive};
-ghost use Rattle.facts.specs.Ties.{is_own, AreOwn, AreTies, class_now, class_of_both, known_now, facts_now, settle_value};
+ghost use Rattle.fact_tables.specs.Ties.{AreTies, class_now, known_now};
+ghost use Rattle.facts.specs.Tied.{is_own, AreOwn, class_of_both, facts_now, settle_value};
 
-use crate::class_id::ClassId;
 use crate::contents::Contents;
 use crate::facts::Facts;
-use crate::known::{Class, Given, Known, SlotFact};
-use crate::ties::Ties;
+use crate::given::Given;
 use certs::{Age, Claim, Fact, Promise};
+use fact_tables::{Class, ClassId, Known, SlotFact, Ties};
 use ir_ast::ValueId;
 use pools::LayoutId;
 use shadow_stack::{SlotId, Slots};

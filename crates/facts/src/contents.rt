@@ -1,19 +1,16 @@
 //! The rows of which facts are made.
 ghost use Rattle.std.specs.Prelude.{◌≡◌, ◌==◌, ◌&&◌, true, false, List, length, IfOk, OnOk, OnErr};
-ghost use Rattle.facts.specs.declared.known.Class.{Class};
-ghost use Rattle.facts.specs.declared.known.Known.{Known};
-ghost use Rattle.facts.specs.declared.known.Known.TheVariants.{Cell};
-ghost use Rattle.facts.specs.Facts.{known_at, slot_at, nothing_known, values_without, forget, define, define_test, add_class, set_known, set_class, set_slot, end_slot, load_slot, make_stale, slots_of_class, slots_without, held_nonnull};
+ghost use Rattle.fact_tables.specs.declared.known.Class.{Class};
+ghost use Rattle.fact_tables.specs.declared.known.Known.{Known};
+ghost use Rattle.fact_tables.specs.declared.known.Known.TheVariants.{Cell};
+ghost use Rattle.fact_tables.specs.Rows.{known_at, slot_at, values_without, held_nonnull};
+ghost use Rattle.facts.specs.Facts.{nothing_known, forget, define, define_test, add_class, set_known, set_class, set_slot, end_slot, load_slot, make_stale, slots_of_class, slots_without};
 ghost use Rattle.facts.specs.Contents.{set_of};
-ghost use Rattle.facts.specs.SlotRows.{let_go_last};
+ghost use Rattle.fact_tables.specs.SlotRows.{let_go_last};
 ghost use Rattle.facts.specs.TakenBack.{EndsAlone};
 
-use crate::class_id::ClassId;
 use crate::kept::KeptFacts;
-use crate::known::{Class, Known, SlotFact, Test};
-use crate::rows;
-use crate::slot_rows::SlotRows;
-use crate::values::Values;
+use fact_tables::{Class, ClassId, Known, SlotFact, SlotRows, Test, Values, rows};
 use ir_ast::ValueId;
 use pools::LayoutId;
 use shadow_stack::SlotId;

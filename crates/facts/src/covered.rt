@@ -6,10 +6,9 @@ ghost use Rattle.facts.specs.Covered.{with_class, both_classes, classes_of, clas
 ghost use Rattle.facts.specs.Claims.{implies_claim};
 
 use crate::claims::is_fresh;
-use crate::class_id::ClassId;
 use crate::facts::Facts;
-use crate::known::Known;
 use certs::{Age, Claim, Fact};
+use fact_tables::{ClassId, Known};
 use indexmap::IndexMap;
 use ir_ast::ValueId;
 use shadow_stack::Slots;

@@ -5,8 +5,9 @@ ghost use Rattle.facts.specs.Contents.{set_of};
 ghost use Rattle.facts.specs.TakenBack.{DifferBy};
 
 use crate::contents::Contents;
+use crate::entry::Entry;
 use crate::facts::Facts;
-use crate::known::{Class, Entry, Known, Test};
+use fact_tables::{Class, Known, Test};
 use ir_ast::{Comparison, Constant, ValueId};
 use std::alloc::AllocError;
 

@@ -1,16 +1,16 @@
 ghost use Rattle.std.specs.Prelude.{◌≡◌, true, ◌==◌, ◌&&◌, length, IfOk, OnOk, OnErr};
-ghost use Rattle.facts.specs.Facts.{FactSet, AreFacts, known_at, slot_at, class_at, test_at, nothing_known, forget, define, define_new, define_test, set_known, set_class, drop_fresh, drop_fresh_of, learn_nonnull, after_phis, set_slot, clear_slot, end_slot, root_slot, hold, store_slot, load_slot, make_stale, slot_nonnull};
+ghost use Rattle.fact_tables.specs.Rows.{known_at, slot_at, class_at, test_at, slot_nonnull};
+ghost use Rattle.facts.specs.Facts.{FactSet, AreFacts, nothing_known, forget, define, define_new, define_test, set_known, set_class, drop_fresh, drop_fresh_of, learn_nonnull, after_phis, set_slot, clear_slot, end_slot, root_slot, hold, store_slot, load_slot, make_stale};
 ghost use Rattle.facts.specs.Claims.{covers, facts_of_claims};
 ghost use Rattle.facts.specs.Contents.{HasRows, set_of};
 ghost use Rattle.facts.specs.TakenBack.{DifferBy};
 
-use crate::class_id::ClassId;
 use crate::contents::Contents;
+use crate::entry::Entry;
 use crate::kept::KeptFacts;
-use crate::known::{Class, Entry, Known, SlotFact, Test};
-use crate::rows;
 use crate::spare_rows::SpareRows;
 use certs::Claim;
+use fact_tables::{Class, ClassId, Known, SlotFact, Test, rows};
 use ir_ast::ValueId;
 use pools::LayoutId;
 use shadow_stack::{SlotId, Slots};

@@ -1,14 +1,13 @@
 //! Whether what is known implies the claims of a target.
 ghost use Rattle.std.specs.Prelude.{◌≡◌};
 ghost use Rattle.std.specs.List.{list_all, zip};
-ghost use Rattle.facts.specs.Claims.{is_fresh, implied, is_below, covers_value, covers_slot, covers, covers_known, is_fresh_in, is_same, is_alone, implies_reference, implies_number, implies_address, implies_global, implies_fact, holds_known, holds_value, implies_slot, implies_claim};
+ghost use Rattle.fact_tables.specs.Covers.{implied, covers_value, covers_slot};
+ghost use Rattle.facts.specs.Claims.{is_fresh, is_below, covers, covers_known, is_fresh_in, is_same, is_alone, implies_reference, implies_number, implies_address, implies_global, implies_fact, holds_known, holds_value, implies_slot, implies_claim};
 
 use crate::claims::{is_fresh, is_stale};
-use crate::class_id::ClassId;
 use crate::facts::Facts;
-use crate::known::{Known, SlotFact};
-use crate::rows;
 use certs::{Age, Claim, Fact};
+use fact_tables::{ClassId, Known, SlotFact, rows};
 use ir_ast::{SymbolId, ValueId};
 use pools::{LayoutId, WordSet};
 use shadow_stack::{SlotId, Slots};

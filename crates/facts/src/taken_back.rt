@@ -4,7 +4,8 @@ ghost use Rattle.facts.specs.Contents.{set_of};
 ghost use Rattle.facts.specs.TakenBack.{DifferBy, class_back, entry_back};
 
 use crate::contents::Contents;
-use crate::known::{Entry, Known};
+use crate::entry::Entry;
+use fact_tables::Known;
 use std::alloc::AllocError;
 
 impl Contents {

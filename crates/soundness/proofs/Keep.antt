@@ -9,12 +9,13 @@ use Rattle.lemmas.specs.Bools.{or_parts, or_second}
 use Rattle.pools.specs.Heap.{Setup}
 use Rattle.layout.specs.Layouts.{LaidOut}
 use Rattle.shadow_stack.specs.Slots.{SlotTable, held_type, slot_layout}
-use Rattle.facts.specs.declared.known.Class.{Class}
-use Rattle.facts.specs.declared.known.Known.{Known}
-use Rattle.facts.specs.declared.known.Known.TheVariants.{Nothing, Number, Cell, Null, Address, GlobalAddress}
-use Rattle.facts.specs.declared.known.SlotFact.{SlotFact}
-use Rattle.facts.specs.declared.known.Test.{Test}
-use Rattle.facts.specs.Facts.{FactSet, known_at, slot_at, class_at, test_at, open_slot, is_of, holds_class, let_go, slots_without, off_base, off_test, values_without, forget, set_known}
+use Rattle.fact_tables.specs.declared.known.Class.{Class}
+use Rattle.fact_tables.specs.declared.known.Known.{Known}
+use Rattle.fact_tables.specs.declared.known.Known.TheVariants.{Nothing, Number, Cell, Null, Address, GlobalAddress}
+use Rattle.fact_tables.specs.declared.known.SlotFact.{SlotFact}
+use Rattle.fact_tables.specs.declared.known.Test.{Test}
+use Rattle.fact_tables.specs.Rows.{known_at, slot_at, class_at, test_at, open_slot, is_of, holds_class, let_go, off_base, off_test, values_without}
+use Rattle.facts.specs.Facts.{FactSet, slots_without, forget, set_known}
 use Rattle.machine.specs.declared.value.Reference.{Reference}
 use Rattle.machine.specs.declared.value.Value.{Value}
 use Rattle.machine.specs.declared.value.Value.TheVariants as value

@@ -17,12 +17,15 @@ use Rattle.certs.specs.declared.section.Fact.{Fact}
 use Rattle.certs.specs.declared.section.Fact.TheVariants as fact
 use Rattle.certs.specs.declared.section.Claim.{Claim}
 use Rattle.certs.specs.declared.section.Claim.TheVariants as claim
-use Rattle.facts.specs.declared.known.Class.{Class}
-use Rattle.facts.specs.declared.known.Known.{Known}
-use Rattle.facts.specs.declared.known.Known.TheVariants.{Nothing, Number, Cell, Null, Address, GlobalAddress}
-use Rattle.facts.specs.declared.known.SlotFact.{SlotFact}
-use Rattle.facts.specs.Facts.{FactSet, known_at, slot_at, class_at, test_at, open_slot, lost_class, nothing_known, is_of, holds_class, held_nonnull, slot_nonnull, set_known, set_class}
-use Rattle.facts.specs.Claims.{is_stale, is_fresh, list_value, list_slot, list_claims, moved, move, join, join_values, tie_value, tie_fact, tie_claims, hold_known, hold_value, hold_claims, facts_of_claims, implied, is_below, covers_value, covers_slot, covers, covers_known, is_fresh_in, is_same, is_alone, implies_reference, implies_number, implies_address, implies_global, implies_fact, holds_known, holds_value, implies_slot, implies_claim}
+use Rattle.fact_tables.specs.declared.known.Class.{Class}
+use Rattle.fact_tables.specs.declared.known.Known.{Known}
+use Rattle.fact_tables.specs.declared.known.Known.TheVariants.{Nothing, Number, Cell, Null, Address, GlobalAddress}
+use Rattle.fact_tables.specs.declared.known.SlotFact.{SlotFact}
+use Rattle.fact_tables.specs.Rows.{known_at, slot_at, class_at, test_at, open_slot, lost_class, is_of, holds_class, held_nonnull, slot_nonnull}
+use Rattle.facts.specs.Facts.{FactSet, nothing_known, set_known, set_class}
+use Rattle.fact_tables.specs.Ties.{moved}
+use Rattle.fact_tables.specs.Covers.{implied, covers_value, covers_slot}
+use Rattle.facts.specs.Claims.{is_stale, is_fresh, list_value, list_slot, list_claims, move, join, join_values, tie_value, tie_fact, tie_claims, hold_known, hold_value, hold_claims, facts_of_claims, is_below, covers, covers_known, is_fresh_in, is_same, is_alone, implies_reference, implies_number, implies_address, implies_global, implies_fact, holds_known, holds_value, implies_slot, implies_claim}
 use Rattle.machine.specs.declared.value.Value.{Value}
 use Rattle.machine.specs.declared.value.Value.TheVariants as value
 use Rattle.machine.specs.Kinds.{register_at}

@@ -4,7 +4,7 @@ use Rattle.std.specs.Prelude.{◌==◌, replicate}
 use Rattle.std.specs.List.{list_all, zip, range_with_len}
 use Rattle.lemmas.specs.Numbers.{test_true, test_yes}
 use Rattle.lemmas.specs.Bools.{and_parts}
-use Rattle.facts.specs.Claims.{implied}
+use Rattle.fact_tables.specs.Covers.{implied}
 
 pub turned : (x y : ℕ) → (x == y) ≡ true → (y == x) ≡ true
 turned x y e = test_yes y x (sym (test_true x y e))

@@ -15,10 +15,11 @@ use Rattle.types.specs.References.{is_opaque}
 use Rattle.types.specs.ValueTypes.{has_type}
 use Rattle.shadow_stack.specs.Slots.{SlotTable, slot_of, held_type, slot_layout, is_reference_held}
 use Rattle.certs.specs.declared.section.Section.{Section}
-use Rattle.facts.specs.declared.known.Class.{Class}
-use Rattle.facts.specs.declared.known.Known.{Known}
-use Rattle.facts.specs.declared.known.Known.TheVariants.{Nothing, Number, Cell, Null, Address, GlobalAddress}
-use Rattle.facts.specs.Facts.{FactSet, known_at, slot_at, class_at, lost_class, holds_class, forget, set_known, add_class, load_held, load_slot, hold, store_slot}
+use Rattle.fact_tables.specs.declared.known.Class.{Class}
+use Rattle.fact_tables.specs.declared.known.Known.{Known}
+use Rattle.fact_tables.specs.declared.known.Known.TheVariants.{Nothing, Number, Cell, Null, Address, GlobalAddress}
+use Rattle.fact_tables.specs.Rows.{known_at, slot_at, class_at, lost_class, holds_class}
+use Rattle.facts.specs.Facts.{FactSet, forget, set_known, add_class, load_held, load_slot, hold, store_slot}
 use Rattle.block_rules.specs.declared.type_kind.TypeKind.{TypeKind}
 use Rattle.block_rules.specs.declared.type_kind.TypeKind.TheVariants.{NoValue, Bits, Reference, AnyReference, Address as AddressKind, Other}
 use Rattle.block_rules.specs.Operands as o

@@ -5,11 +5,12 @@ use Rattle.std.specs.Prelude.{◌⊎◌}
 use Rattle.pools.specs.Heap.{Setup}
 use Rattle.layout.specs.Layouts.{LaidOut}
 use Rattle.shadow_stack.specs.Slots.{SlotTable}
-use Rattle.facts.specs.declared.known.Class.{Class}
-use Rattle.facts.specs.declared.known.Entry.{Entry}
-use Rattle.facts.specs.declared.known.Known.{Known}
-use Rattle.facts.specs.declared.known.Known.TheVariants.{Nothing, Number, Cell, Null, Address, GlobalAddress}
-use Rattle.facts.specs.Facts.{FactSet, known_at, class_at, lost_class, values_without, define, drop_fresh_of, drop_fresh_all, enter_phi, enter_phis, after_phis}
+use Rattle.fact_tables.specs.declared.known.Class.{Class}
+use Rattle.facts.specs.declared.entry.Entry.{Entry}
+use Rattle.fact_tables.specs.declared.known.Known.{Known}
+use Rattle.fact_tables.specs.declared.known.Known.TheVariants.{Nothing, Number, Cell, Null, Address, GlobalAddress}
+use Rattle.fact_tables.specs.Rows.{known_at, class_at, lost_class, values_without}
+use Rattle.facts.specs.Facts.{FactSet, define, drop_fresh_of, drop_fresh_all, enter_phi, enter_phis, after_phis}
 use Rattle.machine.specs.declared.value.Value.{Value}
 use Rattle.machine.specs.declared.value.Value.TheVariants as value
 use Rattle.machine.specs.Kinds.{register_at}

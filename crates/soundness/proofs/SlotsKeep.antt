@@ -4,9 +4,10 @@ use Rattle.std.proofs.lemmas.List.{length-set}
 use Rattle.pools.specs.Heap.{Setup}
 use Rattle.layout.specs.Layouts.{LaidOut}
 use Rattle.shadow_stack.specs.Slots.{SlotTable, held_type, slot_layout}
-use Rattle.facts.specs.declared.known.Known.TheVariants.{Cell}
-use Rattle.facts.specs.declared.known.SlotFact.{SlotFact}
-use Rattle.facts.specs.Facts.{FactSet, known_at, slot_at, class_at, open_slot, lost_class, holds_class, clear_slot, set_slot, drop_fresh, drop_held, end_slot}
+use Rattle.fact_tables.specs.declared.known.Known.TheVariants.{Cell}
+use Rattle.fact_tables.specs.declared.known.SlotFact.{SlotFact}
+use Rattle.fact_tables.specs.Rows.{known_at, slot_at, class_at, open_slot, lost_class, holds_class}
+use Rattle.facts.specs.Facts.{FactSet, clear_slot, set_slot, drop_fresh, drop_held, end_slot}
 use Rattle.machine.specs.declared.value.Value.{Value}
 use Rattle.machine.specs.declared.value.Value.TheVariants as value
 use Rattle.machine.specs.Machine.{slot_value}

@@ -8,8 +8,9 @@ use Rattle.pools.specs.Heap.{Setup}
 use Rattle.layout.specs.Layouts.{LaidOut}
 use Rattle.shadow_stack.specs.Slots.{slots_of, held_type, is_reference_held}
 use Rattle.certs.specs.declared.section.Section.{Section}
-use Rattle.facts.specs.Facts.{FactSet, known_at, class_at}
-use Rattle.facts.specs.declared.known.Known.TheVariants.{Cell}
+use Rattle.fact_tables.specs.Rows.{known_at, class_at}
+use Rattle.facts.specs.Facts.{FactSet}
+use Rattle.fact_tables.specs.declared.known.Known.TheVariants.{Cell}
 use Rattle.safepoints.specs.Marks.{is_may}
 use Rattle.block_rules.specs.InstrContext.{body_of, end_of}
 use Rattle.block_rules.specs.Promises.{promised_in, own_mark}

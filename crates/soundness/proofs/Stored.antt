@@ -3,8 +3,9 @@ use Rattle.std.proofs.Common.{◌≡◌, ◌≢◌, ℕ, List, sym, ◌∙◌, t
 use Rattle.pools.specs.Heap.{Setup}
 use Rattle.layout.specs.Layouts.{LaidOut}
 use Rattle.shadow_stack.specs.Slots.{SlotTable}
-use Rattle.facts.specs.declared.known.Known.TheVariants.{Cell}
-use Rattle.facts.specs.Facts.{FactSet, known_at, class_at, lost_class, drop_fresh}
+use Rattle.fact_tables.specs.declared.known.Known.TheVariants.{Cell}
+use Rattle.fact_tables.specs.Rows.{known_at, class_at, lost_class}
+use Rattle.facts.specs.Facts.{FactSet, drop_fresh}
 use Rattle.machine.specs.declared.value.Reference.{Reference}
 use Rattle.machine.specs.declared.value.Value.{Value}
 use Rattle.machine.specs.declared.value.Value.TheVariants as value

@@ -9,10 +9,11 @@ use Rattle.ir_ast.specs.declared.operand.Constant.TheVariants as constant
 use Rattle.pools.specs.Heap.{Setup}
 use Rattle.layout.specs.Layouts.{LaidOut}
 use Rattle.shadow_stack.specs.Slots.{SlotTable}
-use Rattle.facts.specs.declared.known.Known.{Known}
-use Rattle.facts.specs.declared.known.Known.TheVariants.{Nothing, Number, Cell, Null, Address, GlobalAddress}
-use Rattle.facts.specs.declared.known.Test.{Test}
-use Rattle.facts.specs.Facts.{FactSet, known_at, set_known, known_below, below_both, learn_below, learn_up_to, learn_known_nonnull, learn_null_test, learn_number_test, learn_constant_test, learn_test}
+use Rattle.fact_tables.specs.declared.known.Known.{Known}
+use Rattle.fact_tables.specs.declared.known.Known.TheVariants.{Nothing, Number, Cell, Null, Address, GlobalAddress}
+use Rattle.fact_tables.specs.declared.known.Test.{Test}
+use Rattle.fact_tables.specs.Rows.{known_at}
+use Rattle.facts.specs.Facts.{FactSet, set_known, known_below, below_both, learn_below, learn_up_to, learn_known_nonnull, learn_null_test, learn_number_test, learn_constant_test, learn_test}
 use Rattle.machine.specs.declared.value.Value.{Value}
 use Rattle.machine.specs.declared.value.Value.TheVariants as value
 use Rattle.machine.specs.Kinds.{register_at, number_in, bits_at, wrapped, constant_value}

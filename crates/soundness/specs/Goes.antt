@@ -9,9 +9,10 @@ use Rattle.layout.specs.Globals.{IsHeapFor}
 use Rattle.layout.specs.Layouts.{LaidOut}
 use Rattle.shadow_stack.specs.Slots.{SlotTable, slots_of, held_type, is_reference_held}
 use Rattle.certs.specs.declared.section.Section.{Section}
-use Rattle.facts.specs.declared.known.Known.{Known}
-use Rattle.facts.specs.declared.known.Known.TheVariants.{Cell}
-use Rattle.facts.specs.Facts.{FactSet, AreFacts, known_at, slot_at, class_at}
+use Rattle.fact_tables.specs.declared.known.Known.{Known}
+use Rattle.fact_tables.specs.declared.known.Known.TheVariants.{Cell}
+use Rattle.fact_tables.specs.Rows.{known_at, slot_at, class_at}
+use Rattle.facts.specs.Facts.{FactSet, AreFacts}
 use Rattle.block_rules.specs.declared.instr_context.InstrContext.{InstrContext}
 use Rattle.safepoints.specs.Marks.{is_may}
 use Rattle.block_rules.specs.FirstFailing.{first_failing}

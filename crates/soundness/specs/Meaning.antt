@@ -8,12 +8,13 @@ use Rattle.layout.specs.Layouts.{LaidOut}
 use Rattle.types.specs.Globals.{global_named}
 use Rattle.types.specs.References.{referenced_layout}
 use Rattle.shadow_stack.specs.Slots.{SlotTable, held_type, slot_layout, is_reference_held}
-use Rattle.facts.specs.declared.known.Class.{Class}
-use Rattle.facts.specs.declared.known.Known.{Known}
-use Rattle.facts.specs.declared.known.Known.TheVariants.{Nothing, Number, Cell, Null, Address, GlobalAddress}
-use Rattle.facts.specs.declared.known.SlotFact.{SlotFact}
-use Rattle.facts.specs.declared.known.Test.{Test}
-use Rattle.facts.specs.Facts.{FactSet, known_at, slot_at, class_at, test_at, holds_class}
+use Rattle.fact_tables.specs.declared.known.Class.{Class}
+use Rattle.fact_tables.specs.declared.known.Known.{Known}
+use Rattle.fact_tables.specs.declared.known.Known.TheVariants.{Nothing, Number, Cell, Null, Address, GlobalAddress}
+use Rattle.fact_tables.specs.declared.known.SlotFact.{SlotFact}
+use Rattle.fact_tables.specs.declared.known.Test.{Test}
+use Rattle.fact_tables.specs.Rows.{known_at, slot_at, class_at, test_at, holds_class}
+use Rattle.facts.specs.Facts.{FactSet}
 use Rattle.machine.specs.declared.value.Pointee.TheVariants as place
 use Rattle.machine.specs.declared.value.Value.{Value}
 use Rattle.machine.specs.declared.value.Value.TheVariants as value

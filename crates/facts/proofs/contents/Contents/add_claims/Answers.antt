@@ -1,7 +1,7 @@
 use Rattle.std.proofs.Common.{sym, subst}
 use Rattle.facts.specs.Contents.{set_of}
 use Rattle.facts.specs.Facts.{FactSet}
-use Rattle.facts.specs.Ties.{AreOwn}
+use Rattle.facts.specs.Tied.{AreOwn}
 use Rattle.facts.proofs.Owned.{own_claims}
 use Rattle.facts.proofs.contents.Contents.add_claims.Goals as goal
 

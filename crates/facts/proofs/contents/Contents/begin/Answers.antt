@@ -1,6 +1,6 @@
 use Rattle.std.proofs.Common.{sym, subst, length}
 use Rattle.facts.specs.Facts.{FactSet}
-use Rattle.facts.specs.Ties.{AreOwn}
+use Rattle.facts.specs.Tied.{AreOwn}
 use Rattle.facts.proofs.Owned.{own_nothing}
 use Rattle.facts.proofs.contents.Contents.begin.Goals as goal
 

@@ -1,6 +1,6 @@
 use Rattle.std.proofs.Common.{◌∙◌, ap, sym}
 use Rattle.facts.specs.Contents.{set_of}
-use Rattle.facts.specs.SlotRows.{let_go_last}
+use Rattle.fact_tables.specs.SlotRows.{let_go_last}
 use Rattle.facts.proofs.Loads.{defines}
 use Rattle.facts.proofs.contents.Contents.define.Goals as goal
 

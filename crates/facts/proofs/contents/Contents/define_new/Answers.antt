@@ -1,9 +1,10 @@
 use Rattle.std.proofs.Common.{◌∙◌, ◌++◌, ◌∷◌, [], ap, sym}
-use Rattle.facts.specs.declared.known.Known.TheVariants.{Cell}
+use Rattle.fact_tables.specs.declared.known.Known.TheVariants.{Cell}
 use Rattle.facts.specs.Contents.{set_of}
-use Rattle.facts.specs.Facts.{add_class, held_nonnull}
-use Rattle.facts.specs.SlotRows.{let_go_last}
-use Rattle.facts.specs.Values.{ValueFacts}
+use Rattle.fact_tables.specs.Rows.{held_nonnull}
+use Rattle.facts.specs.Facts.{add_class}
+use Rattle.fact_tables.specs.SlotRows.{let_go_last}
+use Rattle.fact_tables.specs.Values.{ValueFacts}
 use Rattle.facts.proofs.Loads.{defines}
 use Rattle.std.specs.Prelude.{length}
 use Rattle.facts.proofs.contents.Contents.define_new.Goals as goal

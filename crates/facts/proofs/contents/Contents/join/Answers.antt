@@ -1,12 +1,12 @@
 use Rattle.std.proofs.Common.{◌≡◌, ◌∙◌, ap, sym, ℕ}
 use Rattle.std.proofs.lemmas.Result.{on_ok_weaker}
 use Rattle.lemmas.specs.Numbers.{test_true}
-use Rattle.facts.specs.declared.known.Class.{Class}
-use Rattle.facts.specs.declared.ties.Ties.{Ties}
+use Rattle.fact_tables.specs.declared.known.Class.{Class}
+use Rattle.fact_tables.specs.declared.ties.Ties.{Ties}
 use Rattle.facts.specs.Contents.{set_of}
-use Rattle.facts.specs.Facts.{FactSet, class_at, set_class}
-use Rattle.facts.specs.Claims.{moved}
-use Rattle.facts.specs.Ties.{class_now}
+use Rattle.fact_tables.specs.Rows.{class_at}
+use Rattle.facts.specs.Facts.{FactSet, set_class}
+use Rattle.fact_tables.specs.Ties.{moved, class_now}
 use Rattle.facts.proofs.Settled.{joined_facts}
 use Rattle.facts.proofs.contents.Contents.join.Goals as goal
 

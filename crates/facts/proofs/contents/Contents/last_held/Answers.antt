@@ -1,6 +1,6 @@
 use Rattle.std.proofs.Common.{◌≡◌, false}
 use Rattle.std.specs.List.{list_any}
-use Rattle.facts.specs.Facts.{holds, values_without}
+use Rattle.fact_tables.specs.Rows.{holds, values_without}
 use Rattle.facts.proofs.Slots.{free_slots}
 use Rattle.facts.proofs.contents.Contents.last_held.Goals as goal
 

@@ -1,6 +1,6 @@
 use Rattle.std.proofs.Common.{◌≡◌, sym, false}
 use Rattle.std.specs.List.{list_any}
-use Rattle.facts.specs.Facts.{holds}
+use Rattle.fact_tables.specs.Rows.{holds}
 use Rattle.facts.proofs.Slots.{free_slots}
 use Rattle.facts.proofs.contents.Contents.let_go.Goals as goal
 

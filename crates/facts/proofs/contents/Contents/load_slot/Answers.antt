@@ -1,6 +1,6 @@
 use Rattle.std.proofs.Common.{◌∙◌, ap, sym}
 use Rattle.facts.specs.Contents.{set_of}
-use Rattle.facts.specs.SlotRows.{let_go_slot, let_go_last}
+use Rattle.fact_tables.specs.SlotRows.{let_go_slot, let_go_last}
 use Rattle.facts.proofs.Loads.{load_of, load_of_new}
 use Rattle.facts.proofs.contents.Contents.load_slot.Goals as goal
 

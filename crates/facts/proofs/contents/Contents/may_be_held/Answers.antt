@@ -1,5 +1,5 @@
 use Rattle.std.proofs.Common.{◌≡◌, sym, subst}
-use Rattle.facts.specs.declared.known.Known.{Known}
+use Rattle.fact_tables.specs.declared.known.Known.{Known}
 use Rattle.facts.specs.Facts.{slots_without}
 use Rattle.facts.proofs.Slots.{free_slots}
 use Rattle.facts.proofs.contents.Contents.may_be_held.Goals as goal

@@ -1,10 +1,10 @@
 use Rattle.std.proofs.Common.{◌≡◌, ◌+◌, ◌∙◌, ◌∷◌, [], ap, sym, subst, suc, drop, drop-cons, add-one, List, ℕ}
 use Rattle.std.proofs.lemmas.List.{drop_all}
-use Rattle.facts.specs.declared.known.Entry.{Entry}
+use Rattle.facts.specs.declared.entry.Entry.{Entry}
 use Rattle.facts.specs.Contents.{set_of}
 use Rattle.facts.specs.Facts.{FactSet}
 use Rattle.facts.specs.TakenBack.{DifferBy}
-use Rattle.facts.specs.Values.{ValueFacts}
+use Rattle.fact_tables.specs.Values.{ValueFacts}
 use Rattle.facts.proofs.TakenBack.{entry_is_back, all_is_back}
 use Rattle.facts.proofs.contents.Contents.take_back.Goals as goal
 

@@ -1,7 +1,8 @@
 use Rattle.std.proofs.Common.{◌≡◌, drop}
 use Rattle.facts.specs.Contents.{set_of}
 use Rattle.facts.specs.Claims.{tie_claims}
-use Rattle.facts.specs.Ties.{AreTies, facts_now}
+use Rattle.fact_tables.specs.Ties.{AreTies}
+use Rattle.facts.specs.Tied.{facts_now}
 use Rattle.facts.proofs.contents.Contents.tie_claims.Given as goal
 
 abbrev pub invariant-loop-claim : goal.invariant-loop-claim

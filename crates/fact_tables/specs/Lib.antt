@@ -1,0 +1,12 @@
+pub mod Rows
+pub mod Covers
+pub mod EachListed
+pub mod Sheets
+pub mod Owners
+pub mod Owned
+pub mod SlotRows
+pub mod Numbered
+pub mod Values
+pub mod Uses
+pub mod Chains
+pub mod Ties

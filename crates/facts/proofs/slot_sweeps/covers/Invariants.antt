@@ -1,8 +1,0 @@
-use Rattle.std.proofs.Common.{◌≡◌, ◌-◌, length}
-use Rattle.std.specs.List.{list_all}
-use Rattle.facts.specs.SlotRows.{covers_at}
-use Rattle.facts.specs.Uses.{chain}
-use Rattle.facts.proofs.slot_sweeps.covers.Given as goal
-
-abbrev pub invariant-loop-step : goal.invariant-loop-step
-invariant-loop-step l = list_all (covers_at l.c l.d l.here l.there) (chain (length l.keepers.links.items) l.keepers.links.items l.initial.at) ≡ list_all (covers_at l.c l.d l.here l.there) (chain (length l.keepers.links.items - l.step) l.keepers.links.items l.at)

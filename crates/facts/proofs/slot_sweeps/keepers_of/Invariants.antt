@@ -1,6 +1,0 @@
-use Rattle.std.proofs.Common.{drop}
-use Rattle.facts.proofs.Keepers.{AreKeepers}
-use Rattle.facts.proofs.slot_sweeps.keepers_of.Given as goal
-
-abbrev pub invariant-loop-s : goal.invariant-loop-s
-invariant-loop-s l = AreKeepers (drop l.s-index l.holding) l.holding l.keepers l.slots
