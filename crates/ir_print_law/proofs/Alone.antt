@@ -15,14 +15,14 @@ use Rattle.ir_print_law.specs.Printable.{IsFunction}
 use Rattle.ir_print_law.specs.Wholes.{IsWhole}
 use Rattle.ir_print_law.proofs.FunctionsRead.{function_is}
 use Rattle.ir_print_law.proofs.ItemsRead.{Grows, Grown, grown_further, IsBetween}
-use Rattle.ir_print_law.proofs.ModuleRead.{read_so}
+use Rattle.ir_print_law.proofs.ModuleRead.{read_so, ends}
 use Rattle.ir_print_law.proofs.ModuleState.{Kept, Leads, Made}
 use Rattle.ir_print_law.proofs.ReplacedWhole.{replaced_is_alone}
 use Rattle.ir_print_law.proofs.Tables.{Begins}
 use Rattle.ir_print_law.specs.Standing.{StandsBetween, StandsIn, ReadsPast, HaveSameNames, IsCounted, AreCounted, StayCounted, AreReadAlone}
 use Rattle.ir_print_law.proofs.Law.{read_anew}
 use Rattle.ir_print_law.proofs.Meaning.{First, named_at, name_of_item, name_here, mean_alike, are_right}
-use Rattle.ir_print_law.proofs.Passed.{Told, past_function, items_before, items_after, nothing_made, starts, ends}
+use Rattle.ir_print_law.proofs.Passed.{Told, past_function, items_before, items_after, nothing_made, starts}
 
 -- ---- tables are counted
 

@@ -75,7 +75,7 @@ abbrev pub after_function : (symbol returned : ℕ) → List Parameter → Optio
 after_function symbol returned ps c bs i = with_function (record { symbol = symbol; returned = returned; parameters = ps; collector = c }) bs i
 
 -- where reading goes on to its end from after a function, it does so from the function's brace, and no name is missing there
-leads_function : (e : Input) (symbol returned : ℕ) (ps : List Parameter) (c : Option Text) (bs : List Block) (i : Input) → Leads e (after_function symbol returned ps c bs i)
+pub leads_function : (e : Input) (symbol returned : ℕ) (ps : List Parameter) (c : Option Text) (bs : List Block) (i : Input) → Leads e (after_function symbol returned ps c bs i)
     → (first_missing i.locals i.local_uses ≡ None) × Leads e i
 unfolding with_function
 leads_function e symbol returned ps c bs i b =
@@ -93,10 +93,11 @@ leads_function e symbol returned ps c bs i b =
     )
 
 -- the items with one function more
-abbrev with_made : Made → Function → Made
+abbrev pub with_made : Made → Function → Made
 with_made made f = record made { functions = made.functions ++ f ∷ [] }
 
-between_again : (symbol returned : ℕ) (ps : List Parameter) (c : Option Text) (bs : List Block) (i : Input) (made : Made) → made_of (kept_of i) ≡ made
+-- what is kept after it is what is between this one and the next
+pub between_again : (symbol returned : ℕ) (ps : List Parameter) (c : Option Text) (bs : List Block) (i : Input) (made : Made) → made_of (kept_of i) ≡ made
     → kept_of (after_function symbol returned ps c bs i) ≡ between (with_made made (read_function symbol returned ps c bs i))
 unfolding with_function
 between_again symbol returned ps c bs i made e = ap (λ (x : Made). between (with_made x (read_function symbol returned ps c bs i))) e
@@ -227,7 +228,7 @@ starts bytes lexed own is = (
 )
 
 -- the end of reading is its own end
-ends : (o : Input) → Stands no_one o → late_fault o ≡ None → Leads o o
+pub ends : (o : Input) → Stands no_one o → late_fault o ≡ None → Leads o o
 ends o end none =
     let late = nothing_late o none in
     record {

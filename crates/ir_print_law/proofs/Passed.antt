@@ -1,12 +1,10 @@
 -- The states before and after one function, where a whole text is read.
-use Rattle.std.proofs.Common.{◌≡◌, ℕ, ◌+◌, true, List, [], ◌∷◌, ◌++◌, length, Option, None, Some, refl, sym, ap, subst, ◌∙◌, arith}
+use Rattle.std.proofs.Common.{◌≡◌, ℕ, ◌+◌, true, List, [], ◌∷◌, ◌++◌, length, Some, refl, sym, ap, subst, ◌∙◌, arith}
 use Rattle.std.specs.Prelude.{nat_lt, slice_get}
 use Rattle.std.proofs.lemmas.Slice.Eq.{bytes_eq-Decides}
 use Rattle.grammar.specs.Grammar.{◌>>=◌}
 use Rattle.grammar.specs.Many.{Listed, Before}
-use Rattle.ir_ast.specs.declared.block.Block.{Block}
 use Rattle.ir_ast.specs.declared.function.Function.{Function}
-use Rattle.ir_ast.specs.declared.function.Parameter.{Parameter}
 use Rattle.ir_ast.specs.declared.items_of_module.SymbolSort.TheVariants as symbol
 use Rattle.ir_tokens.specs.Bytes.{Text}
 use Rattle.ir_tokens.specs.Tokens.{IsLexed}
@@ -16,10 +14,9 @@ use Rattle.ir_tokens.specs.declared.token.Kind.TheVariants as k
 use Rattle.ir_forms.specs.Cursor.{kind, sees, spelled}
 use Rattle.ir_forms.specs.declared.input.Input.{Input}
 use Rattle.ir_forms.specs.Input.{Form}
-use Rattle.ir_forms.specs.Names.{new_symbol, with_symbol, first_missing}
+use Rattle.ir_forms.specs.Names.{new_symbol, with_symbol}
 use Rattle.function_text.specs.Anew.{named_head}
 use Rattle.ir_text.specs.ItemsOfText.{function_name_by, function_name, open_body, body_after, with_function, head, definition, item_by, item, at_end_of_text}
-use Rattle.ir_text.specs.Late.{late_fault}
 use Rattle.ir_text.specs.Read.{module_of, start}
 use Rattle.name_text.specs.Readings.{AreBytes}
 use Rattle.ir_print_law.specs.Printable.{IsFunction, IsStructType, IsGlobal, IsDeclare}
@@ -29,42 +26,14 @@ use Rattle.ir_print_law.proofs.ItemTypes.{defined_result_keeps}
 use Rattle.ir_print_law.proofs.ItemsRead.{Grown, grows_not, grows_by, grown_not, grown_further, IsBetween, Goes, struct_type_goes, global_goes, declaration_goes}
 use Rattle.ir_print_law.proofs.LinesRead.{source_passes, target_passes, group_passes, comdat_passes, metadata_passes}
 use Rattle.ir_print_law.proofs.ModuleItems.{function_pending, new_function_keeps, function_added}
-use Rattle.ir_print_law.proofs.ModuleRead.{neither, read_function, after_function}
+use Rattle.ir_print_law.proofs.ModuleRead.{read_function, after_function, leads_function, with_made, between_again}
 use Rattle.ir_print_law.proofs.ModuleState.{no_one, Stands, Kept, kept_of, Leads, reading_of, Made, made_of, between, outside_of}
 use Rattle.ir_print_law.proofs.ModuleTables.{no_structs, no_symbols}
 use Rattle.ir_print_law.proofs.NumberTokens.{lexed_spell}
 use Rattle.ir_print_law.proofs.Passes.{Passes, skip_passes}
-use Rattle.ir_print_law.proofs.Tables.{begins_itself, name_there, stays}
-use Rattle.ir_print_law.proofs.Uses.{struct_right, symbol_right, nothing_late}
+use Rattle.ir_print_law.proofs.Tables.{name_there, stays}
 
 -- ---- one function
-
--- where reading goes on to its end from after a function, it does so from the function's brace, and no name is missing there
-leads_function : (e : Input) (symbol returned : ℕ) (ps : List Parameter) (c : Option Text) (bs : List Block) (i : Input) → Leads e (after_function symbol returned ps c bs i)
-    → (first_missing i.locals i.local_uses ≡ None) × Leads e i
-unfolding with_function
-leads_function e symbol returned ps c bs i b =
-    let none = neither i.missing (first_missing i.locals i.local_uses) b.missing in (
-      none.1,
-      record {
-        end = b.end;
-        types = b.types;
-        struct_names = b.struct_names;
-        symbols = b.symbols;
-        struct_uses = b.struct_uses;
-        symbol_uses = b.symbol_uses;
-        missing = none.0;
-      },
-    )
-
--- the items with one function more
-abbrev with_made : Made → Function → Made
-with_made made f = record made { functions = made.functions ++ f ∷ [] }
-
-between_again : (symbol returned : ℕ) (ps : List Parameter) (c : Option Text) (bs : List Block) (i : Input) (made : Made) → made_of (kept_of i) ≡ made
-    → kept_of (after_function symbol returned ps c bs i) ≡ between (with_made made (read_function symbol returned ps c bs i))
-unfolding with_function
-between_again symbol returned ps c bs i made e = ap (λ (x : Made). between (with_made x (read_function symbol returned ps c bs i))) e
 
 -- the name of a function is at its number after it is read
 name_by : (number : ℕ) (x : Kind) (i : Input) (n : ℕ) (o : Input) → (function_name_by (symbol.Defined number) x).says i n o → slice_get o.symbols.names n ≡ Some (spelled i.cursor)
@@ -226,17 +195,3 @@ starts bytes lexed own is = (
   },
   refl,
 )
-
--- the end of reading is its own end
-pub ends : (o : Input) → Stands no_one o → late_fault o ≡ None → Leads o o
-ends o end none =
-    let late = nothing_late o none in
-    record {
-      end = end;
-      types = begins_itself o.types;
-      struct_names = begins_itself o.struct_names.names;
-      symbols = begins_itself o.symbols.names;
-      struct_uses = struct_right o late.2;
-      symbol_uses = symbol_right o late.1;
-      missing = late.0;
-    }

@@ -30,6 +30,7 @@ use Rattle.certs.specs.Families.{is_opaque_text}
 use Rattle.certificate.specs.Named.{HasGlobals, HasStructs}
 use Rattle.certificate.specs.TypedShapes.{typed_global, typed_held, typed_row}
 use Rattle.migration_law.specs.PartsBefore.{ArePartsBefore}
+use Rattle.migration_law.proofs.ShapesAfter.{map_twice}
 use Rattle.migration_law.proofs.Tables.{type_after, type_in_order, none_after}
 
 -- ---- lists
@@ -38,11 +39,6 @@ use Rattle.migration_law.proofs.Tables.{type_after, type_in_order, none_after}
 same_lists : {A B C : Type 0} (f : B → C) (g : A → B) (h : A → C) (xs : List A) → ((k : ℕ) (x : A) → slice_get xs k ≡ Some x → f (g x) ≡ h x) → map f (map g xs) ≡ map h xs
 same_lists f g h [] each = refl
 same_lists f g h (x ∷ xs) each = rw (each 0 x refl, same_lists f g h xs (λ k y e. each (suc k) y e)) refl
-
--- a map after another one
-map_twice : {A B C : Type 0} (f : B → C) (g : A → B) (xs : List A) → map f (map g xs) ≡ map (λ x. f (g x)) xs
-map_twice f g [] = refl
-map_twice f g (x ∷ xs) = ap (λ l. f (g x) ∷ l) (map_twice f g xs)
 
 copies_map : (f : ℕ → ℕ) (count : ℕ) (xs : List ℕ) → copies count (map f xs) ≡ map f (copies count xs)
 copies_map f zero xs = refl
