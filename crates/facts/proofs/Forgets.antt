@@ -190,10 +190,13 @@ module _ (values : List Known) (classes : List Class) (slots : List SlotFact) (s
 
 -- a value is of its class
 class_found : (values : List Known) (u : ℕ) (P : ℕ → Type 0) (k : Known) → known_at values u ≡ k → OfClass P k → OfClass (λ c. P c × (list_any (is_of c) values ≡ true)) k
-class_found values u P (Cell c layout stale) e h = (h, elim (cases_lt u (length values)) [
-  | inl lt ↦ list_any_at (is_of c) values u Nothing lt (ap (is_of c) e ∙ test_yes c c refl)
-  | inr past ↦ let none = sym (get_or_past values u Nothing past) ∙ e in absurd cc
-])
+class_found values u P (Cell c layout stale) e h = (
+  h,
+  elim (cases_lt u (length values)) [
+    | inl lt ↦ list_any_at (is_of c) values u Nothing lt (ap (is_of c) e ∙ test_yes c c refl)
+    | inr past ↦ let none = sym (get_or_past values u Nothing past) ∙ e in absurd cc
+  ],
+)
 class_found values u P Nothing e h = h
 class_found values u P (Number bits below) e h = h
 class_found values u P Null e h = h
