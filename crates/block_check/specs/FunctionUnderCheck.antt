@@ -1,6 +1,5 @@
 -- The function that is checked, as the definitions see it.
 use Rattle.std.specs.Prelude.{◌≡◌, slice_get, Some}
-use Rattle.std.specs.Option.{option_copied}
 use Rattle.shadow_stack.specs.Slots.{slots_of}
 use Rattle.block_rules.specs.Edges.{RuleContext}
 use Rattle.block_check.specs.Rows.{AreEntryFacts}
@@ -12,10 +11,9 @@ use Rattle.block_check.specs.declared.under_check.FunctionUnderCheck.{FunctionUn
 abbrev pub seen : FunctionUnderCheck → RuleContext
 seen s = record { program = s.context.program.now; certs = s.context.certs.now.sections; function = s.context.function.now; slots = s.context.slots.now; section = slice_get s.context.certs.now.sections s.func }
 
--- what is found of a function once is right: it is the one with its number, with its section of the certificate and its slots. Its predecessors are listed, what comes in to its phis is recorded, and what was found before is what its first blocks begin with
+-- what is found of a function once is right: it is the one with its number, with its slots. Its predecessors are listed, what comes in to its phis is recorded, and what was found before is what its first blocks begin with
 pub record IsReady (s : FunctionUnderCheck) : Type 0 where
   pub there : slice_get s.context.program.now.of_module.functions s.func ≡ Some s.context.function.now
-  pub section : option_copied s.section ≡ slice_get s.context.certs.now.sections s.func
   pub slots : s.context.slots.now ≡ slots_of s.context.program.now.of_module s.context.function.now
   pub predecessors : ArePredecessors s.context.function.now s.predecessors.now
   pub operands : AreOperandTables s.context.function.now s.context.function.now.blocks s.operands.now

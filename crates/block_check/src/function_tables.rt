@@ -57,7 +57,6 @@ impl FunctionTables {
     {
         FunctionUnderCheck {
             func,
-            section: context.certs.section(func),
             context,
             predecessors: &self.predecessors,
             operands: self.operands.as_slice(),

@@ -8,7 +8,7 @@ ghost use Rattle.block_check.specs.Entries.{recorded_from};
 use crate::phi_operands::PhiOperands;
 use crate::predecessors::Predecessors;
 use block_rules::RuleContext;
-use certs::{Claim, Mark, Promise, Section};
+use certs::{Claim, Mark, Promise};
 use facts::KeptFacts;
 use ir_ast::{BlockId, End, FuncId, Function, Instr, Module, Operand, Phi};
 
@@ -17,8 +17,6 @@ use ir_ast::{BlockId, End, FuncId, Function, Instr, Module, Operand, Phi};
 pub struct FunctionUnderCheck<'a> {
     pub func: FuncId,
     pub context: RuleContext<'a>,
-    /// Its section of the certificate, if it has one.
-    pub section: Option<&'a Section>,
     pub predecessors: &'a Predecessors,
     /// What comes in to the phis of each block.
     pub operands: &'a [PhiOperands],
@@ -29,9 +27,9 @@ pub struct FunctionUnderCheck<'a> {
 impl<'a> FunctionUnderCheck<'a> {
     /// The claims of a block in the certificate.
     pub fn claims(&self, block: BlockId) -> &'a [Claim]
-        ensures { result.now ≡ claims_in (option_copied self.now.section) block }
+        ensures { result.now ≡ claims_in (slice_get self.now.context.certs.now.sections self.now.func) block }
     {
-        match self.section {
+        match self.context.certs.section(self.func) {
             Some(section) => match section.blocks.get(block.number() as usize) {
                 Some(claims) => claims.as_slice(),
                 None => &[],
@@ -59,9 +57,9 @@ impl<'a> FunctionUnderCheck<'a> {
 
     /// What is promised of each parameter.
     pub fn promises(&self) -> &'a [Option<Promise>]
-        ensures { result.now ≡ promises_in (option_copied self.now.section) }
+        ensures { result.now ≡ promises_in (slice_get self.now.context.certs.now.sections self.now.func) }
     {
-        match self.section {
+        match self.context.certs.section(self.func) {
             Some(section) => section.parameters.as_slice(),
             None => &[],
         }
@@ -69,9 +67,9 @@ impl<'a> FunctionUnderCheck<'a> {
 
     /// What is promised of the result.
     pub fn promised(&self) -> Option<Promise>
-        ensures { result ≡ promised_in (option_copied self.now.section) }
+        ensures { result ≡ promised_in (slice_get self.now.context.certs.now.sections self.now.func) }
     {
-        match self.section {
+        match self.context.certs.section(self.func) {
             Some(section) => section.result,
             None => None,
         }
@@ -79,9 +77,9 @@ impl<'a> FunctionUnderCheck<'a> {
 
     /// How it is marked.
     pub fn mark(&self) -> Mark
-        ensures { result ≡ own_mark (option_copied self.now.section) }
+        ensures { result ≡ own_mark (slice_get self.now.context.certs.now.sections self.now.func) }
     {
-        match self.section {
+        match self.context.certs.section(self.func) {
             Some(section) => section.mark,
             None => Mark::None,
         }
