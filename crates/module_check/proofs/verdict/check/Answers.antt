@@ -5,14 +5,22 @@ use Rattle.module_check.specs.Accepted.{IsModuleCertified, IsModuleFault, IsProg
 use Rattle.module_check.specs.Exclusive.{only_memory}
 use Rattle.module_check.proofs.verdict.check.Goals as goal
 
+pub of-requires : goal.of-requires
+of-requires c =
+    let under = c.in_ok-under.under in
+    let of_program = subst (λ (p : LaidOut). IsModuleCertified p c.certs.result.now.sections (length p.of_module.functions)) c.program.ensures c.in-None.ensures in
+    let all = subst (λ (k : Certs). IsModuleCertified under.program k.sections (length under.program.of_module.functions)) c.certs.ensures of_program in
+    subst (λ (parts : LaidOut × Certs). IsModuleCertified parts.0 parts.1.sections (length parts.0.of_module.functions)) (sym c.into_parts-program.ensures) all
+
 pub returns-in-None-clause-certified : goal.returns-in-None-clause-certified
 returns-in-None-clause-certified c =
     let found = c.in_ok-under.ensures in
     let under = c.in_ok-under.under in
     let of_program = subst (λ (p : LaidOut). IsModuleCertified p c.certs.result.now.sections (length p.of_module.functions)) c.program.ensures c.in-None.ensures in
-    let all = subst (λ (k : Certs). IsModuleCertified under.program k.sections (length under.program.of_module.functions)) (c.certs.ensures ∙ found.certs) of_program in
-    let here = certified_program under.program (shaped c.args.of_module c.args.certs) c.args.certs.sections found.of_module found.laid_out.0 found.laid_out.1 all in
-    subst (λ accepted. IsProgramCertified accepted.program accepted.certs.sections) (sym c.of.ensures.holds) here
+    let all = subst (λ (k : Certs). IsModuleCertified under.program k.sections (length under.program.of_module.functions)) c.certs.ensures of_program in
+    let here = certified_program under.program (shaped c.args.of_module c.args.certs) under.certs.sections found.of_module found.laid_out.0 found.laid_out.1 all in
+    subst (λ accepted. IsProgramCertified accepted.program accepted.certs.sections) (sym c.of.ensures.holds)
+    (subst (λ (parts : LaidOut × Certs). IsProgramCertified parts.0 parts.1.sections) (sym c.into_parts-program.ensures) here)
 
 pub returns-in-None-clause-accepted : goal.returns-in-None-clause-accepted
 returns-in-None-clause-accepted c =
@@ -28,4 +36,4 @@ returns-in-Some-clause-only c accepted =
     let under = c.in_ok-under.under in
     let of_program = subst (λ (p : LaidOut). IsModuleFault p c.certs.result.now.sections (length p.of_module.functions) c.in-Some.fault) c.program.ensures c.in-Some.ensures in
     let fault = subst (λ (k : Certs). IsModuleFault under.program k.sections (length under.program.of_module.functions) c.in-Some.fault) (c.certs.ensures ∙ found.certs) of_program in
-    c.from-in-Some.ensures ∙ only_memory under.program (shaped c.args.of_module c.args.certs) c.args.certs.sections c.in-Some.fault found.of_module found.laid_out.0 found.laid_out.1 fault accepted
+    c.refused.ensures.verdict ∙ c.from.ensures ∙ only_memory under.program (shaped c.args.of_module c.args.certs) c.args.certs.sections c.in-Some.fault found.of_module found.laid_out.0 found.laid_out.1 fault accepted

@@ -1,6 +1,3 @@
-use Rattle.std.proofs.Common.{subst, sym}
-use Rattle.program_safety.specs.Safety.{IsCarefulProgram, IsSafeProgram}
-use Rattle.module_check.specs.Discipline.{AreDisciplined}
 use Rattle.module_check.proofs.Threads.{disciplined, promised}
 use Rattle.module_check.proofs.accepted.Accepted.of.Goals as goal
 
