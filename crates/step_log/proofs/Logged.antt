@@ -1,5 +1,5 @@
 -- A run that is logged, between two steps of a trace.
-use Rattle.std.proofs.Common.{◌≡◌, ◌≤◌, ℕ, zero, suc, List, [], ◌∷◌, ◌++◌, length, reverse, replicate, take, refl, sym, ap, subst, ◌∙◌, arith, append_assoc}
+use Rattle.std.proofs.Common.{◌≡◌, ◌≤◌, ℕ, zero, suc, List, [], ◌∷◌, ◌++◌, Option, length, reverse, replicate, take, refl, sym, ap, subst, ◌∙◌, arith, append_assoc}
 use Rattle.std.specs.List.{AllByRecursion}
 use Rattle.std.proofs.lemmas.List.{append-nil, reverse-append, reverse-reverse, length-reverse}
 use Rattle.std.proofs.Math.Seq.{take-append_seam}
@@ -8,6 +8,7 @@ use Rattle.moves.specs.declared.actor.Actor.{Actor}
 use Rattle.moves.specs.Runs.{IsActor, AreActors}
 use Rattle.program_runner.specs.Setups.{starts_of}
 use Rattle.stepping.specs.Ends.{IsStepOrNone}
+use Rattle.stepping.specs.declared.happening.MadeStep.{MadeStep}
 use Rattle.trace_text.specs.declared.trace.Setup.{Setup}
 use Rattle.trace_text.specs.declared.trace.Steps.{Steps}
 use Rattle.replay.specs.Lists.{actors_of}
@@ -16,7 +17,7 @@ use Rattle.replay.specs.Worlds.{IsAfter, IsStepAfter, run_of}
 use Rattle.step_log.specs.declared.log.LogStep.{LogStep}
 use Rattle.step_log.specs.declared.recording.Recorder.{Recorder}
 use Rattle.step_log.specs.declared.upcoming.Upcoming.{Upcoming}
-use Rattle.step_log.specs.Steps.{AreSteps, Further, IsRecorded}
+use Rattle.step_log.specs.Steps.{AreSteps, Further, IsRecorded, happening_of}
 use Rattle.step_log.specs.Upcoming.{actors_in}
 
 -- ---- actors
@@ -34,19 +35,19 @@ are_actors threads (s ∷ steps) all = are_actors_more threads s.count s.actor (
 -- ---- one step
 
 -- the step of an actor is logged
-pub recorded : (p : LaidOut) (setup : Setup) (before : List Actor) (r v : Recorder) (actor : Actor) (step : LogStep) → IsRecorded p setup before r → step.actor ≡ actor
-    → (v.world.program ≡ r.world.program) × (v.world.setup ≡ r.world.setup) → IsStepAfter r.world before actor step.made × IsAfter v.world (actor ∷ before)
+pub recorded : (p : LaidOut) (setup : Setup) (before : List Actor) (r v : Recorder) (actor : Actor) (step : LogStep) (did : Option MadeStep) → IsRecorded p setup before r → step.actor ≡ actor
+    → step.happening ≡ happening_of did → (v.world.program ≡ r.world.program) × (v.world.setup ≡ r.world.setup) → IsStepAfter r.world before actor did × IsAfter v.world (actor ∷ before)
     → v.steps ≡ r.steps ++ step ∷ [] → IsRecorded p setup (actor ∷ before) v
-recorded p setup before r v actor step is of same both more =
-    let Made : LaidOut → Setup → Type 0 = λ q begun. IsStepOrNone (heap_of q begun) program_machine (starts_of q begun) (run_of q begun before) actor step.made in
+recorded p setup before r v actor step did is of happened same both more =
+    let Made : LaidOut → Setup → Type 0 = λ q begun. IsStepOrNone (heap_of q begun) program_machine (starts_of q begun) (run_of q begun before) actor did in
     let made : Made p setup = subst (λ q. Made q setup) is.program (subst (λ begun. Made r.world.program begun) is.setup_is both.0) in
-    let named = subst (λ (a : Actor). IsStepOrNone (heap_of p setup) program_machine (starts_of p setup) (run_of p setup before) a step.made) (sym of) made in
+    let named = subst (λ (a : Actor). IsStepOrNone (heap_of p setup) program_machine (starts_of p setup) (run_of p setup before) a did) (sym of) made in
     record {
       program = same.0 ∙ is.program;
       setup_is = same.1 ∙ is.setup_is;
       afterwards = both.1;
       steps = subst (λ l. AreSteps p setup (actor ∷ before) l) (sym more)
-          (subst (λ (a : Actor). AreSteps p setup (a ∷ before) (r.steps ++ step ∷ [])) of (Further before r.steps step is.steps named));
+          (subst (λ (a : Actor). AreSteps p setup (a ∷ before) (r.steps ++ step ∷ [])) of (Further before r.steps step did is.steps named happened));
     }
 
 -- ---- all steps

@@ -1,21 +1,28 @@
 -- The steps of a run, in their order, as a log has them.
-use Rattle.std.specs.Prelude.{◌≡◌, List, [], ◌∷◌, ◌++◌}
+use Rattle.std.specs.Prelude.{◌≡◌, List, [], ◌∷◌, ◌++◌, Option, Some, None}
 use Rattle.layout.specs.Layouts.{LaidOut}
 use Rattle.moves.specs.declared.actor.Actor.{Actor}
 use Rattle.program_runner.specs.Setups.{starts_of}
 use Rattle.stepping.specs.Ends.{IsStepOrNone}
+use Rattle.stepping.specs.declared.happening.Happening.{Happening}
+use Rattle.stepping.specs.declared.happening.MadeStep.{MadeStep}
 use Rattle.trace_text.specs.declared.trace.Setup.{Setup}
 use Rattle.replay.specs.Runs.{heap_of, program_machine}
 use Rattle.replay.specs.Worlds.{IsAfter, run_of}
 use Rattle.step_log.specs.declared.log.LogStep.{LogStep}
 use Rattle.step_log.specs.declared.recording.Recorder.{Recorder}
 
+-- what a step did, if one was made
+abbrev pub happening_of : Option MadeStep → Option Happening
+happening_of None = None
+happening_of (Some made) = Some made.happening
+
 -- the log has a step for each of these actors, the newest actor first: what it made after the run of those before it
 pub data AreSteps (p : LaidOut) (setup : Setup) : (actors : List Actor) → List LogStep → Type 0 where
   NoStep : AreSteps p setup [] []
   Further :
-      (before : List Actor) (steps : List LogStep) (step : LogStep) → AreSteps p setup before steps
-      → IsStepOrNone (heap_of p setup) program_machine (starts_of p setup) (run_of p setup before) step.actor step.made
+      (before : List Actor) (steps : List LogStep) (step : LogStep) (made : Option MadeStep) → AreSteps p setup before steps
+      → IsStepOrNone (heap_of p setup) program_machine (starts_of p setup) (run_of p setup before) step.actor made → step.happening ≡ happening_of made
       → AreSteps p setup (step.actor ∷ before) (steps ++ step ∷ [])
 
 -- the world is the one after these actors, and their steps are logged

@@ -2,7 +2,7 @@ use ir_ast::FuncId;
 use items::Items;
 use machine::FramePlace;
 use moves::Actor;
-use stepping::MadeStep;
+use stepping::Happening;
 
 /// A step of a run.
 #[derive(Clone, Copy)]
@@ -11,7 +11,7 @@ pub struct LogStep {
     /// Where the thread stands before the step. None of the collector, and of a thread that has ended.
     pub place: Option<FramePlace>,
     /// What the step does. None where the actor has no next step.
-    pub made: Option<MadeStep>,
+    pub happening: Option<Happening>,
     /// How many notes of frames come before the step. If it changes the root slots, the next note is about that.
     pub notes: usize,
 }

@@ -7,7 +7,7 @@ ghost use Rattle.trace_text.specs.declared.trace.Setup.{Setup as ASetup};
 ghost use Rattle.program_runner.specs.Setups.{IsSetupOf, IsSetupFault};
 ghost use Rattle.program_runner.specs.declared.setup_fault.SetupFault.TheVariants as fault;
 ghost use Rattle.replay.specs.Lists.{actors_of};
-ghost use Rattle.step_log.specs.Steps.{AreSteps, IsRecorded};
+ghost use Rattle.step_log.specs.Steps.{AreSteps, IsRecorded, happening_of};
 
 use crate::frame_notes::FrameNotes;
 use crate::log::{LogStep, StepLog};
@@ -19,6 +19,7 @@ use moves::Actor;
 use program_runner::SetupFault;
 use replay::World;
 use std::alloc::{AllocError, Global};
+use stepping::{Happening, MadeStep};
 use trace_text::{Setup, Trace};
 
 /// A world, and what was logged of the steps that led to it.
@@ -37,6 +38,16 @@ fn place_of(world: &World<'_>, actor: Actor) -> Option<FramePlace> {
             Some(thread) if thread.frames() > 0 => Some(thread.frame_place(0)),
             _ => None,
         },
+    }
+}
+
+/// What a step did, if the actor made one.
+fn happening_of(made: &Option<MadeStep>) -> Option<Happening>
+    ensures { result ≡ happening_of made.now }
+{
+    match made {
+        Some(made) => Some(made.happening),
+        None => None,
     }
 }
 
@@ -101,7 +112,7 @@ impl<'a> Recorder<'a> {
         self.steps.push(LogStep {
             actor,
             place,
-            made,
+            happening: happening_of(&made),
             notes,
         })?;
         note(&self.world, actor, self.steps.len(), &mut self.notes)?;

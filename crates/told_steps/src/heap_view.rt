@@ -9,7 +9,7 @@ use pools::{Layouts, Pools, WordKind};
 use program_runner::values_at_start;
 use std::alloc::{AllocError, Global};
 use step_log::LogStep;
-use stepping::{Happening, MadeStep};
+use stepping::Happening;
 use trace_text::Setup;
 
 /// What is known of a thread.
@@ -190,16 +190,10 @@ impl<'a> HeapView<'a> {
 
     /// The next step of the log: what it does.
     pub fn step(&mut self, step: &LogStep) -> Event {
-        match &step.made {
+        match &step.happening {
             None => Event::Nothing,
-            Some(made) => self.made(made),
-        }
-    }
-
-    fn made(&mut self, made: &MadeStep) -> Event {
-        match &made.happening {
-            Happening::Thread(number, made) => self.moved(*number, made),
-            Happening::Collector(turn) => self.turned(turn),
+            Some(Happening::Thread(number, made)) => self.moved(*number, made),
+            Some(Happening::Collector(turn)) => self.turned(turn),
         }
     }
 

@@ -6,5 +6,5 @@ use Rattle.step_log.proofs.recording.Recorder.step.Goals as goal
 pub returns : goal.returns
 returns c p setup before is =
     recorded p setup before c.args.self.now (record { world = c.step.new.self; steps = c.push.new.self; notes = c.note.new.notes }) c.args.actor
-    (record { actor = c.args.actor; place = c.place_of-place.result; made = c.in_ok-made.made; notes = c.len-notes.result }) is refl c.in_ok-made.ensures.same
+    (record { actor = c.args.actor; place = c.place_of-place.result; happening = c.happening_of.result; notes = c.len-notes.result }) c.in_ok-made.made is refl c.happening_of.ensures c.in_ok-made.ensures.same
     (c.in_ok-made.ensures.ok before is.afterwards) c.in_ok-push.ensures.ok
