@@ -5,7 +5,6 @@ use Rattle.std.specs.List.{list_all}
 use Rattle.lemmas.specs.Bools.{and_first, and_second, and_true}
 use Rattle.ir_ast.specs.declared.function.Function.{Function}
 use Rattle.ir_ast.specs.declared.module.Module.{Module}
-use Rattle.ir_ast.specs.declared.op.Op.{Op}
 use Rattle.ir_ast.specs.declared.shapes.Shapes.{Shapes}
 use Rattle.certs.specs.Families.{is_opaque_text}
 use Rattle.certs.specs.ShapesFit.{all_shapes_fit, global_fits, root_row_fits, roots_fit, row_fits, shape_fits, shapes_fit}

@@ -2,12 +2,10 @@
 use Rattle.std.specs.Prelude.{◌≡◌, ℕ, List, Option, length}
 use Rattle.certs.specs.declared.certs.Certs.{Certs}
 use Rattle.certs.specs.declared.section.Section.{Section}
-use Rattle.ir_ast.specs.declared.module.Module.{Module}
-use Rattle.layout.specs.Layouts.{LaidOut, AreLayouts, AreSizes, IsLayoutFault}
+use Rattle.layout.specs.Layouts.{LaidOut, AreLayouts, AreSizes}
 use Rattle.block_rules.specs.declared.block_fault.Refusal.{Refusal}
 use Rattle.answers.specs.Answers.{AreAnswers}
 use Rattle.module_check.specs.declared.verdict.Reason.{Reason}
-use Rattle.module_check.specs.declared.verdict.Reason.TheVariants.{Refused, Layout, Memory}
 
 -- the present module with its layouts, its certificates, and how many functions the last edit concerns
 pub record State : Type 0 where

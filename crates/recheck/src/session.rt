@@ -47,7 +47,6 @@ impl Model for Session {
 impl Session {
     /// Checks a module with its certificates, whose shapes it has from then on. It is refused only where the module has no layouts, or for memory; both are given
     /// back then.
-    #[tactic(auto, using(crate::proofs::Rows::none_kept))]
     pub fn new(alloc: Global, of_module: Module, certs: Certs) -> Result<Self, NotAccepted>
         requires { length certs.sections ≡ length of_module.functions }
         ensures of_module { IfOk result (λ session. session.program.of_module ≡ shaped of_module certs) }

@@ -1,4 +1,4 @@
-use Rattle.std.proofs.Common.{◌≡◌, ◌<◌, ℕ, Some, inl, slice_get, refl, ap, subst, sym}
+use Rattle.std.proofs.Common.{◌≡◌, ◌<◌, ℕ, Some, slice_get, refl, ap, subst, sym}
 use Rattle.ir_ast.specs.declared.module.Module.{Module}
 use Rattle.answers.specs.declared.kept_functions.KeptFunctions.{KeptFunctions}
 use Rattle.layout.specs.Layouts.{AreLayouts, LaidOut}
