@@ -5,7 +5,6 @@ use Rattle.certs.specs.declared.section.Section.{Section}
 use Rattle.layout.specs.Layouts.{LaidOut, AreLayouts, AreSizes}
 use Rattle.block_rules.specs.declared.block_fault.Refusal.{Refusal}
 use Rattle.answers.specs.Answers.{AreAnswers}
-use Rattle.module_check.specs.declared.verdict.Reason.{Reason}
 
 -- the present module with its layouts, its certificates, and how many functions the last edit concerns
 pub record State : Type 0 where
