@@ -6,4 +6,4 @@ use Rattle.recheck.specs.ShapedRoots.{roots_there}
 use Rattle.replaced_fits.specs.ReplacedFits.{AreRootsShaped}
 
 pub shaped : (n : Module) (func : ℕ) → missing_root n func ≡ None → AreRootsShaped n func
-shaped n func none f given same at = roots_there n func f given at same none
+shaped n func none given f same at = roots_there n func f given at same none
