@@ -66,8 +66,9 @@ fn status_with<O: Write, E: Write>(
 
 /// The status of `check` where there are no files, and the standard error takes nothing.
 fn status_without_error(rt: &(impl Runtime + AllocGlobal + Threads + Sync)) -> u8 {
+    let files: Vec<Option<Vec<u8>>> = Vec::new(rt.alloc());
     let mut out = Vec::new(rt.alloc());
-    status_with(rt, [].as_slice(), &mut out, &mut Full)
+    status_with(rt, files.as_slice(), &mut out, &mut Full)
 }
 
 /// The status of `check` where the module is accepted, and the standard output takes nothing.
