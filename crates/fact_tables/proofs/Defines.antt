@@ -19,7 +19,7 @@ use Rattle.fact_tables.specs.declared.uses.Use.{Use}
 use Rattle.fact_tables.specs.Rows.{is_of, off_base, off_test, values_without}
 use Rattle.fact_tables.specs.Owners.{ListsNonOwners, owns_class}
 use Rattle.fact_tables.specs.Sheets.{blank, row_at, known_of, class_of, test_of, names, EachRow, OnlyMarked, OnlyCurrent, with_mark, with_current, is_settled, off_row, changed, row_is_of, other_is_of}
-use Rattle.fact_tables.specs.Uses.{chain, IsUser, OnlyUsers, SameUses}
+use Rattle.fact_tables.specs.Uses.{chain, IsUser, OnlyUsers}
 use Rattle.fact_tables.specs.Values.{facts_of_rows, defined, defined_row}
 use Rattle.fact_tables.proofs.Changes.{off_less}
 use Rattle.fact_tables.proofs.Current.{marked_after, off_settled}
@@ -27,7 +27,7 @@ use Rattle.fact_tables.proofs.OwnersOf.{OnlyMembers, as_many, off_owns, put_non_
 use Rattle.fact_tables.proofs.Listed.{Unless, with_row, unless_after, set_unless}
 use Rattle.fact_tables.proofs.Marked.{any_listed}
 use Rattle.fact_tables.proofs.Says.{same_facts, each_same, each_mapped}
-use Rattle.fact_tables.proofs.Sets.{set_empty, set_part}
+use Rattle.fact_tables.proofs.Sets.{set_empty}
 use Rattle.fact_tables.proofs.Sheets.{set_marked}
 use Rattle.fact_tables.proofs.Users.{users_set}
 
@@ -97,10 +97,6 @@ module _ (v : ℕ) (rows : List Row) where
     pub defined_users : (uses : List Use) → OnlyUsers uses rows → row.used ≡ (row_at rows v).used → ((w : ℕ) → names w row ≡ true → w < length rows → IsUser uses rows v w) → OnlyUsers uses after
     defined_users uses only same says = users_set uses offs v row (off_users uses only) (same ∙ sym (ap (λ (r : Row). r.used) (at_off v)))
         (λ w e lt. subst (λ (used : Option ℕ). IsIn v (chain (length uses) uses used)) (sym (ap (λ (r : Row). r.used) (at_off w))) (says w e (rw (← length-map rows (off_row v)) lt)))
-
-  -- a value is used as before
-  pub defined_uses : (row : Row) → row.used ≡ (row_at rows v).used → SameUses rows (slice_set offs v row)
-  defined_uses row same = (length-set offs v row ∙ length-map rows (off_row v), λ u. set_part (λ (r : Row). r.used) offs v u row blank (same ∙ sym (ap (λ (r : Row). r.used) (at_off v))) ∙ ap (λ (r : Row). r.used) (at_off u))
 
   pub defined_facts : (known : Known) (test : Option Test) (added : List Class) → facts_of_rows (slice_set offs v (defined_row known test (row_at rows v))) added ≡ defined v known test (facts_of_rows rows added)
   defined_facts known test added = same_facts _ _ _ _ _ _

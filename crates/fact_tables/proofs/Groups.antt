@@ -1,12 +1,12 @@
 -- Groups of values that were tied: one more, and one that becomes another.
-use Rattle.std.proofs.Common.{◌≡◌, ◌<◌, ◌⊎◌, ◌+◌, inl, inr, ℕ, List, [], ◌∷◌, ◌++◌, suc, length, get_or, drop, drop-cons, add-one, slice_set, refl, sym, ap, ◌∙◌, subst, true, false, cond, Bool, Option, Some, None, arith}
+use Rattle.std.proofs.Common.{◌≡◌, ◌<◌, ◌⊎◌, ◌+◌, inl, inr, ℕ, List, [], ◌∷◌, ◌++◌, suc, length, slice_set, refl, sym, ap, ◌∙◌, subst, cond, Bool, Option, Some, None, arith}
 use Rattle.std.proofs.lemmas.List.{get_or_append_left, get_or-set_same, get_or-set_other}
 use Rattle.std.specs.Prelude.{◌==◌, if◌then◌else◌}
-use Rattle.lemmas.specs.Numbers.{test_true, test_false, test_no, test_same, some_same}
+use Rattle.lemmas.specs.Numbers.{test_no, test_same, some_same}
 use Rattle.std.proofs.lemmas.Bool.{cases_eq}
 use Rattle.lemmas.specs.Lists.{in_first, last_in, IsIn}
 use Rattle.fact_tables.specs.declared.ties.Group.{Group}
-use Rattle.fact_tables.specs.Ties.{moved, no_group, class_in, class_of_place, in_group, is_place, AreListed, AreClasses, AreTied}
+use Rattle.fact_tables.specs.Ties.{moved, no_group, class_in, class_of_place, in_group, AreListed, AreClasses, AreTied}
 
 -- ---- one number becomes another
 
@@ -168,64 +168,9 @@ IsPart from to old now = (c : ℕ) → (now c ≡ old c) ⊎ ((old c ≡ Some fr
 abbrev pub AreMoved : (from to : ℕ) → (rest : List ℕ) → (old now : ℕ → Option ℕ) → Type 0
 AreMoved from to rest old now = (c : ℕ) → IsIn c rest ⊎ (now c ≡ in_group from to (old c))
 
-pub place_yes : (from to : ℕ) (place : Option ℕ) → is_place from place ≡ true → in_group from to place ≡ Some to
-place_yes from to None e = absurd cc
-place_yes from to (Some place) e = ap Some (ap (moved from to) (test_true place from e) ∙ moved_it from to)
-
-pub place_no : (from to : ℕ) (place : Option ℕ) → is_place from place ≡ false → in_group from to place ≡ place
-place_no from to None e = refl
-place_no from to (Some place) e = ap Some (moved_not from to place (test_false place from e))
-
-module _ (from to : ℕ) (old : ℕ → Option ℕ) where
-  -- where all values of the group are listed
-  pub moved_first : (list : List ℕ) → ((c : ℕ) → old c ≡ Some from → IsIn c list) → AreMoved from to list old old
-  moved_first list all c = by (is_place from (old c)) refl where
-    by : (b : Bool) → is_place from (old c) ≡ b → IsIn c list ⊎ (old c ≡ in_group from to (old c))
-    by true e = inl (all c (at (old c) e)) where
-      at : (place : Option ℕ) → is_place from place ≡ true → place ≡ Some from
-      at None e = absurd cc
-      at (Some place) e = ap Some (test_true place from e)
-    by false e = inr (sym (place_no from to (old c) e))
-
-  module _ (now next : ℕ → Option ℕ) (number : ℕ) (moves : next number ≡ in_group from to (now number)) (others : (c : ℕ) → (number ≡ c → ⊥) → next c ≡ now c) (part : IsPart from to old now) where
-    at_number : next number ≡ in_group from to (old number)
-    at_number = elim (part number) [
-      | inl e ↦ moves ∙ ap (in_group from to) e
-      | inr both ↦ moves ∙ ap (in_group from to) both.1 ∙ ap Some (moved_to from to ∙ sym (moved_it from to)) ∙ ap (in_group from to) (sym both.0)
-    ]
-
-    pub part_more : IsPart from to old next
-    part_more c = elim (cases_eq number c) [
-      | inl same ↦ subst (λ x. (next x ≡ old x) ⊎ ((old x ≡ Some from) × (next x ≡ Some to))) same (by (old number) refl)
-      | inr ne ↦ elim (part c) [ inl e ↦ inl (others c ne ∙ e) | inr both ↦ inr (both.0, others c ne ∙ both.1) ]
-    ] where
-      by : (place : Option ℕ) → old number ≡ place → (next number ≡ old number) ⊎ ((old number ≡ Some from) × (next number ≡ Some to))
-      by None e = inl (at_number ∙ ap (in_group from to) e ∙ sym e)
-      by (Some place) e = elim (cases_eq place from) [
-        | inl same ↦ inr (e ∙ ap Some same, at_number ∙ ap (in_group from to) (e ∙ ap Some same) ∙ ap Some (moved_it from to))
-        | inr ne ↦ inl (at_number ∙ ap (in_group from to) e ∙ ap Some (moved_not from to place ne) ∙ sym e)
-      ]
-
-    moved_one : (rest : List ℕ) → AreMoved from to (number ∷ rest) old now → AreMoved from to rest old next
-    moved_one rest was c = elim (cases_eq number c) [
-      | inl same ↦ inr (subst (λ x. next x ≡ in_group from to (old x)) same at_number)
-      | inr ne ↦ elim (was c) [ inl one ↦ elim one [ inl same ↦ absurd (ne (sym same)) | inr more ↦ inl more ] | inr e ↦ inr (others c ne ∙ e) ]
-    ]
-
-    pub moved_more : (list : List ℕ) (i : ℕ) → i < length list → number ≡ get_or list i 0 → AreMoved from to (drop i list) old now → AreMoved from to (drop (i + 1) list) old next
-    moved_more list i lt is was = subst (λ n. AreMoved from to (drop n list) old next) (sym (add-one i))
-        (moved_one (drop (suc i) list) (subst (λ x. AreMoved from to (x ∷ drop (suc i) list) old now) (sym is) (subst (λ (l : List ℕ). AreMoved from to l old now) (drop-cons list i 0 lt) was)))
-
-  pub moved_all : (now : ℕ → Option ℕ) → AreMoved from to [] old now → (c : ℕ) → now c ≡ in_group from to (old c)
-  moved_all now all c = elim (all c) [ inl one ↦ absurd one | inr e ↦ e ]
-
 -- one value more is of a group
 pub listed_more : (now next : ℕ → Option ℕ) (number to : ℕ) → ((c : ℕ) → next c ≡ cond (number == c) (Some to) (now c)) → (members after : ℕ → List ℕ) → ((list u : ℕ) → IsIn u (members list) → IsIn u (after list)) → IsIn number (after to) → AreListed now members → AreListed next after
 listed_more now next number to puts members after kept added listed c p e = elim (cases_eq number c) [
   | inl same ↦ let at : Some to ≡ Some p = sym (ap (λ (b : Bool). cond b (Some to) (now number)) (test_same number)) ∙ sym (puts number) ∙ ap next same ∙ e in subst (λ x. IsIn x (after p)) same (subst (λ x. IsIn number (after x)) (some_same to p at) added)
   | inr ne ↦ kept p c (listed c p (sym (puts c ∙ ap (λ (b : Bool). cond b (Some to) (now c)) (test_no number c ne)) ∙ e))
 ]
-
--- where no value was tied
-pub no_ties : (places : ℕ → Option ℕ) → ((v : ℕ) → places v ≡ None) → (members : ℕ → List ℕ) (groups : List Group) (tied : List ℕ) → AreListed places members × AreClasses places groups × AreTied places tied
-no_ties places none members groups tied = (λ v p e. let gone = sym (none v) ∙ e in absurd cc, λ v p e. let gone = sym (none v) ∙ e in absurd cc, λ v. inr (none v))

@@ -43,10 +43,6 @@ set_keepers keepers s slot slots recorded only u c h = elim (cases_eq s u) [
   here (inl lt) e = recorded c (sym (ap (holds c) (get_or-set_same slots s slot open_slot lt)) ∙ e)
   here (inr past) e = let none = ap (holds c) (get_or_past (slice_set slots s slot) s open_slot (rw length-set past)) in absurd cc
 
--- a slot holds no other class than before
-pub set_less : (keepers : Chains) (s : ℕ) (slot : SlotFact) (slots : List SlotFact) → ((c : ℕ) → holds c slot ≡ true → holds c (slot_at slots s) ≡ true) → OnlyKeepers keepers slots → OnlyKeepers keepers (slice_set slots s slot)
-set_less keepers s slot slots less only = set_keepers keepers s slot slots (λ c h. only s c (less c h)) only
-
 -- each slot holds no other class than before
 map_less : (keepers : Chains) (change : SlotFact → SlotFact) → change open_slot ≡ open_slot → ((c : ℕ) (slot : SlotFact) → holds c (change slot) ≡ true → holds c slot ≡ true) → (slots : List SlotFact) → OnlyKeepers keepers slots → OnlyKeepers keepers (map change slots)
 map_less keepers change opens less slots only s c h = only s c (less c (slot_at slots s) (sym (ap (holds c) (at_map change slots s open_slot opens)) ∙ h))

@@ -1,22 +1,16 @@
 -- A class that is found to be not null, where a row is filled for it before.
-use Rattle.std.proofs.Common.{◌≡◌, ◌<◌, ◌⊎◌, ◌++◌, ℕ, length, List, map, refl, sym, ap, subst, inl, inr, ◌∙◌, true, false, Bool, Option, Some, None, is_none, slice_set}
-use Rattle.std.proofs.Math.ListN.{get_or-map}
+use Rattle.std.proofs.Common.{◌≡◌, ◌<◌, ◌⊎◌, ◌++◌, ℕ, length, List, map, refl, sym, ap, subst, inl, inr, ◌∙◌, true, Bool, Option, Some, None, is_none, slice_set}
 use Rattle.std.proofs.Math.Seq.{map-set_same}
-use Rattle.std.proofs.lemmas.List.{get_or_append_left, get_or-set_same, get_or-set_other, length-map, length-set, map-set, set-append_left}
-use Rattle.std.specs.Prelude.{not, ◌||◌, ◌==◌}
-use Rattle.lemmas.specs.Bools.{or_false}
+use Rattle.std.proofs.lemmas.List.{get_or-set_other, length-map, length-set, map-set, set-append_left}
 use Rattle.std.proofs.lemmas.Bool.{cases_eq}
 use Rattle.lemmas.specs.Lists.{IsIn}
 use Rattle.fact_tables.specs.declared.known.Class.{Class}
-use Rattle.fact_tables.specs.declared.known.Known.{Known}
-use Rattle.fact_tables.specs.declared.known.Known.TheVariants.{Nothing, Number, Cell, Null, Address, GlobalAddress}
 use Rattle.fact_tables.specs.declared.row.Row.{Row}
 use Rattle.fact_tables.specs.declared.uses.Use.{Use}
-use Rattle.fact_tables.specs.Rows.{lost_class, class_at}
-use Rattle.fact_tables.specs.Sheets.{blank, row_at, known_of, class_of, test_of, names, is_settled_as, is_settled}
+use Rattle.fact_tables.specs.Rows.{class_at}
+use Rattle.fact_tables.specs.Sheets.{blank, row_at, known_of, class_of, test_of, names}
 use Rattle.fact_tables.specs.Uses.{chain, OnlyUsers, SayTheSame}
-use Rattle.fact_tables.specs.Values.{facts_of_rows, learned, is_reference, learned_row}
-use Rattle.fact_tables.proofs.Current.{settled_parts}
+use Rattle.fact_tables.specs.Values.{facts_of_rows, learned, learned_row}
 use Rattle.fact_tables.proofs.Says.{same_facts}
 use Rattle.fact_tables.proofs.Sets.{set_part, or_true}
 use Rattle.fact_tables.proofs.Users.{chain_none, users_set}
@@ -46,33 +40,15 @@ module _ (rows : List Row) (at : ℕ) (newest : ℕ) where
     pick (inl same) = absurd (none (subst (λ x. IsIn u (chain (length uses) uses (row_at rows x).used)) (sym same) one))
     pick (inr ne) = subst (λ (row : Row). IsIn u (chain (length uses) uses row.used)) (sym (get_or-set_other rows at w filled_row blank (λ x. ne (sym x)))) one
 
-  pub filled_now : at < length (slice_set rows at filled_row) → is_none (row_at (slice_set rows at filled_row) at).used ≡ false
-  filled_now lt = ap (λ (row : Row). is_none row.used) (get_or-set_same rows at filled_row blank (rw (← length-set rows at filled_row) lt))
-
 -- ---- a class that is learned
 
 -- not null
 abbrev pub nonnull_class : Class → Class
 nonnull_class class = record class { nonnull = true }
 
-learned_as : (u : ℕ) (aside : Bool) (own : Class) (known : Known) → is_settled_as u aside own known ≡ true → is_settled_as u (aside || is_reference known) (nonnull_class own) known ≡ true
-learned_as u aside own (Cell c layout stale) h = let parts = settled_parts (c == u) stale own.fresh own.nonnull aside h in rw (parts.0, parts.1, parts.2, or_true aside) refl
-learned_as u aside own Nothing h = ap not (or_false aside) ∙ h
-learned_as u aside own (Number bits below) h = ap not (or_false aside) ∙ h
-learned_as u aside own Null h = ap not (or_false aside) ∙ h
-learned_as u aside own (Address base words) h = ap not (or_false aside) ∙ h
-learned_as u aside own (GlobalAddress g) h = ap not (or_false aside) ∙ h
-
--- a safepoint leaves the row where it left it before
-pub learned_settled : (u : ℕ) (row : Row) (class : Class) → class ≡ row.class → is_settled u row ≡ true → is_settled u (learned_row (nonnull_class class) row) ≡ true
-learned_settled u row class e h = ap (λ (own : Class). is_settled_as u (row.aside || is_reference row.known) (nonnull_class own) row.known) e ∙ learned_as u row.aside row.class row.known h
-
 module _ (rows : List Row) (added : List Class) (c : ℕ) where
   abbrev classes : List Class
   classes = map class_of rows ++ added
-
-  pub class_of_row : c < length rows → class_at classes c ≡ (row_at rows c).class
-  class_of_row lt = get_or_append_left (map class_of rows) added lost_class c (rw length-map lt) ∙ get_or-map class_of rows c blank
 
   -- not null, or not null
   pub is_learned : record (facts_of_rows rows added) { classes = slice_set classes c (nonnull_class (class_at classes c)) } ≡ learned c true (facts_of_rows rows added)

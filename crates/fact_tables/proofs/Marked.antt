@@ -1,8 +1,6 @@
 -- What changes in all rows that are marked, and what is asked of them.
-use Rattle.std.proofs.Common.{◌≡◌, ◌<◌, ◌≤◌, ◌⊎◌, ℕ, length, zero, suc, List, [], ◌∷◌, get_or, map, refl, sym, ap, subst, inl, inr, ◌∙◌, add-one, drop-cons, drop, ◌+◌, ◌++◌, slice_set, true, false, Bool, Option, Some, None}
+use Rattle.std.proofs.Common.{◌≡◌, ◌<◌, ◌⊎◌, ℕ, length, zero, suc, List, [], ◌∷◌, get_or, map, refl, sym, ap, subst, inl, inr, ◌∙◌, add-one, drop-cons, drop, ◌+◌, ◌++◌, slice_set, true, false, Bool, Option, Some, None}
 use Rattle.std.proofs.Math.ListN.{get_or-map}
-use Rattle.std.proofs.lemmas.Bool.{cases_lt}
-use Rattle.std.proofs.lemmas.List.{get_or_past}
 use Rattle.std.proofs.Math.Seq.{map-set_same}
 use Rattle.std.specs.Prelude.{◌==◌, ◌||◌, ◌&&◌}
 use Rattle.std.specs.List.{list_any, list_all, zip}
@@ -28,16 +26,6 @@ module _ (change : ℕ → Row → Row) (twice : (v : ℕ) (row : Row) → chang
   each_all marked rows only = (length_each blank change marked rows, each_at blank change twice marked rows seen) where
     seen : (v : ℕ) → v < length rows → IsIn v marked ⊎ (change v (row_at rows v) ≡ row_at rows v)
     seen v lt = elim (only v) [ inl one ↦ inl one | inr e ↦ inr (ap (change v) e ∙ leaves v ∙ sym e) ]
-
-  -- the same rows are marked then
-  pub each_marked : (marked : List ℕ) (rows : List Row) → OnlyMarked marked rows → OnlyMarked marked (each_listed blank change marked rows)
-  each_marked marked rows only v = elim (only v) [
-    | inl one ↦ inl one
-    | inr e ↦ inr (pick e (cases_lt v (length rows)))
-  ] where
-    pick : row_at rows v ≡ blank → (v < length rows) ⊎ (length rows ≤ v) → row_at (each_listed blank change marked rows) v ≡ blank
-    pick e (inl lt) = (each_all marked rows only).1 v lt ∙ ap (change v) e ∙ leaves v
-    pick e (inr past) = get_or_past (each_listed blank change marked rows) v blank (rw (length_each blank change marked rows) past)
 
 -- ---- each of these changes
 
@@ -70,14 +58,6 @@ settle_twice u row = pick row.known refl where
 pub changed_twice : (change : Change) (u : ℕ) (row : Row) → changed change u (changed change u row) ≡ changed change u row
 changed_twice (Off v) u row = off_twice v row
 changed_twice Settle u row = settle_twice u row
-
-pub changed_blank : (change : Change) (u : ℕ) → changed change u blank ≡ blank
-changed_blank (Off v) u = refl
-changed_blank Settle u = refl
-
--- one change after another
-pub each_then : (one other : ℕ → Row → Row) (before between after : List Row) → EachRow one before between → EachRow other between after → EachRow (λ v row. other v (one v row)) before after
-each_then one other before between after h i = (i.0 ∙ h.0, λ v lt. i.1 v (rw h.0 lt) ∙ ap (other v) (h.1 v lt))
 
 -- one class more is recorded, and the classes are as they were
 pub keep_more : (added : List Class) (first rows : List Row) (marked : List ℕ) (i : ℕ) → i < length marked

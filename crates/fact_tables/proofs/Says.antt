@@ -1,7 +1,7 @@
 -- What rows say once some are changed.
 use Rattle.std.proofs.Common.{◌≡◌, ◌<◌, ◌≤◌, ℕ, length, List, ◌++◌, get_or, map, refl, sym, ap, ◌∙◌, Option, None, slice_set, ◌-◌, Result, Ok, Err, OnOk, OnErr}
 use Rattle.std.proofs.Math.ListN.{get_or-map}
-use Rattle.std.proofs.lemmas.List.{ext_get_or, get_or_past, get_or-set_same, get_or-set_other, map-set, length-map, length-set, set-append_left, set-append_right}
+use Rattle.std.proofs.lemmas.List.{ext_get_or, map-set, length-map, set-append_left, set-append_right}
 use Rattle.std.proofs.lemmas.List as lists
 use Rattle.std.proofs.Math.Seq.{map-set_same}
 use Rattle.fact_tables.specs.declared.known.Class.{Class}
@@ -19,10 +19,6 @@ module _ (rows : List Row) (added : List Class) (v : ℕ) where
   pub known_row_facts : (known : Known) → facts_of_rows (slice_set rows v (record (row_at rows v) { known = known })) added ≡ record (facts_of_rows rows added) { values = slice_set (map known_of rows) v known }
   known_row_facts known = let row = record (row_at rows v) { known = known } in
       same_facts _ _ _ _ _ _ (map-set known_of rows v row) (ap (λ l. l ++ added) (map-set_same class_of rows v row blank refl)) (map-set_same test_of rows v row blank refl)
-
-  pub test_row_facts : (test : Option Test) → facts_of_rows (slice_set rows v (record (row_at rows v) { test = test })) added ≡ record (facts_of_rows rows added) { tests = slice_set (map test_of rows) v test }
-  test_row_facts test = let row = record (row_at rows v) { test = test } in
-      same_facts _ _ _ _ _ _ (map-set_same known_of rows v row blank refl) (ap (λ l. l ++ added) (map-set_same class_of rows v row blank refl)) (map-set test_of rows v row)
 
   pub class_row_facts : (class : Class) → v < length rows → facts_of_rows (slice_set rows v (record (row_at rows v) { class = class })) added ≡ record (facts_of_rows rows added) { classes = slice_set (map class_of rows ++ added) v class }
   class_row_facts class lt = let row = record (row_at rows v) { class = class } in

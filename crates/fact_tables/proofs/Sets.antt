@@ -1,5 +1,5 @@
 -- What is at a place of a list after a write, and small facts on tests.
-use Rattle.std.proofs.Common.{◌≡◌, ◌<◌, ℕ, length, zero, suc, List, [], ◌∷◌, get_or, refl, arith, true, false, Bool, slice_set}
+use Rattle.std.proofs.Common.{◌≡◌, ℕ, zero, suc, List, [], ◌∷◌, get_or, refl, true, false, Bool, slice_set}
 use Rattle.std.specs.Prelude.{◌||◌}
 use Rattle.std.specs.List.{list_any}
 use Rattle.lemmas.specs.Bools.{or_second, or_first}
@@ -29,11 +29,6 @@ pub set_is : {X Y : Type 0} (q : X → Y) (xs : List X) (i : ℕ) (a d : X) (y :
 set_is q [] i a d y e none = none
 set_is q (x ∷ xs) zero a d y e none = e
 set_is q (x ∷ xs) (suc i) a d y e none = set_is q xs i a d y e none
-
-pub set_within : {X Y : Type 0} (q : X → Y) (xs : List X) (i : ℕ) (a d : X) (y : Y) → i < length xs → q a ≡ y → q (get_or (slice_set xs i a) i d) ≡ y
-set_within q [] i a d y lt e = absurd (omega arith)
-set_within q (x ∷ xs) zero a d y lt e = e
-set_within q (x ∷ xs) (suc i) a d y lt e = set_within q xs i a d y (omega arith) e
 
 pub or_true : (a : Bool) → (a || true) ≡ true
 or_true true = refl

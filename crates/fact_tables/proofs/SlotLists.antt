@@ -106,30 +106,6 @@ module _ (s : ℕ) (slot : SlotFact) (slots : List SlotFact) where
     pick (Some c) e (inr ne) (inl one) = inl (in_first u holding (s ∷ []) one)
     pick h e (inr ne) (inr free) = inr (ap (λ (x : SlotFact). x.holds) (as_before u ne) ∙ free)
 
-module _ (s : ℕ) (slot : SlotFact) (slots : List SlotFact) where
-  abbrev changed_slots : List SlotFact
-  changed_slots = slice_set slots s slot
-
-  -- a slot that is open only where it was
-  pub change_filled : (slot_at slots s ≡ open_slot → slot ≡ open_slot) → (filled : List ℕ) → OnlyFilled filled slots → OnlyFilled filled changed_slots
-  change_filled keeps filled only u = pick (cases_eq s u) where
-    pick : (s ≡ u) ⊎ (s ≡ u → ⊥) → IsIn u filled ⊎ (slot_at changed_slots u ≡ open_slot)
-    pick (inl same) = elim (only s) [
-      | inl one ↦ inl (subst (λ x. IsIn x filled) same one)
-      | inr e ↦ inr (subst (λ x. slot_at changed_slots x ≡ open_slot) same (set_is (λ (x : SlotFact). x) slots s slot open_slot open_slot (keeps e) refl))
-    ]
-    pick (inr ne) = elim (only u) [ inl one ↦ inl one | inr e ↦ inr (as_before s slot slots u ne ∙ e) ]
-
-  -- a slot that holds no class where it held none
-  pub change_holding : ((slot_at slots s).holds ≡ None → slot.holds ≡ None) → (holding : List ℕ) → OnlyHolding holding slots → OnlyHolding holding changed_slots
-  change_holding keeps holding only u = pick (cases_eq s u) where
-    pick : (s ≡ u) ⊎ (s ≡ u → ⊥) → IsIn u holding ⊎ ((slot_at changed_slots u).holds ≡ None)
-    pick (inl same) = elim (only s) [
-      | inl one ↦ inl (subst (λ x. IsIn x holding) same one)
-      | inr e ↦ inr (subst (λ x. (slot_at changed_slots x).holds ≡ None) same (set_is (λ (x : SlotFact). x.holds) slots s slot open_slot None (keeps e) refl))
-    ]
-    pick (inr ne) = elim (only u) [ inl one ↦ inl one | inr e ↦ inr (ap (λ (x : SlotFact). x.holds) (as_before s slot slots u ne) ∙ e) ]
-
 -- ---- all slots but one let a class go
 
 module _ (s : ℕ) (last : Option ℕ) (nonnull : Bool) (slots : List SlotFact) where

@@ -3,8 +3,8 @@ use Rattle.std.proofs.Common.{◌≡◌, ◌<◌, ◌≤◌, ◌⊎◌, ◌+◌,
 use Rattle.std.proofs.lemmas.Bool.{cases_eq, cases_lt}
 use Rattle.std.proofs.lemmas.List.{get_or_past, get_or-set_same, get_or-set_other, length-set}
 use Rattle.std.proofs.Math.Seq.{map-set_same}
-use Rattle.std.specs.Prelude.{replicate, if◌then◌else◌}
-use Rattle.lemmas.specs.Bools.{or_first, or_second, or_parts, or_neither, yes_or_no}
+use Rattle.std.specs.Prelude.{if◌then◌else◌}
+use Rattle.lemmas.specs.Bools.{or_second, or_parts, or_neither, yes_or_no}
 use Rattle.lemmas.specs.Lists.{get_end, IsIn}
 use Rattle.fact_tables.specs.EachListed.{each_listed}
 use Rattle.fact_tables.specs.declared.known.Class.{Class}
@@ -18,7 +18,6 @@ use Rattle.fact_tables.specs.Rows.{is_on, off_test}
 use Rattle.fact_tables.specs.Sheets.{blank, row_at, known_of, class_of, test_of, tests, names, EachRow, off_row, changed}
 use Rattle.fact_tables.specs.Uses.{use_at, users_of, chain, IsUser, OnlyUsers, use_more, use_row, SayTheSame}
 use Rattle.fact_tables.proofs.Sets.{set_part}
-use Rattle.fact_tables.proofs.Sheets.{blank_at}
 use Rattle.fact_tables.proofs.Current.{all_listed}
 use Rattle.fact_tables.proofs.Marked.{changed_twice}
 use Rattle.fact_tables.proofs.Says.{same_facts}
@@ -118,12 +117,6 @@ module _ (uses : List Use) (rows : List Row) (v : ℕ) (only : OnlyUsers uses ro
     | inr tested ↦ only v w (or_second (is_on w (row_at rows v).known) (tests w (row_at rows v).test) tested) lt
   ])
 
-  pub test_users : (test : Option Test) → ((w : ℕ) → tests w test ≡ true → w < length rows → IsUser uses rows v w) → OnlyUsers uses (slice_set rows v (record (row_at rows v) { test = test }))
-  test_users test recorded = users_set uses rows v (record (row_at rows v) { test = test }) only refl (λ w e lt. elim (or_parts (is_on w (row_at rows v).known) (tests w test) e) [
-    | inl on ↦ only v w (or_first (is_on w (row_at rows v).known) (tests w (row_at rows v).test) on) lt
-    | inr tested ↦ recorded w tested lt
-  ])
-
   pub class_users : (class : Class) → OnlyUsers uses (slice_set rows v (record (row_at rows v) { class = class }))
   class_users class = users_set uses rows v (record (row_at rows v) { class = class }) only refl (λ w e lt. only v w e lt)
 
@@ -136,10 +129,6 @@ users_each uses change before after each same kept only u v e lt = pick (cases_l
   pick : (u < length before) ⊎ (length before ≤ u) → IsUser uses after u v
   pick (inl at) = subst (λ (used : Option ℕ). IsIn u (chain (length uses) uses used)) (sym (ap (λ r. r.used) (each.1 v long) ∙ kept v (row_at before v))) (only u v (sym (ap (names v) (each.1 u at) ∙ same u v (row_at before u)) ∙ e) long)
   pick (inr past) = let none = ap (names v) (get_or_past after u blank (rw each.0 past)) in absurd cc
-
--- blank rows name nothing
-pub users_blank : (uses : List Use) (count : ℕ) (rows : List Row) → rows ≡ replicate count blank → OnlyUsers uses rows
-users_blank uses count rows e u v h lt = let none = ap (λ l. names v (row_at l u)) e ∙ ap (names v) (blank_at count u) in absurd cc
 
 -- ---- rows that are changed along a chain
 

@@ -6,11 +6,11 @@ use Rattle.std.proofs.lemmas.List.{get_or-set_same, length-map, map-set, set-set
 use Rattle.lemmas.specs.Lists.{at_map}
 use Rattle.fact_tables.specs.declared.known.Class.{Class}
 use Rattle.fact_tables.specs.declared.known.Known.{Known}
-use Rattle.fact_tables.specs.declared.known.Known.TheVariants.{Number, Cell}
+use Rattle.fact_tables.specs.declared.known.Known.TheVariants.{Cell}
 use Rattle.fact_tables.specs.declared.known.SlotFact.{SlotFact}
 use Rattle.fact_tables.specs.declared.known.Test.{Test}
 use Rattle.fact_tables.specs.Rows.{open_slot, known_at, slot_at, class_at, holds_class, let_go, off_test, values_without, tests_without}
-use Rattle.facts.specs.Facts.{FactSet, slots_without, forget, define, define_test, set_known, add_class, learn_nonnull, hold, load_held, load_slot}
+use Rattle.facts.specs.Facts.{FactSet, slots_without, forget, define, set_known, add_class, learn_nonnull, hold, load_held, load_slot}
 use Rattle.fact_tables.specs.Values.{new_of, ValueFacts, defined, learned}
 use Rattle.fact_tables.specs.SlotRows.{let_go_slot, let_go_last, let_go_others}
 
@@ -64,9 +64,6 @@ module _ (s : ℕ) (slot : SlotFact) (last : Option ℕ) (nonnull : Bool) (slots
 module _ (f : FactSet) (v : ℕ) (last : Option ℕ) (one : Bool) (gone : slots_without (known_at f.values v) (values_without v f.values) f.classes f.slots ≡ let_go_last last one f.slots) (values : ValueFacts) (slots : List SlotFact) (let_go : slots ≡ let_go_last last one f.slots) where
   pub defines : (known : Known) → values ≡ defined v known None (values_of f) → facts_of values slots ≡ define v known f
   defines known e = ap (λ (x : ValueFacts). facts_of x slots) e ∙ ap (facts_of (defined v known None (values_of f))) (let_go ∙ sym gone) ∙ ap (λ (tests : List (Option Test)). record (define v known f) { tests = tests }) (none_tested v f.tests)
-
-  pub defines_test : (test : Test) → values ≡ defined v (Number 1 None) (off_test v (Some test)) (values_of f) → facts_of values slots ≡ define_test v test f
-  defines_test test e = ap (λ (x : ValueFacts). facts_of x slots) e ∙ ap (facts_of (defined v (Number 1 None) (off_test v (Some test)) (values_of f))) (let_go ∙ sym gone)
 
 -- ---- what is known of a value that is loaded
 
