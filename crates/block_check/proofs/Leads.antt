@@ -4,6 +4,7 @@ use Rattle.std.proofs.lemmas.Bool.{eq-eqb, ne_eqb, ltb-true, lt-ltb, le-ltb, cas
 use Rattle.std.proofs.lemmas.List.Folds.{list_any_more}
 use Rattle.std.specs.Prelude.{◌==◌, ◌&&◌, ◌||◌, nat_lt}
 use Rattle.std.specs.List.{list_any}
+use Rattle.lemmas.specs.Bools.{same_truth}
 use Rattle.ir_ast.specs.declared.function.Function.{Function}
 use Rattle.block_rules.specs.InstrContext.{block_end}
 use Rattle.block_rules.specs.Edges.{end_leads, is_predecessor}
@@ -35,13 +36,6 @@ and_true false = refl
 and_false : (a : Bool) → (a && false) ≡ false
 and_false true = refl
 and_false false = refl
-
--- two truth values are one where each follows from the other
-pub same_truth : (a b : Bool) → (a ≡ true → b ≡ true) → (b ≡ true → a ≡ true) → a ≡ b
-same_truth true true f g = refl
-same_truth true false f g = sym (f refl)
-same_truth false true f g = g refl
-same_truth false false f g = refl
 
 -- ---- what is added
 

@@ -4,6 +4,7 @@ use Rattle.std.proofs.lemmas.Bool.{eqb-true, eq-eqb, ne_eqb, cases_Bool, and_par
 use Rattle.std.proofs.lemmas.List.{take_more, length-take-le}
 use Rattle.std.specs.Prelude.{◌==◌, if◌then◌else◌}
 use Rattle.std.specs.Option.{option_or}
+use Rattle.lemmas.specs.Bools.{same_truth}
 use Rattle.ir_ast.specs.declared.block.Block.{Block}
 use Rattle.ir_ast.specs.declared.choices.Incoming.{Incoming}
 use Rattle.ir_ast.specs.declared.choices.Phi.{Phi}
@@ -12,7 +13,6 @@ use Rattle.ir_ast.specs.declared.operand.Operand.{Operand}
 use Rattle.types.specs.ValueTypes.{target_of}
 use Rattle.block_rules.specs.Edges.{is_number, operand_from}
 use Rattle.block_check.specs.PhiOperands.{OperandTable, operand_at, AddsAt, AreOperands, AreOperandTables, entries_at}
-use Rattle.block_check.proofs.Leads.{same_truth}
 
 or_none : (a : Option Operand) → option_or a None ≡ a
 or_none None = refl

@@ -3,6 +3,7 @@ use Rattle.std.proofs.Common.{◌≡◌, ◌<◌, ◌≤◌, ◌+◌, ◌⊎◌,
 use Rattle.std.proofs.lemmas.Bool.{eqb-true, eq-eqb, cases_lt, cases_Bool, and_from, and_parts, or_cases, or_left, or_right, not-true, not_from_false, both_ways}
 use Rattle.std.specs.Prelude.{◌==◌, ◌&&◌, ◌||◌, not, slice_get, slice_index_or}
 use Rattle.std.specs.List.{list_all, range_with_len}
+use Rattle.lemmas.specs.Bools.{same_truth}
 use Rattle.ir_ast.specs.declared.block.Block.{Block}
 use Rattle.ir_ast.specs.declared.function.Function.{Function}
 use Rattle.ir_ast.specs.declared.choices.Incoming.{Incoming}
@@ -14,7 +15,7 @@ use Rattle.block_check.specs.PhiOperands.{OperandTable, AreOperands, AreOperandT
 use Rattle.block_check.specs.Predecessors.{is_in}
 use Rattle.block_check.specs.FunctionUnderCheck.{IsReady}
 use Rattle.block_check.specs.declared.under_check.FunctionUnderCheck.{FunctionUnderCheck}
-use Rattle.block_check.proofs.Leads.{same_truth, beyond}
+use Rattle.block_check.proofs.Leads.{beyond}
 
 -- the table of a block; of a block that does not exist it is empty
 table_at : (f : Function) (blocks : List Block) (tables : List OperandTable) → AreOperandTables f blocks tables → (to : ℕ) → AreOperands f (block_phis (slice_get blocks to)) (slice_index_or tables to [])

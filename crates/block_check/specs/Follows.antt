@@ -3,6 +3,7 @@ use Rattle.std.proofs.Common.{◌≡◌, ◌⊎◌, inl, inr, ℕ, zero, suc, �
 use Rattle.std.proofs.lemmas.Bool.{cases_order}
 use Rattle.std.proofs.lemmas.List.{take_more, length-take-le, take-take}
 use Rattle.std.specs.Prelude.{Option}
+use Rattle.lemmas.specs.Lists.{get_first}
 use Rattle.ir_ast.specs.declared.choices.Phi.{Phi}
 use Rattle.ir_ast.specs.declared.ends.End.{End}
 use Rattle.ir_ast.specs.declared.instr.Instr.{Instr}
@@ -18,14 +19,6 @@ pub got_at : {A : Type 0} (xs : List A) (i : ℕ) (x : A) → i < length xs → 
 got_at [] i x lt is = absurd (omega (arith, lt))
 got_at (y ∷ ys) zero x lt is = ap Some (sym is)
 got_at (y ∷ ys) (suc i) x lt is = got_at ys i x (omega (arith, lt)) is
-
--- the element at a place of a list is the one at that place of a longer front of it
-got_in_front : {A : Type 0} (xs : List A) (i n : ℕ) → i < n → slice_get (take n xs) i ≡ slice_get xs i
-got_in_front [] i zero lt = refl
-got_in_front [] i (suc n) lt = refl
-got_in_front (x ∷ xs) i zero lt = absurd (omega (arith, lt))
-got_in_front (x ∷ xs) zero (suc n) lt = refl
-got_in_front (x ∷ xs) (suc i) (suc n) lt = got_in_front xs i n (omega (arith, lt))
 
 module _ (s : RuleContext) (b : ℕ) where
   -- ---- phis
@@ -112,7 +105,7 @@ module _ (s : RuleContext) (b : ℕ) where
 
   -- no phi is the first to break a rule after one that does
   phi_order : (i j : ℕ) (x : Phi) (r : Breach) → i < j → slice_get phis i ≡ Some x → phi_breach s b (stands s b i) x ≡ Some r → PhisPass s b 0 (take j phis) → ⊥
-  phi_order i j x r lt is k passes = phi_obeys 0 i i (take j phis) x r (omega arith) passes (got_in_front phis i j lt ∙ is) k
+  phi_order i j x r lt is k passes = phi_obeys 0 i i (take j phis) x r (omega arith) passes (get_first phis i j lt ∙ is) k
 
   one_phi : (i j : ℕ) (x y : Phi) (r t : Breach) → PhisPass s b 0 (take i phis) → slice_get phis i ≡ Some x → phi_breach s b (stands s b i) x ≡ Some r
       → PhisPass s b 0 (take j phis) → slice_get phis j ≡ Some y → phi_breach s b (stands s b j) y ≡ Some t → (i ≡ j) × (r ≡ t)
@@ -132,7 +125,7 @@ module _ (s : RuleContext) (b : ℕ) where
       → Follows s b first entry_facts (take j body) last → ⊥
   body_order i j x before last r lt follows is k further =
       let front : take i (take j body) ≡ take i body = take-take i j body (omega (arith, lt)) in
-      obeys first (first + i) i (take j body) x entry_facts last before r refl further (subst (λ ys. Follows s b first entry_facts ys before) (sym front) follows) (got_in_front body i j lt ∙ is) k
+      obeys first (first + i) i (take j body) x entry_facts last before r refl further (subst (λ ys. Follows s b first entry_facts ys before) (sym front) follows) (get_first body i j lt ∙ is) k
 
   one_in_body : (i j : ℕ) (x y : Instr) (c d : FactSet) (r t : Breach) → Follows s b first entry_facts (take i body) c → slice_get body i ≡ Some x → breach s (stands s b (first + i)) c x ≡ Some r
       → Follows s b first entry_facts (take j body) d → slice_get body j ≡ Some y → breach s (stands s b (first + j)) d y ≡ Some t → (first + i ≡ first + j) × (r ≡ t)

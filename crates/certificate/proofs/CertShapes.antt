@@ -16,6 +16,7 @@ use Rattle.ir_ast.specs.declared.op.Op.{Op}
 use Rattle.ir_ast.specs.declared.op.Op.TheVariants.{Memory}
 use Rattle.ir_ast.specs.declared.shapes.RootShapes.{RootShapes}
 use Rattle.ir_ast.specs.declared.shapes.Shapes.{Shapes}
+use Rattle.ir_ast.specs.PointerKinds.{has_typed}
 use Rattle.ir_tokens.specs.Bytes.{Text}
 use Rattle.name_text.specs.Reader.{word, begins}
 use Rattle.std.specs.Str.{bytes_eq}
@@ -30,7 +31,7 @@ use Rattle.certificate.specs.Input.{Progress, Input, start_of, shaping}
 use Rattle.certificate.specs.Named.{HasGlobals}
 use Rattle.certificate.specs.ShapeDrafts.{none_given, pointers_at, row_of, no_roots, roots_at, shapes_begun, name_of, is_pointer, has_word_shape, is_opaque_global, is_held_opaque, has_global_shape, has_root_shape, with_word_shape, with_global_shape, with_root_shape, first_of, words_gap, globals_gap, slot_gap, roots_gap_in, roots_gap, shapes_gap}
 use Rattle.certificate.specs.ShapeForms.{shape_lines, taken_shapes}
-use Rattle.certificate.specs.Starts.{AreBegun, AreStart, are_begun_if, has_typed, may_be_shaped, goes_with}
+use Rattle.certificate.specs.Starts.{AreBegun, AreStart, are_begun_if, may_be_shaped, goes_with}
 use Rattle.certificate.specs.Text as text
 use Rattle.certificate.specs.Text.{IsCert}
 use Rattle.certificate.specs.declared.mistake.Mistake.{Mistake}

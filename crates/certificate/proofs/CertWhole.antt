@@ -1,6 +1,7 @@
 -- Of the shapes that a text is, none is missing, and there is none for another word.
 use Rattle.std.proofs.Common.{◌≡◌, ◌<◌, ℕ, zero, suc, ◌+◌, Bool, true, false, not, ◌&&◌, [], ◌∷◌, List, length, Option, Some, None, is_some, slice_get, unwrap_or, codes, refl, ap, sym, subst, ◌∙◌, arith}
 use Rattle.std.specs.Prelude.{if◌then◌else◌}
+use Rattle.lemmas.specs.Bools.{same_truth}
 use Rattle.lemmas.specs.Lists.{get_some}
 use Rattle.ir_ast.specs.declared.function.Function.{Function}
 use Rattle.ir_ast.specs.declared.items_of_module.StructType.{StructType}
@@ -59,18 +60,12 @@ pointer_within [] layout word e = absurd cc
 pointer_within (row ∷ rows) zero word e = omega arith
 pointer_within (row ∷ rows) (suc layout) word e = let more = pointer_within rows layout word e in omega (arith, more)
 
-both_ways : (a b : Bool) → (a ≡ true → b ≡ true) → (b ≡ true → a ≡ true) → a ≡ b
-both_ways true true f g = refl
-both_ways false false f g = refl
-both_ways true false f g = sym (f refl)
-both_ways false true f g = g refl
-
 some_is : (x y : ℕ) → ◌≡◌ {A = Option (Option ℕ)} (Some (Some x)) (Some (Some y)) → x ≡ y
 some_is x y e = cc
 
 -- exactly the words of type `ptr` have a shape
 pub has_words : (m : Module) (pointers : List (List Bool)) (d : ShapeDraft) → ArePointerRows m pointers → HasStructs m → Shaped m pointers d → words_gap d 0 m.structs ≡ None → HasWordShapes m d.shapes
-has_words m pointers d rows named s gap = (pointers, rows, λ layout struct row at row_at word. both_ways (is_some (word_shape d.shapes struct word)) (unwrap_or (slice_get row word) false) (only layout struct row at row_at word) (there layout struct row at row_at word))
+has_words m pointers d rows named s gap = (pointers, rows, λ layout struct row at row_at word. same_truth (is_some (word_shape d.shapes struct word)) (unwrap_or (slice_get row word) false) (only layout struct row at row_at word) (there layout struct row at row_at word))
   where
     own_row : (layout : ℕ) (row : List Bool) → slice_get pointers layout ≡ Some row → pointers_at d.pointers layout ≡ row
     own_row layout row at = ap (λ x. pointers_at x layout) s.rows ∙ ap (λ (x : Option (List Bool)). unwrap_or x []) at

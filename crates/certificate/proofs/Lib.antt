@@ -14,7 +14,6 @@ pub mod PrintedCerts
 pub mod AnewFits
 mod NoRoots
 mod PlainNames
-mod TypedPointers
 mod Begun
 mod ReadShapes
 pub mod CertFits

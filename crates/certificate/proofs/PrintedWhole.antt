@@ -7,6 +7,7 @@ use Rattle.lemmas.specs.Bools.{and_first, and_second, or_second, and_true}
 use Rattle.ir_ast.specs.declared.function.Function.{Function}
 use Rattle.ir_ast.specs.declared.module.Module.{Module}
 use Rattle.ir_ast.specs.declared.shapes.Shapes.{Shapes}
+use Rattle.ir_ast.specs.PointerKinds.{has_typed}
 use Rattle.ir_tokens.specs.Bytes.{Text}
 use Rattle.layout.specs.PointerRows.{one_rows}
 use Rattle.name_text.specs.Forms.{taken}
@@ -27,7 +28,7 @@ use Rattle.certificate.specs.Print.{sections_text, head_text, shapes_with, cert_
 use Rattle.certificate.specs.ShapeDrafts.{shapes_begun}
 use Rattle.certificate.specs.ShapeForms.{past_shapes, taken_shapes, none_missing, whole_by}
 use Rattle.certificate.specs.ShapesPrint.{shapes_text}
-use Rattle.certificate.specs.Starts.{goes_with, has_typed, may_be_shaped, AreStart}
+use Rattle.certificate.specs.Starts.{goes_with, may_be_shaped, AreStart}
 use Rattle.certificate.specs.Text as text
 use Rattle.certificate.specs.Text.{shapes_of}
 use Rattle.certificate.specs.declared.mistake.Mistake.{Mistake}

@@ -1,9 +1,7 @@
 -- With which shapes a text is begun, and with which version of the format it goes.
 use Rattle.std.specs.Prelude.{◌≡◌, Bool, true, false, not, ◌&&◌, ◌||◌, List, ◌∷◌, [], Option, Some, None}
-use Rattle.std.specs.List.{list_any}
 use Rattle.std.specs.Str.{bytes_eq}
-use Rattle.ir_ast.specs.declared.ir_type.IrType.{IrType}
-use Rattle.ir_ast.specs.declared.ir_type.IrType.TheVariants as ty
+use Rattle.ir_ast.specs.PointerKinds.{has_typed}
 use Rattle.ir_ast.specs.declared.module.Module.{Module}
 use Rattle.ir_tokens.specs.Bytes.{Text}
 use Rattle.layout.specs.PointerRows.{ArePointerRows}
@@ -12,20 +10,6 @@ use Rattle.certificate.specs.ShapeDrafts.{no_shapes, shapes_begun}
 use Rattle.certificate.specs.declared.shape_draft.ShapeDraft.{ShapeDraft}
 
 -- ---- the kind of a module's text
-
--- a pointer type that says what it points to
-abbrev pub is_typed_pointer : IrType → Bool
-is_typed_pointer (ty.Pointer part) = true
-is_typed_pointer _ = false
-
--- so it is of the type at a place, if there is one
-abbrev pub is_typed_at : Option IrType → Bool
-is_typed_at None = false
-is_typed_at (Some written) = is_typed_pointer written
-
--- one of these types is such a pointer
-abbrev pub has_typed : List IrType → Bool
-has_typed types = list_any is_typed_pointer types
 
 -- certificates of an opaque text have shapes; they may stand for a text without a pointer type, too
 abbrev pub may_be_shaped : Module → Bool

@@ -5,33 +5,14 @@ ghost use Rattle.certificate.specs.Starts.{AreBegun, AreStart};
 
 use crate::shape_draft::ShapeDraft;
 use certs::is_opaque_text;
-use ir_ast::{IrType, Module, TypeId, Types};
+use ir_ast::{Module, has_typed_pointer};
 use layout::pointer_rows;
 use std::alloc::{AllocError, Global};
-
-/// Whether this is a pointer that says what it points to.
-fn is_typed_at(written: Option<IrType>) -> bool
-    ensures { result ≡ spec.is_typed_at written }
-{
-    matches!(written, Some(IrType::Pointer(_)))
-}
-
-/// Whether a pointer that says what it points to is among these types.
-fn has_typed(types: &Types) -> bool
-    ensures { result ≡ spec.has_typed types.now }
-{
-    for number in 0..types.count() {
-        if is_typed_at(types.get(TypeId::new(number as u32))) {
-            return true;
-        }
-    }
-    false
-}
 
 fn may_be_shaped(module: &Module) -> bool
     ensures { result ≡ spec.may_be_shaped «module».now }
 {
-    is_opaque_text(module) || !has_typed(&module.types)
+    is_opaque_text(module) || !has_typed_pointer(&module.types)
 }
 
 /// Whether this is the version with which the module's text goes.

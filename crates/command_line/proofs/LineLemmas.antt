@@ -27,11 +27,6 @@ paths_from held second m p em ep =
     ap₂ (λ (m p : Option Text). option_and_then (λ m. option_map (λ p. (m, p)) p) m)
     (em ∙ first_value-rows held (codes "MODULE")) (ep ∙ first_value-rows held second)
 
--- a value stays there where it is mapped
-pub is_some-map : {X Y : Type 0} (f : X → Y) (o : Option X) → is_some (option_map f o) ≡ is_some o
-is_some-map f None = refl
-is_some-map f (Some x) = refl
-
 -- whether the digits write a number below 2 to the 32
 abbrev is_number : Text → Bool
 is_number digits = nat_lt 0 (length digits) && all_ascii_digits digits && nat_lt (digits_value 10 digits) (2 ^ 32)

@@ -1,3 +1,4 @@
 mod Jumps
 mod Coefficients
 mod KeysAgain
+mod TypedPointers

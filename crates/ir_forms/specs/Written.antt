@@ -1,6 +1,5 @@
 -- Types as they are written: a base with stars after it, where arrays and structs are bases that have types inside.
 use Rattle.std.specs.Prelude.{ℕ, zero, suc, ◌-◌, ◌≤◌, Bool, true, false, not, ◌||◌, ◌==◌, ◌&&◌, if◌then◌else◌, nat_lt, nat_le, min, List, [], ◌∷◌, Option, Some, None, is_some, is_none, unwrap_or, slice_get}
-use Rattle.std.specs.List.{list_any}
 use Rattle.std.proofs.Common.{arith}
 use Rattle.grammar.specs.Grammar.{pure, step, checked, refuse, look, ◌>>=◌, ◌>>◌}
 use Rattle.grammar.specs.Takes.{Takes, TakesWhere, first_takes, first_takes_where, look_takes, stays_takes}
@@ -8,6 +7,7 @@ use Rattle.grammar.specs.Many.{many}
 use Rattle.ir_tokens.specs.declared.token.Kind.{Kind}
 use Rattle.ir_tokens.specs.declared.token.Kind.TheVariants as k
 use Rattle.ir_ast.specs.Names.{place_of}
+use Rattle.ir_ast.specs.PointerKinds.{has_typed}
 use Rattle.ir_ast.specs.Types.{place_of_type, number_of_type, numbered_type}
 use Rattle.ir_ast.specs.declared.ir_type.IrType.{IrType}
 use Rattle.ir_ast.specs.declared.ir_type.IrType.TheVariants as type
@@ -46,20 +46,6 @@ intern t = has_number (place_in_table t) >> step (place_in_table t) (with_type_i
 -- `ptr` is among these types
 abbrev pub has_opaque : List IrType → Bool
 has_opaque types = is_some (place_of_type type.Opaque types)
-
--- a pointer that says what it points to
-abbrev pub is_typed_pointer : IrType → Bool
-is_typed_pointer (type.Pointer part) = true
-is_typed_pointer _ = false
-
--- such a pointer is there
-abbrev pub is_typed_at : Option IrType → Bool
-is_typed_at (Some t) = is_typed_pointer t
-is_typed_at None = false
-
--- pointers that say what they point to are among these types
-abbrev pub has_typed : List IrType → Bool
-has_typed types = list_any is_typed_pointer types
 
 -- pointers of the other kind than this type are among these types
 abbrev pub has_other_pointer : IrType → List IrType → Bool

@@ -5,32 +5,13 @@ ghost use Rattle.ir_forms.specs.Written as form;
 
 use crate::fault::Fault;
 use crate::input::Input;
-use ir_ast::{IrType, TypeId, Types};
+use ir_ast::{IrType, TypeId, Types, has_typed_pointer};
 
 /// Whether `ptr` is among these types.
 fn has_opaque(types: &Types) -> bool
     ensures { result ≡ form.has_opaque types.now }
 {
     types.find(IrType::Opaque).is_some()
-}
-
-/// Whether this is a pointer that says what it points to.
-fn is_typed_at(shown: Option<IrType>) -> bool
-    ensures { result ≡ form.is_typed_at shown }
-{
-    matches!(shown, Some(IrType::Pointer(_)))
-}
-
-/// Whether a pointer that says what it points to is among these types.
-fn has_typed(types: &Types) -> bool
-    ensures { result ≡ form.has_typed types.now }
-{
-    for number in 0..types.count() {
-        if is_typed_at(types.get(TypeId::new(number as u32))) {
-            return true;
-        }
-    }
-    false
 }
 
 impl<'a> Input<'a> {
@@ -44,7 +25,7 @@ impl<'a> Input<'a> {
         }
         match new {
             IrType::Pointer(_) => has_opaque(&self.types),
-            IrType::Opaque => has_typed(&self.types),
+            IrType::Opaque => has_typed_pointer(&self.types),
             _ => false,
         }
     }

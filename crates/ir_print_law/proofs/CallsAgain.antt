@@ -61,10 +61,11 @@ use Rattle.ir_ast.specs.declared.ir_type.IrType.{IrType}
 use Rattle.ir_forms.specs.declared.site.Site.{Site}
 use Rattle.ir_forms.specs.Instructions as whole
 use Rattle.ir_print_law.proofs.OpsAgain.{op_reads, by_word, PlainAgain, unnamed_reads, plain_by_word}
-use Rattle.ir_print_law.proofs.SameParts.{same3, listed_same, result_same, global_same, argument_same}
+use Rattle.ir_print_law.proofs.SameParts.{listed_same, result_same, global_same, argument_same}
 use Rattle.ir_print_law.proofs.LongerTypes.{with_types, returned_again, argument_again}
 use Rattle.ir_print_law.specs.Definitions.{defined_functions}
 use Rattle.ir_print_law.specs.Definitions.{declared_functions}
+use Rattle.ir_print_law.specs.EqualParts.{same3}
 
 -- a call of these texts
 abbrev call_by : (returned callee arguments : Text) → Text

@@ -45,10 +45,11 @@ use Rattle.ir_forms.specs.declared.site.Site.{Site}
 use Rattle.ir_forms.specs.Instructions as whole
 use Rattle.ir_print_law.proofs.ArgumentsAgain.{EndsLine}
 use Rattle.ir_print_law.proofs.OpsAgain.{op_reads, by_word}
-use Rattle.ir_print_law.proofs.SameParts.{same3, typed_same}
+use Rattle.ir_print_law.proofs.SameParts.{typed_same}
 use Rattle.ir_print_law.proofs.LongerTypes.{with_types, condition_again, pair_again}
 use Rattle.ir_ast.specs.declared.ir_type.IrType.{IrType}
 use Rattle.ir_print_law.specs.Definitions.{defined_functions}
+use Rattle.ir_print_law.specs.EqualParts.{same3}
 use Rattle.ir_print_law.proofs.OneKind.{IsLonger}
 
 -- a select is this one again, in each module later on

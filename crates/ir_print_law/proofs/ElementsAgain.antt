@@ -49,10 +49,11 @@ use Rattle.ir_forms.specs.Place.{Place}
 use Rattle.ir_print_law.proofs.Words.{word_comes}
 use Rattle.ir_forms.specs.Instructions as whole
 use Rattle.ir_print_law.proofs.OpsAgain.{op_reads, by_word}
-use Rattle.ir_print_law.proofs.SameParts.{same2, lines_same, argument_same, placed_same}
+use Rattle.ir_print_law.proofs.SameParts.{lines_same, argument_same, placed_same}
 use Rattle.ir_print_law.proofs.LongerTypes.{with_types, type_again, place_again, operand_again, argument_again}
 use Rattle.ir_ast.specs.declared.ir_type.IrType.{IrType}
 use Rattle.ir_print_law.specs.Definitions.{defined_functions}
+use Rattle.ir_print_law.specs.EqualParts.{same2}
 use Rattle.ir_print_law.proofs.OneKind.{IsLonger}
 use Rattle.std.proofs.Common.{None}
 use Rattle.lemmas.specs.All.{all_so}

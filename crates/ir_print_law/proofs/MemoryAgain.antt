@@ -54,12 +54,13 @@ use Rattle.ir_forms.specs.Instructions as whole
 use Rattle.ir_forms.specs.Ops.{as_op}
 use Rattle.ir_print_law.proofs.ArgumentsAgain.{EndsLine, line_ends_type}
 use Rattle.ir_print_law.proofs.OpsAgain.{op_reads, by_word, PlainAgain, unnamed_reads, plain_by_word}
-use Rattle.ir_print_law.proofs.SameParts.{same2, type_same, typed_same, placed_same}
+use Rattle.ir_print_law.proofs.SameParts.{type_same, typed_same, placed_same}
 use Rattle.ir_print_law.proofs.LongerTypes.{with_types, scalar_again, place_again, operand_again}
 use Rattle.ir_ast.specs.declared.ir_type.IrType.{IrType}
 use Rattle.ir_print_law.specs.Definitions.{defined_functions}
 use Rattle.ir_print_law.proofs.OneKind.{IsLonger}
 use Rattle.ir_print_law.specs.Shapes.{bits_of_shape}
+use Rattle.ir_print_law.specs.EqualParts.{same2}
 
 -- an operation on memory is this one again, in each module later on
 abbrev pub MemoryAgain : Module → (locals : List Text) → MemoryOp → MemoryOp → Input → Type 0

@@ -64,10 +64,11 @@ use Rattle.ir_forms.specs.Instructions as whole
 use Rattle.ir_forms.specs.Ops.{as_op}
 use Rattle.ir_print_law.proofs.ArgumentsAgain.{EndsLine, line_ends_type}
 use Rattle.ir_print_law.proofs.OpsAgain.{op_reads, by_word}
-use Rattle.ir_print_law.proofs.SameParts.{same2, converted_same, pair_same}
+use Rattle.ir_print_law.proofs.SameParts.{converted_same, pair_same}
 use Rattle.ir_print_law.proofs.LongerTypes.{with_types, pair_again, converted_again}
 use Rattle.ir_ast.specs.declared.ir_type.IrType.{IrType}
 use Rattle.ir_print_law.specs.Definitions.{defined_functions}
+use Rattle.ir_print_law.specs.EqualParts.{same2}
 use Rattle.ir_print_law.proofs.OneKind.{IsLonger}
 
 -- an operation on integers is this one again, in each module later on

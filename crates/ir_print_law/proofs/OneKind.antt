@@ -8,7 +8,8 @@ use Rattle.ir_ast.specs.Places.{is_some-position}
 use Rattle.ir_ast.specs.Types.{is_same_type, place_of_type, numbered_type}
 use Rattle.ir_ast.specs.declared.ir_type.IrType.{IrType}
 use Rattle.ir_ast.specs.declared.ir_type.IrType.TheVariants as type
-use Rattle.ir_forms.specs.Written.{has_opaque, has_typed, is_typed_pointer, is_other_kind}
+use Rattle.ir_ast.specs.PointerKinds.{has_typed, is_typed_pointer}
+use Rattle.ir_forms.specs.Written.{has_opaque, is_other_kind}
 use Rattle.ir_print_law.specs.Shapes.{Shape, Integer, Pointer, Array, Empty, Struct, Named, Opaque, HasShape, IsWritten}
 use Rattle.ir_print_law.proofs.Tables.{Begins, IsInOrder, AreInOrder, AreOrdered}
 

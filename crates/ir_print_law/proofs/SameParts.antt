@@ -4,6 +4,7 @@ use Rattle.std.specs.Prelude.{codes}
 use Rattle.std.specs.Fmt.{decimal}
 use Rattle.std.specs.List.{flat_map}
 use Rattle.std.proofs.lemmas.Option.{slice_get_within}
+use Rattle.ir_print_law.specs.EqualParts.{same2, same3, same4}
 use Rattle.ir_ast.specs.declared.argument.Argument.{Argument}
 use Rattle.ir_ast.specs.declared.module.Module.{Module}
 use Rattle.ir_ast.specs.declared.operand.Constant.{Constant}
@@ -23,15 +24,6 @@ use Rattle.ir_print_law.proofs.OperandsAgain.{constant_by_shape}
 use Rattle.ir_print_law.proofs.PrintedTypes.{at_type, at_field, void_shown}
 
 -- ---- texts of equal parts
-
-pub same2 : (f : Text → Text → Text) {a b c d : Text} → a ≡ b → c ≡ d → f a c ≡ f b d
-same2 f {b = b} {c = c} p q = ap (λ (x : Text). f x c) p ∙ ap (f b) q
-
-pub same3 : (f : Text → Text → Text → Text) {a b c d e g : Text} → a ≡ b → c ≡ d → e ≡ g → f a c e ≡ f b d g
-same3 f {b = b} {c = c} {e = e} p q r = ap (λ (x : Text). f x c e) p ∙ same2 (f b) q r
-
-pub same4 : (f : Text → Text → Text → Text → Text) {a b c d e g h i : Text} → a ≡ b → c ≡ d → e ≡ g → h ≡ i → f a c e h ≡ f b d g i
-same4 f {b = b} {c = c} {e = e} {h = h} p q r s = ap (λ (x : Text). f x c e h) p ∙ same3 (f b) q r s
 
 -- lists whose elements are written alike
 pub lines_same : {A B : Type 0} (Alike : A → B → Type 0) (line : A → Text) (other : B → Text) (xs : List A) (ys : List B) → ((x : A) (y : B) → Alike x y → line x ≡ other y) → AreAlike Alike xs ys

@@ -28,7 +28,8 @@ use Rattle.ir_print.specs.Names.{key_text}
 use Rattle.ir_print.specs.Types.{type_text}
 use Rattle.ir_print_law.specs.PartsAgain.{IsNameAgain, IsTypeAgain}
 use Rattle.ir_print_law.specs.Again.{IsIncomingAgain, IsCaseAgain, IsOpAgain, IsPhiAgain, IsValueAgain, IsInstrAgain, IsEndAgain, IsBlockAgain, IsParameterAgain, IsStructAgain, IsGlobalAgain, IsDeclareAgain, IsFunctionAgain, IsAgain}
-use Rattle.ir_print_law.proofs.SameParts.{same2, same3, same4, lines_same, listed_same, name_same, type_same, result_same, constant_same, global_same, local_same, operand_same, typed_same, argument_same}
+use Rattle.ir_print_law.specs.EqualParts.{same2, same3, same4}
+use Rattle.ir_print_law.proofs.SameParts.{lines_same, listed_same, name_same, type_same, result_same, constant_same, global_same, local_same, operand_same, typed_same, argument_same}
 use Rattle.ir_print_law.proofs.NumbersAgain.{number_op_same}
 use Rattle.ir_print_law.proofs.MemoryAgain.{memory_op_same}
 use Rattle.ir_print_law.proofs.ElementsAgain.{element_same}

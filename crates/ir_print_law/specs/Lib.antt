@@ -2,6 +2,7 @@ pub mod Shapes
 pub mod TypeOrder
 pub mod NumberedTypes
 pub mod Definitions
+pub mod EqualParts
 pub mod Parts
 pub mod PartsAgain
 pub mod PartsWithin

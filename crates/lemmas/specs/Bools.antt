@@ -1,5 +1,5 @@
 -- Truth values: what a conjunction, a disjunction or a negation that is true or false says of its parts.
-use Rattle.std.proofs.Common.{◌≡◌, Bool, true, false, not, ◌&&◌, ◌||◌, refl, inl, inr}
+use Rattle.std.proofs.Common.{◌≡◌, Bool, true, false, not, ◌&&◌, ◌||◌, refl, sym, inl, inr}
 use Rattle.std.specs.Prelude.{◌⊎◌}
 
 pub yes_or_no : (b : Bool) → (b ≡ true) ⊎ (b ≡ false)
@@ -53,3 +53,10 @@ or_neither false b e = (refl, e)
 pub or_false : (a : Bool) → (a || false) ≡ a
 or_false true = refl
 or_false false = refl
+
+-- two truth values of which each follows from the other
+pub same_truth : (a b : Bool) → (a ≡ true → b ≡ true) → (b ≡ true → a ≡ true) → a ≡ b
+same_truth true true f g = refl
+same_truth true false f g = sym (f refl)
+same_truth false true f g = g refl
+same_truth false false f g = refl

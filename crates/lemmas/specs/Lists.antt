@@ -1,9 +1,11 @@
 -- Lists: what is at a place, what is one of the elements, and what holds of all of them.
-use Rattle.std.proofs.Common.{◌≡◌, ℕ, zero, suc, ◌+◌, ◌<◌, Bool, true, List, [], ◌∷◌, ◌++◌, ◌⊎◌, inl, inr, length, get_or, map, sum, slice_get, slice_set, Some, ◌≢◌, refl, sym, ap, arith}
+use Rattle.std.proofs.Common.{◌≡◌, ℕ, zero, suc, ◌+◌, ◌<◌, Bool, true, List, [], ◌∷◌, ◌++◌, ◌⊎◌, inl, inr, length, get_or, map, sum, slice_get, slice_set, take, Some, ◌≢◌, refl, sym, ap, subst, ◌∙◌, arith}
 use Rattle.std.specs.Prelude.{replicate}
-use Rattle.std.specs.List.{list_all}
+use Rattle.std.specs.List.{list_all, list_any}
+use Rattle.std.proofs.lemmas.List.{take_more}
+use Rattle.std.proofs.lemmas.Option.{slice_get_within, get_or_from_slice_get}
 use Rattle.std.proofs.lemmas.List.Sums.{sum_by-cons}
-use Rattle.lemmas.specs.Bools.{and_parts, and_true}
+use Rattle.lemmas.specs.Bools.{and_parts, and_true, or_first, or_second}
 
 -- there is an element at each place before the end
 pub get_some : {A : Type 0} (xs : List A) (i : ℕ) → i < length xs → (x : A) × (slice_get xs i ≡ Some x)
@@ -28,6 +30,17 @@ get_either [] last zero x e = inr (refl, cc)
 get_either [] last (suc i) x e = absurd cc
 get_either (y ∷ xs) last zero x e = inl e
 get_either (y ∷ xs) last (suc i) x e = elim (get_either xs last i x e) [ inl h ↦ inl h | inr h ↦ inr (ap suc h.0, h.1) ]
+
+-- the first elements are at their places
+pub get_first : {A : Type 0} (xs : List A) (i n : ℕ) → i < n → slice_get (take n xs) i ≡ slice_get xs i
+get_first xs i zero lt = absurd (omega (arith, lt))
+get_first [] i (suc n) lt = refl
+get_first (x ∷ xs) zero (suc n) lt = refl
+get_first (x ∷ xs) (suc i) (suc n) lt = get_first xs i n (omega (arith, lt))
+
+-- the first elements and the one at the place after them
+pub first_more : {A : Type 0} (xs : List A) (i : ℕ) (x : A) → slice_get xs i ≡ Some x → take (i + 1) xs ≡ take i xs ++ x ∷ []
+first_more xs i x at = take_more xs i x (slice_get_within xs i x at) ∙ ap (λ y. take i xs ++ y ∷ []) (get_or_from_slice_get xs i x x at)
 
 -- what is written at a place is there
 pub set_here : {A : Type 0} (xs : List A) (i : ℕ) (y : A) → i < length xs → slice_get (slice_set xs i y) i ≡ Some y
@@ -103,6 +116,12 @@ in_longer x xs last is = elim (in_either x xs (last ∷ []) is) [
 pub all_end : {A : Type 0} (test : A → Bool) (xs : List A) (x : A) → list_all test xs ≡ true → test x ≡ true → list_all test (xs ++ x ∷ []) ≡ true
 all_end test [] x e h = rw h refl
 all_end test (y ∷ xs) x e h = let p = and_parts (test y) (list_all test xs) e in and_true (test y) (list_all test (xs ++ x ∷ [])) p.0 (all_end test xs x p.1 h)
+
+-- one element passes the test
+pub any_at : {A : Type 0} (test : A → Bool) (xs : List A) (i : ℕ) (x : A) → slice_get xs i ≡ Some x → test x ≡ true → list_any test xs ≡ true
+any_at test [] i x at h = absurd cc
+any_at test (y ∷ xs) zero x at h = let same : y ≡ x = cc in or_first (test y) (list_any test xs) (subst (λ z. test z ≡ true) (sym same) h)
+any_at test (y ∷ xs) (suc i) x at h = or_second (test y) (list_any test xs) (any_at test xs i x at h)
 
 pub sum_cons : (c : ℕ) (cs : List ℕ) → sum (c ∷ cs) ≡ c + sum cs
 sum_cons c cs = sum_by-cons (λ x. x) c cs

@@ -1,6 +1,7 @@
 -- Types that are printable are so with `ptr` for each pointer.
 use Rattle.std.proofs.Common.{◌≡◌, ◌≤◌, ℕ, zero, suc, Bool, true, List, [], ◌∷◌, map, slice_get, Option, None, Some, inl, inr, refl, sym, ap, ◌∙◌, subst, arith}
 use Rattle.std.specs.List.{list_any}
+use Rattle.lemmas.specs.Lists.{any_at}
 use Rattle.lemmas.specs.Bools.{or_first, or_second}
 use Rattle.ir_ast.specs.Names.{name_at}
 use Rattle.ir_ast.specs.Places.{is_some-position}
@@ -20,11 +21,6 @@ use Rattle.migration_law.proofs.Tables.{none_after, type_after, type_in_order}
 use Rattle.migration_law.proofs.TablesInOrder.{rest_before}
 
 -- ---- lists
-
-any_at : {A : Type 0} (p : A → Bool) (xs : List A) (k : ℕ) (x : A) → slice_get xs k ≡ Some x → p x ≡ true → list_any p xs ≡ true
-any_at p [] k x at h = absurd cc
-any_at p (y ∷ xs) zero x at h = let same : y ≡ x = cc in or_first (p y) (list_any p xs) (subst (λ z. p z ≡ true) (sym same) h)
-any_at p (y ∷ xs) (suc k) x at h = or_second (p y) (list_any p xs) (any_at p xs k x at h)
 
 -- a map after another one
 pub map_twice : {A B C : Type 0} (f : B → C) (g : A → B) (xs : List A) → map f (map g xs) ≡ map (λ x. f (g x)) xs

@@ -1,6 +1,7 @@
 -- Sections that fit a function still fit it where the tables of its module have grown.
 use Rattle.std.proofs.Common.{◌≡◌, inl, inr, ℕ, zero, suc, Bool, true, false, not, ◌&&◌, ◌||◌, ◌==◌, List, [], ◌∷◌, length, slice_get, is_some, unwrap_or, Option, None, Some, refl, sym, ap, ◌∙◌, subst}
 use Rattle.std.specs.List.{list_all, list_any, zip}
+use Rattle.lemmas.specs.Lists.{any_at}
 use Rattle.lemmas.specs.Bools.{or_first, or_parts, or_second}
 use Rattle.ir_ast.specs.Numbers.{small}
 use Rattle.ir_ast.specs.declared.function.Function.{Function}
@@ -31,11 +32,6 @@ some_at p (x ∷ xs) h = elim (or_parts (p x) (list_any p xs) h) [
   | inl here ↦ (0, x, refl, here)
   | inr there ↦ (let found = some_at p xs there in (suc found.0, found.1, found.2, found.3))
 ]
-
-pub any_at : {A : Type 0} (p : A → Bool) (xs : List A) (k : ℕ) (x : A) → slice_get xs k ≡ Some x → p x ≡ true → list_any p xs ≡ true
-any_at p [] k x at h = absurd cc
-any_at p (y ∷ xs) zero x at h = let same : y ≡ x = cc in or_first (p y) (list_any p xs) (subst (λ z. p z ≡ true) (sym same) h)
-any_at p (y ∷ xs) (suc k) x at h = or_second (p y) (list_any p xs) (any_at p xs k x at h)
 
 module _ (m n : Module) (g : Grows m n) (closed : IsClosed m) where
   -- ---- layouts

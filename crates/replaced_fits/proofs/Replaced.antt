@@ -2,6 +2,7 @@
 use Rattle.std.proofs.Common.{◌≡◌, ◌∙◌, ℕ, zero, suc, Bool, true, false, ◌&&◌, ◌==◌, List, [], ◌∷◌, length, slice_get, is_none, is_some, unwrap_or, Option, Some, None, refl, sym, ap, subst}
 use Rattle.std.specs.Prelude.{slice_set}
 use Rattle.std.specs.List.{list_all, zip}
+use Rattle.lemmas.specs.Lists.{any_at}
 use Rattle.lemmas.specs.Bools.{and_first, and_parts, and_true, not_true}
 use Rattle.ir_ast.specs.Places.{is_some-position}
 use Rattle.ir_ast.specs.TypePlaces.{stands}
@@ -15,7 +16,7 @@ use Rattle.function_text.specs.Replaced.{IsReplaced, put_function}
 use Rattle.function_text.specs.declared.anew.Replacement.{Replacement}
 use Rattle.ir_print_law.specs.Growing.{ReplacingKeepsTables, TablesStay}
 use Rattle.layout.specs.Layouts.{wants_shapes}
-use Rattle.types.specs.References.{struct_in}
+use Rattle.types.specs.References.{struct_in, struct_in_is}
 use Rattle.certs.specs.Families.{is_opaque_text}
 use Rattle.certs.specs.Fits.{fits, section_fits}
 use Rattle.certs.specs.ShapesFit.{all_shapes_fit, roots_fit, shapes_fit}
@@ -24,15 +25,10 @@ use Rattle.certificate.specs.Replaced.{FitOthers}
 use Rattle.replaced_fits.specs.Closed.{IsClosed}
 use Rattle.replaced_fits.specs.ReplacedFits.{AreRootsShaped}
 use Rattle.replaced_fits.proofs.GrownFamilies.{Grows}
-use Rattle.replaced_fits.proofs.GrownSections.{any_at, sections_imply}
+use Rattle.replaced_fits.proofs.GrownSections.{sections_imply}
 use Rattle.replaced_fits.proofs.GrownShapes.{shapes_imply}
 use Rattle.replaced_fits.proofs.Implies.{both_imply, itself}
 use Rattle.replaced_fits.proofs.Plain.{fit_each, others_fit}
-
--- what a name of a struct means is said in two ways
-meant : (layout : Option (Option ℕ)) → struct_in layout ≡ unwrap_or layout None
-meant None = refl
-meant (Some layout) = refl
 
 -- ---- one of the functions is another one
 
@@ -62,7 +58,7 @@ module _ (grown : ReplacingKeepsTables) (m : Module) (func : ℕ) (code : Text) 
   grows : is_opaque_text n ≡ is_opaque_text m → Grows m n
   grows opaque = record {
     types = stay.types;
-    names = λ name. meant (slice_get n.struct_of name) ∙ stay.names name ∙ sym (meant (slice_get m.struct_of name));
+    names = λ name. struct_in_is (slice_get n.struct_of name) ∙ stay.names name ∙ sym (struct_in_is (slice_get m.struct_of name));
     structs = stay.structs;
     globals = sym (ap (λ (x : Module). x.globals) is.2);
     declares = sym (ap (λ (x : Module). x.declares) is.2);

@@ -2,6 +2,7 @@
 use Rattle.std.proofs.Common.{◌≡◌, ◌<◌, ℕ, zero, suc, List, [], ◌∷◌, ◌++◌, length, slice_get, Some, refl, sym, ap, subst, ◌∙◌, append_assoc}
 use Rattle.std.specs.Prelude.{slice_set}
 use Rattle.std.specs.List.{AllByRecursion, flat_map}
+use Rattle.ir_print_law.specs.EqualParts.{same3}
 use Rattle.lemmas.specs.Lists.{get_some, set_here}
 use Rattle.ir_ast.specs.declared.function.Function.{Function}
 use Rattle.ir_ast.specs.declared.ir_type.IrType.{IrType}
@@ -12,7 +13,7 @@ use Rattle.ir_print_law.specs.Growing.{AreReplacedAlone, ReplacingKeepsTables}
 use Rattle.ir_print_law.specs.Printable.{IsDeclare, IsFunction, IsGlobal, IsStructType}
 use Rattle.ir_print_law.specs.Wholes.{IsWhole}
 use Rattle.replaced_text.specs.ReplacedText.{AreReplacedPrinted, IsPrintedWith}
-use Rattle.replaced_text.proofs.Texts.{ap₃, declare, function, global, lines, struct}
+use Rattle.replaced_text.proofs.Texts.{declare, function, global, lines, struct}
 use Rattle.replaced_text.proofs.Types.{Stay, with_types}
 
 -- a text after another one, in front of two more
@@ -55,7 +56,7 @@ module _ (m : Module) (whole : IsWhole m) (func : ℕ) (old : Function) (at : sl
         front = items ++ functions.0;
         rest = functions.1;
         text = ap (λ (t : Text). items ++ t) functions.2 ∙ joined items functions.0 (function_text m old) functions.1;
-        text_with = ap₃ (λ a b c. a ++ b ++ c ++ flat_map (function_text n) fs) (sym structs) (sym globals) (sym declares)
+        text_with = same3 (λ a b c. a ++ b ++ c ++ flat_map (function_text n) fs) (sym structs) (sym globals) (sym declares)
             ∙ ap (λ (t : Text). items ++ t) functions.3 ∙ joined items functions.0 (function_text n f) functions.1;
         struct_names = refl;
         symbols = refl;

@@ -2,6 +2,7 @@
 use Rattle.std.proofs.Common.{◌≡◌, ℕ, List, [], ◌∷◌, ◌++◌, Option, None, Some, ◌⊎◌, inl, inr, refl, ap, ap₂, ◌∙◌}
 use Rattle.std.specs.Prelude.{codes}
 use Rattle.std.specs.List.{AllByRecursion, flat_map}
+use Rattle.ir_print_law.specs.EqualParts.{same3}
 use Rattle.ir_ast.specs.declared.argument.Argument.{Argument}
 use Rattle.ir_ast.specs.declared.block.Block.{Block}
 use Rattle.ir_ast.specs.declared.calls.Call.{Call}
@@ -48,12 +49,6 @@ use Rattle.ir_print_law.specs.Parts.{ArePair, IsArgument, IsCondition, IsConvert
 use Rattle.ir_print_law.specs.Printable.{IsAnyType, IsBlock, IsDeclare, IsEnd, IsFunction, IsGlobal, IsIncoming, IsInstr, IsOp, IsParameter, IsPassed, IsPhi, IsStructType}
 use Rattle.ir_print_law.specs.Shapes.{Shape, Integer, Pointer, Opaque, HasShape, bits_of_shape}
 use Rattle.replaced_text.proofs.Types.{Stay, constant_same, plain_same, type_same, with_types}
-
--- ---- texts of equal parts
-
--- what three texts make
-pub ap₃ : (f : Text → Text → Text → Text) {a b c d e g : Text} → a ≡ b → c ≡ d → e ≡ g → f a c e ≡ f b d g
-ap₃ f {b = b} {c = c} {e = e} p q r = ap (λ (x : Text). f x c e) p ∙ ap₂ (f b) q r
 
 -- ---- lists
 
@@ -148,7 +143,7 @@ module _ (m : Module) (types : List IrType) (fs : List Function) (more : Stay m.
     operation (op.Cast x) h = ap (λ (text : Text). codes "bitcast " ++ text) (converted x.from x.operand x.to h)
     operation (op.Choice x) h =
         let p = h.1 in
-        ap₃ (λ a b c. codes "select " ++ a ++ codes ", " ++ b ++ codes ", " ++ c) (condition x.condition_type x.condition h.0)
+        same3 (λ a b c. codes "select " ++ a ++ codes ", " ++ b ++ codes ", " ++ c) (condition x.condition_type x.condition h.0)
         (with_type (bits_of_shape p.0) p.0 x.written x.chosen p.1.0.0 p.2) (with_type (bits_of_shape p.0) p.0 x.written x.other p.1.0.0 p.3)
     operation (op.Call x) h = call x h
 
@@ -168,7 +163,7 @@ module _ (m : Module) (types : List IrType) (fs : List Function) (more : Stay m.
     cases : (shape : Shape) (t : ℕ) → HasShape m.types m.struct_names shape t → (xs : List Case) → flat_map (case_text m f.locals t) xs ≡ flat_map (case_text n f.locals t) xs
     cases shape t has [] = refl
     cases shape t has (x ∷ xs) =
-        ap₃ (λ a b c. (32 ∷ a ++ 32 ∷ b ++ codes ", " ++ target_text f.locals x.target) ++ c) (same_type shape t has) (same_constant shape t x.constant has) (cases shape t has xs)
+        same3 (λ a b c. (32 ∷ a ++ 32 ∷ b ++ codes ", " ++ target_text f.locals x.target) ++ c) (same_type shape t has) (same_constant shape t x.constant has) (cases shape t has xs)
 
     ending : (x : End) → IsEnd m f x → end_text m f.locals x ≡ end_text n f.locals x
     ending (end.Jump label) h = refl
@@ -181,7 +176,7 @@ module _ (m : Module) (types : List IrType) (fs : List Function) (more : Stay m.
 
     block : (x : Block) → IsBlock m f x → block_text m f.locals x ≡ block_text n f.locals x
     block x h =
-        ap₃ (λ a b c. key_text (name_at f.locals x.label) ++ codes ":\n" ++ a ++ b ++ c) (lines (IsPhi m f) (phi_line m f.locals) (phi_line n f.locals) x.phis phi h.0)
+        same3 (λ a b c. key_text (name_at f.locals x.label) ++ codes ":\n" ++ a ++ b ++ c) (lines (IsPhi m f) (phi_line m f.locals) (phi_line n f.locals) x.phis phi h.0)
         (lines (IsInstr m f) (instruction_line m f.locals) (instruction_line n f.locals) x.body instruction h.1) (ap (λ (text : Text). codes "  " ++ text ++ codes "\n") (ending x.end h.2))
 
     -- ---- functions
@@ -195,7 +190,7 @@ module _ (m : Module) (types : List IrType) (fs : List Function) (more : Stay m.
 
     pub function : IsFunction m f → function_text m f ≡ function_text n f
     function h =
-        ap₃ (λ a b c. (codes "define " ++ a ++ 32 ∷ global_text m f.symbol ++ 40 ∷ b ++ 41 ∷ collector_text f.collector ++ codes " {\n") ++ c ++ codes "}\n") (result f.returned h.returned)
+        same3 (λ a b c. (codes "define " ++ a ++ 32 ∷ global_text m f.symbol ++ 40 ∷ b ++ 41 ∷ collector_text f.collector ++ codes " {\n") ++ c ++ codes "}\n") (result f.returned h.returned)
         (list (IsParameter m) (parameter_text m f.locals) (parameter_text n f.locals) f.parameters parameter h.parameters)
         (lines (IsBlock m f) (block_text m f.locals) (block_text n f.locals) f.blocks block h.blocks)
 

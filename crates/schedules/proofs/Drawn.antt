@@ -1,5 +1,6 @@
 -- The first steps of a list, up to those at which it breaks its run.
 use Rattle.std.proofs.Common.{◌≡◌, ◌<◌, ◌≤◌, ℕ, zero, suc, List, [], ◌∷◌, length, map, reverse, take, slice_get, Some, refl, sym, ap, subst, ◌∙◌, arith}
+use Rattle.lemmas.specs.Lists.{get_first}
 use Rattle.rand_core.specs.Stream.{Stream}
 use Rattle.layout.specs.Layouts.{LaidOut}
 use Rattle.trace_text.specs.declared.trace.Setup.{Setup}
@@ -23,13 +24,6 @@ take-take [] (suc k) zero few = absurd (omega (arith, few))
 take-take [] (suc k) (suc n) few = refl
 take-take (x ∷ xs) (suc k) zero few = absurd (omega (arith, few))
 take-take (x ∷ xs) (suc k) (suc n) few = ap (λ l. x ∷ l) (take-take xs k n (omega (arith, few)))
-
--- what is at a place among the first
-get-take : {A : Type 0} (xs : List A) (i n : ℕ) → i < n → slice_get (take n xs) i ≡ slice_get xs i
-get-take xs i zero few = absurd (omega (arith, few))
-get-take [] i (suc n) few = refl
-get-take (x ∷ xs) zero (suc n) few = refl
-get-take (x ∷ xs) (suc i) (suc n) few = get-take xs i n (omega (arith, few))
 
 -- a place at which there is something is before the end
 get-within : {A : Type 0} (xs : List A) (i : ℕ) (x : A) → slice_get xs i ≡ Some x → i < length xs
@@ -67,7 +61,7 @@ first_steps_break p setup actors b is =
     record {
       place = is.place;
       step = is.step;
-      actor = get-take actors is.place b.step (omega (arith, is.step)) ∙ is.actor;
+      actor = get_first actors is.place b.step (omega (arith, is.step)) ∙ is.actor;
       before = λ steps few broken.
           is.before steps few (subst (λ l. IsBroken (heap_of p setup) program_machine (starts_of p setup) (run_of p setup (reverse l))) (take-take actors steps b.step (omega (arith, is.step, few))) broken);
       is_run = subst (λ l. IsModuleRun (heap_of p setup) program_machine (starts_of p setup) (run_of p setup (reverse l))) (sym all) is.is_run;

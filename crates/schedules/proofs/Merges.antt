@@ -66,15 +66,6 @@ pub actors_of-joined : (lines : List Steps) (last next both : Steps) → actors_
 actors_of-joined lines last next both is =
     actors_of-append lines (both ∷ []) ∙ ap (λ l. actors_of lines ++ l) is ∙ actors_of-two lines last next
 
--- the first elements and one more
-take-suc : {A : Type 0} (xs : List A) (i : ℕ) (x : A) → slice_get xs i ≡ Some x → take (suc i) xs ≡ take i xs ++ x ∷ []
-take-suc [] i x is = absurd cc
-take-suc (y ∷ xs) zero x is = cc
-take-suc (y ∷ xs) (suc i) x is = ap (λ l. y ∷ l) (take-suc xs i x is)
-
-pub take-more : {A : Type 0} (xs : List A) (i : ℕ) (x : A) → slice_get xs i ≡ Some x → take (i + 1) xs ≡ take i xs ++ x ∷ []
-take-more xs i x is = ap (λ n. take n xs) (add-one i) ∙ take-suc xs i x is
-
 -- ---- traces
 
 -- a trace with other lines that say the same

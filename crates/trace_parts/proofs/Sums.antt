@@ -2,6 +2,7 @@
 use Rattle.std.proofs.Common.{◌≡◌, ◌+◌, ◌-◌, ◌≤◌, ◌<◌, ℕ, zero, suc, Some, List, [], ◌∷◌, ◌++◌, length, map, take, drop, slice_get, refl, sym, ap, subst, ◌∙◌, add-one, arith}
 use Rattle.std.specs.List.{AllByRecursion}
 use Rattle.std.proofs.lemmas.List.Sums.{sum_by-cons}
+use Rattle.lemmas.specs.Lists.{first_more}
 use Rattle.moves.specs.Runs.{IsActor}
 use Rattle.lemmas.specs.All.{all_join, all_get}
 use Rattle.trace_text.specs.Traces.{step_sum}
@@ -41,15 +42,6 @@ all_drop P zero xs all = all
 all_drop P (suc n) [] all = tt
 all_drop P (suc n) (x ∷ xs) all = all_drop P n xs all.1
 
--- one element more among the first
-take_suc : {A : Type 0} (xs : List A) (i : ℕ) (x : A) → slice_get xs i ≡ Some x → take (suc i) xs ≡ take i xs ++ x ∷ []
-take_suc [] i x is = absurd cc
-take_suc (y ∷ xs) zero x is = cc
-take_suc (y ∷ xs) (suc i) x is = ap (λ l. y ∷ l) (take_suc xs i x is)
-
-pub take_more : {A : Type 0} (xs : List A) (i : ℕ) (x : A) → slice_get xs i ≡ Some x → take (i + 1) xs ≡ take i xs ++ x ∷ []
-take_more xs i x is = ap (λ n. take n xs) (add-one i) ∙ take_suc xs i x is
-
 -- ---- how many steps
 
 pub sum_cons : (line : Steps) (lines : List Steps) → step_sum (line ∷ lines) ≡ line.count + step_sum lines
@@ -76,7 +68,7 @@ sum_take n lines =
 -- and one line more has its steps more
 pub sum_more : (lines : List Steps) (i : ℕ) (line : Steps) → slice_get lines i ≡ Some line → step_sum (take (i + 1) lines) ≡ step_sum (take i lines) + line.count
 sum_more lines i line is =
-    let more = ap step_sum (take_more lines i line is) in
+    let more = ap step_sum (first_more lines i line is) in
     let parts = sum_append (take i lines) (line ∷ []) in
     let one = sum_cons line [] in
     omega (arith, more, parts, one)

@@ -3,11 +3,12 @@ use Rattle.std.specs.List.{AllByRecursion}
 use Rattle.std.proofs.Math.Seq.{take-length}
 use Rattle.std.proofs.lemmas.Option.{slice_get-get_or}
 use Rattle.std.proofs.lemmas.Result.{IfOk-weaker}
+use Rattle.lemmas.specs.Lists.{first_more}
 use Rattle.moves.specs.Runs.{IsActor}
 use Rattle.moves.specs.declared.actor.Actor.TheVariants as actor
 use Rattle.trace_text.specs.declared.trace.Steps.{Steps}
 use Rattle.replay.specs.Lists.{actors_of}
-use Rattle.schedules.proofs.Merges.{actors_of-append, all-first, all-last, take-more}
+use Rattle.schedules.proofs.Merges.{actors_of-append, all-first, all-last}
 use Rattle.schedules.proofs.merging.merged.Goals as goal
 
 -- no steps of the collector, with which the list begins
@@ -31,10 +32,10 @@ loop-next-preserved c =
     let s = get_or steps i none in
     let there : slice_get steps i ≡ Some s = slice_get-get_or steps i none (omega (arith, c.loop-next-test.true)) in
     record {
-      actors = c.in_ok-add.ensures.actors ∙ ap (λ l. l ++ actors_of (s ∷ [])) c.loop-next.invariant.actors ∙ sym (actors_of-append (take i steps) (s ∷ [])) ∙ ap actors_of (sym (take-more steps i s there));
+      actors = c.in_ok-add.ensures.actors ∙ ap (λ l. l ++ actors_of (s ∷ [])) c.loop-next.invariant.actors ∙ sym (actors_of-append (take i steps) (s ∷ [])) ∙ ap actors_of (sym (first_more steps i s there));
       either = λ threads all.
           let P = λ (s : Steps). IsActor threads s.actor in
-          let whole = subst (AllByRecursion P) (take-more steps i s there) all in
+          let whole = subst (AllByRecursion P) (first_more steps i s there) all in
           c.in_ok-add.ensures.either threads (c.loop-next.invariant.either threads (all-first P (take i steps) (s ∷ []) whole)) (all-last P (take i steps) (s ∷ []) whole).0;
     }
 

@@ -1,12 +1,13 @@
 use Rattle.std.proofs.Common.{◌≡◌, ◌∙◌, [], ◌∷◌, ◌++◌, Some, length, take, slice_get, get_or, ap, sym, subst, arith}
 use Rattle.std.proofs.Math.Seq.{take-length}
 use Rattle.std.proofs.lemmas.Option.{slice_get-get_or}
+use Rattle.lemmas.specs.Lists.{first_more}
 use Rattle.moves.specs.Runs.{IsActor}
 use Rattle.lemmas.specs.All.{all_first, all_second}
 use Rattle.moves.specs.declared.actor.Actor.TheVariants as actor
 use Rattle.trace_text.specs.declared.trace.Steps.{Steps}
 use Rattle.trace_parts.specs.Parts.{AreOfActors}
-use Rattle.trace_parts.proofs.Sums.{take_more, sum_more}
+use Rattle.trace_parts.proofs.Sums.{sum_more}
 use Rattle.trace_parts.proofs.setups.lines_without.Goals as goal
 
 -- no steps, for the places past the end of a list
@@ -22,7 +23,7 @@ loop-line-preserved c =
     record {
       actors = λ threads within all.
           let P = λ (s : Steps). IsActor threads s.actor in
-          let whole = subst (λ l. AreOfActors threads l) (take_more lines i line there) all in
+          let whole = subst (λ l. AreOfActors threads l) (first_more lines i line there) all in
           c.in_ok-add_other.ensures.actors threads within (all_second P (take i lines) (line ∷ []) whole).0
           (c.loop-line.invariant.actors threads within (all_first P (take i lines) (line ∷ []) whole));
       sum =

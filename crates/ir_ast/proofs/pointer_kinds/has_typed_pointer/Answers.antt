@@ -1,7 +1,7 @@
 use Rattle.std.proofs.Common.{◌≡◌, ◌+◌, suc, drop, slice_get, true, false, ap, sym, subst, ◌∙◌, arith}
-use Rattle.ir_forms.specs.Written.{is_typed_at, has_typed}
-use Rattle.ir_forms.proofs.PointerKinds.{one_found, none_here}
-use Rattle.ir_forms.proofs.pointer_kinds.has_typed.Goals as goal
+use Rattle.ir_ast.specs.PointerKinds.{is_typed_at, has_typed}
+use Rattle.ir_ast.proofs.TypedPointers.{one_found, none_here}
+use Rattle.ir_ast.proofs.pointer_kinds.has_typed_pointer.Goals as goal
 
 pub returns-then-is_typed_at : goal.returns-then-is_typed_at
 returns-then-is_typed_at c =

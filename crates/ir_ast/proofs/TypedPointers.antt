@@ -2,7 +2,7 @@
 use Rattle.std.proofs.Common.{◌≡◌, ℕ, zero, suc, ◌<◌, ◌≤◌, true, false, List, [], ◌∷◌, length, drop, slice_get, refl, sym, ap, ◌∙◌, arith}
 use Rattle.std.specs.Prelude.{◌||◌}
 use Rattle.ir_ast.specs.declared.ir_type.IrType.{IrType}
-use Rattle.certificate.specs.Starts.{is_typed_at, has_typed}
+use Rattle.ir_ast.specs.PointerKinds.{is_typed_at, has_typed}
 
 -- one is there, or later
 pub typed_next : (types : List IrType) (n : ℕ) → n < length types → has_typed (drop n types) ≡ (is_typed_at (slice_get types n) || has_typed (drop (suc n) types))
