@@ -1,6 +1,6 @@
 -- From what `clap` gives to what a line asks for.
 use Rattle.std.proofs.Common.{◌≡◌, ◌∙◌, ◌&&◌, ◌^◌, ℕ, nat_lt, List, length, Option, Some, None, codes, refl, ap, ap₂, sym, option_map, unwrap_or, lt-ltb, ltb-true}
-use Rattle.std.specs.Prelude.{IfErr, IsErrAnd, Result, Ok, Err, is_some, option_and_then, if◌then◌else◌, true, false, Bool}
+use Rattle.std.specs.Prelude.{IfErr, IfOk, IsErrAnd, IsOkAnd, Result, Ok, Err, option_and_then, if◌then◌else◌, true, false, Bool}
 use Rattle.std.specs.Result.{result_ok}
 use Rattle.std.specs.Str.{all_ascii_digits}
 use Rattle.std.specs.Str.Parse.{ParsesUnsigned, digits_value, without_leading_plus}
@@ -26,6 +26,11 @@ pub paths_from : (held : Found) (second : Text) (m p : Option Text) → m ≡ fi
 paths_from held second m p em ep =
     ap₂ (λ (m p : Option Text). option_and_then (λ m. option_map (λ p. (m, p)) p) m)
     (em ∙ first_value-rows held (codes "MODULE")) (ep ∙ first_value-rows held second)
+
+-- what follows of a result that is there, and of what holds of it if it is
+pub of_both : {A E R : Type 0} (made : Result A E) (P Q : A → Type 0) → IsOkAnd made P → IfOk made Q → ((a : A) → P a → Q a → R) → R
+of_both (Ok a) P Q p q so = so a p q
+of_both (Err e) P Q p q so = absurd p
 
 -- whether the digits write a number below 2 to the 32
 abbrev is_number : Text → Bool

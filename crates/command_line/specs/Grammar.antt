@@ -172,11 +172,18 @@ migrate_app = with_rule (module_app (codes "migrate")) (new_rule (codes "CERT"))
 abbrev pub with_version_and_commands : App → App
 with_version_and_commands app = record app { top = record app.top { has_version = true; subcommand_required = true } }
 
+-- the program with the commands that check
+abbrev pub checks_app : App
+checks_app =
+    with_subcommand (with_subcommand (with_subcommand (with_version_and_commands (new_app (codes "dgc"))) check_app.top) make_app.top) recheck_app.top
+
+-- with those that replay and search too
+abbrev pub searches_app : App
+searches_app = with_subcommand (with_subcommand (with_subcommand checks_app replay_app.top) soak_app.top) hunt_app.top
+
 -- the whole grammar
 abbrev pub dgc_app : App
-dgc_app =
-    with_subcommand (with_subcommand (with_subcommand (with_subcommand (with_subcommand (with_subcommand (with_subcommand (with_subcommand (with_subcommand (with_version_and_commands (new_app (codes "dgc"))) check_app.top)
-    make_app.top) recheck_app.top) replay_app.top) soak_app.top) hunt_app.top) run_app.top) explain_app.top) migrate_app.top
+dgc_app = with_subcommand (with_subcommand (with_subcommand searches_app run_app.top) explain_app.top) migrate_app.top
 
 -- the number that a text of decimal digits writes, where it is below 2 to the 32; a plus may come first
 abbrev pub number_in : Text → Option ℕ

@@ -1,8 +1,8 @@
 //! The grammar of the command line, as `clap` has it.
-ghost use Rattle.std.specs.Prelude.{◌≡◌, IfOk, false, codes};
-ghost use Rattle.clap.specs.Words.{app_of, new_app, new_rule, rule_of};
+ghost use Rattle.std.specs.Prelude.{◌≡◌, IfOk, IsOkAnd, false, codes};
+ghost use Rattle.clap.specs.Words.{app_of, new_app, new_rule, rule_of, with_subcommand};
 ghost use Rattle.clap.specs.declared.builder.command.Command.TheViews.{out-Command};
-ghost use Rattle.command_line.specs.Grammar.{check_app, default_rule, dgc_app, explain_app, explain_rule, explained_check_app, file_rule, files_app, flag_rule, hunt_app, hunted_app, make_app, migrate_app, module_app, number_rule, optional_rule, path_rule, recheck_app, replay_app, run_app, run_files_app, saved_soak_app, searching_soak_app, seeds_app, shaped_app, soak_app, steps_app, traced_app, tried_hunt_app, with_version_and_commands, workers_rule};
+ghost use Rattle.command_line.specs.Grammar.{check_app, checks_app, default_rule, dgc_app, explain_app, explain_rule, explained_check_app, file_rule, files_app, flag_rule, hunt_app, hunted_app, make_app, migrate_app, module_app, number_rule, optional_rule, path_rule, recheck_app, replay_app, run_app, run_files_app, saved_soak_app, searches_app, searching_soak_app, seeds_app, shaped_app, soak_app, steps_app, traced_app, tried_hunt_app, with_version_and_commands, workers_rule};
 
 use crate::help::{
     ALL, BIAS, CHECK, CODE, CommandHelp, DGC_ABOUT, DGC_AFTER, EDITS, EXPLAIN_ABOUT, EXPLAIN_AFTER,
@@ -353,51 +353,51 @@ fn bare_command<'a>(alloc: Global) -> Command<'a>
         .subcommand_required(true)
 }
 
+/// A command with one more command of its own, where there was memory to make that.
+fn with_own<'a>(
+    command: Command<'a>,
+    own: Result<Command<'a>, AllocError>,
+) -> Result<Command<'a>, AllocError>
+    requires command { (out-Command command).has_globals ≡ false }
+    requires own { IfOk own (λ own. (out-Command own).has_globals ≡ false) }
+    ensures app { IfOk result (λ whole. IsOkAnd own.entry (λ own. app_of whole ≡ with_subcommand (app_of command.entry) (app_of own).top)) }
+    ensures own { IfOk result (λ whole. (out-Command whole).has_globals ≡ false) }
+{
+    match own {
+        Ok(own) => command.subcommand(own),
+        Err(refused) => {
+            drop(command);
+            Err(refused)
+        }
+    }
+}
+
+/// The program with the commands that check.
+fn with_checks<'a>(alloc: Global) -> Result<Command<'a>, AllocError>
+    ensures app { IfOk result (λ command. app_of command ≡ checks_app) }
+    ensures own { IfOk result (λ command. (out-Command command).has_globals ≡ false) }
+{
+    let command = with_own(bare_command(alloc), check_command(alloc))?;
+    let command = with_own(command, make_command(alloc))?;
+    with_own(command, recheck_command(alloc))
+}
+
+/// The program with the commands that check, replay and search.
+fn with_searches<'a>(alloc: Global) -> Result<Command<'a>, AllocError>
+    ensures app { IfOk result (λ command. app_of command ≡ searches_app) }
+    ensures own { IfOk result (λ command. (out-Command command).has_globals ≡ false) }
+{
+    let command = with_own(with_checks(alloc)?, replay_command(alloc))?;
+    let command = with_own(command, soak_command(alloc))?;
+    with_own(command, hunt_command(alloc))
+}
+
 /// The whole grammar.
 pub(crate) fn dgc_command<'a>(alloc: Global) -> Result<Command<'a>, AllocError>
     ensures app { IfOk result (λ command. app_of command ≡ dgc_app) }
     ensures own { IfOk result (λ command. (out-Command command).has_globals ≡ false) }
 {
-    let check = check_command(alloc)?;
-    let command = bare_command(alloc).subcommand(check)?;
-    let Ok(make) = make_command(alloc) else {
-        drop(command);
-        return Err(AllocError);
-    };
-    let command = command.subcommand(make)?;
-    let Ok(recheck) = recheck_command(alloc) else {
-        drop(command);
-        return Err(AllocError);
-    };
-    let command = command.subcommand(recheck)?;
-    let Ok(replay) = replay_command(alloc) else {
-        drop(command);
-        return Err(AllocError);
-    };
-    let command = command.subcommand(replay)?;
-    let Ok(soak) = soak_command(alloc) else {
-        drop(command);
-        return Err(AllocError);
-    };
-    let command = command.subcommand(soak)?;
-    let Ok(hunt) = hunt_command(alloc) else {
-        drop(command);
-        return Err(AllocError);
-    };
-    let command = command.subcommand(hunt)?;
-    let Ok(run) = run_command(alloc) else {
-        drop(command);
-        return Err(AllocError);
-    };
-    let command = command.subcommand(run)?;
-    let Ok(explain) = explain_command(alloc) else {
-        drop(command);
-        return Err(AllocError);
-    };
-    let command = command.subcommand(explain)?;
-    let Ok(migrate) = migrate_command(alloc) else {
-        drop(command);
-        return Err(AllocError);
-    };
-    command.subcommand(migrate)
+    let command = with_own(with_searches(alloc)?, run_command(alloc))?;
+    let command = with_own(command, explain_command(alloc))?;
+    with_own(command, migrate_command(alloc))
 }
