@@ -112,15 +112,12 @@ fn put_asked_trace(
     program: &Program,
 ) {
     let of_module = texts.of_module;
-    match of_trace {
-        Some(of_trace) => {
-            let texts = TracedTexts {
-                of_module,
-                of_trace,
-            };
-            put_trace(pen, out, texts, program)
-        }
-        None => {}
+    if let Some(of_trace) = of_trace {
+        let texts = TracedTexts {
+            of_module,
+            of_trace,
+        };
+        put_trace(pen, out, texts, program)
     }
 }
 

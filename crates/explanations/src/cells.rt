@@ -185,9 +185,8 @@ pub fn put_words(out: &mut Message, scene: &Scene, layout: LayoutId) {
 
 /// The same, where an operand leads into a cell.
 pub fn put_words_of(out: &mut Message, scene: &Scene, operand: Option<Operand>) {
-    match layout_of(scene, operand) {
-        Some(layout) => put_words(out, scene, layout),
-        None => {}
+    if let Some(layout) = layout_of(scene, operand) {
+        put_words(out, scene, layout);
     }
 }
 

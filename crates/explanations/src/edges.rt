@@ -212,9 +212,8 @@ fn phi_text(missing: Missing) -> &'static str {
 /// Where what comes in for a phi is written.
 fn put_phi_note(out: &mut Message, told: &Told, target: BlockId, unshown: &Unshown) {
     let scene = told.scene;
-    match phi_of(scene.context.function, target, unshown.value) {
-        Some(spot) => put_note(out, told, &spot, told.it, phi_text(unshown.missing)),
-        None => {}
+    if let Some(spot) = phi_of(scene.context.function, target, unshown.value) {
+        put_note(out, told, &spot, told.it, phi_text(unshown.missing));
     }
 }
 
@@ -257,9 +256,8 @@ fn put_stale(out: &mut Message, told: &Told) {
 }
 
 fn put_known_of(out: &mut Message, told: &Told) {
-    match told.it {
-        Some(operand) => put_known(out, told.scene, [operand].as_slice()),
-        None => {}
+    if let Some(operand) = told.it {
+        put_known(out, told.scene, [operand].as_slice());
     }
 }
 
@@ -281,9 +279,8 @@ fn put_origin_of(out: &mut Message, told: &Told, value: ValueId, missing: Missin
 
 /// Where what comes in is defined, where that tells why the word is not shown.
 fn put_origin(out: &mut Message, told: &Told, missing: Missing) {
-    match value_in(told.it) {
-        Some(value) => put_origin_of(out, told, value, missing),
-        None => {}
+    if let Some(value) = value_in(told.it) {
+        put_origin_of(out, told, value, missing);
     }
 }
 

@@ -78,9 +78,8 @@ fn put_both(out: &mut Message, told: &Told, mismatch: &Mismatch) {
 }
 
 fn put_origin(out: &mut Message, told: &Told) {
-    match value_in(told.it) {
-        Some(value) => put_definition(out, told, value),
-        None => {}
+    if let Some(value) = value_in(told.it) {
+        put_definition(out, told, value);
     }
 }
 

@@ -80,15 +80,14 @@ pub fn put_base_note(out: &mut Message, told: &Told) {
     let (Some(place), Some(base)) = (value_in(told.place), value_in(told.it)) else {
         return;
     };
-    match made_of(told.scene, base, place) {
-        Some(made) => put_note(
+    if let Some(made) = made_of(told.scene, base, place) {
+        put_note(
             out,
             &told.with_place(Operand::Local(made.value)),
             &made.spot,
             told.it,
             "{it} is the base of {place} from here on",
-        ),
-        None => {}
+        );
     }
 }
 

@@ -188,9 +188,8 @@ pub fn mend_of(word: Option<Unkept>) -> &'static str {
 
 /// Where the certificate promises it of a parameter of the function that is called.
 pub fn put_promise(out: &mut Message, told: &Told, parameter: ValueId) {
-    match function_called(told.scene) {
-        Some(called) => put_promise_of(out, told, called, &Sought::Param(parameter)),
-        None => {}
+    if let Some(called) = function_called(told.scene) {
+        put_promise_of(out, told, called, &Sought::Param(parameter));
     }
 }
 

@@ -77,9 +77,8 @@ pub fn put_stale_at(out: &mut Message, told: &Told, lost: &Lost) {
 
 /// The same, if there is one.
 pub fn put_stale_since(out: &mut Message, told: &Told, lost: &Option<Lost>) {
-    match lost {
-        Some(lost) => put_stale_at(out, told, lost),
-        None => {}
+    if let Some(lost) = lost {
+        put_stale_at(out, told, lost);
     }
 }
 

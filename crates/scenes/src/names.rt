@@ -20,9 +20,8 @@ pub fn put_function(out: &mut Message, scene: &Scene) {
 }
 
 pub fn put_block(out: &mut Message, scene: &Scene, block: BlockId) {
-    match scene.label_of(block) {
-        Some(label) => put_value(out, scene, label),
-        None => {}
+    if let Some(label) = scene.label_of(block) {
+        put_value(out, scene, label);
     }
 }
 
