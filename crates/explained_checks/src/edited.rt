@@ -10,7 +10,7 @@ use fault_texts::{
     CheckedTexts, put_cert_fault, put_edits_fault, put_fault_of, put_layout_fault, put_read_fault,
 };
 use ir_print::print;
-use messages::{Look, NamedText, Pen};
+use messages::{Look, Message, NamedText, Pen};
 use module_check::Reason;
 use recheck::{Edit, EditFault, Session};
 use reports::{Certified, Unread, edits_in, read_certified};
@@ -60,12 +60,7 @@ fn code_of(fault: &CertFault) -> Option<Code> {
 }
 
 /// Explains why the section that stands does not fit the code of an edit.
-fn put_kept_fault(
-    pen: Pen,
-    out: &mut Vec<u8>,
-    path: &str,
-    fault: &CertFault,
-) -> Result<(), AllocError> {
+fn put_kept_fault(pen: Pen, out: &mut Message, path: &str, fault: &CertFault) {
     match code_of(fault) {
         Some(code) => put_fault_of(
             pen,
@@ -74,18 +69,18 @@ fn put_kept_fault(
             code,
             "the section that stands does not fit the new code: `edit both` gives a section with the code",
         ),
-        None => Err(AllocError),
+        None => out.refuse(),
     }
 }
 
 /// Explains why the section of an edit does not fit its code.
 fn put_section_fault(
     pen: Pen,
-    out: &mut Vec<u8>,
+    out: &mut Message,
     session: &Session,
     texts: CheckedTexts,
     fault: &CertFault,
-) -> Result<(), AllocError> {
+) {
     match fault {
         CertFault::Missing(_) | CertFault::MissingBlock(..) => put_fault_of(
             pen,
@@ -101,12 +96,12 @@ fn put_section_fault(
 /// Explains why a section of an edit, or the one that stands, does not fit the code.
 fn put_cert_fault_of(
     pen: Pen,
-    out: &mut Vec<u8>,
+    out: &mut Message,
     session: &Session,
     path: &str,
     edit: &Edit,
     fault: &CertFault,
-) -> Result<(), AllocError> {
+) {
     if matches!(edit, Edit::Code { .. }) {
         return put_kept_fault(pen, out, path, fault);
     }
@@ -139,12 +134,12 @@ fn whole_fault_of(fault: &EditFault) -> Option<(Code, &'static str)> {
 /// Explains why an edit of this name is refused.
 fn put_edit_fault(
     pen: Pen,
-    out: &mut Vec<u8>,
+    out: &mut Message,
     session: &Session,
     path: &str,
     edit: &Edit,
     fault: &EditFault,
-) -> Result<(), AllocError> {
+) {
     match fault {
         EditFault::Code(fault) => {
             let text = code_in(edit);
@@ -153,7 +148,7 @@ fn put_edit_fault(
         EditFault::Cert(fault) => put_cert_fault_of(pen, out, session, path, edit, fault),
         fault => match whole_fault_of(fault) {
             Some((code, mend)) => put_fault_of(pen, out, path, code, mend),
-            None => Err(AllocError),
+            None => out.refuse(),
         },
     }
 }
@@ -170,55 +165,48 @@ fn edit_name(alloc: Global, number: usize) -> Result<String, AllocError> {
 /// Explains why the edit with this number is refused.
 fn put_refused_edit(
     pen: Pen,
-    out: &mut Vec<u8>,
+    out: &mut Message,
     session: &Session,
     number: usize,
     edit: &Edit,
     fault: &EditFault,
-) -> Result<(), AllocError> {
-    let name = edit_name(pen.alloc, number)?;
+) {
+    let Ok(name) = edit_name(pen.alloc, number) else {
+        return out.refuse();
+    };
     put_edit_fault(pen, out, session, name.as_str(), edit, fault)
 }
 
 /// Makes an edit, and explains why it is refused.
-fn put_edit(
-    pen: Pen,
-    out: &mut Vec<u8>,
-    session: &mut Session,
-    number: usize,
-    edit: &Edit,
-) -> Result<(), AllocError> {
+fn put_edit(pen: Pen, out: &mut Message, session: &mut Session, number: usize, edit: &Edit) {
     match session.apply(pen.alloc, edit) {
-        Ok(()) => Ok(()),
+        Ok(()) => {}
         Err(fault) => {
-            let told = put_refused_edit(pen, out, session, number, edit, &fault);
+            put_refused_edit(pen, out, session, number, edit, &fault);
             drop(fault);
-            told
         }
     }
 }
 
 /// Makes edits, and explains each that is refused.
-fn put_edits(
-    pen: Pen,
-    out: &mut Vec<u8>,
-    session: &mut Session,
-    edits: &[Edit],
-) -> Result<(), AllocError> {
+fn put_edits(pen: Pen, out: &mut Message, session: &mut Session, edits: &[Edit]) {
     for (place, edit) in edits.iter().enumerate() {
-        put_edit(pen, out, session, place + 1, edit)?;
+        put_edit(pen, out, session, place + 1, edit);
     }
-    Ok(())
 }
 
 /// Explains the verdict on the edited module, by the text that is printed of it.
-fn put_last(pen: Pen, out: &mut Vec<u8>, session: &Session) -> Result<(), AllocError> {
+fn put_last(pen: Pen, out: &mut Message, session: &Session) {
     let Some(refusal) = session.verdict() else {
-        return Ok(());
+        return;
     };
     let program = session.program();
-    let module_text = print(pen.alloc, program.module())?;
-    let cert_text = print_cert(pen.alloc, session.certs(), program.module())?;
+    let Ok(module_text) = print(pen.alloc, program.module()) else {
+        return out.refuse();
+    };
+    let Ok(cert_text) = print_cert(pen.alloc, session.certs(), program.module()) else {
+        return out.refuse();
+    };
     let texts = CheckedTexts {
         of_module: NamedText {
             path: EDITED_MODULE,
@@ -235,43 +223,36 @@ fn put_last(pen: Pen, out: &mut Vec<u8>, session: &Session) -> Result<(), AllocE
 /// Explains the first verdict on a session, and then the edits. If the first verdict is yes, the last one is explained after them.
 fn put_session(
     pen: Pen,
-    out: &mut Vec<u8>,
+    out: &mut Message,
     texts: CheckedTexts,
     session: &mut Session,
     edits: &[Edit],
-) -> Result<(), AllocError> {
+) {
     match session.verdict() {
         Some(refusal) => {
-            put_in_program(pen, out, texts, session.program(), session.certs(), refusal)?;
+            put_in_program(pen, out, texts, session.program(), session.certs(), refusal);
             put_edits(pen, out, session, edits)
         }
         None => {
-            put_edits(pen, out, session, edits)?;
+            put_edits(pen, out, session, edits);
             put_last(pen, out, session)
         }
     }
 }
 
 /// Begins a session of what was read of the files, and explains what comes of the edits.
-fn put_begun(
-    pen: Pen,
-    out: &mut Vec<u8>,
-    texts: CheckedTexts,
-    certified: Certified,
-    edits: &[Edit],
-) -> Result<(), AllocError>
+fn put_begun(pen: Pen, out: &mut Message, texts: CheckedTexts, certified: Certified, edits: &[Edit])
     requires { fits certified.of_module certified.certs.sections ≡ true }
 {
     match Session::new(pen.alloc, certified.of_module, certified.certs) {
         Ok(mut session) => {
-            let told = put_session(pen, out, texts, &mut session, edits);
+            put_session(pen, out, texts, &mut session, edits);
             drop(session);
-            told
         }
         Err(answer) => {
             let told = match answer.verdict {
                 Reason::Layout(fault) => put_layout_fault(pen, out, texts.of_module, fault),
-                _ => Err(AllocError),
+                _ => out.refuse(),
             };
             drop(answer);
             told
@@ -282,25 +263,24 @@ fn put_begun(
 /// Reads the edits of this path, the third file, and explains what comes of them.
 fn put_with_edits(
     pen: Pen,
-    out: &mut Vec<u8>,
+    out: &mut Message,
     texts: CheckedTexts,
     certified: Certified,
     path: &str,
     files: &[Option<Vec<u8>>],
-) -> Result<(), AllocError>
+)
     requires { fits certified.of_module certified.certs.sections ≡ true }
 {
     match edits_in(pen.alloc, path, files, 2) {
         Ok(edits) => {
-            let told = put_begun(pen, out, texts, certified, edits.as_slice());
+            put_begun(pen, out, texts, certified, edits.as_slice());
             drop(edits);
-            told
         }
         Err(unread) => {
             drop(certified);
             let told = match &unread {
                 Unread::NoEdits(fault) => put_edits_fault(pen, out, named(path, files, 2), fault),
-                _ => Ok(()),
+                _ => {}
             };
             drop(unread);
             told
@@ -309,12 +289,7 @@ fn put_with_edits(
 }
 
 /// What is told of the files of these paths: a module, a certificate and edits.
-fn put_files(
-    pen: Pen,
-    out: &mut Vec<u8>,
-    paths: (&str, &str, &str),
-    files: &[Option<Vec<u8>>],
-) -> Result<(), AllocError> {
+fn put_files(pen: Pen, out: &mut Message, paths: (&str, &str, &str), files: &[Option<Vec<u8>>]) {
     let texts = CheckedTexts {
         of_module: named(paths.0, files, 0),
         of_certs: named(paths.1, files, 1),
@@ -322,9 +297,8 @@ fn put_files(
     match read_certified(pen.alloc, (paths.0, paths.1), files) {
         Ok(certified) => put_with_edits(pen, out, texts, certified, paths.2, files),
         Err(unread) => {
-            let told = put_unread(pen, out, texts, &unread);
+            put_unread(pen, out, texts, &unread);
             drop(unread);
-            told
         }
     }
 }
@@ -335,9 +309,9 @@ fn text_of_recheck(
     paths: (&str, &str, &str),
     files: &[Option<Vec<u8>>],
 ) -> Result<Vec<u8>, AllocError> {
-    let mut out = Vec::new(pen.alloc);
-    put_files(pen, &mut out, paths, files)?;
-    Ok(out)
+    let mut out = Message::new(pen.alloc);
+    put_files(pen, &mut out, paths, files);
+    out.finish()
 }
 
 /// Explains why the module of the first path is not accepted with the certificate of the second, before or after the edits of the third,

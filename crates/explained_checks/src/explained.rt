@@ -9,7 +9,7 @@ use explanations::{Source, Texts, put_refusal};
 use fault_texts::{CheckedTexts, TracedTexts, put_cert_fault, put_layout_fault, put_read_fault};
 use ir_tokens::{TEXT_LIMIT, read_tokens};
 use layout::Program;
-use messages::{Look, NamedText, Pen, put};
+use messages::{Look, Message, NamedText, Pen};
 use module_check::{Reason, UnderCheck, fault_in_module};
 use refusals::first_refusals;
 use reports::{Certified, Unread, read_certified};
@@ -51,33 +51,34 @@ pub(crate) fn named<'a>(
 /// Explains each of some refusals in a program, with a blank line between.
 fn put_refusals(
     pen: Pen,
-    out: &mut Vec<u8>,
+    out: &mut Message,
     texts: Texts,
     program: &Program,
     certs: &Certs,
     refusals: &[Refusal],
-) -> Result<(), AllocError> {
+) {
     for (number, refusal) in refusals.iter().enumerate() {
-        put(out, if number == 0 { "" } else { "\n" })?;
-        put_refusal(pen, out, texts, program, certs, *refusal)?;
+        out.put(if number == 0 { "" } else { "\n" });
+        put_refusal(pen, out, texts, program, certs, *refusal);
     }
-    Ok(())
 }
 
 /// Explains each of some refusals in a program, by the tokens of its text.
 fn put_each(
     pen: Pen,
-    out: &mut Vec<u8>,
+    out: &mut Message,
     texts: CheckedTexts,
     program: &Program,
     certs: &Certs,
     refusals: &[Refusal],
-) -> Result<(), AllocError> {
+) {
     let NamedText { path, text } = texts.of_module;
     if text.len() > TEXT_LIMIT {
-        return Ok(());
+        return;
     }
-    let lexed = read_tokens(pen.alloc, text)?;
+    let Ok(lexed) = read_tokens(pen.alloc, text) else {
+        return out.refuse();
+    };
     let texts = Texts {
         source: Source {
             path,
@@ -86,58 +87,54 @@ fn put_each(
         },
         certificate: texts.of_certs,
     };
-    let told = put_refusals(pen, out, texts, program, certs, refusals);
+    put_refusals(pen, out, texts, program, certs, refusals);
     drop(lexed);
-    told
 }
 
 /// Explains a refusal in a program.
 pub(crate) fn put_in_program(
     pen: Pen,
-    out: &mut Vec<u8>,
+    out: &mut Message,
     texts: CheckedTexts,
     program: &Program,
     certs: &Certs,
     refusal: Refusal,
-) -> Result<(), AllocError> {
+) {
     put_each(pen, out, texts, program, certs, [refusal].as_slice())
 }
 
 /// Explains the first fault of a trace of a program, if one is to be run.
 fn put_asked_trace(
     pen: Pen,
-    out: &mut Vec<u8>,
+    out: &mut Message,
     texts: CheckedTexts,
     of_trace: Option<NamedText>,
     program: &Program,
-) -> Result<(), AllocError> {
+) {
     let of_module = texts.of_module;
-    match of_trace {
-        Some(of_trace) => {
-            let texts = TracedTexts {
-                of_module,
-                of_trace,
-            };
-            put_trace(pen, out, texts, program)
-        }
-        None => Ok(()),
+    if let Some(of_trace) = of_trace {
+        let texts = TracedTexts {
+            of_module,
+            of_trace,
+        };
+        put_trace(pen, out, texts, program)
     }
 }
 
 /// Explains the first refusal in a program. Where there is none, explains the first fault of a trace.
 fn put_first(
     pen: Pen,
-    out: &mut Vec<u8>,
+    out: &mut Message,
     texts: CheckedTexts,
     of_trace: Option<NamedText>,
     program: &Program,
     certs: &Certs,
-) -> Result<(), AllocError> {
+) {
     match fault_in_module(pen.alloc, program, certs) {
         Some(BlockFault::Refused(refusal)) => {
             put_in_program(pen, out, texts, program, certs, refusal)
         }
-        Some(BlockFault::Memory) => Err(AllocError),
+        Some(BlockFault::Memory) => out.refuse(),
         None => put_asked_trace(pen, out, texts, of_trace, program),
     }
 }
@@ -145,27 +142,22 @@ fn put_first(
 /// Explains the first refusal of each block of a program, at most this many.
 fn put_of_blocks(
     pen: Pen,
-    out: &mut Vec<u8>,
+    out: &mut Message,
     texts: CheckedTexts,
     limit: u32,
     program: &Program,
     certs: &Certs,
-) -> Result<(), AllocError> {
-    let refusals = first_refusals(pen.alloc, program, certs)?;
+) {
+    let Ok(refusals) = first_refusals(pen.alloc, program, certs) else {
+        return out.refuse();
+    };
     let each = refusals.up_to(limit as usize);
-    let told = put_each(pen, out, texts, program, certs, each);
+    put_each(pen, out, texts, program, certs, each);
     drop(refusals);
-    told
 }
 
 /// Explains what is refused in a program, or the first fault of its trace if it is accepted.
-fn put_refused(
-    pen: Pen,
-    out: &mut Vec<u8>,
-    texts: AskedTexts,
-    program: &Program,
-    certs: &Certs,
-) -> Result<(), AllocError> {
+fn put_refused(pen: Pen, out: &mut Message, texts: AskedTexts, program: &Program, certs: &Certs) {
     match texts.asked {
         Asked::First => put_first(pen, out, texts.checked, None, program, certs),
         Asked::Run(of_trace) => {
@@ -176,17 +168,11 @@ fn put_refused(
 }
 
 /// Checks what was read of the files again, and explains why the module is not accepted, or why its trace is not read.
-fn put_checked(
-    pen: Pen,
-    out: &mut Vec<u8>,
-    texts: AskedTexts,
-    certified: Certified,
-) -> Result<(), AllocError> {
+fn put_checked(pen: Pen, out: &mut Message, texts: AskedTexts, certified: Certified) {
     match UnderCheck::new(pen.alloc, certified.of_module, certified.certs) {
         Ok(under) => {
-            let told = put_refused(pen, out, texts, under.program(), under.certs());
+            put_refused(pen, out, texts, under.program(), under.certs());
             drop(under);
-            told
         }
         Err(refused) => {
             let verdict = refused.verdict;
@@ -195,36 +181,31 @@ fn put_checked(
                 Reason::Layout(fault) => {
                     put_layout_fault(pen, out, texts.checked.of_module, fault)
                 }
-                _ => Err(AllocError),
+                _ => out.refuse(),
             }
         }
     }
 }
 
 /// Explains the first fault of the texts of the files.
-pub(crate) fn put_unread(
-    pen: Pen,
-    out: &mut Vec<u8>,
-    texts: CheckedTexts,
-    unread: &Unread,
-) -> Result<(), AllocError> {
+pub(crate) fn put_unread(pen: Pen, out: &mut Message, texts: CheckedTexts, unread: &Unread) {
     match unread {
         Unread::NoModule(fault) => put_read_fault(pen, out, texts.of_module, fault),
         Unread::NoCertificate(of_module, fault) => {
             put_cert_fault(pen, out, texts, of_module, *fault)
         }
-        _ => Ok(()),
+        _ => {}
     }
 }
 
 /// What is told of the files of these paths, a module and a certificate, and of a trace.
 fn put_files(
     pen: Pen,
-    out: &mut Vec<u8>,
+    out: &mut Message,
     paths: (&str, &str),
     asked: Asked,
     files: &[Option<Vec<u8>>],
-) -> Result<(), AllocError> {
+) {
     let checked = CheckedTexts {
         of_module: named(paths.0, files, 0),
         of_certs: named(paths.1, files, 1),
@@ -232,9 +213,8 @@ fn put_files(
     match read_certified(pen.alloc, paths, files) {
         Ok(certified) => put_checked(pen, out, AskedTexts { checked, asked }, certified),
         Err(unread) => {
-            let told = put_unread(pen, out, checked, &unread);
+            put_unread(pen, out, checked, &unread);
             drop(unread);
-            told
         }
     }
 }
@@ -246,9 +226,9 @@ fn text_of_check(
     asked: Asked,
     files: &[Option<Vec<u8>>],
 ) -> Result<Vec<u8>, AllocError> {
-    let mut out = Vec::new(pen.alloc);
-    put_files(pen, &mut out, paths, asked, files)?;
-    Ok(out)
+    let mut out = Message::new(pen.alloc);
+    put_files(pen, &mut out, paths, asked, files);
+    out.finish()
 }
 
 /// Explains why the module of the first path is not accepted with the certificate of the second. Nothing is told where it is.

@@ -8,7 +8,7 @@ use certificate::print_cert;
 use copies::copy_shapes;
 use fault_texts::{CheckedTexts, put_layout_fault};
 use ir_ast::{Module, Shapes};
-use messages::{Look, NamedText, Pen};
+use messages::{Look, Message, NamedText, Pen};
 use module_check::UnderCheck;
 use reports::shaped_in;
 use std::alloc::{AllocError, Global};
@@ -19,35 +19,22 @@ use std::io::Write;
 const TRIED: &str = "certificate";
 
 /// Explains the first refusal of a module with some certificates.
-fn put_under(
-    pen: Pen,
-    out: &mut Vec<u8>,
-    texts: CheckedTexts,
-    of_module: Module,
-    tried: Refused,
-) -> Result<(), AllocError> {
+fn put_under(pen: Pen, out: &mut Message, texts: CheckedTexts, of_module: Module, tried: Refused) {
     let refusal = tried.refusal;
     match UnderCheck::new(pen.alloc, of_module, tried.certs) {
         Ok(under) => {
-            let told = put_in_program(pen, out, texts, under.program(), under.certs(), refusal);
+            put_in_program(pen, out, texts, under.program(), under.certs(), refusal);
             drop(under);
-            told
         }
         Err(refused) => {
             drop(refused);
-            Err(AllocError)
+            out.refuse()
         }
     }
 }
 
 /// Explains the first refusal of a module with some certificates, whose text is made for that.
-fn put_tried(
-    pen: Pen,
-    out: &mut Vec<u8>,
-    of_file: NamedText,
-    of_module: Module,
-    tried: Refused,
-) -> Result<(), AllocError> {
+fn put_tried(pen: Pen, out: &mut Message, of_file: NamedText, of_module: Module, tried: Refused) {
     match print_cert(pen.alloc, &tried.certs, &of_module) {
         Ok(text) => {
             let texts = CheckedTexts {
@@ -59,28 +46,22 @@ fn put_tried(
             };
             put_under(pen, out, texts, of_module, tried)
         }
-        Err(error) => {
+        Err(_) => {
             drop(of_module);
             drop(tried);
-            Err(error)
+            out.refuse()
         }
     }
 }
 
 /// Explains the first refusal of a module with some certificates, which are given its shapes.
-fn put_shaped(
-    pen: Pen,
-    out: &mut Vec<u8>,
-    of_file: NamedText,
-    of_module: Module,
-    tried: Refused,
-) -> Result<(), AllocError> {
+fn put_shaped(pen: Pen, out: &mut Message, of_file: NamedText, of_module: Module, tried: Refused) {
     match copy_shapes(pen.alloc, &of_module.shapes) {
-        Ok(shapes) => { put_tried(pen, out, of_file, of_module, with_shapes(tried, shapes)) }
-        Err(error) => {
+        Ok(shapes) => put_tried(pen, out, of_file, of_module, with_shapes(tried, shapes)),
+        Err(_) => {
             drop(of_module);
             drop(tried);
-            Err(error)
+            out.refuse()
         }
     }
 }
@@ -93,26 +74,16 @@ fn with_shapes(tried: Refused, shapes: Option<Shapes>) -> Refused {
 }
 
 /// Explains why no certificates were tried.
-fn put_untried(
-    pen: Pen,
-    out: &mut Vec<u8>,
-    of_file: NamedText,
-    fault: &MakeFault,
-) -> Result<(), AllocError> {
+fn put_untried(pen: Pen, out: &mut Message, of_file: NamedText, fault: &MakeFault) {
     match fault {
         MakeFault::Layout(fault) => put_layout_fault(pen, out, of_file, *fault),
-        MakeFault::NoAnswer => Ok(()),
-        MakeFault::Memory => Err(AllocError),
+        MakeFault::NoAnswer => {}
+        MakeFault::Memory => out.refuse(),
     }
 }
 
 /// Explains why no certificates are made.
-fn put_unmade(
-    pen: Pen,
-    out: &mut Vec<u8>,
-    of_file: NamedText,
-    unmade: NotMade,
-) -> Result<(), AllocError> {
+fn put_unmade(pen: Pen, out: &mut Message, of_file: NamedText, unmade: NotMade) {
     let NotMade {
         fault,
         of_module,
@@ -128,28 +99,15 @@ fn put_unmade(
 }
 
 /// Makes certificates of a module, and explains why there are none.
-fn put_made(
-    pen: Pen,
-    out: &mut Vec<u8>,
-    of_file: NamedText,
-    of_module: Module,
-) -> Result<(), AllocError> {
+fn put_made(pen: Pen, out: &mut Message, of_file: NamedText, of_module: Module) {
     match make(pen.alloc, of_module) {
-        Ok(made) => {
-            drop(made);
-            Ok(())
-        }
+        Ok(made) => drop(made),
         Err(unmade) => put_unmade(pen, out, of_file, unmade),
     }
 }
 
 /// What is told of the files of these paths.
-fn put_files(
-    pen: Pen,
-    out: &mut Vec<u8>,
-    paths: (&str, Option<&str>),
-    files: &[Option<Vec<u8>>],
-) -> Result<(), AllocError> {
+fn put_files(pen: Pen, out: &mut Message, paths: (&str, Option<&str>), files: &[Option<Vec<u8>>]) {
     let of_file = named(paths.0, files, 0);
     match shaped_in(pen.alloc, paths, files, 1) {
         Ok(of_module) => put_made(pen, out, of_file, of_module),
@@ -158,9 +116,8 @@ fn put_files(
                 of_module: of_file,
                 of_certs: named(paths.1.unwrap_or(""), files, 1),
             };
-            let told = put_unread(pen, out, texts, &unread);
+            put_unread(pen, out, texts, &unread);
             drop(unread);
-            told
         }
     }
 }
@@ -171,9 +128,9 @@ fn text_of_make(
     paths: (&str, Option<&str>),
     files: &[Option<Vec<u8>>],
 ) -> Result<Vec<u8>, AllocError> {
-    let mut out = Vec::new(pen.alloc);
-    put_files(pen, &mut out, paths, files)?;
-    Ok(out)
+    let mut out = Message::new(pen.alloc);
+    put_files(pen, &mut out, paths, files);
+    out.finish()
 }
 
 /// Explains why no certificates of the module of the first path are made with the shapes of the second.

@@ -5,7 +5,7 @@ ghost use Rattle.explained_checks.specs.Explained.{GivesText};
 use crate::explained::{named, put_unread};
 use fault_texts::{CheckedTexts, TracedTexts, put_layout_fault, put_trace_fault};
 use layout::Program;
-use messages::{Look, Pen};
+use messages::{Look, Message, Pen};
 use reports::{Unread, read_traced};
 use std::alloc::{AllocError, Global};
 use std::io;
@@ -13,16 +13,10 @@ use std::io::Write;
 use trace_text::read_trace;
 
 /// Reads a trace again, and explains its first fault.
-pub(crate) fn put_trace(
-    pen: Pen,
-    out: &mut Vec<u8>,
-    texts: TracedTexts,
-    program: &Program,
-) -> Result<(), AllocError> {
+pub(crate) fn put_trace(pen: Pen, out: &mut Message, texts: TracedTexts, program: &Program) {
     match read_trace(pen.alloc, texts.of_trace.text, program) {
         Ok(trace) => {
             drop(trace);
-            Ok(())
         }
         Err(fault) => put_trace_fault(pen, out, texts, &fault),
     }
@@ -31,11 +25,11 @@ pub(crate) fn put_trace(
 /// Explains the first fault of the texts of the files.
 fn put_untraced(
     pen: Pen,
-    out: &mut Vec<u8>,
+    out: &mut Message,
     texts: TracedTexts,
     of_shapes: CheckedTexts,
     unread: &Unread,
-) -> Result<(), AllocError> {
+) {
     match unread {
         Unread::NoTrace(fault) => put_trace_fault(pen, out, texts, fault),
         Unread::NoLayouts(refused) => { put_layout_fault(pen, out, texts.of_module, refused.fault) }
@@ -46,10 +40,10 @@ fn put_untraced(
 /// What is told of the files of these paths: a module, a trace and shapes.
 fn put_files(
     pen: Pen,
-    out: &mut Vec<u8>,
+    out: &mut Message,
     paths: (&str, &str, Option<&str>),
     files: &[Option<Vec<u8>>],
-) -> Result<(), AllocError> {
+) {
     let of_module = named(paths.0, files, 0);
     let texts = TracedTexts {
         of_module,
@@ -62,12 +56,10 @@ fn put_files(
     match read_traced(pen.alloc, paths, files) {
         Ok(traced) => {
             drop(traced);
-            Ok(())
         }
         Err(unread) => {
-            let told = put_untraced(pen, out, texts, of_shapes, &unread);
+            put_untraced(pen, out, texts, of_shapes, &unread);
             drop(unread);
-            told
         }
     }
 }
@@ -78,9 +70,9 @@ fn text_of_traced(
     paths: (&str, &str, Option<&str>),
     files: &[Option<Vec<u8>>],
 ) -> Result<Vec<u8>, AllocError> {
-    let mut out = Vec::new(pen.alloc);
-    put_files(pen, &mut out, paths, files)?;
-    Ok(out)
+    let mut out = Message::new(pen.alloc);
+    put_files(pen, &mut out, paths, files);
+    out.finish()
 }
 
 /// Explains why the texts of these paths are not read: a module, a trace of it, and its shapes. Nothing is told where they are.

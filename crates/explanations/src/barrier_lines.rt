@@ -2,7 +2,7 @@
 use crate::nulls::is_value;
 use crate::told::{Told, type_of, value_in};
 use ir_ast::{Constant, MemoryOp, Op, Operand, TypeId, ValueId};
-use messages::put;
+use messages::Message;
 use offered_lines::{CODE_MARGIN, put_new_name, put_type};
 use scenes::{Scene, There, put_operand};
 use std::alloc::AllocError;
@@ -79,8 +79,9 @@ fn uncast(scene: &Scene, given: &Given) -> Result<Option<ValueId>, AllocError> {
     let (Some(value), Some(has)) = (value_in(Some(given.operand)), given.has) else {
         return Ok(None);
     };
-    let mut written = Vec::new(scene.pen.alloc);
-    put_type(scene.pen.alloc, &mut written, scene.context.module(), has)?;
+    let mut written = Message::new(scene.pen.alloc);
+    put_type(scene.pen.alloc, &mut written, scene.context.module(), has);
+    let written = written.finish()?;
     if written.as_slice() == given.wanted.as_bytes() {
         Ok(None)
     } else {
@@ -88,19 +89,14 @@ fn uncast(scene: &Scene, given: &Given) -> Result<Option<ValueId>, AllocError> {
     }
 }
 
-fn put_has(out: &mut Vec<u8>, scene: &Scene, given: &Given) -> Result<(), AllocError> {
+fn put_has(out: &mut Message, scene: &Scene, given: &Given) {
     match given.has {
         Some(has) => put_type(scene.pen.alloc, out, scene.context.module(), has),
-        None => put(out, "T"),
+        None => out.put("T"),
     }
 }
 
-fn put_new(
-    out: &mut Vec<u8>,
-    scene: &Scene,
-    given: &Given,
-    value: ValueId,
-) -> Result<(), AllocError> {
+fn put_new(out: &mut Message, scene: &Scene, given: &Given, value: ValueId) {
     put_new_name(
         scene.pen.alloc,
         out,
@@ -110,52 +106,43 @@ fn put_new(
     )
 }
 
-fn put_cast_of(
-    out: &mut Vec<u8>,
-    scene: &Scene,
-    given: &Given,
-    value: ValueId,
-) -> Result<(), AllocError> {
-    put(out, CODE_MARGIN)?;
-    put_new(out, scene, given, value)?;
-    put(out, " = bitcast ")?;
-    put_has(out, scene, given)?;
-    put(out, " ")?;
-    put_operand(out, scene, given.operand)?;
-    put(out, " to ")?;
-    put(out, given.wanted)?;
-    put(out, "\n")
+fn put_cast_of(out: &mut Message, scene: &Scene, given: &Given, value: ValueId) {
+    out.put(CODE_MARGIN);
+    put_new(out, scene, given, value);
+    out.put(" = bitcast ");
+    put_has(out, scene, given);
+    out.put(" ");
+    put_operand(out, scene, given.operand);
+    out.put(" to ");
+    out.put(given.wanted);
+    out.put("\n")
 }
 
 /// The line of a cast, where one is needed.
-fn put_cast(out: &mut Vec<u8>, scene: &Scene, given: &Given) -> Result<(), AllocError> {
-    match uncast(scene, given)? {
-        Some(value) => put_cast_of(out, scene, given, value),
-        None => Ok(()),
+fn put_cast(out: &mut Message, scene: &Scene, given: &Given) {
+    match uncast(scene, given) {
+        Ok(Some(value)) => put_cast_of(out, scene, given, value),
+        Ok(None) => {}
+        Err(_) => out.refuse(),
     }
 }
 
 /// A global under the type that is wanted.
-fn put_cast_global(
-    out: &mut Vec<u8>,
-    scene: &Scene,
-    given: &Given,
-    from: Option<TypeId>,
-) -> Result<(), AllocError> {
-    put(out, "bitcast (")?;
+fn put_cast_global(out: &mut Message, scene: &Scene, given: &Given, from: Option<TypeId>) {
+    out.put("bitcast (");
     match from {
-        Some(from) => put_type(scene.pen.alloc, out, scene.context.module(), from)?,
-        None => put(out, "T")?,
+        Some(from) => put_type(scene.pen.alloc, out, scene.context.module(), from),
+        None => out.put("T"),
     }
-    put(out, " ")?;
-    put_operand(out, scene, given.operand)?;
-    put(out, " to ")?;
-    put(out, given.wanted)?;
-    put(out, ")")
+    out.put(" ");
+    put_operand(out, scene, given.operand);
+    out.put(" to ");
+    out.put(given.wanted);
+    out.put(")")
 }
 
 /// An operand of the call that needs no name of its own.
-fn put_uncast(out: &mut Vec<u8>, scene: &Scene, given: &Given) -> Result<(), AllocError> {
+fn put_uncast(out: &mut Message, scene: &Scene, given: &Given) {
     match &given.operand {
         Operand::Global(_) => put_cast_global(out, scene, given, given.has),
         Operand::CastGlobal { from, .. } => put_cast_global(out, scene, given, Some(*from)),
@@ -164,29 +151,30 @@ fn put_uncast(out: &mut Vec<u8>, scene: &Scene, given: &Given) -> Result<(), All
 }
 
 /// An operand of the call under the name of its cast.
-fn put_named(out: &mut Vec<u8>, scene: &Scene, given: &Given) -> Result<(), AllocError> {
-    match uncast(scene, given)? {
-        Some(value) => put_new(out, scene, given, value),
-        None => put_uncast(out, scene, given),
+fn put_named(out: &mut Message, scene: &Scene, given: &Given) {
+    match uncast(scene, given) {
+        Ok(Some(value)) => put_new(out, scene, given, value),
+        Ok(None) => put_uncast(out, scene, given),
+        Err(_) => out.refuse(),
     }
 }
 
 /// An operand of the call with its type.
-fn put_given(out: &mut Vec<u8>, scene: &Scene, given: &Given) -> Result<(), AllocError> {
-    put(out, given.wanted)?;
-    put(out, " ")?;
+fn put_given(out: &mut Message, scene: &Scene, given: &Given) {
+    out.put(given.wanted);
+    out.put(" ");
     put_named(out, scene, given)
 }
 
-fn put_call(out: &mut Vec<u8>, scene: &Scene, barrier: &Barrier) -> Result<(), AllocError> {
-    put(out, CODE_MARGIN)?;
-    put(out, "call void @llvm.gcwrite(")?;
-    put_given(out, scene, &barrier.value)?;
-    put(out, ", ")?;
-    put_given(out, scene, &barrier.object)?;
-    put(out, ", ")?;
-    put_given(out, scene, &barrier.at)?;
-    put(out, ")\n")
+fn put_call(out: &mut Message, scene: &Scene, barrier: &Barrier) {
+    out.put(CODE_MARGIN);
+    out.put("call void @llvm.gcwrite(");
+    put_given(out, scene, &barrier.value);
+    out.put(", ");
+    put_given(out, scene, &barrier.object);
+    out.put(", ");
+    put_given(out, scene, &barrier.at);
+    out.put(")\n")
 }
 
 /// Whether two operands are the same value.
@@ -198,26 +186,26 @@ fn is_same_value(one: &Given, other: &Given) -> bool {
 }
 
 /// The casts and the call that do what the refused store does, with a barrier.
-pub fn put_barrier_lines(out: &mut Vec<u8>, told: &Told) -> Result<(), AllocError> {
+pub fn put_barrier_lines(out: &mut Message, told: &Told) {
     let scene = told.scene;
     let Some(barrier) = barrier_for(told) else {
-        return Ok(());
+        return;
     };
-    put_cast(out, scene, &barrier.value)?;
+    put_cast(out, scene, &barrier.value);
     if !is_same_value(&barrier.value, &barrier.object) {
-        put_cast(out, scene, &barrier.object)?;
+        put_cast(out, scene, &barrier.object);
     }
-    put_cast(out, scene, &barrier.at)?;
+    put_cast(out, scene, &barrier.at);
     put_call(out, scene, &barrier)
 }
 
 /// The cast of the object of a place, and how the call names it.
-pub fn put_object_lines(out: &mut Vec<u8>, told: &Told) -> Result<(), AllocError> {
+pub fn put_object_lines(out: &mut Message, told: &Told) {
     let scene = told.scene;
     let object = reference(object_of(told), type_of(scene, told.base));
-    put_cast(out, scene, &object)?;
-    put(out, CODE_MARGIN)?;
-    put(out, "and in the call ")?;
-    put_given(out, scene, &object)?;
-    put(out, "\n")
+    put_cast(out, scene, &object);
+    out.put(CODE_MARGIN);
+    out.put("and in the call ");
+    put_given(out, scene, &object);
+    out.put("\n")
 }

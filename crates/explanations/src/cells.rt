@@ -5,12 +5,11 @@ use crate::promised::call_of;
 use crate::told::{Told, put_text, value_in};
 use facts::Known;
 use ir_ast::{Argument, Constant, Element, IrType, Op, Operand, Runtime, TypeId, ValueId};
-use messages::{Ink, put, put_inked};
-use name_text::{Blank, put_layout, put_number};
+use messages::{Ink, Message};
+use name_text::Blank;
 use origins::{Definition, definition_of};
 use pools::{LayoutId, WordKind};
 use scenes::{Scene, There, arguments_of, is_runtime_call, slot_among};
-use std::alloc::AllocError;
 use types::{part_at, runtime_called};
 
 /// An index of an array that is not known to be small enough.
@@ -157,83 +156,77 @@ fn base_in(known: &Known) -> Option<ValueId> {
     }
 }
 
-fn put_kind(out: &mut Vec<u8>, scene: &Scene, kind: WordKind) -> Result<(), AllocError> {
+fn put_kind(out: &mut Message, scene: &Scene, kind: WordKind) {
     match kind {
         WordKind::Integer(bits) => {
-            put(out, " i")?;
-            put_number(scene.pen.alloc, out, bits as u64)
+            out.put(" i");
+            out.put_number(bits as u64)
         }
         WordKind::Reference(layout) => {
-            put(out, " ref ")?;
-            put_layout(out, scene.context.module(), layout, Blank::Kept)
+            out.put(" ref ");
+            out.put_layout(scene.context.module(), layout, Blank::Kept)
         }
     }
 }
 
 /// The words of a layout: `layout Node: 0 i64, 1 ref Node`.
-pub fn put_words(out: &mut Vec<u8>, scene: &Scene, layout: LayoutId) -> Result<(), AllocError> {
-    put_inked(out, scene.pen.look, Ink::Note, "  words: ")?;
-    put(out, "of ")?;
-    put_layout(out, scene.context.module(), layout, Blank::Kept)?;
+pub fn put_words(out: &mut Message, scene: &Scene, layout: LayoutId) {
+    out.put_inked(scene.pen.look, Ink::Note, "  words: ");
+    out.put("of ");
+    out.put_layout(scene.context.module(), layout, Blank::Kept);
     let words = scene.context.program.layouts().words(layout);
     for (number, kind) in words.iter().enumerate() {
-        put(out, if number == 0 { ": " } else { ", " })?;
-        put_number(scene.pen.alloc, out, number as u64)?;
-        put_kind(out, scene, *kind)?;
+        out.put(if number == 0 { ": " } else { ", " });
+        out.put_number(number as u64);
+        put_kind(out, scene, *kind);
     }
-    put(out, "\n")
+    out.put("\n")
 }
 
 /// The same, where an operand leads into a cell.
-pub fn put_words_of(
-    out: &mut Vec<u8>,
-    scene: &Scene,
-    operand: Option<Operand>,
-) -> Result<(), AllocError> {
-    match layout_of(scene, operand) {
-        Some(layout) => put_words(out, scene, layout),
-        None => Ok(()),
+pub fn put_words_of(out: &mut Message, scene: &Scene, operand: Option<Operand>) {
+    if let Some(layout) = layout_of(scene, operand) {
+        put_words(out, scene, layout);
     }
 }
 
 /// The numbers of the layouts: `0 Node, 1 Tree`.
-pub fn put_layouts(out: &mut Vec<u8>, scene: &Scene) -> Result<(), AllocError> {
+pub fn put_layouts(out: &mut Message, scene: &Scene) {
     let module = scene.context.module();
     for number in 0..module.structs.len() {
         if let Ok(number) = u32::try_from(number) {
-            put(out, if number == 0 { "" } else { ", " })?;
-            put_number(scene.pen.alloc, out, number as u64)?;
-            put(out, " ")?;
-            put_layout(out, module, LayoutId::new(number), Blank::Kept)?;
+            out.put(if number == 0 { "" } else { ", " });
+            out.put_number(number as u64);
+            out.put(" ");
+            out.put_layout(module, LayoutId::new(number), Blank::Kept);
         }
     }
-    Ok(())
 }
 
 /// The numbers of the layouts, as a further line of what mends.
-pub fn put_numbers(out: &mut Vec<u8>, scene: &Scene) -> Result<(), AllocError> {
-    put(out, MARGIN)?;
-    put(out, "the numbers that dg_alloc takes: ")?;
-    put_layouts(out, scene)?;
-    put(out, "\n")
+pub fn put_numbers(out: &mut Message, scene: &Scene) {
+    out.put(MARGIN);
+    out.put("the numbers that dg_alloc takes: ");
+    put_layouts(out, scene);
+    out.put("\n")
 }
 
 /// K5 in one sentence.
-pub fn put_outside(out: &mut Vec<u8>, told: &Told) -> Result<(), AllocError> {
+pub fn put_outside(out: &mut Message, told: &Told) {
     match loose_index(told.scene) {
         Some(loose) => {
             let told = Told::of(told.scene, Some(loose.index)).with_number(loose.length);
             put_text(out, &told, "{it} is not known to be below {number}")
         }
         None if counts_bytes(told.scene) => {
-            put(out, "an offset in bytes leads to no word that is known")
+            out.put("an offset in bytes leads to no word that is known")
         }
         None => put_text(out, told, "this leads outside the words of {it}"),
     }
 }
 
 /// K5: the index, or the base.
-pub fn put_outside_line(out: &mut Vec<u8>, told: &Told) -> Result<(), AllocError> {
+pub fn put_outside_line(out: &mut Message, told: &Told) {
     match loose_index(told.scene) {
         Some(loose) => {
             let told = Told::of(told.scene, Some(loose.index)).with_number(loose.length);
@@ -249,19 +242,19 @@ pub fn put_outside_line(out: &mut Vec<u8>, told: &Told) -> Result<(), AllocError
 }
 
 /// The comparison that shows that an index is small enough.
-fn put_comparison(out: &mut Vec<u8>, told: &Told, bits: u32) -> Result<(), AllocError> {
-    put_mend_word(out, told.scene)?;
-    put(out, "compare and branch before: icmp ult i")?;
+fn put_comparison(out: &mut Message, told: &Told, bits: u32) {
+    put_mend_word(out, told.scene);
+    out.put("compare and branch before: icmp ult i");
     let scene = told.scene;
-    put_number(scene.pen.alloc, out, bits as u64)?;
+    out.put_number(bits as u64);
     put_text(out, told, " {it}, {number}; use it where that is true\n")
 }
 
-fn put_bound(out: &mut Vec<u8>, told: &Told, bits: u32) -> Result<(), AllocError> {
-    put_comparison(out, told, bits)?;
+fn put_bound(out: &mut Message, told: &Told, bits: u32) {
+    put_comparison(out, told, bits);
     let scene = told.scene;
     if is_made_by_body(scene, told.it) {
-        return Ok(());
+        return;
     }
     if scene.refusal.block.number() != 0 {
         return put_or(
@@ -277,7 +270,6 @@ fn put_bound(out: &mut Vec<u8>, told: &Told, bits: u32) -> Result<(), AllocError
             "or add `below {number}` to the `param {it}` line of the certificate; each call then has to keep it",
         );
     }
-    Ok(())
 }
 
 /// Whether the body of the refused instruction's block defines an operand.
@@ -300,7 +292,7 @@ fn is_parameter(scene: &Scene, operand: Option<Operand>) -> bool {
 }
 
 /// What mends K5.
-pub fn put_inside(out: &mut Vec<u8>, told: &Told) -> Result<(), AllocError> {
+pub fn put_inside(out: &mut Message, told: &Told) {
     match loose_index(told.scene) {
         Some(loose) => {
             let told = Told::of(told.scene, Some(loose.index)).with_number(loose.length);
@@ -461,26 +453,21 @@ pub fn sentence_of(mistyped: &Mistyped) -> &'static str {
 }
 
 /// The numbers that an allocation may write.
-fn put_numbered(out: &mut Vec<u8>, told: &Told) -> Result<(), AllocError> {
+fn put_numbered(out: &mut Message, told: &Told) {
     put_mend(
         out,
         told,
         "write the number of a layout, which are the named structs in the order of the text:",
-    )?;
-    put(out, MARGIN)?;
-    put_layouts(out, told.scene)?;
-    put(out, "\n")
+    );
+    out.put(MARGIN);
+    put_layouts(out, told.scene);
+    out.put("\n")
 }
 
 /// The words of a cell, and a way that mends what is read there or stored.
-fn put_word_types(
-    out: &mut Vec<u8>,
-    told: &Told,
-    cell: Option<Operand>,
-    text: &str,
-) -> Result<(), AllocError> {
-    put_words_of(out, told.scene, cell)?;
-    put_mend(out, told, text)?;
+fn put_word_types(out: &mut Message, told: &Told, cell: Option<Operand>, text: &str) {
+    put_words_of(out, told.scene, cell);
+    put_mend(out, told, text);
     put_numbers(out, told.scene)
 }
 
@@ -494,7 +481,7 @@ fn mend_of(mistyped: &Mistyped) -> &'static str {
 }
 
 /// What mends K2.
-pub fn put_types(out: &mut Vec<u8>, told: &Told, mistyped: &Mistyped) -> Result<(), AllocError> {
+pub fn put_types(out: &mut Message, told: &Told, mistyped: &Mistyped) {
     match mistyped {
         Mistyped::Layout(_) => put_numbered(out, told),
         Mistyped::Place(_) => put_word_types(

@@ -13,7 +13,7 @@ use certificate::print_line;
 use certs::{Claim, Fact};
 use facts::{Facts, SlotFact};
 use ir_ast::{Block, BlockId, End, Function, Incoming, Operand, Phi, ValueId};
-use messages::put;
+use messages::Message;
 use origins::{Sought, cert_position, local};
 use scenes::{Scene, Spot, put_known};
 use std::alloc::AllocError;
@@ -185,18 +185,20 @@ fn label_of(scene: &Scene, block: BlockId) -> Option<Operand> {
 }
 
 /// The claim, in words of the certificate.
-fn put_claimed(out: &mut Vec<u8>, scene: &Scene, detail: &Detail) -> Result<(), AllocError> {
-    let line = print_line(
+fn put_claimed(out: &mut Message, scene: &Scene, detail: &Detail) {
+    let Ok(line) = print_line(
         scene.pen.alloc,
         scene.context.certs,
         scene.context.module(),
         scene.refusal.func,
         detail.target,
         detail.claim,
-    )?;
-    put(out, "`")?;
-    out.extend_from_slice(line.as_slice())?;
-    put(out, "`\n")
+    ) else {
+        return out.refuse();
+    };
+    out.put("`");
+    out.put_bytes(line.as_slice());
+    out.put("`\n")
 }
 
 /// What is said of a phi.
@@ -208,37 +210,27 @@ fn phi_text(missing: Missing) -> &'static str {
 }
 
 /// Where what comes in for a phi is written.
-fn put_phi_note(
-    out: &mut Vec<u8>,
-    told: &Told,
-    target: BlockId,
-    unshown: &Unshown,
-) -> Result<(), AllocError> {
+fn put_phi_note(out: &mut Message, told: &Told, target: BlockId, unshown: &Unshown) {
     let scene = told.scene;
-    match phi_of(scene.context.function, target, unshown.value) {
-        Some(spot) => put_note(out, told, &spot, told.it, phi_text(unshown.missing)),
-        None => Ok(()),
+    if let Some(spot) = phi_of(scene.context.function, target, unshown.value) {
+        put_note(out, told, &spot, told.it, phi_text(unshown.missing));
     }
 }
 
 /// Where the claim is in the text of the certificate.
-fn put_claim_note(
-    out: &mut Vec<u8>,
-    told: &Told,
-    detail: &Detail,
-    missing: Missing,
-) -> Result<(), AllocError> {
+fn put_claim_note(out: &mut Message, told: &Told, detail: &Detail, missing: Missing) {
     let scene = told.scene;
     let line = Sought::Claim(detail.target, detail.claim);
     let function = scene.context.function;
-    match cert_position(scene, function.symbol, &line)? {
-        Some(position) => put_cert_note(out, told, position, word_of(missing)),
-        None => Ok(()),
+    match cert_position(scene, function.symbol, &line) {
+        Ok(Some(position)) => put_cert_note(out, told, position, word_of(missing)),
+        Ok(None) => {}
+        Err(_) => out.refuse(),
     }
 }
 
 /// Nothing is known of what comes in.
-fn put_all(out: &mut Vec<u8>, told: &Told) -> Result<(), AllocError> {
+fn put_all(out: &mut Message, told: &Told) {
     match value_in(told.it) {
         Some(value) => put_cause(out, told, value),
         None => put_mend(out, told, mend_of(Missing::Other)),
@@ -246,14 +238,16 @@ fn put_all(out: &mut Vec<u8>, told: &Told) -> Result<(), AllocError> {
 }
 
 /// A stale reference comes in.
-fn put_stale(out: &mut Vec<u8>, told: &Told) -> Result<(), AllocError> {
+fn put_stale(out: &mut Message, told: &Told) {
     let value = value_in(told.it);
     let scene = told.scene;
     let spot = scene.spot();
-    let lost = lost_before(scene, &spot, value)?;
-    put_stale_since(out, told, &lost)?;
-    put_known_of(out, told)?;
-    put_reload(out, told, &lost)?;
+    let Ok(lost) = lost_before(scene, &spot, value) else {
+        return out.refuse();
+    };
+    put_stale_since(out, told, &lost);
+    put_known_of(out, told);
+    put_reload(out, told, &lost);
     put_or(
         out,
         told,
@@ -261,55 +255,48 @@ fn put_stale(out: &mut Vec<u8>, told: &Told) -> Result<(), AllocError> {
     )
 }
 
-fn put_known_of(out: &mut Vec<u8>, told: &Told) -> Result<(), AllocError> {
-    match told.it {
-        Some(operand) => put_known(out, told.scene, [operand].as_slice()),
-        None => Ok(()),
+fn put_known_of(out: &mut Message, told: &Told) {
+    if let Some(operand) = told.it {
+        put_known(out, told.scene, [operand].as_slice());
     }
 }
 
-fn put_other_way(out: &mut Vec<u8>, told: &Told, missing: Missing) -> Result<(), AllocError> {
+fn put_other_way(out: &mut Message, told: &Told, missing: Missing) {
     if other_of(missing).is_empty() {
-        return Ok(());
+        return;
     }
     put_or(out, told, other_of(missing))
 }
 
 /// Where a value is defined, where that tells why the word is not shown.
-fn put_origin_of(
-    out: &mut Vec<u8>,
-    told: &Told,
-    value: ValueId,
-    missing: Missing,
-) -> Result<(), AllocError> {
+fn put_origin_of(out: &mut Message, told: &Told, value: ValueId, missing: Missing) {
     match missing {
         Missing::Nonnull => put_source_note(out, told, value),
         Missing::Layout => put_definition(out, told, value),
-        _ => Ok(()),
+        _ => {}
     }
 }
 
 /// Where what comes in is defined, where that tells why the word is not shown.
-fn put_origin(out: &mut Vec<u8>, told: &Told, missing: Missing) -> Result<(), AllocError> {
-    match value_in(told.it) {
-        Some(value) => put_origin_of(out, told, value, missing),
-        None => Ok(()),
+fn put_origin(out: &mut Message, told: &Told, missing: Missing) {
+    if let Some(value) = value_in(told.it) {
+        put_origin_of(out, told, value, missing);
     }
 }
 
 /// A word of the claim is not shown.
-fn put_word(out: &mut Vec<u8>, told: &Told, missing: Missing) -> Result<(), AllocError> {
-    put_origin(out, told, missing)?;
-    put_known_of(out, told)?;
-    put_mend(out, told, mend_of(missing))?;
-    put_other_way(out, told, missing)?;
+fn put_word(out: &mut Message, told: &Told, missing: Missing) {
+    put_origin(out, told, missing);
+    put_known_of(out, told);
+    put_mend(out, told, mend_of(missing));
+    put_other_way(out, told, missing);
     match missing {
         Missing::Layout => put_numbers(out, told.scene),
-        _ => Ok(()),
+        _ => {}
     }
 }
 
-fn put_why(out: &mut Vec<u8>, told: &Told, missing: Missing) -> Result<(), AllocError> {
+fn put_why(out: &mut Message, told: &Told, missing: Missing) {
     match missing {
         Missing::All => put_all(out, told),
         Missing::Stale => put_stale(out, told),
@@ -318,28 +305,25 @@ fn put_why(out: &mut Vec<u8>, told: &Told, missing: Missing) -> Result<(), Alloc
 }
 
 /// What is told of a claim that is not shown.
-fn put_unshown(
-    out: &mut Vec<u8>,
-    told: &Told,
-    detail: &Detail,
-    unshown: &Unshown,
-) -> Result<(), AllocError> {
+fn put_unshown(out: &mut Message, told: &Told, detail: &Detail, unshown: &Unshown) {
     let scene = told.scene;
     let missing = unshown.missing;
-    put_text(out, told, sentence_of(missing))?;
-    put_claimed(out, scene, detail)?;
-    put_line(out, told, label_of(scene, detail.target), "this edge")?;
-    put_phi_note(out, told, detail.target, unshown)?;
-    put_claim_note(out, told, detail, missing)?;
+    put_text(out, told, sentence_of(missing));
+    put_claimed(out, scene, detail);
+    put_line(out, told, label_of(scene, detail.target), "this edge");
+    put_phi_note(out, told, detail.target, unshown);
+    put_claim_note(out, told, detail, missing);
     put_why(out, told, missing)
 }
 
 /// The claim that an edge does not imply, why, and what mends it.
-pub fn put_edge(out: &mut Vec<u8>, scene: &Scene, detail: &Detail) -> Result<(), AllocError> {
+pub fn put_edge(out: &mut Message, scene: &Scene, detail: &Detail) {
     let Some(claim) = claim_at(scene, detail) else {
-        return Ok(());
+        return;
     };
-    let unshown = told_as_stale(scene, unshown_of(scene, detail.target, &claim))?;
+    let Ok(unshown) = told_as_stale(scene, unshown_of(scene, detail.target, &claim)) else {
+        return out.refuse();
+    };
     let told = Told::of(scene, Some(unshown.operand)).with_block(detail.target);
     put_unshown(out, &told, detail, &unshown)
 }

@@ -4,11 +4,10 @@ use crate::notes::{put_line, put_mend};
 use crate::told::{Told, put_text, value_in};
 use crate::unknown::put_definition;
 use ir_ast::{IrType, Module, Op, Operand, StructNameId, TypeId};
-use messages::put;
-use name_text::{Blank, put_layout};
+use messages::Message;
+use name_text::Blank;
 use pools::LayoutId;
 use scenes::{Scene, There, put_known};
-use std::alloc::AllocError;
 use types::pointee;
 
 /// The layout of a reference, and that of the struct that is written.
@@ -69,39 +68,33 @@ pub fn mismatch_of(scene: &Scene, operand: Option<Operand>) -> Option<Mismatch> 
 }
 
 /// Both layouts in one sentence.
-fn put_both(out: &mut Vec<u8>, told: &Told, mismatch: &Mismatch) -> Result<(), AllocError> {
+fn put_both(out: &mut Message, told: &Told, mismatch: &Mismatch) {
     let module = told.scene.context.module();
-    put_text(out, told, "{it} refers to ")?;
-    put_layout(out, module, mismatch.found, Blank::Kept)?;
-    put(out, ", and ")?;
-    put_layout(out, module, mismatch.written, Blank::Kept)?;
-    put(out, " is written here\n")
+    put_text(out, told, "{it} refers to ");
+    out.put_layout(module, mismatch.found, Blank::Kept);
+    out.put(", and ");
+    out.put_layout(module, mismatch.written, Blank::Kept);
+    out.put(" is written here\n")
 }
 
-fn put_origin(out: &mut Vec<u8>, told: &Told) -> Result<(), AllocError> {
-    match value_in(told.it) {
-        Some(value) => put_definition(out, told, value),
-        None => Ok(()),
+fn put_origin(out: &mut Message, told: &Told) {
+    if let Some(value) = value_in(told.it) {
+        put_definition(out, told, value);
     }
 }
 
 /// What is told of a struct that is another one.
-pub fn put_mismatch(
-    out: &mut Vec<u8>,
-    told: &Told,
-    operands: &[Operand],
-    mismatch: &Mismatch,
-) -> Result<(), AllocError> {
-    put_both(out, told, mismatch)?;
-    put_line(out, told, told.it, "")?;
-    put_origin(out, told)?;
+pub fn put_mismatch(out: &mut Message, told: &Told, operands: &[Operand], mismatch: &Mismatch) {
+    put_both(out, told, mismatch);
+    put_line(out, told, told.it, "");
+    put_origin(out, told);
     let scene = told.scene;
-    put_known(out, scene, operands)?;
-    put_words(out, scene, mismatch.found)?;
+    put_known(out, scene, operands);
+    put_words(out, scene, mismatch.found);
     put_mend(
         out,
         told,
         "write the struct to which {it} refers, or allocate {it} with the number of the one that is written",
-    )?;
+    );
     put_numbers(out, scene)
 }

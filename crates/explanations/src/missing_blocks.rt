@@ -6,7 +6,7 @@ use crate::told::Told;
 use certs::{Age, Fact};
 use facts::{Class, Facts, Known};
 use ir_ast::{BlockId, Function, ValueId};
-use messages::put;
+use messages::Message;
 use origins::{Definition, block_id, blocks_between, is_missing, leads_to};
 use scenes::{Scene, Spot, put_block, put_claim};
 use std::alloc::AllocError;
@@ -302,60 +302,48 @@ fn separator(named: usize) -> &'static str {
     }
 }
 
-fn put_block_if_named(
-    out: &mut Vec<u8>,
-    scene: &Scene,
-    block: BlockId,
-    named: usize,
-) -> Result<(), AllocError> {
+fn put_block_if_named(out: &mut Message, scene: &Scene, block: BlockId, named: usize) {
     if named < NAMED {
         put_block(out, scene, block)
-    } else {
-        Ok(())
     }
 }
 
 /// The names of the blocks of a group.
-fn put_blocks(
-    out: &mut Vec<u8>,
-    scene: &Scene,
-    group: &Group,
-    each: &[Unlisted],
-) -> Result<(), AllocError> {
+fn put_blocks(out: &mut Message, scene: &Scene, group: &Group, each: &[Unlisted]) {
     let mut named: usize = 0;
     for unlisted in each {
         if is_in(group, unlisted) {
-            put(out, separator(named))?;
-            put_block_if_named(out, scene, unlisted.block, named)?;
+            out.put(separator(named));
+            put_block_if_named(out, scene, unlisted.block, named);
             named = named.saturating_add(1);
         }
     }
-    put(out, "\n")
+    out.put("\n")
 }
 
 /// A line to add, and the blocks of its group.
 fn put_group(
-    out: &mut Vec<u8>,
+    out: &mut Message,
     told: &Told,
     value: ValueId,
     fact: &Fact,
     group: &Group,
     each: &[Unlisted],
-) -> Result<(), AllocError> {
+) {
     let scene = told.scene;
-    put(out, "add `")?;
-    put_claim(out, scene, value, fact_in(group, fact))?;
-    put(out, "` to the certificate under each of these blocks: ")?;
+    out.put("add `");
+    put_claim(out, scene, value, fact_in(group, fact));
+    out.put("` to the certificate under each of these blocks: ");
     put_blocks(out, scene, group, each)
 }
 
 /// What stands before the line of the first group, and of a further one.
-fn put_lead(out: &mut Vec<u8>, scene: &Scene, groups: usize) -> Result<(), AllocError> {
+fn put_lead(out: &mut Message, scene: &Scene, groups: usize) {
     if groups == 0 {
         return put_mend_word(out, scene);
     }
-    put(out, MARGIN)?;
-    put(out, "and ")
+    out.put(MARGIN);
+    out.put("and ")
 }
 
 /// Whether a group has a block.
@@ -365,20 +353,20 @@ fn has_block(group: &Group, each: &[Unlisted]) -> bool {
 
 /// A line to add for a group, and its blocks, if it has some. Returns how many groups are told then.
 fn put_group_after(
-    out: &mut Vec<u8>,
+    out: &mut Message,
     told: &Told,
     value: ValueId,
     fact: &Fact,
     group: &Group,
     each: &[Unlisted],
     groups: usize,
-) -> Result<usize, AllocError> {
+) -> usize {
     if !has_block(group, each) {
-        return Ok(groups);
+        return groups;
     }
-    put_lead(out, told.scene, groups)?;
-    put_group(out, told, value, fact, group, each)?;
-    Ok(groups.saturating_add(1))
+    put_lead(out, told.scene, groups);
+    put_group(out, told, value, fact, group, each);
+    groups.saturating_add(1)
 }
 
 fn group_of(nonnull: bool, fresh: bool) -> Group {
@@ -386,33 +374,28 @@ fn group_of(nonnull: bool, fresh: bool) -> Group {
 }
 
 /// A line to add for each group, and its blocks. The group of which most is shown is the first.
-fn put_groups(
-    out: &mut Vec<u8>,
-    told: &Told,
-    value: ValueId,
-    fact: &Fact,
-    each: &[Unlisted],
-) -> Result<(), AllocError> {
+fn put_groups(out: &mut Message, told: &Told, value: ValueId, fact: &Fact, each: &[Unlisted]) {
     let group = group_of(true, true);
-    let groups = put_group_after(out, told, value, fact, &group, each, 0)?;
+    let groups = put_group_after(out, told, value, fact, &group, each, 0);
     let group = group_of(true, false);
-    let groups = put_group_after(out, told, value, fact, &group, each, groups)?;
+    let groups = put_group_after(out, told, value, fact, &group, each, groups);
     let group = group_of(false, true);
-    let groups = put_group_after(out, told, value, fact, &group, each, groups)?;
+    let groups = put_group_after(out, told, value, fact, &group, each, groups);
     let group = group_of(false, false);
-    put_group_after(out, told, value, fact, &group, each, groups)?;
-    Ok(())
+    put_group_after(out, told, value, fact, &group, each, groups);
 }
 
 /// The lines to add, and the blocks to which they are to be added.
 pub fn put_missing(
-    out: &mut Vec<u8>,
+    out: &mut Message,
     told: &Told,
     definition: &Definition,
     value: ValueId,
     fact: &Fact,
-) -> Result<(), AllocError> {
-    let each = unlisted_blocks(told.scene, definition, value, fact)?;
+) {
+    let Ok(each) = unlisted_blocks(told.scene, definition, value, fact) else {
+        return out.refuse();
+    };
     let lines = put_groups(out, told, value, fact, each.as_slice());
     drop(each);
     lines

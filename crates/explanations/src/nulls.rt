@@ -4,9 +4,9 @@ use crate::told::{Told, value_in};
 use crate::unknown::instr_in;
 use crate::write_barrier::spot_of;
 use ir_ast::{Instr, MemoryOp, Op, Operand, ValueId};
+use messages::Message;
 use origins::{Definition, definition_of, local};
 use scenes::{Scene, Spot};
-use std::alloc::AllocError;
 
 /// Over how many instructions a place is followed back at most.
 const STEPS: usize = 64;
@@ -38,7 +38,7 @@ fn is_same(one: Option<Operand>, other: Option<Operand>) -> bool {
 }
 
 /// The place, whose base may be null.
-pub fn put_place_line(out: &mut Vec<u8>, told: &Told) -> Result<(), AllocError> {
+pub fn put_place_line(out: &mut Message, told: &Told) {
     if told.place.is_none() || is_same(told.it, told.place) {
         return put_line(out, told, told.it, "used as the base of a place");
     }
@@ -76,19 +76,18 @@ fn made_of(scene: &Scene, base: ValueId, place: ValueId) -> Option<Made> {
 }
 
 /// Where the base came in.
-pub fn put_base_note(out: &mut Vec<u8>, told: &Told) -> Result<(), AllocError> {
+pub fn put_base_note(out: &mut Message, told: &Told) {
     let (Some(place), Some(base)) = (value_in(told.place), value_in(told.it)) else {
-        return Ok(());
+        return;
     };
-    match made_of(told.scene, base, place) {
-        Some(made) => put_note(
+    if let Some(made) = made_of(told.scene, base, place) {
+        put_note(
             out,
             &told.with_place(Operand::Local(made.value)),
             &made.spot,
             told.it,
             "{it} is the base of {place} from here on",
-        ),
-        None => Ok(()),
+        );
     }
 }
 
@@ -109,7 +108,7 @@ pub fn slot_loaded(scene: &Scene, value: ValueId) -> Option<Operand> {
 }
 
 /// Where the value that may be null comes from.
-pub fn put_source_note(out: &mut Vec<u8>, told: &Told, value: ValueId) -> Result<(), AllocError> {
+pub fn put_source_note(out: &mut Message, told: &Told, value: ValueId) {
     let scene = told.scene;
     let definition = definition_of(scene.context.function, value);
     match &definition {
@@ -120,12 +119,12 @@ pub fn put_source_note(out: &mut Vec<u8>, told: &Told, value: ValueId) -> Result
             None,
             "{it} is defined here, and not compared with null on the way",
         ),
-        _ => Ok(()),
+        _ => {}
     }
 }
 
 /// The comparison that shows that it is not null.
-fn put_test(out: &mut Vec<u8>, told: &Told) -> Result<(), AllocError> {
+fn put_test(out: &mut Message, told: &Told) {
     put_mend(
         out,
         told,
@@ -134,7 +133,7 @@ fn put_test(out: &mut Vec<u8>, told: &Told) -> Result<(), AllocError> {
 }
 
 /// What may be listed of the slot from which the value is loaded.
-fn put_slot_listed(out: &mut Vec<u8>, told: &Told, value: ValueId) -> Result<(), AllocError> {
+fn put_slot_listed(out: &mut Message, told: &Told, value: ValueId) {
     let scene = told.scene;
     if is_made_here(scene, value) {
         let text =
@@ -147,15 +146,15 @@ fn put_slot_listed(out: &mut Vec<u8>, told: &Told, value: ValueId) -> Result<(),
             &told.with_block(block),
             "or list `slot {place} nonnull` under `block {to}`, and {it} with `nonnull` under each block from there to {here}",
         ),
-        _ => Ok(()),
+        _ => {}
     }
 }
 
 /// What a block may list in place of that.
-fn put_listed(out: &mut Vec<u8>, told: &Told, value: ValueId) -> Result<(), AllocError> {
+fn put_listed(out: &mut Message, told: &Told, value: ValueId) {
     match slot_loaded(told.scene, value) {
         Some(slot) => put_slot_listed(out, &told.with_place(slot), value),
-        None if is_made_here(told.scene, value) => Ok(()),
+        None if is_made_here(told.scene, value) => {}
         None => put_or(
             out,
             told,
@@ -165,7 +164,7 @@ fn put_listed(out: &mut Vec<u8>, told: &Told, value: ValueId) -> Result<(), Allo
 }
 
 /// What the certificate may say in place of that.
-fn put_claimed(out: &mut Vec<u8>, told: &Told, value: ValueId) -> Result<(), AllocError> {
+fn put_claimed(out: &mut Message, told: &Told, value: ValueId) {
     let scene = told.scene;
     if scene.refusal.block.number() != 0 {
         return put_listed(out, told, value);
@@ -176,15 +175,15 @@ fn put_claimed(out: &mut Vec<u8>, told: &Told, value: ValueId) -> Result<(), All
             told,
             "or add `nonnull` to the `param {it}` line of the certificate; each call then has to keep it",
         ),
-        _ => Ok(()),
+        _ => {}
     }
 }
 
 /// What shows that it is not null.
-pub fn put_shown(out: &mut Vec<u8>, told: &Told) -> Result<(), AllocError> {
-    put_test(out, told)?;
+pub fn put_shown(out: &mut Message, told: &Told) {
+    put_test(out, told);
     match told.it {
         Some(Operand::Local(value)) => put_claimed(out, told, value),
-        _ => Ok(()),
+        _ => {}
     }
 }

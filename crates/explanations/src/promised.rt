@@ -5,10 +5,10 @@ use block_rules::known_of;
 use certs::{Promise, Section};
 use facts::{Facts, Known};
 use ir_ast::{Call, Constant, End, FuncId, Function, Op, Operand, SymbolSort, ValueId};
+use messages::Message;
 use origins::{Sought, cert_position};
 use pools::LayoutId;
 use scenes::{Scene, There};
-use std::alloc::AllocError;
 
 /// Which word of a promise is not kept.
 #[derive(Clone, Copy)]
@@ -187,45 +187,36 @@ pub fn mend_of(word: Option<Unkept>) -> &'static str {
 }
 
 /// Where the certificate promises it of a parameter of the function that is called.
-pub fn put_promise(out: &mut Vec<u8>, told: &Told, parameter: ValueId) -> Result<(), AllocError> {
-    match function_called(told.scene) {
-        Some(called) => put_promise_of(out, told, called, &Sought::Param(parameter)),
-        None => Ok(()),
+pub fn put_promise(out: &mut Message, told: &Told, parameter: ValueId) {
+    if let Some(called) = function_called(told.scene) {
+        put_promise_of(out, told, called, &Sought::Param(parameter));
     }
 }
 
 /// Where the certificate of a function says this.
-fn put_promise_of(
-    out: &mut Vec<u8>,
-    told: &Told,
-    called: &Function,
-    line: &Sought,
-) -> Result<(), AllocError> {
+fn put_promise_of(out: &mut Message, told: &Told, called: &Function, line: &Sought) {
     let callee = told.scene.of_function(called);
-    match cert_position(&callee, called.symbol, line)? {
-        Some(position) => put_cert_note(out, told, position, "the promise"),
-        None => Ok(()),
+    match cert_position(&callee, called.symbol, line) {
+        Ok(Some(position)) => put_cert_note(out, told, position, "the promise"),
+        Ok(None) => {}
+        Err(_) => out.refuse(),
     }
 }
 
 /// Where the certificate of the function says this.
-pub fn put_own_line(
-    out: &mut Vec<u8>,
-    told: &Told,
-    line: &Sought,
-    text: &str,
-) -> Result<(), AllocError> {
+pub fn put_own_line(out: &mut Message, told: &Told, line: &Sought, text: &str) {
     let scene = told.scene;
     let function = scene.context.function;
-    match cert_position(scene, function.symbol, line)? {
-        Some(position) => put_cert_note(out, told, position, text),
-        None => Ok(()),
+    match cert_position(scene, function.symbol, line) {
+        Ok(Some(position)) => put_cert_note(out, told, position, text),
+        Ok(None) => {}
+        Err(_) => out.refuse(),
     }
 }
 
 /// What mends a promise that is not kept.
-pub fn put_kept(out: &mut Vec<u8>, told: &Told, word: Option<Unkept>) -> Result<(), AllocError> {
-    put_mend(out, told, mend_of(word))?;
+pub fn put_kept(out: &mut Message, told: &Told, word: Option<Unkept>) {
+    put_mend(out, told, mend_of(word));
     put_or(
         out,
         told,
@@ -234,8 +225,8 @@ pub fn put_kept(out: &mut Vec<u8>, told: &Told, word: Option<Unkept>) -> Result<
 }
 
 /// K17: where the marks are, and what mends it.
-pub fn put_mark(out: &mut Vec<u8>, told: &Told) -> Result<(), AllocError> {
-    put_own_line(out, told, &Sought::Function, "the mark of {function}")?;
+pub fn put_mark(out: &mut Message, told: &Told) {
+    put_own_line(out, told, &Sought::Function, "the mark of {function}");
     put_mend(
         out,
         told,

@@ -23,7 +23,7 @@ use diagnosis::facts_before;
 use facts::Facts;
 use ir_ast::{Function, Operand, Runtime};
 use layout::Program;
-use messages::{Ink, NamedText, Pen, begin_ink, end_ink, put, put_inked};
+use messages::{Ink, Message, NamedText, Pen};
 use offered_lines::{Pointers, declare_of};
 use origins::{Sought, local};
 use scenes::{
@@ -59,15 +59,15 @@ pub fn name_of(rule: Rule) -> &'static str {
 }
 
 /// The place and the code: `plain.ll:23:7: K6: `.
-fn put_head(out: &mut Vec<u8>, scene: &Scene) -> Result<(), AllocError> {
-    begin_ink(out, scene.pen.look, Ink::Place)?;
+fn put_head(out: &mut Message, scene: &Scene) {
+    out.begin_ink(scene.pen.look, Ink::Place);
     let spot = scene.spot();
-    put_spot(out, scene, &spot)?;
-    end_ink(out, scene.pen.look)?;
-    put(out, ": ")?;
+    put_spot(out, scene, &spot);
+    out.end_ink(scene.pen.look);
+    out.put(": ");
     let name = name_of(scene.refusal.rule);
-    put_inked(out, scene.pen.look, Ink::Fault, name)?;
-    put(out, ": ")
+    out.put_inked(scene.pen.look, Ink::Fault, name);
+    out.put(": ")
 }
 
 /// The place of the refused instruction: of a load or a store, or the last argument of a barrier.
@@ -98,7 +98,7 @@ fn told_of<'a>(scene: &'a Scene<'a>, operands: &[Operand]) -> Told<'a> {
 }
 
 /// K1.
-fn put_unavailable(out: &mut Vec<u8>, told: &Told) -> Result<(), AllocError> {
+fn put_unavailable(out: &mut Message, told: &Told) {
     match value_in(told.it) {
         Some(value) => unknown::put_unavailable(out, told, value),
         None => put_by_page(out, told, page_of(Rule::K18)),
@@ -106,58 +106,60 @@ fn put_unavailable(out: &mut Vec<u8>, told: &Told) -> Result<(), AllocError> {
 }
 
 /// K2.
-fn put_mistyped(out: &mut Vec<u8>, told: &Told, operands: &[Operand]) -> Result<(), AllocError> {
+fn put_mistyped(out: &mut Message, told: &Told, operands: &[Operand]) {
     let mistyped = mistyped_in(told.scene, operands, told.place);
     let told = told.with_it(operand_of(&mistyped));
-    put_text(out, &told, cells::sentence_of(&mistyped))?;
-    put(out, "\n")?;
-    put_line(out, &told, told.it, "")?;
-    put_known(out, told.scene, operands)?;
+    put_text(out, &told, cells::sentence_of(&mistyped));
+    out.put("\n");
+    put_line(out, &told, told.it, "");
+    put_known(out, told.scene, operands);
     put_types(out, &told, &mistyped)
 }
 
 /// K3.
-fn put_stale(out: &mut Vec<u8>, told: &Told, operands: &[Operand]) -> Result<(), AllocError> {
-    put_line(out, told, told.it, "")?;
+fn put_stale(out: &mut Message, told: &Told, operands: &[Operand]) {
+    put_line(out, told, told.it, "");
     let value = match told.it {
         Some(operand) => local(operand),
         None => None,
     };
     let scene = told.scene;
     let spot = scene.spot();
-    let lost = lost_before(scene, &spot, value)?;
-    put_stale_since(out, told, &lost)?;
-    put_known(out, scene, operands)?;
+    let Ok(lost) = lost_before(scene, &spot, value) else {
+        return out.refuse();
+    };
+    put_stale_since(out, told, &lost);
+    put_known(out, scene, operands);
     put_reload(out, told, &lost)
 }
 
 /// K4.
-fn put_nullable(out: &mut Vec<u8>, told: &Told, operands: &[Operand]) -> Result<(), AllocError> {
-    put_place_line(out, told)?;
-    put_base_note(out, told)?;
+fn put_nullable(out: &mut Message, told: &Told, operands: &[Operand]) {
+    put_place_line(out, told);
+    put_base_note(out, told);
     if let Some(Operand::Local(value)) = told.it {
-        put_source_note(out, told, value)?;
+        put_source_note(out, told, value);
     }
-    put_known(out, told.scene, operands)?;
+    put_known(out, told.scene, operands);
     put_shown(out, told)
 }
 
 /// K5.
-fn put_out_of_cell(out: &mut Vec<u8>, told: &Told, operands: &[Operand]) -> Result<(), AllocError> {
+fn put_out_of_cell(out: &mut Message, told: &Told, operands: &[Operand]) {
     let told = Told::of(told.scene, element_base(told.scene));
     if let Some(mismatch) = mismatch_of(told.scene, told.it) {
         return put_mismatch(out, &told, operands, &mismatch);
     }
-    put_outside(out, &told)?;
-    put(out, "\n")?;
-    put_outside_line(out, &told)?;
-    put_known(out, told.scene, operands)?;
-    put_words_of(out, told.scene, told.it)?;
+    put_outside(out, &told);
+    out.put("\n");
+    put_outside_line(out, &told);
+    put_known(out, told.scene, operands);
+    put_words_of(out, told.scene, told.it);
     put_inside(out, &told)
 }
 
 /// K19.
-fn put_led(out: &mut Vec<u8>, told: &Told, operands: &[Operand]) -> Result<(), AllocError> {
+fn put_led(out: &mut Message, told: &Told, operands: &[Operand]) {
     match mismatch_of(told.scene, told.it) {
         Some(mismatch) => put_mismatch(out, told, operands, &mismatch),
         None => put_by_page(out, told, page_of(Rule::K19)),
@@ -165,54 +167,50 @@ fn put_led(out: &mut Vec<u8>, told: &Told, operands: &[Operand]) -> Result<(), A
 }
 
 /// K6.
-fn put_unbarred(out: &mut Vec<u8>, told: &Told, operands: &[Operand]) -> Result<(), AllocError> {
-    put_stored_line(out, told)?;
-    put_unfresh(out, told)?;
-    put_known(out, told.scene, operands)?;
+fn put_unbarred(out: &mut Message, told: &Told, operands: &[Operand]) {
+    put_stored_line(out, told);
+    put_unfresh(out, told);
+    put_known(out, told.scene, operands);
     put_barrier(out, told)
 }
 
 /// K7.
-fn put_other_object(
-    out: &mut Vec<u8>,
-    told: &Told,
-    operands: &[Operand],
-) -> Result<(), AllocError> {
+fn put_other_object(out: &mut Message, told: &Told, operands: &[Operand]) {
     let label = if told.base.is_some() {
         "the place is in the cell of {base}"
     } else {
         "the place is in the cell of no object"
     };
-    put_line(out, told, told.it, label)?;
-    put_known(out, told.scene, operands)?;
+    put_line(out, told, told.it, label);
+    put_known(out, told.scene, operands);
     put_object(out, told)
 }
 
 /// K13.
-fn put_argument(out: &mut Vec<u8>, told: &Told) -> Result<(), AllocError> {
+fn put_argument(out: &mut Message, told: &Told) {
     let Some(broken) = broken_promise(told.scene) else {
         return put_by_page(out, told, page_of(Rule::K18));
     };
     let told = Told::of(told.scene, Some(broken.operand));
     let word = Some(broken.word);
-    put_text(out, &told, promised::sentence_of(word))?;
-    put(out, " of this parameter of ")?;
-    put_text(out, &told, "{callee}\n")?;
-    put_line(out, &told, told.it, "")?;
-    put_promise(out, &told, broken.parameter)?;
-    put_known(out, told.scene, [broken.operand].as_slice())?;
+    put_text(out, &told, promised::sentence_of(word));
+    out.put(" of this parameter of ");
+    put_text(out, &told, "{callee}\n");
+    put_line(out, &told, told.it, "");
+    put_promise(out, &told, broken.parameter);
+    put_known(out, told.scene, [broken.operand].as_slice());
     put_kept(out, &told, word)
 }
 
 /// K14.
-fn put_result(out: &mut Vec<u8>, told: &Told) -> Result<(), AllocError> {
+fn put_result(out: &mut Message, told: &Told) {
     let told = Told::of(told.scene, returned(told.scene));
     let word = unkept_result(told.scene);
-    put_text(out, &told, promised::sentence_of(word))?;
-    put(out, " of the result\n")?;
-    put_line(out, &told, told.it, "")?;
-    put_own_line(out, &told, &Sought::Result, "the promise")?;
-    put_known(out, told.scene, operands_of_result(told.it).as_slice())?;
+    put_text(out, &told, promised::sentence_of(word));
+    out.put(" of the result\n");
+    put_line(out, &told, told.it, "");
+    put_own_line(out, &told, &Sought::Result, "the promise");
+    put_known(out, told.scene, operands_of_result(told.it).as_slice());
     put_kept(out, &told, word)
 }
 
@@ -224,29 +222,29 @@ fn operands_of_result(operand: Option<Operand>) -> [Operand; 1] {
 }
 
 /// K16.
-fn put_entries(out: &mut Vec<u8>, told: &Told) -> Result<(), AllocError> {
-    let entries = phis::entries_of(told.scene)?;
+fn put_entries(out: &mut Message, told: &Told) {
+    let Ok(entries) = phis::entries_of(told.scene) else {
+        return out.refuse();
+    };
     let told = phis::told_of(told, &entries);
-    put_text(out, &told, phis::sentence_of(&entries))?;
-    put(out, "\n")?;
-    put_line(out, &told, None, "")?;
+    put_text(out, &told, phis::sentence_of(&entries));
+    out.put("\n");
+    put_line(out, &told, None, "");
     put_mend(out, &told, phis::mend_of(&entries))
 }
 
-fn put_other_way(out: &mut Vec<u8>, told: &Told, text: &str) -> Result<(), AllocError> {
-    if text.is_empty() {
-        Ok(())
-    } else {
+fn put_other_way(out: &mut Message, told: &Told, text: &str) {
+    if !text.is_empty() {
         put_or(out, told, text)
     }
 }
 
 /// What a page says of an instruction.
-fn put_by_page(out: &mut Vec<u8>, told: &Told, page: Page) -> Result<(), AllocError> {
-    put_text(out, told, page.sentence)?;
-    put(out, "\n")?;
-    put_line(out, told, told.it, page.label)?;
-    put_mend(out, told, page.mend)?;
+fn put_by_page(out: &mut Message, told: &Told, page: Page) {
+    put_text(out, told, page.sentence);
+    out.put("\n");
+    put_line(out, told, told.it, page.label);
+    put_mend(out, told, page.mend);
     put_other_way(out, told, page.other)
 }
 
@@ -262,40 +260,40 @@ fn runtime_named(scene: &Scene) -> Option<Runtime> {
 }
 
 /// The line that declares a function of the runtime.
-fn put_declared(out: &mut Vec<u8>, scene: &Scene, runtime: &Runtime) -> Result<(), AllocError> {
-    put_mend_word(out, scene)?;
-    put(out, "declare it so, and call it with these types: ")?;
+fn put_declared(out: &mut Message, scene: &Scene, runtime: &Runtime) {
+    put_mend_word(out, scene);
+    out.put("declare it so, and call it with these types: ");
     let pointers = Pointers::of_module(scene.context.module());
-    put(out, declare_of(runtime, pointers))?;
-    put(out, "\n")
+    out.put(declare_of(runtime, pointers));
+    out.put("\n")
 }
 
 /// K18.
-fn put_unknown_callee(out: &mut Vec<u8>, told: &Told) -> Result<(), AllocError> {
+fn put_unknown_callee(out: &mut Message, told: &Told) {
     let Some(runtime) = runtime_named(told.scene) else {
         return put_by_page(out, told, page_of(Rule::K18));
     };
-    put_sentence(out, told)?;
-    put_line(out, told, told.it, "")?;
+    put_sentence(out, told);
+    put_line(out, told, told.it, "");
     put_declared(out, told.scene, &runtime)
 }
 
 /// K17.
-fn put_unmarked(out: &mut Vec<u8>, told: &Told) -> Result<(), AllocError> {
-    put_line(out, told, None, "")?;
+fn put_unmarked(out: &mut Message, told: &Told) {
+    put_line(out, told, None, "");
     put_mark(out, told)
 }
 
 /// The sentence of a page, and the end of its line.
-fn put_sentence(out: &mut Vec<u8>, told: &Told) -> Result<(), AllocError> {
+fn put_sentence(out: &mut Message, told: &Told) {
     let scene = told.scene;
-    put_text(out, told, page_of(scene.refusal.rule).sentence)?;
-    put(out, "\n")
+    put_text(out, told, page_of(scene.refusal.rule).sentence);
+    out.put("\n")
 }
 
 /// An instruction that breaks a rule on what is known of its operands.
-fn put_by_facts(out: &mut Vec<u8>, told: &Told, operands: &[Operand]) -> Result<(), AllocError> {
-    put_sentence(out, told)?;
+fn put_by_facts(out: &mut Message, told: &Told, operands: &[Operand]) {
+    put_sentence(out, told);
     let scene = told.scene;
     match scene.refusal.rule {
         Rule::K3 => put_stale(out, told, operands),
@@ -307,7 +305,7 @@ fn put_by_facts(out: &mut Vec<u8>, told: &Told, operands: &[Operand]) -> Result<
 }
 
 /// An instruction that breaks a rule by its operands.
-fn put_instruction(out: &mut Vec<u8>, told: &Told, operands: &[Operand]) -> Result<(), AllocError> {
+fn put_instruction(out: &mut Message, told: &Told, operands: &[Operand]) {
     let scene = told.scene;
     match scene.refusal.rule {
         Rule::K1 => put_unavailable(out, told),
@@ -325,12 +323,14 @@ fn put_instruction(out: &mut Vec<u8>, told: &Told, operands: &[Operand]) -> Resu
     }
 }
 
-fn put_scene(out: &mut Vec<u8>, scene: &Scene) -> Result<(), AllocError> {
-    put_head(out, scene)?;
+fn put_scene(out: &mut Message, scene: &Scene) {
+    put_head(out, scene);
     if let Some(detail) = &scene.refusal.detail {
         return put_edge(out, scene, detail);
     }
-    let operands = operands_of(scene.pen.alloc, scene.there())?;
+    let Ok(operands) = operands_of(scene.pen.alloc, scene.there()) else {
+        return out.refuse();
+    };
     let told = told_of(scene, operands.as_slice());
     put_instruction(out, &told, operands.as_slice())
 }
@@ -353,28 +353,34 @@ fn learn_edge(facts: &mut Facts, function: &Function, refusal: &Refusal) -> Resu
 /// What is told of an instruction of this function.
 fn put_refusal_in(
     pen: Pen,
-    out: &mut Vec<u8>,
+    out: &mut Message,
     texts: Texts,
     program: &Program,
     certs: &Certs,
     function: &Function,
     refusal: Refusal,
-) -> Result<(), AllocError> {
-    let slots = slots_of(pen.alloc, program.module(), function)?;
+) {
+    let Ok(slots) = slots_of(pen.alloc, program.module(), function) else {
+        return out.refuse();
+    };
     let context = RuleContext {
         program,
         certs,
         function,
         slots: &slots,
     };
-    let mut facts = facts_before(
+    let Ok(mut facts) = facts_before(
         pen.alloc,
         &context,
         refusal.func,
         refusal.block,
         refusal.instr,
-    )?;
-    learn_edge(&mut facts, function, &refusal)?;
+    ) else {
+        return out.refuse();
+    };
+    if learn_edge(&mut facts, function, &refusal).is_err() {
+        return out.refuse();
+    }
     let scene = Scene {
         pen,
         source: texts.source,
@@ -389,18 +395,18 @@ fn put_refusal_in(
 /// What is told of a refusal besides its line, by the texts of the module and of the certificate.
 pub fn put_refusal(
     pen: Pen,
-    out: &mut Vec<u8>,
+    out: &mut Message,
     texts: Texts,
     program: &Program,
     certs: &Certs,
     refusal: Refusal,
-) -> Result<(), AllocError> {
+) {
     match program
         .module()
         .functions
         .get(refusal.func.number() as usize)
     {
         Some(function) => put_refusal_in(pen, out, texts, program, certs, function, refusal),
-        None => Ok(()),
+        None => {}
     }
 }

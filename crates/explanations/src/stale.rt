@@ -6,6 +6,7 @@ use crate::unrooted::{put_shape_layout, put_shape_words};
 use certs::is_opaque_text;
 use facts::{ClassId, Facts, Known};
 use ir_ast::{Instr, MemoryOp, Op, Operand, Runtime, ValueId};
+use messages::Message;
 use offered_lines::{Unheld, put_new_root_lines, put_slot_name, put_wanted_declare};
 use origins::{Lost, safepoint_before};
 use pools::LayoutId;
@@ -68,21 +69,16 @@ pub fn lost_before(
 }
 
 /// The call after which a reference is stale.
-pub fn put_stale_at(out: &mut Vec<u8>, told: &Told, lost: &Lost) -> Result<(), AllocError> {
+pub fn put_stale_at(out: &mut Message, told: &Told, lost: &Lost) {
     let told = told.with_it(Some(Operand::Local(lost.value)));
     let text = "this call may reach a safepoint: {it} is stale from here on";
     put_note(out, &told, &lost.spot, None, text)
 }
 
 /// The same, if there is one.
-pub fn put_stale_since(
-    out: &mut Vec<u8>,
-    told: &Told,
-    lost: &Option<Lost>,
-) -> Result<(), AllocError> {
-    match lost {
-        Some(lost) => put_stale_at(out, told, lost),
-        None => Ok(()),
+pub fn put_stale_since(out: &mut Message, told: &Told, lost: &Option<Lost>) {
+    if let Some(lost) = lost {
+        put_stale_at(out, told, lost);
     }
 }
 
@@ -93,50 +89,52 @@ fn layout_at(scene: &Scene, lost: &Lost) -> Result<Option<LayoutId>, AllocError>
 }
 
 /// The line of the shapes that says to which layout a new slot refers.
-fn put_new_shape(out: &mut Vec<u8>, told: &Told, unheld: &Unheld) -> Result<(), AllocError> {
-    put_shape_words(out, told)?;
-    put_slot_name(told.scene.pen.alloc, out, unheld)?;
+fn put_new_shape(out: &mut Message, told: &Told, unheld: &Unheld) {
+    put_shape_words(out, told);
+    put_slot_name(told.scene.pen.alloc, out, unheld);
     put_shape_layout(out, told.scene, unheld.layout)
 }
 
 /// The lines that make a root slot for a reference.
-fn put_new_slot(out: &mut Vec<u8>, told: &Told, lost: &Lost) -> Result<(), AllocError> {
+fn put_new_slot(out: &mut Message, told: &Told, lost: &Lost) {
     let scene = told.scene;
     let of_module = scene.context.module();
+    let Ok(layout) = layout_at(scene, lost) else {
+        return out.refuse();
+    };
     let unheld = Unheld {
         of_module,
         function: scene.context.function,
         value: lost.value,
-        layout: layout_at(scene, lost)?,
+        layout,
     };
     put_or(
         out,
         told,
         "a root slot is made at the head of the entry block:",
-    )?;
-    put_new_root_lines(scene.pen.alloc, out, &unheld)?;
-    put_wanted_declare(out, of_module, &Runtime::GcRoot)?;
+    );
+    put_new_root_lines(scene.pen.alloc, out, &unheld);
+    put_wanted_declare(out, of_module, &Runtime::GcRoot);
     if is_opaque_text(of_module) {
-        return put_new_shape(out, told, &unheld);
+        put_new_shape(out, told, &unheld);
     }
-    Ok(())
 }
 
 /// How a reference is held over a call, where no root slot holds it.
-fn put_unheld(out: &mut Vec<u8>, told: &Told, lost: &Lost) -> Result<(), AllocError> {
+fn put_unheld(out: &mut Message, told: &Told, lost: &Lost) {
     put_mend(
         out,
         told,
         "store {it} in a root slot before that call, load it again after the call, and use what is loaded",
-    )?;
+    );
     put_new_slot(out, told, lost)
 }
 
 /// How a stale reference is loaded again, where it was lost at a call.
-pub fn put_reload_after(out: &mut Vec<u8>, told: &Told, lost: &Lost) -> Result<(), AllocError> {
+pub fn put_reload_after(out: &mut Message, told: &Told, lost: &Lost) {
     let told = told.with_it(Some(Operand::Local(lost.value)));
-    match slot_at(told.scene, lost)? {
-        Some(slot) => {
+    match slot_at(told.scene, lost) {
+        Ok(Some(slot)) => {
             let told = told.with_place(Operand::Local(slot));
             put_mend(
                 out,
@@ -144,12 +142,13 @@ pub fn put_reload_after(out: &mut Vec<u8>, told: &Told, lost: &Lost) -> Result<(
                 "load {it} again from its root slot {place} after that call, and use what is loaded",
             )
         }
-        None => put_unheld(out, &told, lost),
+        Ok(None) => put_unheld(out, &told, lost),
+        Err(_) => out.refuse(),
     }
 }
 
 /// How a stale reference is loaded again.
-pub fn put_reload(out: &mut Vec<u8>, told: &Told, lost: &Option<Lost>) -> Result<(), AllocError> {
+pub fn put_reload(out: &mut Message, told: &Told, lost: &Option<Lost>) {
     match lost {
         Some(lost) => put_reload_after(out, told, lost),
         None => put_mend(

@@ -1,11 +1,9 @@
 //! Texts with holes, which names of the refused instruction fill: `{it} is stored into {place}`.
 use ir_ast::{BlockId, LocalSort, Op, Operand, TypeId, ValueId};
-use messages::put;
-use name_text::put_number;
+use messages::Message;
 use offered_lines::put_type;
 use origins::local;
 use scenes::{Scene, There, put_block, put_function, put_operand, put_symbol};
-use std::alloc::AllocError;
 
 /// The value that an operand names.
 pub fn value_in(operand: Option<Operand>) -> Option<ValueId> {
@@ -92,43 +90,38 @@ impl<'a> Told<'a> {
     }
 }
 
-fn put_named(
-    out: &mut Vec<u8>,
-    scene: &Scene,
-    operand: Option<Operand>,
-    otherwise: &str,
-) -> Result<(), AllocError> {
+fn put_named(out: &mut Message, scene: &Scene, operand: Option<Operand>, otherwise: &str) {
     match operand {
         Some(operand) => put_operand(out, scene, operand),
-        None => put(out, otherwise),
+        None => out.put(otherwise),
     }
 }
 
 /// The function that is called.
-fn put_callee(out: &mut Vec<u8>, scene: &Scene) -> Result<(), AllocError> {
+fn put_callee(out: &mut Message, scene: &Scene) {
     match scene.there() {
         There::Body(instr) => match &instr.op {
             Op::Call(call) => put_symbol(out, scene, call.callee),
-            _ => put(out, "the function"),
+            _ => out.put("the function"),
         },
-        _ => put(out, "the function"),
+        _ => out.put("the function"),
     }
 }
 
-fn put_other(out: &mut Vec<u8>, told: &Told) -> Result<(), AllocError> {
+fn put_other(out: &mut Message, told: &Told) {
     match told.other {
         Some(block) => put_block(out, told.scene, block),
-        None => put(out, "the block"),
+        None => out.put("the block"),
     }
 }
 
 /// The block of the refused instruction.
-fn put_here(out: &mut Vec<u8>, scene: &Scene) -> Result<(), AllocError> {
+fn put_here(out: &mut Message, scene: &Scene) {
     put_block(out, scene, scene.refusal.block)
 }
 
-fn put_count(out: &mut Vec<u8>, scene: &Scene, number: u64) -> Result<(), AllocError> {
-    put_number(scene.pen.alloc, out, number)
+fn put_count(out: &mut Message, scene: &Scene, number: u64) {
+    out.put_number(number)
 }
 
 /// The type of the value that an operand names.
@@ -140,19 +133,15 @@ pub fn type_of(scene: &Scene, operand: Option<Operand>) -> Option<TypeId> {
     }
 }
 
-fn put_type_of(
-    out: &mut Vec<u8>,
-    scene: &Scene,
-    operand: Option<Operand>,
-) -> Result<(), AllocError> {
+fn put_type_of(out: &mut Message, scene: &Scene, operand: Option<Operand>) {
     match type_of(scene, operand) {
         Some(written) => put_type(scene.pen.alloc, out, scene.context.module(), written),
-        None => put(out, "T"),
+        None => out.put("T"),
     }
 }
 
 /// What stands at a hole.
-fn put_hole(out: &mut Vec<u8>, told: &Told, hole: &str) -> Result<(), AllocError> {
+fn put_hole(out: &mut Message, told: &Told, hole: &str) {
     match hole {
         "it" => put_named(out, told.scene, told.it, "it"),
         "type" => put_type_of(out, told.scene, told.it),
@@ -164,20 +153,19 @@ fn put_hole(out: &mut Vec<u8>, told: &Told, hole: &str) -> Result<(), AllocError
         "function" => put_function(out, told.scene),
         "callee" => put_callee(out, told.scene),
         "number" => put_count(out, told.scene, told.number),
-        _ => put(out, "?"),
+        _ => out.put("?"),
     }
 }
 
 /// A text whose holes are filled.
-pub fn put_text(out: &mut Vec<u8>, told: &Told, text: &str) -> Result<(), AllocError> {
+pub fn put_text(out: &mut Message, told: &Told, text: &str) {
     for piece in text.split('{') {
         match piece.split_once('}') {
             Some((hole, words)) => {
-                put_hole(out, told, hole)?;
-                put(out, words)?;
+                put_hole(out, told, hole);
+                out.put(words);
             }
-            None => put(out, piece)?,
+            None => out.put(piece),
         }
     }
-    Ok(())
 }

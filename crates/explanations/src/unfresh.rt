@@ -6,6 +6,7 @@ use crate::write_barrier::spot_of;
 use diagnosis::{Change, last_change};
 use facts::{ClassId, Facts, Known};
 use ir_ast::{Operand, ValueId};
+use messages::Message;
 use origins::safepoint_before;
 use scenes::{Scene, Spot};
 use shadow_stack::SlotId;
@@ -135,12 +136,7 @@ fn unfresh_of(scene: &Scene, value: ValueId) -> Result<Option<Unfresh>, AllocErr
     }
 }
 
-fn put_lost(
-    out: &mut Vec<u8>,
-    told: &Told,
-    value: ValueId,
-    unfresh: &Unfresh,
-) -> Result<(), AllocError> {
+fn put_lost(out: &mut Message, told: &Told, value: ValueId, unfresh: &Unfresh) {
     if unfresh.name.number() == value.number() {
         let text = "{base} is fresh up to here, and not after it";
         return put_note(out, told, &unfresh.spot, None, text);
@@ -156,12 +152,13 @@ fn put_lost(
 }
 
 /// Where the base of the place lost `fresh`.
-pub fn put_unfresh(out: &mut Vec<u8>, told: &Told) -> Result<(), AllocError> {
+pub fn put_unfresh(out: &mut Message, told: &Told) {
     let Some(value) = value_in(told.base) else {
-        return Ok(());
+        return;
     };
-    match unfresh_of(told.scene, value)? {
-        Some(unfresh) => put_lost(out, told, value, &unfresh),
-        None => Ok(()),
+    match unfresh_of(told.scene, value) {
+        Ok(Some(unfresh)) => put_lost(out, told, value, &unfresh),
+        Ok(None) => {}
+        Err(_) => out.refuse(),
     }
 }

@@ -5,7 +5,7 @@ use crate::stale::{lost_before, put_reload, put_stale_since};
 use crate::told::{Told, put_text};
 use certs::{Claim, Fact};
 use ir_ast::{BlockId, Function, Instr, Op, ValueId};
-use messages::put;
+use messages::Message;
 use origins::{Definition, Sought, cert_position, claim_after, definition_of, is_bypassed};
 use scenes::{Scene, Spot};
 use std::alloc::AllocError;
@@ -141,59 +141,51 @@ pub fn sentence_of(cause: &Cause) -> &'static str {
 }
 
 /// Where a value is defined, if an instruction does that, as this text says it.
-fn put_definition_as(
-    out: &mut Vec<u8>,
-    told: &Told,
-    value: ValueId,
-    text: &str,
-) -> Result<(), AllocError> {
+fn put_definition_as(out: &mut Message, told: &Told, value: ValueId, text: &str) {
     let scene = told.scene;
     let definition = definition_of(scene.context.function, value);
     match &definition {
         Definition::At(spot) => put_note(out, told, spot, None, text),
-        _ => Ok(()),
+        _ => {}
     }
 }
 
 /// Where a value is defined, if an instruction does that.
-pub fn put_definition(out: &mut Vec<u8>, told: &Told, value: ValueId) -> Result<(), AllocError> {
+pub fn put_definition(out: &mut Message, told: &Told, value: ValueId) {
     put_definition_as(out, told, value, "{it} is defined here")
 }
 
 /// Where the certificate has the claims of the block.
-pub fn put_block_note(out: &mut Vec<u8>, told: &Told, text: &str) -> Result<(), AllocError> {
+pub fn put_block_note(out: &mut Message, told: &Told, text: &str) {
     let scene = told.scene;
     let line = Sought::Block(scene.refusal.block);
     let function = scene.context.function;
-    match cert_position(scene, function.symbol, &line)? {
-        Some(position) => put_cert_note(out, told, position, text),
-        None => Ok(()),
+    match cert_position(scene, function.symbol, &line) {
+        Ok(Some(position)) => put_cert_note(out, told, position, text),
+        Ok(None) => {}
+        Err(_) => out.refuse(),
     }
 }
 
 /// The line to add, and the blocks to which it is to be added.
-pub fn put_listing(
-    out: &mut Vec<u8>,
-    told: &Told,
-    value: ValueId,
-    fact: Fact,
-) -> Result<(), AllocError> {
+pub fn put_listing(out: &mut Message, told: &Told, value: ValueId, fact: Fact) {
     let scene = told.scene;
     let definition = definition_of(scene.context.function, value);
     put_missing(out, told, &definition, value, &fact)
 }
 
-fn put_function_note(out: &mut Vec<u8>, told: &Told, text: &str) -> Result<(), AllocError> {
+fn put_function_note(out: &mut Message, told: &Told, text: &str) {
     let scene = told.scene;
     let function = scene.context.function;
-    match cert_position(scene, function.symbol, &Sought::Function)? {
-        Some(position) => put_cert_note(out, told, position, text),
-        None => Ok(()),
+    match cert_position(scene, function.symbol, &Sought::Function) {
+        Ok(Some(position)) => put_cert_note(out, told, position, text),
+        Ok(None) => {}
+        Err(_) => out.refuse(),
     }
 }
 
-fn put_parameter(out: &mut Vec<u8>, told: &Told) -> Result<(), AllocError> {
-    put_function_note(out, told, "the certificate of {function}")?;
+fn put_parameter(out: &mut Message, told: &Told) {
+    put_function_note(out, told, "the certificate of {function}");
     put_mend(
         out,
         told,
@@ -201,8 +193,8 @@ fn put_parameter(out: &mut Vec<u8>, told: &Told) -> Result<(), AllocError> {
     )
 }
 
-fn put_result(out: &mut Vec<u8>, told: &Told, value: ValueId) -> Result<(), AllocError> {
-    put_definition_as(out, told, value, "{it} is the result of this call")?;
+fn put_result(out: &mut Message, told: &Told, value: ValueId) {
+    put_definition_as(out, told, value, "{it} is the result of this call");
     put_mend(
         out,
         told,
@@ -211,8 +203,8 @@ fn put_result(out: &mut Vec<u8>, told: &Told, value: ValueId) -> Result<(), Allo
 }
 
 /// It is defined on one way to the instruction, and not on another.
-fn put_one_way(out: &mut Vec<u8>, told: &Told, value: ValueId) -> Result<(), AllocError> {
-    put_definition_as(out, told, value, "{it} is defined here, in {to}")?;
+fn put_one_way(out: &mut Message, told: &Told, value: ValueId) {
+    put_definition_as(out, told, value, "{it} is defined here, in {to}");
     put_mend(
         out,
         told,
@@ -221,40 +213,38 @@ fn put_one_way(out: &mut Vec<u8>, told: &Told, value: ValueId) -> Result<(), All
 }
 
 /// A block on the way does not list it.
-fn put_unlisted(out: &mut Vec<u8>, told: &Told, value: ValueId) -> Result<(), AllocError> {
-    put_definition(out, told, value)?;
-    put_block_note(out, told, "what {here} lists comes after this line")?;
+fn put_unlisted(out: &mut Message, told: &Told, value: ValueId) {
+    put_definition(out, told, value);
+    put_block_note(out, told, "what {here} lists comes after this line");
     let scene = told.scene;
     let definition = definition_of(scene.context.function, value);
-    match claim_after(scene, &definition, value)? {
-        Some(Claim::Value { fact, .. }) => put_listing(out, told, value, fact),
-        _ => Ok(()),
+    match claim_after(scene, &definition, value) {
+        Ok(Some(Claim::Value { fact, .. })) => put_listing(out, told, value, fact),
+        Ok(_) => {}
+        Err(_) => out.refuse(),
     }
 }
 
 /// It would be stale.
-fn put_stale(out: &mut Vec<u8>, told: &Told, value: ValueId) -> Result<(), AllocError> {
+fn put_stale(out: &mut Message, told: &Told, value: ValueId) {
     let scene = told.scene;
     let spot = scene.spot();
-    let lost = lost_before(scene, &spot, Some(value))?;
-    put_stale_since(out, told, &lost)?;
+    let Ok(lost) = lost_before(scene, &spot, Some(value)) else {
+        return out.refuse();
+    };
+    put_stale_since(out, told, &lost);
     put_reload(out, told, &lost)
 }
 
 /// Why nothing is known of it, and what mends it.
-pub fn put_unknown(
-    out: &mut Vec<u8>,
-    told: &Told,
-    value: ValueId,
-    cause: &Cause,
-) -> Result<(), AllocError> {
+pub fn put_unknown(out: &mut Message, told: &Told, value: ValueId, cause: &Cause) {
     match cause {
         Cause::Parameter => put_parameter(out, told),
         Cause::Result => put_result(out, told, value),
         Cause::NotYet => put_mend(out, told, "define {it} on each way to this instruction"),
         Cause::OneWay(block) => put_one_way(out, &told.with_block(*block), value),
         Cause::FromNothing => {
-            put_definition(out, told, value)?;
+            put_definition(out, told, value);
             put_mend(
                 out,
                 told,
@@ -267,8 +257,10 @@ pub fn put_unknown(
 }
 
 /// Why nothing is known of a value, and what mends it.
-pub fn put_cause(out: &mut Vec<u8>, told: &Told, value: ValueId) -> Result<(), AllocError> {
-    let cause = cause_of(told.scene, value)?;
+pub fn put_cause(out: &mut Message, told: &Told, value: ValueId) {
+    let Ok(cause) = cause_of(told.scene, value) else {
+        return out.refuse();
+    };
     put_unknown(out, told, value, &cause)
 }
 
@@ -279,10 +271,12 @@ pub fn is_stale_cause(scene: &Scene, value: ValueId) -> Result<bool, AllocError>
 }
 
 /// K1: the sentence, the line, the cause, and what mends it.
-pub fn put_unavailable(out: &mut Vec<u8>, told: &Told, value: ValueId) -> Result<(), AllocError> {
-    let cause = cause_of(told.scene, value)?;
-    put_text(out, &told_of(told, &cause), sentence_of(&cause))?;
-    put(out, "\n")?;
-    put_line(out, told, told.it, "")?;
+pub fn put_unavailable(out: &mut Message, told: &Told, value: ValueId) {
+    let Ok(cause) = cause_of(told.scene, value) else {
+        return out.refuse();
+    };
+    put_text(out, &told_of(told, &cause), sentence_of(&cause));
+    out.put("\n");
+    put_line(out, told, told.it, "");
     put_unknown(out, told, value, &cause)
 }

@@ -4,8 +4,8 @@ use crate::notes::{MARGIN, put_line, put_mend, put_mend_word};
 use crate::told::{Told, put_text, value_in};
 use certs::{Family, family_of_type, is_opaque_text};
 use ir_ast::{Block, BlockId, Instr, MemoryOp, Op, Operand, Runtime, ValueId};
-use messages::put;
-use name_text::{Blank, put_layout};
+use messages::Message;
+use name_text::Blank;
 use offered_lines::{Slot, put_root_lines, put_wanted_declare};
 use origins::block_id;
 use pools::LayoutId;
@@ -106,8 +106,8 @@ fn layout_held(scene: &Scene, slot: ValueId) -> Result<Option<LayoutId>, AllocEr
 }
 
 /// How the line of the shapes begins that says to which layout a slot refers.
-pub fn put_shape_words(out: &mut Vec<u8>, told: &Told) -> Result<(), AllocError> {
-    put(out, MARGIN)?;
+pub fn put_shape_words(out: &mut Message, told: &Told) {
+    out.put(MARGIN);
     put_text(
         out,
         told,
@@ -116,38 +116,36 @@ pub fn put_shape_words(out: &mut Vec<u8>, told: &Told) -> Result<(), AllocError>
 }
 
 /// How that line ends.
-pub fn put_shape_layout(
-    out: &mut Vec<u8>,
-    scene: &Scene,
-    layout: Option<LayoutId>,
-) -> Result<(), AllocError> {
-    put(out, " ref ")?;
+pub fn put_shape_layout(out: &mut Message, scene: &Scene, layout: Option<LayoutId>) {
+    out.put(" ref ");
     match layout {
-        Some(layout) => put_layout(out, scene.context.module(), layout, Blank::Kept)?,
-        None => put(out, "L, where L is the layout to which it refers")?,
+        Some(layout) => out.put_layout(scene.context.module(), layout, Blank::Kept),
+        None => out.put("L, where L is the layout to which it refers"),
     }
-    put(out, "\n")
+    out.put("\n")
 }
 
 /// The line of the shapes that says to which layout a slot refers.
-fn put_shape(out: &mut Vec<u8>, told: &Told, slot: ValueId) -> Result<(), AllocError> {
-    put_shape_words(out, told)?;
-    put_text(out, told, "{it}")?;
-    put_shape_layout(out, told.scene, layout_held(told.scene, slot)?)
+fn put_shape(out: &mut Message, told: &Told, slot: ValueId) {
+    put_shape_words(out, told);
+    put_text(out, told, "{it}");
+    match layout_held(told.scene, slot) {
+        Ok(layout) => put_shape_layout(out, told.scene, layout),
+        Err(_) => out.refuse(),
+    }
 }
 
 /// The lines that make a slot a root.
-fn put_rooted(out: &mut Vec<u8>, told: &Told, slot: ValueId) -> Result<(), AllocError> {
+fn put_rooted(out: &mut Message, told: &Told, slot: ValueId) {
     let scene = told.scene;
     let of_module = scene.context.module();
-    put_mend_word(out, scene)?;
-    put(out, "write after this line, so that the slot is a root:\n")?;
-    put_root_lines(scene.pen.alloc, out, &slot_in(scene, slot))?;
-    put_wanted_declare(out, of_module, &Runtime::GcRoot)?;
+    put_mend_word(out, scene);
+    out.put("write after this line, so that the slot is a root:\n");
+    put_root_lines(scene.pen.alloc, out, &slot_in(scene, slot));
+    put_wanted_declare(out, of_module, &Runtime::GcRoot);
     if is_opaque_text(of_module) {
         return put_shape(out, told, slot);
     }
-    Ok(())
 }
 
 fn sentence_of(held: Held) -> &'static str {
@@ -167,7 +165,7 @@ fn label_of(held: Held) -> &'static str {
     }
 }
 
-fn put_mended(out: &mut Vec<u8>, told: &Told, slot: ValueId, held: Held) -> Result<(), AllocError> {
+fn put_mended(out: &mut Message, told: &Told, slot: ValueId, held: Held) {
     match held {
         Held::Reference => put_rooted(out, told, slot),
         Held::AnyReference => put_mend(
@@ -184,12 +182,12 @@ fn put_mended(out: &mut Vec<u8>, told: &Told, slot: ValueId, held: Held) -> Resu
 }
 
 /// K8.
-pub fn put_unrooted(out: &mut Vec<u8>, told: &Told) -> Result<(), AllocError> {
+pub fn put_unrooted(out: &mut Message, told: &Told) {
     let Some(slot) = value_in(told.it) else {
-        return Ok(());
+        return;
     };
     let held = held_in(told.scene, slot);
-    put_text(out, told, sentence_of(held))?;
-    put_line(out, told, told.it, label_of(held))?;
+    put_text(out, told, sentence_of(held));
+    put_line(out, told, told.it, label_of(held));
     put_mended(out, told, slot, held)
 }

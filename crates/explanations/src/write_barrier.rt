@@ -5,10 +5,10 @@ use crate::told::Told;
 use certs::is_opaque_text;
 use facts::Known;
 use ir_ast::{Operand, Runtime, ValueId};
+use messages::Message;
 use offered_lines::put_wanted_declare;
 use origins::{Definition, definition_of};
 use scenes::{Scene, Spot, reference_of};
-use std::alloc::AllocError;
 
 /// The reference in whose cell an operand is a place.
 pub fn base_of(scene: &Scene, operand: &Option<Operand>) -> Option<ValueId> {
@@ -31,12 +31,12 @@ fn label_of(told: &Told) -> &'static str {
 }
 
 /// K6: the place of the store.
-pub fn put_stored_line(out: &mut Vec<u8>, told: &Told) -> Result<(), AllocError> {
+pub fn put_stored_line(out: &mut Message, told: &Told) {
     put_line(out, told, told.place, label_of(told))
 }
 
 /// The call in place of the store.
-fn put_call(out: &mut Vec<u8>, told: &Told) -> Result<(), AllocError> {
+fn put_call(out: &mut Message, told: &Told) {
     let scene = told.scene;
     if is_opaque_text(scene.context.module()) {
         return put_mend(
@@ -45,25 +45,25 @@ fn put_call(out: &mut Vec<u8>, told: &Told) -> Result<(), AllocError> {
             "in place of the store: call void @llvm.gcwrite(ptr {it}, ptr {object}, ptr {place})",
         );
     }
-    put_mend(out, told, "in place of the store:")?;
+    put_mend(out, told, "in place of the store:");
     put_barrier_lines(out, told)
 }
 
 /// K6: the call in place of the store, and its declaration where there is none.
-pub fn put_barrier(out: &mut Vec<u8>, told: &Told) -> Result<(), AllocError> {
-    put_call(out, told)?;
+pub fn put_barrier(out: &mut Message, told: &Told) {
+    put_call(out, told);
     put_wanted_declare(out, told.scene.context.module(), &Runtime::GcWrite)
 }
 
 /// K7: the object of the place.
-pub fn put_object(out: &mut Vec<u8>, told: &Told) -> Result<(), AllocError> {
+pub fn put_object(out: &mut Message, told: &Told) {
     let scene = told.scene;
     match (told.base, is_opaque_text(scene.context.module())) {
         (None, true) => put_mend(out, told, "name null: the place is in no object"),
         (None, false) => put_mend(out, told, "name i8* null: the place is in no object"),
         (Some(_), true) => put_mend(out, told, "name {base} as the object, or null"),
         (Some(_), false) => {
-            put_mend(out, told, "name i8* null as the object, or {base}:")?;
+            put_mend(out, told, "name i8* null as the object, or {base}:");
             put_object_lines(out, told)
         }
     }

@@ -10,12 +10,8 @@ use ir_ast::{Function, Module, Runtime, SymbolId, ValueId};
 use ir_text::ReadFault;
 use ir_tokens::Position;
 use layout::LayoutFault;
-use messages::{
-    Ink, NamedText, Pen, begin_ink, end_ink, put, put_inked, put_path_at, put_position_line,
-};
-use name_text::{
-    Blank, past_blanks, past_word, put_global, put_layout, put_local, put_number, word,
-};
+use messages::{Ink, Message, NamedText, Pen, put_path_at, put_position_line};
+use name_text::{Blank, past_blanks, past_word, word};
 use offered_lines::{Pointers, declare_of};
 use places::line_numbered;
 use pools::LayoutId;
@@ -34,53 +30,46 @@ fn rule_on(page: &'static str) -> &'static str {
 }
 
 /// Lines as one line.
-fn put_joined(out: &mut Vec<u8>, lines: &str) -> Result<(), AllocError> {
+fn put_joined(out: &mut Message, lines: &str) {
     for (number, line) in lines.split('\n').enumerate() {
-        put(out, if number == 0 { "" } else { " " })?;
-        put(out, line.trim_start())?;
+        out.put(if number == 0 { "" } else { " " });
+        out.put(line.trim_start());
     }
-    Ok(())
 }
 
 /// The code and what it says in one sentence.
-fn put_rule(out: &mut Vec<u8>, pen: Pen, code: Code) -> Result<(), AllocError> {
-    put(out, ": ")?;
-    put_inked(out, pen.look, Ink::Fault, code.name())?;
-    put(out, ": ")?;
-    put_joined(out, rule_on(code.text()))?;
-    put(out, "\n")
+fn put_rule(out: &mut Message, pen: Pen, code: Code) {
+    out.put(": ");
+    out.put_inked(pen.look, Ink::Fault, code.name());
+    out.put(": ");
+    put_joined(out, rule_on(code.text()));
+    out.put("\n")
 }
 
 /// A fault at a place of a text: the place, the rule, and the line.
 pub(crate) fn put_fault_at(
     pen: Pen,
-    out: &mut Vec<u8>,
+    out: &mut Message,
     named: NamedText,
     position: Position,
     code: Code,
-) -> Result<(), AllocError> {
-    begin_ink(out, pen.look, Ink::Place)?;
-    put_path_at(pen.alloc, out, named.path, position)?;
-    end_ink(out, pen.look)?;
-    put_rule(out, pen, code)?;
-    put_position_line(out, pen, Ink::Fault, named.text, position)?;
-    put(out, "\n")
+) {
+    out.begin_ink(pen.look, Ink::Place);
+    put_path_at(out, named.path, position);
+    out.end_ink(pen.look);
+    put_rule(out, pen, code);
+    put_position_line(out, pen, Ink::Fault, named.text, position);
+    out.put("\n")
 }
 
 /// A line of words with a mark before it, where there are words.
-pub(crate) fn put_told(
-    out: &mut Vec<u8>,
-    pen: Pen,
-    ink: Ink,
-    mark: &str,
-    text: &str,
-) -> Result<(), AllocError> {
+pub(crate) fn put_told(out: &mut Message, pen: Pen, ink: Ink, mark: &str, text: &str) {
     if text.is_empty() {
-        return Ok(());
+        return;
     }
-    put_inked(out, pen.look, ink, mark)?;
-    put(out, text)?;
-    put(out, "\n")
+    out.put_inked(pen.look, ink, mark);
+    out.put(text);
+    out.put("\n")
 }
 
 /// How many bytes come before a position.
@@ -121,21 +110,12 @@ fn other_text(text: &[u8]) -> &'static str {
 }
 
 /// A form that is left out.
-fn put_left_out(
-    pen: Pen,
-    out: &mut Vec<u8>,
-    named: NamedText,
-    position: Position,
-    word: &[u8],
-) -> Result<(), AllocError> {
-    put_fault_at(pen, out, named, position, Code::L7)?;
-    put_inked(out, pen.look, Ink::Note, "  here:  ")?;
-    put(out, "`")?;
-    out.extend_from_slice(word)?;
-    put(
-        out,
-        "` begins a form that is not read; docs/TEXT.md lists these\n",
-    )?;
+fn put_left_out(pen: Pen, out: &mut Message, named: NamedText, position: Position, word: &[u8]) {
+    put_fault_at(pen, out, named, position, Code::L7);
+    out.put_inked(pen.look, Ink::Note, "  here:  ");
+    out.put("`");
+    out.put_bytes(word);
+    out.put("` begins a form that is not read; docs/TEXT.md lists these\n");
     put_told(out, pen, Ink::Mend, "  mend:  ", advice_on(word))
 }
 
@@ -173,26 +153,21 @@ fn advice_of(code: Code) -> &'static str {
 }
 
 /// The name that was perhaps meant by another one, if there is one. Returns whether there is one.
-fn put_question(
-    pen: Pen,
-    out: &mut Vec<u8>,
-    name: &[u8],
-    meant: Option<&[u8]>,
-) -> Result<bool, AllocError> {
+fn put_question(pen: Pen, out: &mut Message, name: &[u8], meant: Option<&[u8]>) -> bool {
     let Some(meant) = meant else {
-        return Ok(false);
+        return false;
     };
-    put_inked(out, pen.look, Ink::Mend, "  mend:  ")?;
-    put(out, "is ")?;
-    put_like(out, name, meant)?;
-    put(out, " meant?\n")?;
-    Ok(true)
+    out.put_inked(pen.look, Ink::Mend, "  mend:  ");
+    out.put("is ");
+    put_like(out, name, meant);
+    out.put(" meant?\n");
+    true
 }
 
 /// The name of the module that was perhaps meant by this one. Returns whether there is one.
 pub(crate) fn put_near(
     pen: Pen,
-    out: &mut Vec<u8>,
+    out: &mut Message,
     module: NamedText,
     name: &[u8],
 ) -> Result<bool, AllocError> {
@@ -202,21 +177,16 @@ pub(crate) fn put_near(
     let meant = near(module.text, lexed.tokens.as_slice(), name);
     let put = put_question(pen, out, name, meant);
     drop(lexed);
-    put
+    Ok(put)
 }
 
 /// The name of the module that was perhaps meant by one that is not defined; if there is none, how to go on.
-fn put_meant(
-    pen: Pen,
-    out: &mut Vec<u8>,
-    module: NamedText,
-    name: &[u8],
-    otherwise: &str,
-) -> Result<(), AllocError> {
-    if put_near(pen, out, module, name)? {
-        return Ok(());
+fn put_meant(pen: Pen, out: &mut Message, module: NamedText, name: &[u8], otherwise: &str) {
+    match put_near(pen, out, module, name) {
+        Ok(true) => {}
+        Ok(false) => put_told(out, pen, Ink::Mend, "  mend:  ", otherwise),
+        Err(_) => out.refuse(),
     }
-    put_told(out, pen, Ink::Mend, "  mend:  ", otherwise)
 }
 
 /// Whether a byte ends a name that is not in quotes.
@@ -252,25 +222,18 @@ fn runtime_named(name: &[u8]) -> Option<Runtime> {
 }
 
 /// The line that declares a function of the runtime.
-fn put_undeclared(
-    pen: Pen,
-    out: &mut Vec<u8>,
-    named: NamedText,
-    runtime: &Runtime,
-) -> Result<(), AllocError> {
-    put_inked(out, pen.look, Ink::Mend, "  mend:  ")?;
-    put(out, "add this line outside the functions: ")?;
-    put(out, declare_of(runtime, pointers_of(pen.alloc, named)?))?;
-    put(out, "\n")
+fn put_undeclared(pen: Pen, out: &mut Message, named: NamedText, runtime: &Runtime) {
+    let Ok(pointers) = pointers_of(pen.alloc, named) else {
+        return out.refuse();
+    };
+    out.put_inked(pen.look, Ink::Mend, "  mend:  ");
+    out.put("add this line outside the functions: ");
+    out.put(declare_of(runtime, pointers));
+    out.put("\n")
 }
 
 /// How to go on where a name is not defined.
-fn put_not_defined(
-    pen: Pen,
-    out: &mut Vec<u8>,
-    named: NamedText,
-    name: &[u8],
-) -> Result<(), AllocError> {
+fn put_not_defined(pen: Pen, out: &mut Message, named: NamedText, name: &[u8]) {
     match runtime_named(name) {
         Some(runtime) => put_undeclared(pen, out, named, &runtime),
         None => put_meant(pen, out, named, name, ""),
@@ -278,13 +241,7 @@ fn put_not_defined(
 }
 
 /// What was expected, or how to go on.
-fn put_expected(
-    pen: Pen,
-    out: &mut Vec<u8>,
-    named: NamedText,
-    position: Position,
-    code: Code,
-) -> Result<(), AllocError> {
+fn put_expected(pen: Pen, out: &mut Message, named: NamedText, position: Position, code: Code) {
     match code {
         Code::L1 | Code::L3 if !other_text(named.text).is_empty() => {
             put_told(out, pen, Ink::Mend, "  mend:  ", other_text(named.text))
@@ -294,7 +251,9 @@ fn put_expected(
             put_told(out, pen, Ink::Mend, "  mend:  ", advice)
         }
         Code::L3 => {
-            let form = form_before(pen.alloc, named, offset_of(named.text, position))?;
+            let Ok(form) = form_before(pen.alloc, named, offset_of(named.text, position)) else {
+                return out.refuse();
+            };
             put_told(out, pen, Ink::Mend, "  form:  ", form)
         }
         Code::L5 => put_not_defined(pen, out, named, name_at(named.text, position)),
@@ -303,57 +262,36 @@ fn put_expected(
 }
 
 /// What is told of a text that is no module.
-pub fn put_read_fault(
-    pen: Pen,
-    out: &mut Vec<u8>,
-    named: NamedText,
-    fault: &ReadFault,
-) -> Result<(), AllocError> {
+pub fn put_read_fault(pen: Pen, out: &mut Message, named: NamedText, fault: &ReadFault) {
     if let ReadFault::LeftOut { place, word } = fault {
         return put_left_out(pen, out, named, *place, word.as_slice());
     }
     match place_of(fault) {
         Some((position, code)) => {
-            put_fault_at(pen, out, named, position, code)?;
+            put_fault_at(pen, out, named, position, code);
             put_expected(pen, out, named, position, code)
         }
-        None => Err(AllocError),
+        None => out.refuse(),
     }
 }
 
 /// A fault of a text as a whole.
-pub(crate) fn put_whole_fault(
-    out: &mut Vec<u8>,
-    pen: Pen,
-    path: &str,
-    code: Code,
-) -> Result<(), AllocError> {
-    put_inked(out, pen.look, Ink::Place, path)?;
+pub(crate) fn put_whole_fault(out: &mut Message, pen: Pen, path: &str, code: Code) {
+    out.put_inked(pen.look, Ink::Place, path);
     put_rule(out, pen, code)
 }
 
 /// A fault of a text as a whole, and how to go on.
-pub fn put_fault_of(
-    pen: Pen,
-    out: &mut Vec<u8>,
-    path: &str,
-    code: Code,
-    mend: &str,
-) -> Result<(), AllocError> {
-    put_whole_fault(out, pen, path, code)?;
+pub fn put_fault_of(pen: Pen, out: &mut Message, path: &str, code: Code, mend: &str) {
+    put_whole_fault(out, pen, path, code);
     put_told(out, pen, Ink::Mend, "  mend:  ", mend)
 }
 
 /// What is told of a text that is no text of edits.
-pub fn put_edits_fault(
-    pen: Pen,
-    out: &mut Vec<u8>,
-    named: NamedText,
-    fault: &CertFault,
-) -> Result<(), AllocError> {
+pub fn put_edits_fault(pen: Pen, out: &mut Message, named: NamedText, fault: &CertFault) {
     match fault {
         CertFault::Syntax(position) => {
-            put_fault_at(pen, out, named, *position, Code::C1)?;
+            put_fault_at(pen, out, named, *position, Code::C1);
             put_told(
                 out,
                 pen,
@@ -362,18 +300,13 @@ pub fn put_edits_fault(
                 "an edit begins with `edit code @f`, `edit cert @f` or `edit both @f`; each of its texts ends with a line `.`",
             )
         }
-        CertFault::Memory => Err(AllocError),
-        _ => Ok(()),
+        CertFault::Memory => out.refuse(),
+        _ => {}
     }
 }
 
 /// The form of the line at which a certificate has a fault.
-fn put_cert_form(
-    pen: Pen,
-    out: &mut Vec<u8>,
-    named: NamedText,
-    position: Position,
-) -> Result<(), AllocError> {
+fn put_cert_form(pen: Pen, out: &mut Message, named: NamedText, position: Position) {
     let line = line_numbered(named.text, position.line.saturating_sub(1));
     let form = cert_form_of(word(past_blanks(line)));
     if form.is_empty() {
@@ -412,31 +345,34 @@ pub struct CheckedTexts<'a> {
 /// How to go on where a certificate names what is not there.
 fn put_unknown_name(
     pen: Pen,
-    out: &mut Vec<u8>,
+    out: &mut Message,
     texts: CheckedTexts,
     of_module: &Module,
     position: Position,
-) -> Result<(), AllocError> {
+) {
     let named = texts.of_certs;
     let name = name_at(named.text, position);
-    if put_unrooted(pen, out, of_module, named, position, name)? {
-        return Ok(());
+    match put_unrooted(pen, out, of_module, named, position, name) {
+        Ok(true) => {}
+        Ok(false) => {
+            let advice = advice_on_line(named.text, position);
+            put_meant(pen, out, texts.of_module, name, advice)
+        }
+        Err(_) => out.refuse(),
     }
-    let advice = advice_on_line(named.text, position);
-    put_meant(pen, out, texts.of_module, name, advice)
 }
 
 /// A fault at a place of a certificate.
 fn put_cert_fault_at(
     pen: Pen,
-    out: &mut Vec<u8>,
+    out: &mut Message,
     texts: CheckedTexts,
     of_module: &Module,
     position: Position,
     code: Code,
-) -> Result<(), AllocError> {
+) {
     let named = texts.of_certs;
-    put_fault_at(pen, out, named, position, code)?;
+    put_fault_at(pen, out, named, position, code);
     match code {
         Code::C3 => put_unknown_name(pen, out, texts, of_module, position),
         Code::C4 => put_told(
@@ -451,88 +387,71 @@ fn put_cert_fault_at(
 }
 
 /// The line to add for a block without a section.
-fn put_block_line(out: &mut Vec<u8>, function: &Function, block: usize) -> Result<(), AllocError> {
-    put(out, "add `block ")?;
+fn put_block_line(out: &mut Message, function: &Function, block: usize) {
+    out.put("add `block ");
     if let Some(block) = function.blocks.get(block) {
-        put_local(out, &function.locals, block.label, Blank::Kept)?;
+        out.put_local(&function.locals, block.label, Blank::Kept);
     }
-    put(out, "` to the section of ")
+    out.put("` to the section of ")
 }
 
 /// The line to add for a function or a block without a section.
 fn put_section(
     pen: Pen,
-    out: &mut Vec<u8>,
+    out: &mut Message,
     of_module: &Module,
     function: usize,
     block: Option<usize>,
-) -> Result<(), AllocError> {
+) {
     let Some(function) = of_module.functions.get(function) else {
-        return Ok(());
+        return;
     };
-    put_inked(out, pen.look, Ink::Mend, "  mend:  ")?;
+    out.put_inked(pen.look, Ink::Mend, "  mend:  ");
     match block {
-        Some(block) => put_block_line(out, function, block)?,
-        None => put(
-            out,
+        Some(block) => put_block_line(out, function, block),
+        None => out.put(
             "add a section, from `function NAME none` or `function NAME may` to `end`; NAME is ",
-        )?,
+        ),
     }
-    put_global(out, of_module, function.symbol, Blank::Kept)?;
-    put(out, "\n")
+    out.put_global(of_module, function.symbol, Blank::Kept);
+    out.put("\n")
 }
 
 /// The name of a word without a shape: `layout Node 1`.
-fn put_word_name(
-    pen: Pen,
-    out: &mut Vec<u8>,
-    of_module: &Module,
-    layout: usize,
-    place: usize,
-) -> Result<(), AllocError> {
-    put(out, "layout ")?;
+fn put_word_name(pen: Pen, out: &mut Message, of_module: &Module, layout: usize, place: usize) {
+    out.put("layout ");
     if let Ok(layout) = u32::try_from(layout) {
-        put_layout(out, of_module, LayoutId::new(layout), Blank::Kept)?;
+        out.put_layout(of_module, LayoutId::new(layout), Blank::Kept);
     }
-    put(out, " ")?;
-    put_number(pen.alloc, out, place as u64)
+    out.put(" ");
+    out.put_number(place as u64)
 }
 
 /// The name of a root slot without a shape: `root @f %s`.
-fn put_root_name(
-    out: &mut Vec<u8>,
-    of_module: &Module,
-    function: usize,
-    local: usize,
-) -> Result<(), AllocError> {
+fn put_root_name(out: &mut Message, of_module: &Module, function: usize, local: usize) {
     let Some(function) = of_module.functions.get(function) else {
-        return Ok(());
+        return;
     };
-    put(out, "root ")?;
-    put_global(out, of_module, function.symbol, Blank::Kept)?;
-    put(out, " ")?;
+    out.put("root ");
+    out.put_global(of_module, function.symbol, Blank::Kept);
+    out.put(" ");
     match u32::try_from(local) {
-        Ok(local) => put_local(out, &function.locals, ValueId::new(local), Blank::Kept),
-        Err(_) => Ok(()),
+        Ok(local) => out.put_local(&function.locals, ValueId::new(local), Blank::Kept),
+        Err(_) => {}
     }
 }
 
 /// The name of a global without a shape: `global @g`.
-fn put_global_name(out: &mut Vec<u8>, of_module: &Module, symbol: usize) -> Result<(), AllocError> {
-    put(out, "global ")?;
+fn put_global_name(out: &mut Message, of_module: &Module, symbol: usize) {
+    out.put("global ");
     match u32::try_from(symbol) {
-        Ok(symbol) => put_global(out, of_module, SymbolId::new(symbol), Blank::Kept),
-        Err(_) => Ok(()),
+        Ok(symbol) => out.put_global(of_module, SymbolId::new(symbol), Blank::Kept),
+        Err(_) => {}
     }
 }
 
 /// What has no shape.
-fn put_shapeless(
-    pen: Pen,
-    out: &mut Vec<u8>,
-    of_module: &Module,
-    fault: CertFault,
-) -> Result<(), AllocError> {
+fn put_shapeless(pen: Pen, out: &mut Message, of_module: &Module, fault: CertFault) {
     match fault {
         CertFault::MissingWord(layout, place) => {
             put_word_name(pen, out, of_module, layout, place)
@@ -541,24 +460,16 @@ fn put_shapeless(
             put_root_name(out, of_module, function, local)
         }
         CertFault::MissingGlobal(symbol) => put_global_name(out, of_module, symbol),
-        _ => Ok(()),
+        _ => {}
     }
 }
 
 /// The shape to add.
-fn put_shape(
-    pen: Pen,
-    out: &mut Vec<u8>,
-    of_module: &Module,
-    fault: CertFault,
-) -> Result<(), AllocError> {
-    put_inked(out, pen.look, Ink::Mend, "  mend:  ")?;
-    put(out, "add `")?;
-    put_shapeless(pen, out, of_module, fault)?;
-    put(
-        out,
-        " ref L` in front of the sections, where L is the layout to which it refers\n",
-    )
+fn put_shape(pen: Pen, out: &mut Message, of_module: &Module, fault: CertFault) {
+    out.put_inked(pen.look, Ink::Mend, "  mend:  ");
+    out.put("add `");
+    put_shapeless(pen, out, of_module, fault);
+    out.put(" ref L` in front of the sections, where L is the layout to which it refers\n")
 }
 
 /// The place of a fault of a certificate, with its code.
@@ -573,39 +484,33 @@ fn cert_place_of(fault: CertFault) -> Option<(Position, Code)> {
 }
 
 /// What is told of what a certificate lacks.
-fn put_lacking(
-    pen: Pen,
-    out: &mut Vec<u8>,
-    path: &str,
-    of_module: &Module,
-    fault: CertFault,
-) -> Result<(), AllocError> {
+fn put_lacking(pen: Pen, out: &mut Message, path: &str, of_module: &Module, fault: CertFault) {
     match fault {
         CertFault::Missing(function) => {
-            put_whole_fault(out, pen, path, Code::C5)?;
+            put_whole_fault(out, pen, path, Code::C5);
             put_section(pen, out, of_module, function, None)
         }
         CertFault::MissingBlock(function, block) => {
-            put_whole_fault(out, pen, path, Code::C5)?;
+            put_whole_fault(out, pen, path, Code::C5);
             put_section(pen, out, of_module, function, Some(block))
         }
         CertFault::MissingWord(..) | CertFault::MissingGlobal(_) | CertFault::MissingRoot(..) => {
-            put_whole_fault(out, pen, path, Code::C6)?;
+            put_whole_fault(out, pen, path, Code::C6);
             put_shape(pen, out, of_module, fault)
         }
-        CertFault::Memory => Err(AllocError),
-        _ => Ok(()),
+        CertFault::Memory => out.refuse(),
+        _ => {}
     }
 }
 
 /// What is told of a text that is no certificate of its module.
 pub fn put_cert_fault(
     pen: Pen,
-    out: &mut Vec<u8>,
+    out: &mut Message,
     texts: CheckedTexts,
     of_module: &Module,
     fault: CertFault,
-) -> Result<(), AllocError> {
+) {
     match cert_place_of(fault) {
         Some((position, code)) => { put_cert_fault_at(pen, out, texts, of_module, position, code) }
         None => put_lacking(pen, out, texts.of_certs.path, of_module, fault),
@@ -654,26 +559,17 @@ fn position_of_struct(
 }
 
 /// What is told of a struct that is at fault.
-fn put_struct_fault(
-    pen: Pen,
-    out: &mut Vec<u8>,
-    named: NamedText,
-    fault: &StructFault,
-) -> Result<(), AllocError> {
-    match position_of_struct(pen.alloc, named, fault.number)? {
-        Some(position) => put_fault_at(pen, out, named, position, fault.code)?,
-        None => put_whole_fault(out, pen, named.path, fault.code)?,
+fn put_struct_fault(pen: Pen, out: &mut Message, named: NamedText, fault: &StructFault) {
+    match position_of_struct(pen.alloc, named, fault.number) {
+        Ok(Some(position)) => put_fault_at(pen, out, named, position, fault.code),
+        Ok(None) => put_whole_fault(out, pen, named.path, fault.code),
+        Err(_) => out.refuse(),
     }
     put_told(out, pen, Ink::Mend, "  mend:  ", fault.mend)
 }
 
 /// What is told of a module that has no layouts.
-pub fn put_layout_fault(
-    pen: Pen,
-    out: &mut Vec<u8>,
-    named: NamedText,
-    fault: LayoutFault,
-) -> Result<(), AllocError> {
+pub fn put_layout_fault(pen: Pen, out: &mut Message, named: NamedText, fault: LayoutFault) {
     let of_struct = struct_fault_of(fault);
     if let Some(of_struct) = &of_struct {
         return put_struct_fault(pen, out, named, of_struct);
@@ -686,7 +582,7 @@ pub fn put_layout_fault(
             Code::Y5,
             "--shapes FILE gives them: a text that begins with `shapes 1` (docs/CERTIFICATES.md)",
         ),
-        LayoutFault::Memory => Err(AllocError),
-        _ => Ok(()),
+        LayoutFault::Memory => out.refuse(),
+        _ => {}
     }
 }

@@ -1,7 +1,6 @@
 //! The name of the module that is spelled most like another.
 use ir_tokens::{Kind, Token};
-use messages::put;
-use std::alloc::AllocError;
+use messages::Message;
 
 fn same_at_front(one: &[u8], other: &[u8]) -> usize {
     one.iter()
@@ -75,11 +74,11 @@ pub fn near<'a>(text: &'a [u8], tokens: &[Token], name: &[u8]) -> Option<&'a [u8
 }
 
 /// The sign of a name, and another name after it.
-pub fn put_like(out: &mut Vec<u8>, name: &[u8], other: &[u8]) -> Result<(), AllocError> {
+pub fn put_like(out: &mut Message, name: &[u8], other: &[u8]) {
     match name {
-        [b'@', ..] => put(out, "@")?,
-        [b'%', ..] => put(out, "%")?,
-        _ => put(out, "")?,
+        [b'@', ..] => out.put("@"),
+        [b'%', ..] => out.put("%"),
+        _ => out.put(""),
     }
-    out.extend_from_slice(other)
+    out.put_bytes(other)
 }

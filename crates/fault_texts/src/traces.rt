@@ -3,10 +3,9 @@ use crate::faults::{put_fault_at, put_near, put_told, put_whole_fault};
 use crate::forms::trace_form_of;
 use explain::Code;
 use ir_tokens::Position;
-use messages::{Ink, NamedText, Pen};
+use messages::{Ink, Message, NamedText, Pen};
 use name_text::{past_blanks, word};
 use places::line_numbered;
-use std::alloc::AllocError;
 use trace_text::TraceFault;
 
 /// The texts of a run: a trace and its module.
@@ -37,44 +36,33 @@ fn word_at(text: &[u8], position: Position) -> &[u8] {
 }
 
 /// The form of the line at which a trace has a fault.
-fn put_trace_form(
-    pen: Pen,
-    out: &mut Vec<u8>,
-    text: &[u8],
-    position: Position,
-) -> Result<(), AllocError> {
+fn put_trace_form(pen: Pen, out: &mut Message, text: &[u8], position: Position) {
     let form = trace_form_of(word(past_blanks(line_of(text, position))));
     put_told(out, pen, Ink::Mend, "  form:  ", form)
 }
 
 /// A word with which no form goes on: perhaps a name of the module was meant.
-fn put_syntax(
-    pen: Pen,
-    out: &mut Vec<u8>,
-    texts: TracedTexts,
-    position: Position,
-) -> Result<(), AllocError> {
+fn put_syntax(pen: Pen, out: &mut Message, texts: TracedTexts, position: Position) {
     let text = texts.of_trace.text;
-    put_fault_at(pen, out, texts.of_trace, position, Code::P1)?;
+    put_fault_at(pen, out, texts.of_trace, position, Code::P1);
     let is_name = !begins_line(text, position);
-    if is_name && put_near(pen, out, texts.of_module, word_at(text, position))? {
-        return Ok(());
+    if !is_name {
+        return put_trace_form(pen, out, text, position);
     }
-    put_trace_form(pen, out, text, position)
+    match put_near(pen, out, texts.of_module, word_at(text, position)) {
+        Ok(true) => {}
+        Ok(false) => put_trace_form(pen, out, text, position),
+        Err(_) => out.refuse(),
+    }
 }
 
 /// What is told of a text that is no trace of its module.
-pub fn put_trace_fault(
-    pen: Pen,
-    out: &mut Vec<u8>,
-    texts: TracedTexts,
-    fault: &TraceFault,
-) -> Result<(), AllocError> {
+pub fn put_trace_fault(pen: Pen, out: &mut Message, texts: TracedTexts, fault: &TraceFault) {
     let named = texts.of_trace;
     match fault {
         TraceFault::Syntax(position) => put_syntax(pen, out, texts, *position),
         TraceFault::NoThread(position) => {
-            put_fault_at(pen, out, named, *position, Code::P2)?;
+            put_fault_at(pen, out, named, *position, Code::P2);
             put_told(
                 out,
                 pen,
@@ -84,7 +72,7 @@ pub fn put_trace_fault(
             )
         }
         TraceFault::TooManySteps(position) => {
-            put_fault_at(pen, out, named, *position, Code::P3)?;
+            put_fault_at(pen, out, named, *position, Code::P3);
             put_told(
                 out,
                 pen,
@@ -94,6 +82,6 @@ pub fn put_trace_fault(
             )
         }
         TraceFault::TooManyCells => put_whole_fault(out, pen, named.path, Code::Y4),
-        TraceFault::Memory => Err(AllocError),
+        TraceFault::Memory => out.refuse(),
     }
 }

@@ -2,7 +2,7 @@
 use crate::faults::{put_told, word_after};
 use ir_ast::{Function, LocalSort, Module, Runtime, SymbolSort, ValueId};
 use ir_tokens::Position;
-use messages::{Ink, NamedText, Pen};
+use messages::{Ink, Message, NamedText, Pen};
 use name_text::{Sigil, name_in, past_blanks, word};
 use offered_lines::{Slot, put_root_lines, put_wanted_declare};
 use places::line_numbered;
@@ -96,31 +96,31 @@ fn slot_named(
 /// The lines that make a slot a root.
 fn put_rooted<'a>(
     pen: Pen,
-    out: &mut Vec<u8>,
+    out: &mut Message,
     of_module: &'a Module,
     function: &'a Function,
     name: ValueId,
-) -> Result<(), AllocError> {
+) {
     put_told(
         out,
         pen,
         Ink::Mend,
         "  mend:  ",
         "write after the alloca of this slot, so that it is a root:",
-    )?;
+    );
     let slot = Slot {
         of_module,
         function,
         name,
     };
-    put_root_lines(pen.alloc, out, &slot)?;
+    put_root_lines(pen.alloc, out, &slot);
     put_wanted_declare(out, of_module, &Runtime::GcRoot)
 }
 
 /// What makes the slot a root that a certificate names at a position. Returns whether it names one there.
 pub fn put_unrooted<'a>(
     pen: Pen,
-    out: &mut Vec<u8>,
+    out: &mut Message,
     of_module: &'a Module,
     named: NamedText,
     position: Position,
@@ -133,6 +133,6 @@ pub fn put_unrooted<'a>(
     let Some(slot) = slot_named(pen.alloc, function, name)? else {
         return Ok(false);
     };
-    put_rooted(pen, out, of_module, function, slot)?;
+    put_rooted(pen, out, of_module, function, slot);
     Ok(true)
 }

@@ -1,10 +1,9 @@
 //! A line of a text with its number, and a caret under a part of it. Columns are those of a terminal; tabs stay; what a terminal would
 //! obey is shown as `?`; a long line is cut around the caret.
-use crate::look::{Ink, Pen, begin_ink, end_ink, put, put_inked};
+use crate::look::{Ink, Pen};
+use crate::message::Message;
 use ir_tokens::{Position, Token};
-use name_text::put_number;
 use places::{line_at, line_numbered};
-use std::alloc::AllocError;
 use std::str;
 use unicode_width::UnicodeWidthChar;
 
@@ -75,12 +74,11 @@ fn shown(byte: u8, is_text: bool) -> u8 {
     if obeyed && byte != b'\t' { b'?' } else { byte }
 }
 
-fn put_shown(out: &mut Vec<u8>, bytes: &[u8]) -> Result<(), AllocError> {
+fn put_shown(out: &mut Message, bytes: &[u8]) {
     let is_text = str::from_utf8(bytes).is_ok();
     for byte in bytes {
-        out.push(shown(*byte, is_text))?;
+        out.put_byte(shown(*byte, is_text));
     }
-    Ok(())
 }
 
 /// As many blanks as a character has columns. A tab stays.
@@ -94,20 +92,19 @@ fn blank_for(character: char) -> &'static str {
 }
 
 /// Blanks under a text that is shown.
-fn put_blanks_under(out: &mut Vec<u8>, before: &[u8]) -> Result<(), AllocError> {
+fn put_blanks_under(out: &mut Message, before: &[u8]) {
     match str::from_utf8(before) {
         Ok(before) => {
             for character in before.chars() {
-                put(out, blank_for(character))?;
+                out.put(blank_for(character));
             }
         }
         Err(_) => {
             for byte in before {
-                put(out, if *byte == b'\t' { "\t" } else { " " })?;
+                out.put(if *byte == b'\t' { "\t" } else { " " });
             }
         }
     }
-    Ok(())
 }
 
 /// How many columns a text has.
@@ -125,12 +122,11 @@ fn columns(bytes: &[u8]) -> usize {
 }
 
 /// A caret, and a line as long as what it is under.
-fn put_caret(out: &mut Vec<u8>, marked: &[u8]) -> Result<(), AllocError> {
-    put(out, "^")?;
+fn put_caret(out: &mut Message, marked: &[u8]) {
+    out.put("^");
     for _column in 1..columns(marked) {
-        put(out, "~")?;
+        out.put("~");
     }
-    Ok(())
 }
 
 /// Blanks before the number of a line, so that numbers end in one column.
@@ -144,12 +140,12 @@ fn blanks_before(number: usize) -> &'static str {
     }
 }
 
-fn put_gutter(out: &mut Vec<u8>, pen: Pen, number: usize) -> Result<(), AllocError> {
-    begin_ink(out, pen.look, Ink::Gutter)?;
-    put(out, blanks_before(number))?;
-    put_number(pen.alloc, out, number as u64)?;
-    put(out, " | ")?;
-    end_ink(out, pen.look)
+fn put_gutter(out: &mut Message, pen: Pen, number: usize) {
+    out.begin_ink(pen.look, Ink::Gutter);
+    out.put(blanks_before(number));
+    out.put_number(number as u64);
+    out.put(" | ");
+    out.end_ink(pen.look)
 }
 
 /// What stands where a line is cut.
@@ -157,29 +153,22 @@ fn cut_mark(cut: bool) -> &'static str {
     if cut { "..." } else { "" }
 }
 
-fn put_line(out: &mut Vec<u8>, line: &[u8], window: Window) -> Result<(), AllocError> {
-    put(out, cut_mark(window.start > 0))?;
-    put_shown(out, between(line, window.start, window.end))?;
-    put(out, cut_mark(window.end < line.len()))?;
-    put(out, "\n")
+fn put_line(out: &mut Message, line: &[u8], window: Window) {
+    out.put(cut_mark(window.start > 0));
+    put_shown(out, between(line, window.start, window.end));
+    out.put(cut_mark(window.end < line.len()));
+    out.put("\n")
 }
 
 /// The caret under a part of a line that is shown. The line goes on.
-fn put_under(
-    out: &mut Vec<u8>,
-    pen: Pen,
-    ink: Ink,
-    line: &[u8],
-    window: Window,
-    part: Part,
-) -> Result<(), AllocError> {
-    put_inked(out, pen.look, Ink::Gutter, "      | ")?;
-    put(out, if window.start > 0 { "   " } else { "" })?;
-    put_blanks_under(out, between(line, window.start, part.start))?;
+fn put_under(out: &mut Message, pen: Pen, ink: Ink, line: &[u8], window: Window, part: Part) {
+    out.put_inked(pen.look, Ink::Gutter, "      | ");
+    out.put(if window.start > 0 { "   " } else { "" });
+    put_blanks_under(out, between(line, window.start, part.start));
     let end = part.start.saturating_add(part.length).min(window.end);
-    begin_ink(out, pen.look, ink)?;
-    put_caret(out, between(line, part.start, end))?;
-    end_ink(out, pen.look)
+    out.begin_ink(pen.look, ink);
+    put_caret(out, between(line, part.start, end));
+    out.end_ink(pen.look)
 }
 
 /// A line without a carriage return at its end.
@@ -190,29 +179,16 @@ fn without_return(line: &[u8]) -> &[u8] {
     }
 }
 
-fn put_part(
-    out: &mut Vec<u8>,
-    pen: Pen,
-    ink: Ink,
-    number: usize,
-    line: &[u8],
-    part: Part,
-) -> Result<(), AllocError> {
+fn put_part(out: &mut Message, pen: Pen, ink: Ink, number: usize, line: &[u8], part: Part) {
     let line = without_return(line);
     let window = window_of(line, part);
-    put_gutter(out, pen, number)?;
-    put_line(out, line, window)?;
+    put_gutter(out, pen, number);
+    put_line(out, line, window);
     put_under(out, pen, ink, line, window, part)
 }
 
 /// The line of a token, and a caret under it. What is said of it may follow, and then the line's end.
-pub fn put_token_line(
-    out: &mut Vec<u8>,
-    pen: Pen,
-    ink: Ink,
-    text: &[u8],
-    token: Token,
-) -> Result<(), AllocError> {
+pub fn put_token_line(out: &mut Message, pen: Pen, ink: Ink, text: &[u8], token: Token) {
     let place = (token.start as usize).min(text.len());
     let line = line_at(text, place);
     let part = Part {
@@ -240,13 +216,7 @@ fn word_length(line: &[u8], start: usize) -> usize {
 }
 
 /// The line of a position, and a caret under the word there. What is said of it may follow, and then the line's end.
-pub fn put_position_line(
-    out: &mut Vec<u8>,
-    pen: Pen,
-    ink: Ink,
-    text: &[u8],
-    position: Position,
-) -> Result<(), AllocError> {
+pub fn put_position_line(out: &mut Message, pen: Pen, ink: Ink, text: &[u8], position: Position) {
     let line = line_numbered(text, position.line.saturating_sub(1));
     let start = position.column.saturating_sub(1);
     let part = Part {

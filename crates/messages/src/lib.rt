@@ -4,8 +4,10 @@
 
 mod excerpts;
 mod look;
+mod message;
 mod paths;
 
 pub use excerpts::{put_position_line, put_token_line};
-pub use look::{Ink, Look, Pen, begin_ink, end_ink, put, put_inked};
+pub use look::{Ink, Look, Pen};
+pub use message::Message;
 pub use paths::{NamedText, put_path_at, put_position};

@@ -1,8 +1,7 @@
 //! Files, and positions in them.
-use crate::look::put;
+use crate::message::Message;
 use ir_tokens::Position;
-use name_text::put_number;
-use std::alloc::{AllocError, Global};
+use std::alloc::Global;
 
 /// A text, with the path of its file.
 #[derive(Clone, Copy)]
@@ -12,24 +11,15 @@ pub struct NamedText<'a> {
 }
 
 /// A line and a column: `23:7`.
-pub fn put_position(
-    alloc: Global,
-    out: &mut Vec<u8>,
-    position: Position,
-) -> Result<(), AllocError> {
-    put_number(alloc, out, position.line as u64)?;
-    put(out, ":")?;
-    put_number(alloc, out, position.column as u64)
+pub fn put_position(out: &mut Message, position: Position) {
+    out.put_number(position.line as u64);
+    out.put(":");
+    out.put_number(position.column as u64)
 }
 
 /// A path and a position in its file: `plain.ll:23:7`.
-pub fn put_path_at(
-    alloc: Global,
-    out: &mut Vec<u8>,
-    path: &str,
-    position: Position,
-) -> Result<(), AllocError> {
-    put(out, path)?;
-    put(out, ":")?;
-    put_position(alloc, out, position)
+pub fn put_path_at(out: &mut Message, path: &str, position: Position) {
+    out.put(path);
+    out.put(":");
+    put_position(out, position)
 }

@@ -1,8 +1,7 @@
 //! How the functions of the runtime are declared.
 use crate::pointers::Pointers;
 use ir_ast::{Declare, Module, Runtime};
-use messages::put;
-use std::alloc::AllocError;
+use messages::Message;
 
 fn typed_declare(runtime: &Runtime) -> &'static str {
     match runtime {
@@ -52,15 +51,11 @@ fn is_declared(of_module: &Module, runtime: &Runtime) -> bool {
 }
 
 /// That a function of the runtime is to be declared, where the module does not do that.
-pub fn put_wanted_declare(
-    out: &mut Vec<u8>,
-    of_module: &Module,
-    runtime: &Runtime,
-) -> Result<(), AllocError> {
+pub fn put_wanted_declare(out: &mut Message, of_module: &Module, runtime: &Runtime) {
     if is_declared(of_module, runtime) {
-        return Ok(());
+        return;
     }
-    put(out, "         and add this line outside the functions: ")?;
-    put(out, declare_of(runtime, Pointers::of_module(of_module)))?;
-    put(out, "\n")
+    out.put("         and add this line outside the functions: ");
+    out.put(declare_of(runtime, Pointers::of_module(of_module)));
+    out.put("\n")
 }

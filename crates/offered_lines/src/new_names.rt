@@ -1,7 +1,7 @@
 //! Names for values that are to be added to a function.
 use ir_ast::{Function, ValueId, name_of_key};
-use messages::put;
-use name_text::{Blank, put_name};
+use messages::Message;
+use name_text::Blank;
 use std::alloc::{AllocError, Global};
 
 /// How many names are tried at most.
@@ -32,15 +32,27 @@ fn taken_by_none(function: &Function, name: Vec<u8>) -> Result<Vec<u8>, AllocErr
     Ok(name)
 }
 
-/// A name for a value that is made of another one: its sign, these words and the name of that.
-pub fn put_new_name(
+/// These words and the name of a value, or more, so that no local of the function has the name.
+fn new_name(
     alloc: Global,
-    out: &mut Vec<u8>,
     function: &Function,
     words: &str,
     value: ValueId,
-) -> Result<(), AllocError> {
-    let name = taken_by_none(function, joined(alloc, function, words, value)?)?;
-    put(out, "%")?;
-    put_name(out, name.as_slice(), Blank::Kept)
+) -> Result<Vec<u8>, AllocError> {
+    taken_by_none(function, joined(alloc, function, words, value)?)
+}
+
+/// A name for a value that is made of another one: its sign, these words and the name of that.
+pub fn put_new_name(
+    alloc: Global,
+    out: &mut Message,
+    function: &Function,
+    words: &str,
+    value: ValueId,
+) {
+    let Ok(name) = new_name(alloc, function, words, value) else {
+        return out.refuse();
+    };
+    out.put("%");
+    out.put_name(name.as_slice(), Blank::Kept)
 }

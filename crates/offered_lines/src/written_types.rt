@@ -1,43 +1,33 @@
 //! Types as they are written, of integers and of pointers to named structs.
 use ir_ast::{IrType, Module, TypeId};
-use messages::put;
-use name_text::{Blank, put_name, put_number};
-use std::alloc::{AllocError, Global};
+use messages::Message;
+use name_text::Blank;
+use std::alloc::Global;
 use types::pointee;
 
 /// How many levels a type has at most.
 const LEVELS: usize = 64;
 
-fn put_struct(out: &mut Vec<u8>, of_module: &Module, place: usize) -> Result<(), AllocError> {
-    put(out, "%")?;
-    put_name(out, of_module.struct_names.name_at(place), Blank::Kept)
+fn put_struct(out: &mut Message, of_module: &Module, place: usize) {
+    out.put("%");
+    out.put_name(of_module.struct_names.name_at(place), Blank::Kept)
 }
 
 /// A type that is no pointer; `T` stands for an array or a struct without a name.
-fn put_part(
-    alloc: Global,
-    out: &mut Vec<u8>,
-    of_module: &Module,
-    part: &Option<IrType>,
-) -> Result<(), AllocError> {
+fn put_part(alloc: Global, out: &mut Message, of_module: &Module, part: &Option<IrType>) {
     match part {
         Some(IrType::Named(name)) => put_struct(out, of_module, name.number() as usize),
         Some(IrType::Integer(bits)) => {
-            put(out, "i")?;
-            put_number(alloc, out, *bits as u64)
+            out.put("i");
+            out.put_number(*bits as u64)
         }
-        Some(IrType::Opaque) => put(out, "ptr"),
-        _ => put(out, "T"),
+        Some(IrType::Opaque) => out.put("ptr"),
+        _ => out.put("T"),
     }
 }
 
 /// A type as it is written.
-pub fn put_type(
-    alloc: Global,
-    out: &mut Vec<u8>,
-    of_module: &Module,
-    written: TypeId,
-) -> Result<(), AllocError> {
+pub fn put_type(alloc: Global, out: &mut Message, of_module: &Module, written: TypeId) {
     let mut part = written;
     let mut stars: usize = 0;
     for _level in 0..LEVELS {
@@ -47,9 +37,8 @@ pub fn put_type(
         }
     }
     let found = of_module.types.get(part);
-    put_part(alloc, out, of_module, &found)?;
+    put_part(alloc, out, of_module, &found);
     for _star in 0..stars {
-        put(out, "*")?;
+        out.put("*");
     }
-    Ok(())
 }

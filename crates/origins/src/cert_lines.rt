@@ -1,6 +1,7 @@
 //! Where a line is in the text of a certificate.
 use ir_ast::{BlockId, SymbolId, ValueId};
 use ir_tokens::Position;
+use messages::Message;
 use places::{CertLine, cert_place};
 use scenes::{Scene, put_block, put_symbol, put_value};
 use std::alloc::AllocError;
@@ -28,11 +29,11 @@ fn line_of(sought: &Sought) -> CertLine {
 }
 
 /// The name that the line has, or its block.
-fn put_name(out: &mut Vec<u8>, scene: &Scene, sought: &Sought) -> Result<(), AllocError> {
+fn put_name(out: &mut Message, scene: &Scene, sought: &Sought) {
     match sought {
         Sought::Param(value) => put_value(out, scene, *value),
         Sought::Block(block) | Sought::Claim(block, _) => put_block(out, scene, *block),
-        _ => Ok(()),
+        _ => {}
     }
 }
 
@@ -57,10 +58,12 @@ pub fn cert_position(
     sought: &Sought,
 ) -> Result<Option<Position>, AllocError> {
     let text = scene.certificate.text;
-    let mut of_function = Vec::new(scene.pen.alloc);
-    put_symbol(&mut of_function, scene, function)?;
-    let mut name = Vec::new(scene.pen.alloc);
-    put_name(&mut name, scene, sought)?;
+    let mut of_function = Message::new(scene.pen.alloc);
+    put_symbol(&mut of_function, scene, function);
+    let of_function = of_function.finish()?;
+    let mut name = Message::new(scene.pen.alloc);
+    put_name(&mut name, scene, sought);
+    let name = name.finish()?;
     match cert_place(
         text,
         of_function.as_slice(),

@@ -6,7 +6,7 @@ use certs::{Certs, Claim, Fact};
 use diagnosis::{claim_of, claims_as_certs};
 use ir_ast::{BlockId, Operand, ValueId};
 use items::Items;
-use messages::{Ink, put, put_inked};
+use messages::{Ink, Message};
 use std::alloc::{AllocError, Global};
 
 fn is_of(claim: &Claim, value: ValueId) -> bool {
@@ -49,21 +49,18 @@ fn known_claims(scene: &Scene, operands: &[Operand]) -> Result<Items<Claim>, All
 }
 
 /// A claim of a function's certificate at this place of its first block.
-fn put_claim_at(
-    out: &mut Vec<u8>,
-    scene: &Scene,
-    certs: &Certs,
-    place: usize,
-) -> Result<(), AllocError> {
-    let line = print_line(
+fn put_claim_at(out: &mut Message, scene: &Scene, certs: &Certs, place: usize) {
+    let Ok(line) = print_line(
         scene.pen.alloc,
         certs,
         scene.context.module(),
         scene.refusal.func,
         BlockId::new(0),
         place,
-    )?;
-    out.extend_from_slice(line.as_slice())
+    ) else {
+        return out.refuse();
+    };
+    out.put_bytes(line.as_slice())
 }
 
 /// A list of one claim, which is of a value.
@@ -74,43 +71,40 @@ fn alone(alloc: Global, value: ValueId, fact: Fact) -> Result<Items<Claim>, Allo
 }
 
 /// A claim of a value as a line of a certificate, without the line's end.
-pub fn put_claim(
-    out: &mut Vec<u8>,
-    scene: &Scene,
-    value: ValueId,
-    fact: Fact,
-) -> Result<(), AllocError> {
-    let claims = alone(scene.pen.alloc, value, fact)?;
-    let certs = claims_as_certs(scene.pen.alloc, scene.refusal.func, claims)?;
+pub fn put_claim(out: &mut Message, scene: &Scene, value: ValueId, fact: Fact) {
+    let Ok(claims) = alone(scene.pen.alloc, value, fact) else {
+        return out.refuse();
+    };
+    let Ok(certs) = claims_as_certs(scene.pen.alloc, scene.refusal.func, claims) else {
+        return out.refuse();
+    };
     put_claim_at(out, scene, &certs, 0)
 }
 
 /// What comes before the first line of what is known, and before the others.
-fn put_margin(out: &mut Vec<u8>, scene: &Scene, place: usize) -> Result<(), AllocError> {
+fn put_margin(out: &mut Message, scene: &Scene, place: usize) {
     if place > 0 {
-        return put(out, "         ");
+        return out.put("         ");
     }
-    put_inked(out, scene.pen.look, Ink::Note, "  known: ")
+    out.put_inked(scene.pen.look, Ink::Note, "  known: ")
 }
 
-fn put_lines(
-    out: &mut Vec<u8>,
-    scene: &Scene,
-    certs: &Certs,
-    count: usize,
-) -> Result<(), AllocError> {
+fn put_lines(out: &mut Message, scene: &Scene, certs: &Certs, count: usize) {
     for place in 0..count {
-        put_margin(out, scene, place)?;
-        put_claim_at(out, scene, certs, place)?;
-        put(out, "\n")?;
+        put_margin(out, scene, place);
+        put_claim_at(out, scene, certs, place);
+        out.put("\n");
     }
-    Ok(())
 }
 
 /// What is known before the refused instruction of these operands, a line for each.
-pub fn put_known(out: &mut Vec<u8>, scene: &Scene, operands: &[Operand]) -> Result<(), AllocError> {
-    let claims = known_claims(scene, operands)?;
+pub fn put_known(out: &mut Message, scene: &Scene, operands: &[Operand]) {
+    let Ok(claims) = known_claims(scene, operands) else {
+        return out.refuse();
+    };
     let count = claims.len();
-    let certs = claims_as_certs(scene.pen.alloc, scene.refusal.func, claims)?;
+    let Ok(certs) = claims_as_certs(scene.pen.alloc, scene.refusal.func, claims) else {
+        return out.refuse();
+    };
     put_lines(out, scene, &certs, count)
 }

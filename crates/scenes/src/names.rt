@@ -2,42 +2,40 @@
 use crate::scene::{Scene, Spot};
 use ir_ast::{BlockId, Constant, Operand, SymbolId, ValueId};
 use ir_tokens::Position;
-use messages::{put, put_path_at};
-use name_text::{Blank, put_global, put_local, put_number};
-use std::alloc::AllocError;
+use messages::{Message, put_path_at};
+use name_text::Blank;
 
 /// The name of a value, a slot or a block.
-pub fn put_value(out: &mut Vec<u8>, scene: &Scene, value: ValueId) -> Result<(), AllocError> {
-    put_local(out, &scene.context.function.locals, value, Blank::Kept)
+pub fn put_value(out: &mut Message, scene: &Scene, value: ValueId) {
+    out.put_local(&scene.context.function.locals, value, Blank::Kept)
 }
 
-pub fn put_symbol(out: &mut Vec<u8>, scene: &Scene, symbol: SymbolId) -> Result<(), AllocError> {
-    put_global(out, scene.context.module(), symbol, Blank::Kept)
+pub fn put_symbol(out: &mut Message, scene: &Scene, symbol: SymbolId) {
+    out.put_global(scene.context.module(), symbol, Blank::Kept)
 }
 
 /// The name of the function.
-pub fn put_function(out: &mut Vec<u8>, scene: &Scene) -> Result<(), AllocError> {
+pub fn put_function(out: &mut Message, scene: &Scene) {
     put_symbol(out, scene, scene.context.function.symbol)
 }
 
-pub fn put_block(out: &mut Vec<u8>, scene: &Scene, block: BlockId) -> Result<(), AllocError> {
-    match scene.label_of(block) {
-        Some(label) => put_value(out, scene, label),
-        None => Ok(()),
+pub fn put_block(out: &mut Message, scene: &Scene, block: BlockId) {
+    if let Some(label) = scene.label_of(block) {
+        put_value(out, scene, label);
     }
 }
 
-fn put_constant(out: &mut Vec<u8>, scene: &Scene, constant: Constant) -> Result<(), AllocError> {
+fn put_constant(out: &mut Message, scene: &Scene, constant: Constant) {
     match constant {
-        Constant::Number(number) => put_number(scene.pen.alloc, out, number),
-        Constant::Null => put(out, "null"),
-        Constant::Truth(true) => put(out, "true"),
-        Constant::Truth(false) => put(out, "false"),
+        Constant::Number(number) => out.put_number(number),
+        Constant::Null => out.put("null"),
+        Constant::Truth(true) => out.put("true"),
+        Constant::Truth(false) => out.put("false"),
     }
 }
 
 /// What an instruction reads, as it is named.
-pub fn put_operand(out: &mut Vec<u8>, scene: &Scene, operand: Operand) -> Result<(), AllocError> {
+pub fn put_operand(out: &mut Message, scene: &Scene, operand: Operand) {
     match operand {
         Operand::Constant(constant) => put_constant(out, scene, constant),
         Operand::Local(value) => put_value(out, scene, value),
@@ -47,17 +45,18 @@ pub fn put_operand(out: &mut Vec<u8>, scene: &Scene, operand: Operand) -> Result
 }
 
 /// Where an instruction of the function is: `plain.ll:23:7`; without a place in the text, its block and its number.
-pub fn put_spot(out: &mut Vec<u8>, scene: &Scene, spot: &Spot) -> Result<(), AllocError> {
+pub fn put_spot(out: &mut Message, scene: &Scene, spot: &Spot) {
     let source = scene.source;
-    match scene.token_of(spot)? {
-        Some(token) => {
+    match scene.token_of(spot) {
+        Ok(Some(token)) => {
             let position = Position::of(source.text, token.start);
-            put_path_at(scene.pen.alloc, out, source.path, position)
+            put_path_at(out, source.path, position)
         }
-        None => {
-            put_block(out, scene, spot.block)?;
-            put(out, " ")?;
-            put_number(scene.pen.alloc, out, spot.place as u64)
+        Ok(None) => {
+            put_block(out, scene, spot.block);
+            out.put(" ");
+            out.put_number(spot.place as u64)
         }
+        Err(_) => out.refuse(),
     }
 }

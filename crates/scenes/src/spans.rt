@@ -3,6 +3,7 @@ use crate::names::put_operand;
 use crate::scene::{Scene, Spot};
 use ir_ast::{BlockId, Operand};
 use ir_tokens::{Kind, Token};
+use messages::Message;
 use std::alloc::AllocError;
 
 /// The first token of the instruction after one, in its block or in the next one.
@@ -72,8 +73,9 @@ pub fn token_within(
     let Some(operand) = operand else {
         return Ok(Some(first));
     };
-    let mut name = Vec::new(scene.pen.alloc);
-    put_operand(&mut name, scene, operand)?;
+    let mut name = Message::new(scene.pen.alloc);
+    put_operand(&mut name, scene, operand);
+    let name = name.finish()?;
     let end = end_of(scene, spot)?;
     match last_spelled(scene, first, end, name.as_slice()) {
         Some(token) => Ok(Some(token)),

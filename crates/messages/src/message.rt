@@ -1,0 +1,114 @@
+//! A text that is being written.
+use crate::look::{Ink, Look, colour_of};
+use ir_ast::{Module, Names, SymbolId, ValueId};
+use name_text::Blank;
+use pools::LayoutId;
+use std::alloc::{AllocError, Global};
+
+/// A text that is being written. Where memory is refused it ends there: nothing more is written, and `finish` says so.
+#[derive(Drop)]
+pub struct Message {
+    alloc: Global,
+    bytes: Vec<u8>,
+    written: Result<(), AllocError>,
+}
+
+impl Message {
+    /// Nothing is written yet.
+    pub fn new(alloc: Global) -> Message {
+        Message {
+            alloc,
+            bytes: Vec::new(alloc),
+            written: Ok(()),
+        }
+    }
+
+    pub fn put_bytes(&mut self, bytes: &[u8]) {
+        if self.written.is_ok() {
+            self.written = self.bytes.extend_from_slice(bytes);
+        }
+    }
+
+    pub fn put_byte(&mut self, byte: u8) {
+        self.put_bytes(&[byte]);
+    }
+
+    pub fn put(&mut self, text: &str) {
+        self.put_bytes(text.as_bytes());
+    }
+
+    /// A decimal number.
+    pub fn put_number(&mut self, number: u64) {
+        if self.written.is_ok() {
+            self.written = name_text::put_number(self.alloc, &mut self.bytes, number);
+        }
+    }
+
+    /// A name, in quotes where it is not plain.
+    pub fn put_name(&mut self, name: &[u8], blank: Blank) {
+        if self.written.is_ok() {
+            self.written = name_text::put_name(&mut self.bytes, name, blank);
+        }
+    }
+
+    /// The name of a value or a block: `%x`.
+    pub fn put_local(&mut self, locals: &Names, value: ValueId, blank: Blank) {
+        if self.written.is_ok() {
+            self.written = name_text::put_local(&mut self.bytes, locals, value, blank);
+        }
+    }
+
+    /// The name of a function or a global: `@f`.
+    pub fn put_global(&mut self, of_module: &Module, symbol: SymbolId, blank: Blank) {
+        if self.written.is_ok() {
+            self.written = name_text::put_global(&mut self.bytes, of_module, symbol, blank);
+        }
+    }
+
+    /// The name of a layout, without a sign before it.
+    pub fn put_layout(&mut self, of_module: &Module, layout: LayoutId, blank: Blank) {
+        if self.written.is_ok() {
+            self.written = name_text::put_layout(&mut self.bytes, of_module, layout, blank);
+        }
+    }
+
+    /// Words from here on are of this kind.
+    pub fn begin_ink(&mut self, look: Look, ink: Ink) {
+        match look {
+            Look::Plain => {}
+            Look::Coloured => self.put(colour_of(ink)),
+        }
+    }
+
+    /// Words from here on are as they were.
+    pub fn end_ink(&mut self, look: Look) {
+        match look {
+            Look::Plain => {}
+            Look::Coloured => self.put("\x1b[0m"),
+        }
+    }
+
+    /// Words of this kind.
+    pub fn put_inked(&mut self, look: Look, ink: Ink, text: &str) {
+        self.begin_ink(look, ink);
+        self.put(text);
+        self.end_ink(look);
+    }
+
+    /// Memory was refused for what would come next.
+    pub fn refuse(&mut self) {
+        self.written = Err(AllocError);
+    }
+
+    /// The whole text, if memory was not refused.
+    pub fn finish(self) -> Result<Vec<u8>, AllocError> {
+        let Message { bytes, written, .. } = self;
+        match written {
+            Ok(()) => Ok(bytes),
+            Err(refused) => {
+                drop(bytes);
+                Err(refused)
+            }
+        }
+    }
+}
