@@ -95,6 +95,24 @@ impl Message {
         self.end_ink(look);
     }
 
+    /// What another one has.
+    pub fn put_message(&mut self, other: &Message) {
+        self.put_bytes(other.bytes.as_slice());
+        if other.written.is_err() {
+            self.refuse();
+        }
+    }
+
+    /// How many bytes are written.
+    pub fn len(&self) -> usize {
+        self.bytes.len()
+    }
+
+    /// Begins anew. Where memory was refused, nothing is written from then on.
+    pub fn clear(&mut self) {
+        self.bytes.clear();
+    }
+
     /// Memory was refused for what would come next.
     pub fn refuse(&mut self) {
         self.written = Err(AllocError);
