@@ -16,9 +16,14 @@ pub struct Message {
 impl Message {
     /// Nothing is written yet.
     pub fn new(alloc: Global) -> Message {
+        Message::after(alloc, Vec::new(alloc))
+    }
+
+    /// These bytes are written so far.
+    pub fn after(alloc: Global, bytes: Vec<u8>) -> Message {
         Message {
             alloc,
-            bytes: Vec::new(alloc),
+            bytes,
             written: Ok(()),
         }
     }
