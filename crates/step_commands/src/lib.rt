@@ -1,5 +1,5 @@
-//! What `replay` gives besides its answer: the steps of the run, in words and as JSON. The files are read and the trace is replayed
-//! once more.
+//! What `replay` gives besides its answer: the steps of the run, in words and as JSON. The files are read again, and the trace is
+//! replayed for its outcome and for its steps.
 #![tactic(auto)]
 
 mod steps_told;

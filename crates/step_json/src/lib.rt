@@ -4,8 +4,10 @@
 
 mod frames;
 mod heads;
+mod lines;
 mod state;
 mod steps;
 mod texts;
 
+pub use heads::path_of_break;
 pub use steps::put_json;

@@ -1,13 +1,15 @@
 //! The lines of steps, after those that come before.
 use crate::frames::put_frames;
 use crate::heads::put_heads;
-use crate::state::{notes_before, put_state};
-use crate::texts::{place_name, put_made, text_in, thread_in};
-use moves::Actor;
-use serde_json::{Value, json};
+use crate::lines::StepLine;
+use crate::state::put_state;
+use crate::texts::{place_name, put_line, text_in, thread_in};
+use messages::Message;
 use std::alloc::{AllocError, Global};
 use step_log::{LogStep, StepLog};
-use told_steps::{Event, HeapView, Listing, Names, Steps, Texts, Told, put_done};
+use told_steps::{
+    Event, HeapView, Listing, Names, Steps, Texts, Told, go_on_to, go_to, put_done, stretches_to,
+};
 
 /// How many of the last steps are written where no others are asked for.
 const LAST_STEPS: usize = 100_000;
@@ -27,22 +29,16 @@ fn span_of(steps: Steps, count: usize) -> Span {
     };
     Span {
         first: first.max(1).min(count.saturating_add(1)),
-        last,
+        last: last.min(count),
     }
 }
 
-/// The line and the place of the instruction at which a thread stands.
-fn put_members(
-    names: &Names,
-    listing: &Listing,
-    step: &LogStep,
-) -> Result<(Value, Value), AllocError> {
-    let Some(place) = &step.place else {
-        return Ok((Value::Null, Value::Null));
-    };
-    let name = place_name(names, listing, place)?;
-    let text = Value::try_from_str(names.alloc, text_in(name.as_slice()))?;
-    Ok((Value::from(listing.line_of(place)), text))
+/// The place of the instruction at which a thread stands; empty of the collector.
+fn place_of(names: &Names, listing: &Listing, step: &LogStep) -> Result<Vec<u8>, AllocError> {
+    match &step.place {
+        Some(place) => place_name(names, listing, place),
+        None => Ok(Vec::new(names.alloc)),
+    }
 }
 
 /// What a step does, in words.
@@ -53,9 +49,9 @@ fn told_of(
     step: &LogStep,
     event: &Event,
 ) -> Result<Vec<u8>, AllocError> {
-    let mut text = Vec::new(names.alloc);
-    put_done(names, &mut text, log, number, step, event)?;
-    Ok(text)
+    let mut text = Message::new(names.alloc);
+    put_done(names, &mut text, log, number, step, event);
+    text.finish()
 }
 
 /// The colour of the event's cell after it.
@@ -64,176 +60,156 @@ fn colour_of(names: &Names, event: &Event) -> Option<&'static str> {
     Some(names.heap.shade(cell).name())
 }
 
-/// A step with what it does in words.
-fn step_value(
+/// The line of a step, of which this is told, at this place.
+fn put_step_line<'a>(
     names: &Names,
+    out: &mut Message,
     listing: &Listing,
     number: usize,
     step: &LogStep,
     event: &Event,
-    told: &str,
-) -> Result<Value, AllocError> {
-    let colour = colour_value(names, event)?;
-    let (line, place) = put_members(names, listing, step)?;
-    json!(in names.alloc; {
-        "kind": "step",
-        "step": number,
-        "thread": thread_in(&step.actor),
-        "event": event.name(),
-        "cell": event.cell(),
-        "word": event.word(),
-        "value": event.value(),
-        "stage": event.stage(),
-        "colour": colour,
-        "line": line,
-        "place": place,
-        "told": told,
-    })
+    told: &'a str,
+    place: &'a str,
+) {
+    let (line, place) = match &step.place {
+        Some(at) => (listing.line_of(at), Some(place)),
+        None => (None, None),
+    };
+    let line = StepLine {
+        cell: event.cell(),
+        colour: colour_of(names, event),
+        event: event.name(),
+        kind: "step",
+        line,
+        place,
+        stage: event.stage(),
+        step: number,
+        thread: thread_in(&step.actor),
+        told,
+        value: event.value(),
+        word: event.word(),
+    };
+    put_line(names.alloc, out, &line)
 }
 
 /// The line of a step.
 fn put_step(
     names: &Names,
-    out: &mut Vec<u8>,
+    out: &mut Message,
     texts: Texts,
     number: usize,
     step: &LogStep,
     event: &Event,
-) -> Result<(), AllocError> {
-    let told = told_of(names, texts.log, number, step, event)?;
-    let text = text_in(told.as_slice());
-    let value = step_value(names, texts.listing, number, step, event, text);
-    drop(told);
-    put_made(names.alloc, out, value)
+) {
+    let Ok(told) = told_of(names, texts.log, number, step, event) else {
+        return out.refuse();
+    };
+    let Ok(place) = place_of(names, texts.listing, step) else {
+        return out.refuse();
+    };
+    let (told, place) = (text_in(told.as_slice()), text_in(place.as_slice()));
+    put_step_line(names, out, texts.listing, number, step, event, told, place)
 }
 
-fn colour_value(names: &Names, event: &Event) -> Result<Value, AllocError> {
-    match colour_of(names, event) {
-        Some(name) => Value::try_from_str(names.alloc, name),
-        None => Ok(Value::Null),
-    }
-}
-
-/// The lines of a step, and of the frames that it changes. Returns the next note.
+/// The lines of a step, and of the frames that it changes.
 fn put_step_lines(
     names: &Names,
-    out: &mut Vec<u8>,
+    out: &mut Message,
     texts: Texts,
     number: usize,
     step: &LogStep,
     event: &Event,
-    next: usize,
-) -> Result<usize, AllocError> {
-    put_step(names, out, texts, number, step, event)?;
-    put_frames(names, out, texts.log, next, number)
+) {
+    put_step(names, out, texts, number, step, event);
+    put_frames(names, out, texts.log, step.notes, number)
 }
 
-/// The lines of the steps between two numbers, each with those of the frames that it changes. The heap is as before the first one.
+/// The lines of the steps that are logged, each with those of the frames that it changes. The heap is as before them.
+fn put_logged(alloc: Global, out: &mut Message, told: &Told, texts: Texts, heap: &mut HeapView) {
+    for (at, step) in texts.log.steps().iter().enumerate() {
+        let event = heap.step(step);
+        let names = Names {
+            alloc,
+            module: told.program.module(),
+            heap,
+        };
+        put_step_lines(&names, out, texts, texts.log.number_at(at), step, &event);
+    }
+}
+
+/// Makes the steps up to the one with this number, and writes their lines.
 fn put_steps(
     alloc: Global,
-    out: &mut Vec<u8>,
-    told: &Told,
-    texts: Texts,
-    heap: &mut HeapView,
-    span: Span,
-) -> Result<(), AllocError> {
-    let mut next = notes_before(told.log, span.first);
-    for (at, step) in told.log.steps.as_slice().iter().enumerate() {
-        let number = at.saturating_add(1);
-        if span.first <= number && number <= span.last {
-            let event = heap.step(step);
-            let names = Names {
-                alloc,
-                module: told.program.module(),
-                heap,
-            };
-            next = put_step_lines(&names, out, texts, number, step, &event, next)?;
-        }
-    }
-    Ok(())
-}
-
-/// Makes the steps before the one with this number. Returns what the collector did last.
-fn go_to(log: &StepLog, heap: &mut HeapView, number: usize) -> Option<Event> {
-    let mut last = None;
-    for (at, step) in log.steps.as_slice().iter().enumerate() {
-        if at.saturating_add(1) >= number {
-            return last;
-        }
-        let event = heap.step(step);
-        if let Actor::Collector = step.actor {
-            last = Some(event);
-        }
-    }
-    last
-}
-
-/// The lines before those of the steps, of which this is the first that is written. The heap is as before it, and the collector did
-/// this last.
-fn put_before(
-    names: &Names,
-    out: &mut Vec<u8>,
+    out: &mut Message,
     told: &Told,
     listing: &Listing,
-    first: usize,
-    last: Option<Event>,
-) -> Result<(), AllocError> {
-    put_heads(names, out, told, listing, first)?;
-    put_state(names, out, told, first, last)
+    log: &mut StepLog,
+    heap: &mut HeapView,
+    last: usize,
+) {
+    for _stretch in 0..stretches_to(log, last) {
+        if go_on_to(log, last).is_err() {
+            return out.refuse();
+        }
+        put_logged(alloc, out, told, Texts { log, listing }, heap);
+    }
 }
 
-/// The lines of these steps and those before, where the heap is as before the first step of the run.
+/// The lines of these steps and those before, where the heap is as before the first step of the run. The path leads to the cell of its
+/// break.
 fn put_lines_from(
     alloc: Global,
-    out: &mut Vec<u8>,
+    out: &mut Message,
     told: &Told,
-    texts: Texts,
+    listing: &Listing,
+    path: &[u8],
+    log: &mut StepLog,
     heap: &mut HeapView,
     span: Span,
-) -> Result<(), AllocError> {
-    let last = go_to(told.log, heap, span.first);
+) {
+    let Ok(done) = go_to(log, heap, span.first) else {
+        return out.refuse();
+    };
     let names = Names {
         alloc,
         module: told.program.module(),
         heap,
     };
-    put_before(&names, out, told, texts.listing, span.first, last)?;
-    put_steps(alloc, out, told, texts, heap, span)
+    put_heads(&names, out, told, listing, path, span.first);
+    put_state(&names, out, told, log, span.first, done);
+    put_steps(alloc, out, told, listing, log, heap, span.last)
 }
 
 /// The same of a run whose module is listed.
 fn put_lines(
     alloc: Global,
-    out: &mut Vec<u8>,
+    out: &mut Message,
     told: &Told,
-    texts: Texts,
+    listing: &Listing,
+    path: &[u8],
+    log: &mut StepLog,
     span: Span,
-) -> Result<(), AllocError> {
-    let mut heap = HeapView::new(alloc, told.program, told.setup)?;
-    let put = put_lines_from(alloc, out, told, texts, &mut heap, span);
+) {
+    let Ok(mut heap) = HeapView::new(alloc, told.program, told.setup) else {
+        return out.refuse();
+    };
+    put_lines_from(alloc, out, told, listing, path, log, &mut heap, span);
     drop(heap);
-    put
 }
 
-/// The lines of a run, of whose steps these are written.
+/// The lines of a run of which no step is made so far, where these steps are written. The path is that of `path_of_break`.
 pub fn put_json(
     alloc: Global,
-    out: &mut Vec<u8>,
+    out: &mut Message,
     told: &Told,
+    path: &[u8],
+    log: &mut StepLog,
     steps: Steps,
-) -> Result<(), AllocError> {
-    let listing = Listing::new(alloc, told.program.module())?;
-    let texts = Texts {
-        log: told.log,
-        listing: &listing,
+) {
+    let Ok(listing) = Listing::new(alloc, told.program.module()) else {
+        return out.refuse();
     };
-    let put = put_lines(
-        alloc,
-        out,
-        told,
-        texts,
-        span_of(steps, told.log.steps.len()),
-    );
+    let span = span_of(steps, told.steps);
+    put_lines(alloc, out, told, &listing, path, log, span);
     drop(listing);
-    put
 }

@@ -1,33 +1,23 @@
 //! Parts of the lines.
 use ir_ast::FuncId;
 use machine::FramePlace;
+use messages::Message;
 use moves::Actor;
-use name_text::{Blank, put_global};
-use serde_json::Value;
+use name_text::Blank;
+use serde::Serialize;
+use serde_json::to_vec;
 use std::alloc::{AllocError, Global};
 use told_steps::{Listing, Names};
 
-/// Writes a value as a line.
-fn put_line(alloc: Global, out: &mut Vec<u8>, value: &Value) -> Result<(), AllocError> {
-    let text = value.to_string(alloc)?;
-    out.extend_from_slice(text.as_bytes())?;
-    out.push(b'\n')?;
-    Ok(())
-}
-
-/// Writes a value as a line, if there was memory to make it.
-pub fn put_made(
-    alloc: Global,
-    out: &mut Vec<u8>,
-    made: Result<Value, AllocError>,
-) -> Result<(), AllocError> {
-    match made {
-        Ok(value) => {
-            let put = put_line(alloc, out, &value);
-            drop(value);
-            put
+/// Writes a line.
+pub fn put_line<T: Serialize>(alloc: Global, out: &mut Message, line: &T) {
+    match to_vec(alloc, line) {
+        Ok(text) => {
+            out.put_bytes(text.as_slice());
+            out.put("\n");
         }
-        Err(refused) => Err(refused),
+        // Nothing but want of memory keeps a line from being written.
+        Err(_refused) => out.refuse(),
     }
 }
 
@@ -49,11 +39,11 @@ pub fn thread_in(actor: &Actor) -> Option<u32> {
 
 /// The name of a function, with its sign.
 pub fn function_name(names: &Names, function: FuncId) -> Result<Vec<u8>, AllocError> {
-    let mut name = Vec::new(names.alloc);
+    let mut name = Message::new(names.alloc);
     if let Some(function) = names.module.functions.get(function.number() as usize) {
-        put_global(&mut name, names.module, function.symbol, Blank::Kept)?;
+        name.put_global(names.module, function.symbol, Blank::Kept);
     }
-    Ok(name)
+    name.finish()
 }
 
 /// The place of an instruction.
@@ -62,7 +52,7 @@ pub fn place_name(
     listing: &Listing,
     place: &FramePlace,
 ) -> Result<Vec<u8>, AllocError> {
-    let mut name = Vec::new(names.alloc);
-    listing.put_place(names.alloc, &mut name, names.module, place)?;
-    Ok(name)
+    let mut name = Message::new(names.alloc);
+    listing.put_place(&mut name, names.module, place);
+    name.finish()
 }

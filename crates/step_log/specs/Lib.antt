@@ -1,2 +1,5 @@
 pub mod Steps
 pub mod Upcoming
+pub mod Recorded
+pub mod Logs
+pub mod LogView

@@ -8,26 +8,18 @@ use Rattle.stepping.specs.declared.happening.Happening.{Happening}
 use Rattle.stepping.specs.declared.happening.MadeStep.{MadeStep}
 use Rattle.trace_text.specs.declared.trace.Setup.{Setup}
 use Rattle.replay.specs.Runs.{heap_of, program_machine}
-use Rattle.replay.specs.Worlds.{IsAfter, run_of}
+use Rattle.replay.specs.Worlds.{run_of}
 use Rattle.step_log.specs.declared.log.LogStep.{LogStep}
-use Rattle.step_log.specs.declared.recording.Recorder.{Recorder}
 
 -- what a step did, if one was made
 abbrev pub happening_of : Option MadeStep → Option Happening
 happening_of None = None
 happening_of (Some made) = Some made.happening
 
--- the log has a step for each of these actors, the newest actor first: what it made after the run of those before it
-pub data AreSteps (p : LaidOut) (setup : Setup) : (actors : List Actor) → List LogStep → Type 0 where
-  NoStep : AreSteps p setup [] []
+-- actors, the newest one first, that begin with these first ones: the log has a step for each of the others, in order: what it made after the run of those before it
+pub data AreSteps (p : LaidOut) (setup : Setup) (first : List Actor) : (actors : List Actor) → List LogStep → Type 0 where
+  NoStep : AreSteps p setup first first []
   Further :
-      (before : List Actor) (steps : List LogStep) (step : LogStep) (made : Option MadeStep) → AreSteps p setup before steps
+      (before : List Actor) (steps : List LogStep) (step : LogStep) (made : Option MadeStep) → AreSteps p setup first before steps
       → IsStepOrNone (heap_of p setup) program_machine (starts_of p setup) (run_of p setup before) step.actor made → step.happening ≡ happening_of made
-      → AreSteps p setup (step.actor ∷ before) (steps ++ step ∷ [])
-
--- the world is the one after these actors, and their steps are logged
-pub record IsRecorded (p : LaidOut) (setup : Setup) (before : List Actor) (r : Recorder) : Type 0 where
-  pub program : r.world.program ≡ p
-  pub setup_is : r.world.setup ≡ setup
-  pub afterwards : IsAfter r.world before
-  pub steps : AreSteps p setup before r.steps
+      → AreSteps p setup first (step.actor ∷ before) (steps ++ step ∷ [])

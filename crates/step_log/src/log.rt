@@ -1,5 +1,4 @@
 use ir_ast::FuncId;
-use items::Items;
 use machine::FramePlace;
 use moves::Actor;
 use stepping::Happening;
@@ -19,7 +18,7 @@ pub struct LogStep {
 /// The newest frame of a thread, as it is when it or its root slots have changed.
 #[derive(Clone, Copy)]
 pub struct FrameNote {
-    /// After how many steps.
+    /// After how many steps of the run.
     pub steps: usize,
     pub thread: u32,
     /// How many frames the thread has. Without one it has ended.
@@ -28,13 +27,4 @@ pub struct FrameNote {
     /// Where the cells of its root slots begin in the log, and how many these are.
     pub first: usize,
     pub roots: usize,
-}
-
-/// The steps of a run in their order, and how the root slots changed by them.
-#[derive(Drop)]
-pub struct StepLog {
-    pub steps: Items<LogStep>,
-    pub notes: Items<FrameNote>,
-    /// What the root slots of the notes refer to, one frame after the other. Null is 0.
-    pub cells: Items<u32>,
 }

@@ -1,16 +1,16 @@
-ghost use Rattle.std.specs.Prelude.{◌≡◌, ◌≢◌, List, [], ◌∷◌, length, reverse, take, IfOk, IfErr, OnOk};
-ghost use Rattle.moves.specs.Runs.{IsActor};
+ghost use Rattle.std.specs.Prelude.{◌≡◌, ◌≢◌, List, [], ◌∷◌, ◌++◌, length, reverse, take, drop, IfOk, IfErr, OnOk};
+ghost use Rattle.moves.specs.Runs.{IsActor, AreActors};
 ghost use Rattle.layout.specs.Layouts.{LaidOut};
 ghost use Rattle.moves.specs.declared.actor.Actor.{Actor as AnActor};
-ghost use Rattle.trace_text.specs.Traces.{IsTraceOf};
 ghost use Rattle.trace_text.specs.declared.trace.Setup.{Setup as ASetup};
 ghost use Rattle.program_runner.specs.Setups.{IsSetupOf, IsSetupFault};
 ghost use Rattle.program_runner.specs.declared.setup_fault.SetupFault.TheVariants as fault;
-ghost use Rattle.replay.specs.Lists.{actors_of};
-ghost use Rattle.step_log.specs.Steps.{AreSteps, IsRecorded, happening_of};
+ghost use Rattle.step_log.specs.Recorded.{IsRecorded};
+ghost use Rattle.step_log.specs.Steps.{happening_of};
+ghost use Rattle.step_log.specs.Upcoming.{actors_in};
 
 use crate::frame_notes::FrameNotes;
-use crate::log::{LogStep, StepLog};
+use crate::log::LogStep;
 use crate::upcoming::Upcoming;
 use items::Items;
 use layout::Program;
@@ -20,14 +20,17 @@ use program_runner::SetupFault;
 use replay::World;
 use std::alloc::{AllocError, Global};
 use stepping::{Happening, MadeStep};
-use trace_text::{Setup, Trace};
+use trace_text::Setup;
 
 /// A world, and what was logged of the steps that led to it.
 #[derive(Drop)]
 pub struct Recorder<'a> {
+    alloc: Global,
     world: World<'a>,
-    steps: Items<LogStep>,
-    notes: FrameNotes,
+    /// How many steps come before those that are logged.
+    pub before: usize,
+    pub steps: Items<LogStep>,
+    pub notes: FrameNotes,
 }
 
 /// Where an actor stands, if it is a thread under way.
@@ -78,9 +81,9 @@ fn first_notes(alloc: Global, world: &World<'_>, threads: u32) -> Result<FrameNo
 
 impl<'a> Recorder<'a> {
     /// A world before its first step.
-    fn new(alloc: Global, program: &'a Program, setup: &'a Setup) -> Result<Self, SetupFault>
+    pub fn new(alloc: Global, program: &'a Program, setup: &'a Setup) -> Result<Self, SetupFault>
         requires { IsSetupOf program.now setup.now }
-        ensures ok { IfOk result (IsRecorded program.now setup.now []) }
+        ensures ok { IfOk result (IsRecorded program.now setup.now [] []) }
         ensures fault { IfErr result (λ e. e ≢ fault.Memory → IsSetupFault program.now setup.now e) }
     {
         let world = World::new(alloc, program, setup)?;
@@ -88,7 +91,9 @@ impl<'a> Recorder<'a> {
             Ok(notes) => {
                 let steps = Items::new(alloc);
                 Ok(Recorder {
+                    alloc,
                     world,
+                    before: 0,
                     steps,
                     notes,
                 })
@@ -103,11 +108,12 @@ impl<'a> Recorder<'a> {
     /// The actor makes its next step, which is logged.
     fn step(&mut self, actor: Actor) -> Result<(), AllocError>
         requires { IsActor (length self.old.world.setup.starts) actor }
-        ensures { (p : LaidOut) (setup : ASetup) (before : List AnActor) → IsRecorded p setup before self.old
-            → OnOk result (IsRecorded p setup (actor ∷ before) self.new) }
+        ensures made { (p : LaidOut) (setup : ASetup) (first before : List AnActor) → IsRecorded p setup first before self.old
+            → OnOk result (IsRecorded p setup first (actor ∷ before) self.new) }
+        ensures same { self.new.world.setup ≡ self.old.world.setup }
     {
         let place = place_of(&self.world, actor);
-        let notes = self.notes.notes.len();
+        let notes = self.notes.len();
         let made = self.world.step(actor)?;
         self.steps.push(LogStep {
             actor,
@@ -115,48 +121,35 @@ impl<'a> Recorder<'a> {
             happening: happening_of(&made),
             notes,
         })?;
-        note(&self.world, actor, self.steps.len(), &mut self.notes)?;
+        let steps = self.before.saturating_add(self.steps.len());
+        note(&self.world, actor, steps, &mut self.notes)?;
         Ok(())
     }
 
-    /// What was logged.
-    fn into_log(self) -> StepLog
-        ensures { result.steps ≡ self.entry.steps }
+    /// Logs the next steps, this number of them or all that are left.
+    pub fn record(&mut self, upcoming: &mut Upcoming<'_>, count: usize) -> Result<(), AllocError>
+        requires { AreActors (length self.old.world.setup.starts) (actors_in upcoming.old) }
+        ensures are_actors { AreActors (length self.new.world.setup.starts) (actors_in upcoming.new) }
+        ensures left { OnOk result (actors_in upcoming.new ≡ drop count (actors_in upcoming.old)) }
+        ensures made { (p : LaidOut) (setup : ASetup) (first : List AnActor) → IsRecorded p setup first first self.old
+            → OnOk result (IsRecorded p setup first (reverse (take count (actors_in upcoming.old)) ++ first) self.new) }
     {
-        let Recorder { steps, notes, .. } = self;
-        StepLog {
-            steps,
-            notes: notes.notes,
-            cells: notes.cells,
+        for _step in 0..count {
+            let Some(actor) = upcoming.next() else {
+                return Ok(());
+            };
+            self.step(actor)?;
         }
+        Ok(())
     }
-}
 
-/// Makes the first steps of a trace, this number of them or all, and logs them.
-pub fn log_steps(
-    alloc: Global,
-    program: &Program,
-    trace: &Trace,
-    count: u64,
-) -> Result<StepLog, SetupFault>
-    requires { IsTraceOf program.now trace.now }
-    ensures steps { IfOk result (λ log. AreSteps program.now trace.now.setup (reverse (take count (actors_of trace.now.steps))) log.steps) }
-    ensures fault { IfErr result (λ e. e ≢ fault.Memory → IsSetupFault program.now trace.now.setup e) }
-{
-    let mut recorder = Recorder::new(alloc, program, &trace.setup)?;
-    let mut upcoming = Upcoming::new(trace.steps.as_slice());
-    for _step in 0..count {
-        let Some(actor) = upcoming.next() else {
-            return Ok(recorder.into_log());
-        };
-        match recorder.step(actor) {
-            Ok(()) => {}
-            Err(refused) => {
-                drop(recorder);
-                return Err(SetupFault::from(refused));
-            }
-        }
+    /// Forgets the steps that are logged, and what was noted of frames that are over.
+    pub fn forget(&mut self) -> Result<(), AllocError>
+        ensures world { self.new.world ≡ self.old.world }
+        ensures steps { self.new.steps ≡ [] }
+    {
+        self.before = self.before.saturating_add(self.steps.len());
+        self.steps.clear();
+        self.notes.forget(self.alloc)
     }
-    let log = recorder.into_log();
-    Ok(log)
 }

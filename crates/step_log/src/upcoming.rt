@@ -28,7 +28,7 @@ impl<'a> Upcoming<'a> {
 
     /// The actor of the next step.
     pub fn next(&mut self) -> Option<Actor>
-        ensures { MatchOption result (actors_in self.old ≡ []) (λ actor. actors_in self.old ≡ actor ∷ actors_in self.new) }
+        ensures { MatchOption result ((actors_in self.old ≡ []) × (actors_in self.new ≡ [])) (λ actor. actors_in self.old ≡ actor ∷ actors_in self.new) }
     {
         while self.left == 0 {
             let [line, more @ ..] = self.lines else {

@@ -3,6 +3,7 @@
 #![tactic(auto)]
 
 mod events;
+mod going;
 mod heap_view;
 mod life;
 mod lines;
@@ -14,10 +15,11 @@ mod slot_changes;
 mod told;
 
 pub use events::Event;
+pub use going::{go_on_to, go_to, stretches_to};
 pub use heap_view::HeapView;
 pub use lines::{Texts, put_done};
 pub use listing::Listing;
-pub use paths::{Hop, frames_under_way, path_to, put_path_to, put_root_name};
+pub use paths::{Hop, path_to, put_path_to, put_root_name};
 pub use put_event::Names;
 pub use shade::Shade;
 pub use told::{Steps, Told, put_told};

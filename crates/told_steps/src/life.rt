@@ -1,13 +1,19 @@
 //! The steps that matter for a cell that is gone.
 use crate::events::Event;
 use crate::heap_view::HeapView;
+use crate::lines::{Texts, put_step};
+use crate::put_event::Names;
 use crate::slot_changes::slot_changes;
 use items::Items;
+use messages::Message;
 use moves::Cause;
 use replay::{Break, BreakCause};
 use std::alloc::{AllocError, Global};
 use step_log::{LogStep, StepLog};
 use stepping::Gone;
+
+/// How many steps of a cell's life are told at most: its first one, and the last ones.
+const LIFE_STEPS: usize = 24;
 
 /// The cell that a cause is about, and from where on its life is told.
 #[derive(Clone, Copy)]
@@ -88,27 +94,105 @@ fn changes_slot(log: &StepLog, number: usize, step: &LogStep, lost: &Lost) -> bo
     }
 }
 
-/// The places of the steps of a cell's life; the last step of the log is one of them.
-pub fn life_of(
-    alloc: Global,
-    heap: &mut HeapView,
-    log: &StepLog,
-    lost: &Lost,
-) -> Result<Items<usize>, AllocError> {
-    let mut life = Items::new(alloc);
-    let count = log.steps.len();
-    for (at, step) in log.steps.as_slice().iter().enumerate() {
-        let event = heap.step(step);
-        if let (Since::LastClaim, Event::Claim { cell, .. }) = (lost.since, event) {
-            if cell == lost.cell {
-                life.clear();
-            }
-        }
-        let number = at.saturating_add(1);
-        let is_told = is_of_life(heap, &event, lost.cell) || changes_slot(log, number, step, lost);
-        if is_told || number == count {
-            life.push(at)?;
+/// The lines of a cell's life.
+#[derive(Drop)]
+pub struct Life {
+    lost: Lost,
+    /// The line of the first step, and then those of the last ones, each in the place of the oldest of them.
+    lines: Items<Vec<u8>>,
+    /// How many steps there are.
+    count: usize,
+}
+
+impl Life {
+    pub fn new(alloc: Global, lost: Lost) -> Self {
+        Life {
+            lost,
+            lines: Items::new(alloc),
+            count: 0,
         }
     }
-    Ok(life)
+
+    /// The cell.
+    pub fn cell(&self) -> u64 {
+        self.lost.cell
+    }
+
+    /// Adds a step, if it is one of the life or the last one of the run, which has this many.
+    pub fn add(
+        &mut self,
+        names: &Names,
+        texts: Texts,
+        number: usize,
+        step: &LogStep,
+        event: &Event,
+        count: usize,
+    ) -> Result<(), AllocError> {
+        if self.begins_with(event) {
+            self.lines.clear();
+            self.count = 0;
+        }
+        let is_told = is_of_life(names.heap, event, self.lost.cell)
+            || changes_slot(texts.log, number, step, &self.lost);
+        if is_told || number == count {
+            let line = line_of(names, texts, number, step, event)?;
+            self.add_line(line)?;
+        }
+        Ok(())
+    }
+
+    /// Whether what was before an event does not matter.
+    fn begins_with(&self, event: &Event) -> bool {
+        match (self.lost.since, event) {
+            (Since::LastClaim, Event::Claim { cell, .. }) => *cell == self.lost.cell,
+            _ => false,
+        }
+    }
+
+    fn add_line(&mut self, line: Vec<u8>) -> Result<(), AllocError> {
+        let at = place_of(self.count);
+        self.count = self.count.saturating_add(1);
+        if at < self.lines.len() {
+            self.lines.set(at, line);
+            return Ok(());
+        }
+        self.lines.push(line)
+    }
+
+    /// Writes the lines, the oldest ones first.
+    pub fn put(&self, out: &mut Message) {
+        let told = self.lines.len();
+        for back in 0..told {
+            let number = if back == 0 {
+                0
+            } else {
+                self.count.saturating_sub(told).saturating_add(back)
+            };
+            if let Some(line) = self.lines.get(place_of(number)) {
+                out.put_bytes(line.as_slice());
+            }
+        }
+    }
+}
+
+/// Where the line of the step with this number of a life stands.
+fn place_of(number: usize) -> usize {
+    if number < LIFE_STEPS {
+        return number;
+    }
+    (number.saturating_sub(1) % (LIFE_STEPS - 1)).saturating_add(1)
+}
+
+/// The line of a step.
+fn line_of(
+    names: &Names,
+    texts: Texts,
+    number: usize,
+    step: &LogStep,
+    event: &Event,
+) -> Result<Vec<u8>, AllocError> {
+    let mut line = Message::new(names.alloc);
+    put_step(names, &mut line, texts, number, step, event);
+    line.put("\n");
+    line.finish()
 }

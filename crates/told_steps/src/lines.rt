@@ -4,10 +4,9 @@ use crate::listing::{Listing, unindented};
 use crate::put_event::{Names, put_event};
 use crate::slot_changes::slot_changes;
 use machine::FramePlace;
-use messages::put;
+use messages::Message;
 use moves::Actor;
-use name_text::put_number;
-use std::alloc::{AllocError, Global};
+use std::alloc::Global;
 use step_log::{LogStep, StepLog};
 
 /// How wide the column of the numbers of steps is.
@@ -19,34 +18,35 @@ const ACTOR_WIDTH: usize = 12;
 /// What the lines are made of: the log, and the text of the module.
 #[derive(Clone, Copy)]
 pub struct Texts<'a> {
-    pub log: &'a StepLog,
+    pub log: &'a StepLog<'a>,
     pub listing: &'a Listing,
 }
 
 /// Blanks that fill a column in which this much stands.
-fn put_blanks(out: &mut Vec<u8>, used: usize, width: usize) -> Result<(), AllocError> {
+fn put_blanks(out: &mut Message, used: usize, width: usize) {
     for _blank in used..width {
-        out.push(b' ')?;
+        out.put_byte(b' ');
     }
-    Ok(())
 }
 
 /// The number of a step, in its column.
-fn put_step_number(alloc: Global, out: &mut Vec<u8>, number: usize) -> Result<(), AllocError> {
-    let digits = (number as u64).to_string(alloc)?;
-    put_blanks(out, digits.as_bytes().len(), NUMBER_WIDTH)?;
-    out.extend_from_slice(digits.as_bytes())?;
-    put(out, "  ")
+fn put_step_number(alloc: Global, out: &mut Message, number: usize) {
+    let Ok(digits) = (number as u64).to_string(alloc) else {
+        return out.refuse();
+    };
+    put_blanks(out, digits.as_bytes().len(), NUMBER_WIDTH);
+    out.put_bytes(digits.as_bytes());
+    out.put("  ")
 }
 
 /// The name of an actor, in its column.
-fn put_actor(alloc: Global, out: &mut Vec<u8>, actor: &Actor) -> Result<(), AllocError> {
+fn put_actor(out: &mut Message, actor: &Actor) {
     let start = out.len();
     match actor {
-        Actor::Collector => put(out, "collector")?,
+        Actor::Collector => out.put("collector"),
         Actor::Thread(number) => {
-            put(out, "thread ")?;
-            put_number(alloc, out, u64::from(*number))?;
+            out.put("thread ");
+            out.put_number(u64::from(*number));
         }
     }
     let used = out.len().saturating_sub(start);
@@ -54,61 +54,56 @@ fn put_actor(alloc: Global, out: &mut Vec<u8>, actor: &Actor) -> Result<(), Allo
 }
 
 /// The place of an instruction and its text.
-fn put_instruction(
-    names: &Names,
-    out: &mut Vec<u8>,
-    listing: &Listing,
-    place: &FramePlace,
-) -> Result<(), AllocError> {
-    listing.put_place(names.alloc, out, names.module, place)?;
-    put(out, "  ")?;
+fn put_instruction(names: &Names, out: &mut Message, listing: &Listing, place: &FramePlace) {
+    listing.put_place(out, names.module, place);
+    out.put("  ");
     if let Some(line) = listing.line_of(place) {
-        out.extend_from_slice(unindented(listing.line(line)))?;
+        out.put_bytes(unindented(listing.line(line)));
     }
-    put(out, "    ")
+    out.put("    ")
 }
 
 /// What a step does, in words, with the root slots that it changes.
 pub fn put_done(
     names: &Names,
-    out: &mut Vec<u8>,
+    out: &mut Message,
     log: &StepLog,
     number: usize,
     step: &LogStep,
     event: &Event,
-) -> Result<(), AllocError> {
-    put_event(names, out, event)?;
+) {
+    put_event(names, out, event);
     match slot_changes(log, number, step) {
         Some(changes) => changes.put(names, out),
-        None => Ok(()),
+        None => {}
     }
 }
 
 /// A step without the end of its line. Steps are counted from 1.
 pub fn put_step(
     names: &Names,
-    out: &mut Vec<u8>,
+    out: &mut Message,
     texts: Texts,
     number: usize,
     step: &LogStep,
     event: &Event,
-) -> Result<(), AllocError> {
-    put_step_number(names.alloc, out, number)?;
-    put_actor(names.alloc, out, &step.actor)?;
+) {
+    put_step_number(names.alloc, out, number);
+    put_actor(out, &step.actor);
     if let Some(place) = &step.place {
-        put_instruction(names, out, texts.listing, place)?;
+        put_instruction(names, out, texts.listing, place);
     }
     put_done(names, out, texts.log, number, step, event)
 }
 
 /// The end of a line that stands for this many steps.
-pub fn end_line(alloc: Global, out: &mut Vec<u8>, count: u64) -> Result<(), AllocError> {
+pub fn end_line(out: &mut Message, count: u64) {
     if count > 1 {
-        put(out, "    .. ")?;
-        put_number(alloc, out, count)?;
-        put(out, " times")?;
+        out.put("    .. ");
+        out.put_number(count);
+        out.put(" times");
     }
-    put(out, "\n")
+    out.put("\n")
 }
 
 /// Whether two steps are of one actor.

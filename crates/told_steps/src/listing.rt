@@ -3,7 +3,8 @@ use ir_ast::{Block, Function, Module};
 use ir_print::print;
 use items::Items;
 use machine::FramePlace;
-use name_text::{Blank, put_global, put_local, put_number};
+use messages::Message;
+use name_text::Blank;
 use places::line_at;
 use std::alloc::{AllocError, Global};
 
@@ -119,25 +120,19 @@ impl Listing {
     }
 
     /// The place of an instruction: `@swap %again 1`.
-    pub fn put_place(
-        &self,
-        alloc: Global,
-        out: &mut Vec<u8>,
-        module: &Module,
-        place: &FramePlace,
-    ) -> Result<(), AllocError> {
+    pub fn put_place(&self, out: &mut Message, module: &Module, place: &FramePlace) {
         let Some(function) = module.functions.get(place.function.number() as usize) else {
-            return Ok(());
+            return;
         };
-        put_global(out, module, function.symbol, Blank::Kept)?;
+        out.put_global(module, function.symbol, Blank::Kept);
         let Some(block) = function.blocks.get(place.block) else {
-            return Ok(());
+            return;
         };
-        out.push(b' ')?;
-        put_local(out, &function.locals, block.label, Blank::Kept)?;
-        out.push(b' ')?;
+        out.put_byte(b' ');
+        out.put_local(&function.locals, block.label, Blank::Kept);
+        out.put_byte(b' ');
         let number = block.phis.len().saturating_add(place.place);
-        put_number(alloc, out, number as u64)
+        out.put_number(number as u64)
     }
 }
 

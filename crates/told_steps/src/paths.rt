@@ -3,8 +3,8 @@ use crate::heap_view::HeapView;
 use crate::put_event::Names;
 use ir_ast::{Function, ValueId};
 use items::Items;
-use messages::put;
-use name_text::{Blank, put_global, put_local, put_number};
+use messages::Message;
+use name_text::Blank;
 use pools::WordKind;
 use shadow_stack::{SlotId, Slots, slots_of};
 use std::alloc::{AllocError, Global};
@@ -64,7 +64,7 @@ impl Search {
     /// What the root slots of the frame of a note refer to.
     fn look_at(&mut self, log: &StepLog, at: usize, note: &FrameNote) -> Result<(), AllocError> {
         for root in 0..note.roots {
-            if let Some(cell) = log.cells.get(note.first.saturating_add(root)).copied() {
+            if let Some(cell) = log.cell(note, root) {
                 self.meet(u64::from(cell), Hop::Slot { note: at, root })?;
             }
         }
@@ -74,7 +74,7 @@ impl Search {
     /// What the root slots of the frames of these notes refer to.
     fn look_at_notes(&mut self, log: &StepLog, places: &Items<usize>) -> Result<(), AllocError> {
         for at in places.as_slice() {
-            if let Some(note) = log.notes.get(*at) {
+            if let Some(note) = log.note(*at) {
                 self.look_at(log, *at, note)?;
             }
         }
@@ -82,13 +82,8 @@ impl Search {
     }
 
     /// What the root slots of all frames refer to, those of a thread's newest frame first.
-    fn look_at_frames(
-        &mut self,
-        alloc: Global,
-        log: &StepLog,
-        threads: usize,
-    ) -> Result<(), AllocError> {
-        let places = frames_under_way(alloc, log, threads, log.notes.len())?;
+    fn look_at_frames(&mut self, alloc: Global, log: &StepLog) -> Result<(), AllocError> {
+        let places = log.frames_under_way(alloc)?;
         let looked = self.look_at_notes(log, &places);
         drop(places);
         looked
@@ -106,53 +101,15 @@ impl Search {
     }
 }
 
-/// Whether a note has fewer frames than those of its thread so far, which has as many then.
-fn is_fewer(fewest: &mut Items<usize>, note: &FrameNote) -> bool {
-    let thread = note.thread as usize;
-    let Some(so_far) = fewest.get(thread).copied() else {
-        return false;
-    };
-    if note.frames >= so_far {
-        return false;
-    }
-    if thread < fewest.len() {
-        fewest.set(thread, note.frames);
-    }
-    true
-}
-
-/// The places of the last notes of all frames that are under way after this number of notes, the last one first. A frame is under way
-/// where no later note of its thread has as few frames or fewer.
-pub fn frames_under_way(
-    alloc: Global,
-    log: &StepLog,
-    threads: usize,
-    count: usize,
-) -> Result<Items<usize>, AllocError> {
-    let fewest: Vec<usize> = vec![in alloc; usize::MAX; threads]?;
-    let mut fewest = Items::from_vec(fewest);
-    let mut places = Items::new(alloc);
-    for back in 0..count {
-        let at = count.saturating_sub(back).saturating_sub(1);
-        if let Some(note) = log.notes.get(at) {
-            if is_fewer(&mut fewest, note) {
-                places.push(at)?;
-            }
-        }
-    }
-    Ok(places)
-}
-
 /// The hops of a shortest path to a cell, the last one first; none where nothing leads to it.
 pub fn path_to(
     alloc: Global,
     heap: &HeapView,
     log: &StepLog,
-    threads: usize,
     target: u64,
 ) -> Result<Items<Hop>, AllocError> {
     let mut search = Search::new(alloc, heap.cells())?;
-    search.look_at_frames(alloc, log, threads)?;
+    search.look_at_frames(alloc, log)?;
     search.look_into(heap, 0)?;
     search.go_on(heap)?;
     let mut path = Items::new(alloc);
@@ -190,50 +147,42 @@ fn name_of_root(function: &Function, slots: &Slots, root: usize) -> Option<Value
 }
 
 /// The name of a root slot of a function, by its place among the root slots.
-pub fn put_root_name(
-    names: &Names,
-    out: &mut Vec<u8>,
-    function: &Function,
-    root: usize,
-) -> Result<(), AllocError> {
-    let slots = slots_of(names.alloc, names.module, function)?;
+pub fn put_root_name(names: &Names, out: &mut Message, function: &Function, root: usize) {
+    let Ok(slots) = slots_of(names.alloc, names.module, function) else {
+        return out.refuse();
+    };
     let named = name_of_root(function, &slots, root);
     drop(slots);
     match named {
-        Some(value) => put_local(out, &function.locals, value, Blank::Kept),
-        None => Ok(()),
+        Some(value) => out.put_local(&function.locals, value, Blank::Kept),
+        None => {}
     }
 }
 
 /// `slot %s of thread 0, frame @swap`
-fn put_slot(
-    names: &Names,
-    out: &mut Vec<u8>,
-    note: &FrameNote,
-    root: usize,
-) -> Result<(), AllocError> {
+fn put_slot(names: &Names, out: &mut Message, note: &FrameNote, root: usize) {
     let Some(function) = names.module.functions.get(note.function.number() as usize) else {
-        return Ok(());
+        return;
     };
-    put(out, "slot ")?;
-    put_root_name(names, out, function, root)?;
-    put(out, " of thread ")?;
-    put_number(names.alloc, out, u64::from(note.thread))?;
-    put(out, ", frame ")?;
-    put_global(out, names.module, function.symbol, Blank::Kept)
+    out.put("slot ");
+    put_root_name(names, out, function, root);
+    out.put(" of thread ");
+    out.put_number(u64::from(note.thread));
+    out.put(", frame ");
+    out.put_global(names.module, function.symbol, Blank::Kept)
 }
 
 /// From where a hop leads: a root, or a word of the cell before.
-fn put_hop(names: &Names, out: &mut Vec<u8>, log: &StepLog, hop: &Hop) -> Result<(), AllocError> {
+fn put_hop(names: &Names, out: &mut Message, log: &StepLog, hop: &Hop) {
     match hop {
-        Hop::Slot { note, root } => match log.notes.get(*note) {
+        Hop::Slot { note, root } => match log.note(*note) {
             Some(note) => put_slot(names, out, note, *root),
-            None => Ok(()),
+            None => {}
         },
         Hop::Word { cell: 0, word } => names.put_word(out, 0, *word),
         Hop::Word { word, .. } => {
-            put(out, " word ")?;
-            put_number(names.alloc, out, u64::from(*word))
+            out.put(" word ");
+            out.put_number(u64::from(*word))
         }
     }
 }
@@ -249,24 +198,23 @@ fn cell_before(path: &Items<Hop>, at: usize, target: u64) -> u64 {
 /// A path: `@top -> cell 2 word 1 -> cell 3`.
 pub fn put_path_to(
     names: &Names,
-    out: &mut Vec<u8>,
+    out: &mut Message,
     log: &StepLog,
     path: &Items<Hop>,
     target: u64,
-) -> Result<(), AllocError> {
+) {
     let count = path.len();
     for back in 0..count {
         let at = count.saturating_sub(back).saturating_sub(1);
         if let Some(hop) = path.get(at) {
-            put_hop(names, out, log, hop)?;
-            put(out, " -> ")?;
+            put_hop(names, out, log, hop);
+            out.put(" -> ");
             let to = if at == 0 {
                 target
             } else {
                 cell_before(path, at.saturating_sub(1), target)
             };
-            names.put_cell(out, to)?;
+            names.put_cell(out, to);
         }
     }
-    Ok(())
 }

@@ -1,23 +1,22 @@
 //! The root slots that a step of a thread changes.
 use crate::paths::put_root_name;
 use crate::put_event::Names;
-use messages::put;
-use std::alloc::AllocError;
+use messages::Message;
 use step_log::{FrameNote, LogStep, StepLog};
 
 /// The frame of a step, before it and after it, whose root slots the step changes.
 #[derive(Clone, Copy)]
 pub struct SlotChanges<'a> {
-    log: &'a StepLog,
+    log: &'a StepLog<'a>,
     before: &'a FrameNote,
     after: &'a FrameNote,
 }
 
 /// The last note of a thread before the one at this place.
-fn note_before<'a>(log: &'a StepLog, at: usize, thread: u32) -> Option<&'a FrameNote> {
+fn note_before<'a>(log: &'a StepLog<'a>, at: usize, thread: u32) -> Option<&'a FrameNote> {
     for back in 0..at {
         let place = at.saturating_sub(back).saturating_sub(1);
-        if let Some(note) = log.notes.get(place) {
+        if let Some(note) = log.note(place) {
             if note.thread == thread {
                 return Some(note);
             }
@@ -28,11 +27,11 @@ fn note_before<'a>(log: &'a StepLog, at: usize, thread: u32) -> Option<&'a Frame
 
 /// The frame whose root slots the step with this number changes, if it neither begins nor ends a frame.
 pub fn slot_changes<'a>(
-    log: &'a StepLog,
+    log: &'a StepLog<'a>,
     number: usize,
     step: &LogStep,
 ) -> Option<SlotChanges<'a>> {
-    let after = log.notes.get(step.notes)?;
+    let after = log.note(step.notes)?;
     if after.steps != number {
         return None;
     }
@@ -45,11 +44,7 @@ pub fn slot_changes<'a>(
 
 impl<'a> SlotChanges<'a> {
     fn cell(&self, note: &FrameNote, root: usize) -> u32 {
-        self.log
-            .cells
-            .get(note.first.saturating_add(root))
-            .copied()
-            .unwrap_or(0)
+        self.log.cell(note, root).unwrap_or(0)
     }
 
     /// Whether a slot begins or ends to hold a reference to a cell.
@@ -65,31 +60,24 @@ impl<'a> SlotChanges<'a> {
     }
 
     /// `, slot %s = cell 2`
-    pub fn put(&self, names: &Names, out: &mut Vec<u8>) -> Result<(), AllocError> {
+    pub fn put(&self, names: &Names, out: &mut Message) {
         for root in 0..self.after.roots {
             let cell = self.cell(self.after, root);
             if cell != self.cell(self.before, root) {
-                self.put_slot(names, out, root, cell)?;
+                self.put_slot(names, out, root, cell);
             }
         }
-        Ok(())
     }
 
-    fn put_slot(
-        &self,
-        names: &Names,
-        out: &mut Vec<u8>,
-        root: usize,
-        cell: u32,
-    ) -> Result<(), AllocError> {
-        put(out, ", slot ")?;
+    fn put_slot(&self, names: &Names, out: &mut Message, root: usize, cell: u32) {
+        out.put(", slot ");
         let function = self.after.function.number() as usize;
         if let Some(function) = names.module.functions.get(function) {
-            put_root_name(names, out, function, root)?;
+            put_root_name(names, out, function, root);
         }
-        put(out, " = ")?;
+        out.put(" = ");
         if cell == 0 {
-            put(out, "null")
+            out.put("null")
         } else {
             names.put_cell(out, u64::from(cell))
         }

@@ -1,15 +1,15 @@
 //! The steps of a run as lines.
 use crate::events::{Event, Fold};
+use crate::going::{go_on_to, go_to, stretches_to};
 use crate::heap_view::HeapView;
-use crate::life::{Lost, life_of, lost_by};
+use crate::life::{Life, Lost, lost_by};
 use crate::lines::{Texts, end_line, is_same_actor, put_step};
 use crate::listing::Listing;
 use crate::paths::{path_to, put_path_to};
 use crate::put_event::Names;
 use crate::slot_changes::slot_changes;
-use items::Items;
 use layout::Program;
-use messages::put;
+use messages::Message;
 use moves::Actor;
 use replay::Break;
 use std::alloc::{AllocError, Global};
@@ -19,8 +19,8 @@ use trace_text::Setup;
 /// How many of the last steps are told where no others are asked for.
 const LAST_STEPS: usize = 40;
 
-/// How many steps of a cell's life are told at most: its first one, and the last ones.
-const LIFE_STEPS: usize = 24;
+/// What stands before the last steps.
+const LAST_HEAD: &str = "the last steps:\n";
 
 /// Which steps are told, by their numbers from 1: those between two numbers, or the last ones.
 #[derive(Clone, Copy)]
@@ -34,14 +34,15 @@ pub enum Steps {
 pub struct Told<'a> {
     pub program: &'a Program,
     pub setup: &'a Setup,
-    pub log: &'a StepLog,
+    /// How many steps it made.
+    pub steps: usize,
     pub broken: Option<&'a Break>,
 }
 
 /// Steps that are told in one line.
 #[derive(Drop)]
 struct Folded {
-    line: Vec<u8>,
+    line: Message,
     actor: Actor,
     fold: Fold,
     count: u64,
@@ -76,7 +77,7 @@ impl Lines {
         Lines {
             alloc,
             last: Folded {
-                line: Vec::new(alloc),
+                line: Message::new(alloc),
                 actor: Actor::Collector,
                 fold: Fold::Never,
                 count: 0,
@@ -85,225 +86,256 @@ impl Lines {
     }
 
     /// Writes the last line.
-    fn end(&mut self, out: &mut Vec<u8>) -> Result<(), AllocError> {
+    fn end(&mut self, out: &mut Message) {
         if self.last.count > 0 {
-            out.extend_from_slice(self.last.line.as_slice())?;
-            end_line(self.alloc, out, self.last.count)?;
+            out.put_message(&self.last.line);
+            end_line(out, self.last.count);
         }
         self.last.line.clear();
         self.last.count = 0;
-        Ok(())
     }
 
     /// Adds a step.
     fn add(
         &mut self,
         names: &Names,
-        out: &mut Vec<u8>,
+        out: &mut Message,
         texts: Texts,
         number: usize,
         step: &LogStep,
         event: &Event,
-    ) -> Result<(), AllocError> {
+    ) {
         let fold = fold_of(texts.log, number, step, event);
         if self.last.is_like(step, fold) {
             self.last.count = self.last.count.saturating_add(1);
-            return Ok(());
+            return;
         }
-        self.end(out)?;
-        put_step(names, &mut self.last.line, texts, number, step, event)?;
+        self.end(out);
+        put_step(names, &mut self.last.line, texts, number, step, event);
         self.last.actor = step.actor;
         self.last.fold = fold;
         self.last.count = 1;
-        Ok(())
     }
 }
 
 impl Lines {
-    /// Adds the steps whose numbers lie between these, where the heap is as before the first step, and writes them.
-    fn put_between(
-        &mut self,
-        out: &mut Vec<u8>,
-        told: &Told,
-        texts: Texts,
-        heap: &mut HeapView,
-        first: usize,
-        last: usize,
-    ) -> Result<(), AllocError> {
-        for (at, step) in told.log.steps.as_slice().iter().enumerate() {
+    /// Adds the steps that are logged. The heap is as before them.
+    fn add_logged(&mut self, out: &mut Message, told: &Told, texts: Texts, heap: &mut HeapView) {
+        for (at, step) in texts.log.steps().iter().enumerate() {
             let event = heap.step(step);
-            let number = at.saturating_add(1);
-            if first <= number && number <= last {
-                let names = Names {
-                    alloc: self.alloc,
-                    module: told.program.module(),
-                    heap,
-                };
-                self.add(&names, out, texts, number, step, &event)?;
+            let names = Names {
+                alloc: self.alloc,
+                module: told.program.module(),
+                heap,
+            };
+            self.add(&names, out, texts, texts.log.number_at(at), step, &event);
+        }
+    }
+
+    /// Makes the steps up to the one with this number, and writes them.
+    fn put_to(
+        &mut self,
+        out: &mut Message,
+        told: &Told,
+        listing: &Listing,
+        log: &mut StepLog,
+        heap: &mut HeapView,
+        last: usize,
+    ) {
+        for _stretch in 0..stretches_to(log, last) {
+            if go_on_to(log, last).is_err() {
+                return out.refuse();
             }
+            self.add_logged(out, told, Texts { log, listing }, heap);
         }
         self.end(out)
     }
 }
 
-/// The steps whose numbers lie between these.
+/// The steps whose numbers lie between these, where the heap is as before the first step of the run.
 fn put_between(
     alloc: Global,
-    out: &mut Vec<u8>,
+    out: &mut Message,
     told: &Told,
-    texts: Texts,
+    listing: &Listing,
+    log: &mut StepLog,
+    heap: &mut HeapView,
     first: usize,
     last: usize,
-) -> Result<(), AllocError> {
-    let mut heap = HeapView::new(alloc, told.program, told.setup)?;
+) {
+    if go_to(log, heap, first.min(told.steps.saturating_add(1))).is_err() {
+        return out.refuse();
+    }
     let mut lines = Lines::new(alloc);
-    let put = lines.put_between(out, told, texts, &mut heap, first, last);
+    lines.put_to(out, told, listing, log, heap, last.min(told.steps));
     drop(lines);
-    drop(heap);
-    put
 }
 
-/// Whether the step with this number of a life is told.
-fn is_told(number: usize, count: usize) -> bool {
-    number == 0 || count < LIFE_STEPS.saturating_add(number)
+/// What is told of a run in which a cell is lost.
+#[derive(Drop)]
+struct LostLines {
+    life: Life,
+    lines: Lines,
+    /// The last steps, but for the last line.
+    last: Message,
 }
 
-/// The lines of some steps, by their places.
-fn put_steps_at(
-    alloc: Global,
-    out: &mut Vec<u8>,
-    told: &Told,
-    texts: Texts,
-    places: &Items<usize>,
-) -> Result<(), AllocError> {
-    let mut heap = HeapView::new(alloc, told.program, told.setup)?;
-    let put = put_steps_from(alloc, out, told, texts, &mut heap, places);
-    drop(heap);
-    put
-}
-
-/// The same, where the heap is as before the first step.
-fn put_steps_from(
-    alloc: Global,
-    out: &mut Vec<u8>,
-    told: &Told,
-    texts: Texts,
-    heap: &mut HeapView,
-    places: &Items<usize>,
-) -> Result<(), AllocError> {
-    let mut next = 0;
-    for (at, step) in told.log.steps.as_slice().iter().enumerate() {
-        let event = heap.step(step);
-        if places.get(next).copied() == Some(at) {
-            if is_told(next, places.len()) {
-                let names = Names {
-                    alloc,
-                    module: told.program.module(),
-                    heap,
-                };
-                put_step(&names, out, texts, at.saturating_add(1), step, &event)?;
-                put(out, "\n")?;
-            }
-            next = next.saturating_add(1);
+impl LostLines {
+    fn new(alloc: Global, lost: Lost) -> Self {
+        LostLines {
+            life: Life::new(alloc, lost),
+            lines: Lines::new(alloc),
+            last: Message::new(alloc),
         }
     }
-    Ok(())
+
+    /// Adds a step of a run that has this many.
+    fn add(
+        &mut self,
+        names: &Names,
+        texts: Texts,
+        number: usize,
+        step: &LogStep,
+        event: &Event,
+        count: usize,
+    ) -> Result<(), AllocError> {
+        self.life.add(names, texts, number, step, event, count)?;
+        if number > count.saturating_sub(LAST_STEPS) {
+            let last = &mut self.last;
+            self.lines.add(names, last, texts, number, step, event);
+        }
+        Ok(())
+    }
+
+    /// Adds the steps that are logged. The heap is as before them.
+    fn add_logged(
+        &mut self,
+        told: &Told,
+        texts: Texts,
+        heap: &mut HeapView,
+    ) -> Result<(), AllocError> {
+        for (at, step) in texts.log.steps().iter().enumerate() {
+            let event = heap.step(step);
+            let names = Names {
+                alloc: self.lines.alloc,
+                module: told.program.module(),
+                heap,
+            };
+            let number = texts.log.number_at(at);
+            self.add(&names, texts, number, step, &event, told.steps)?;
+        }
+        Ok(())
+    }
+
+    /// Makes all steps of the run.
+    fn go_through(
+        &mut self,
+        told: &Told,
+        listing: &Listing,
+        log: &mut StepLog,
+        heap: &mut HeapView,
+    ) -> Result<(), AllocError> {
+        for _stretch in 0..stretches_to(log, told.steps) {
+            go_on_to(log, told.steps)?;
+            self.add_logged(told, Texts { log, listing }, heap)?;
+        }
+        self.lines.end(&mut self.last);
+        Ok(())
+    }
+
+    /// Writes the life of the cell, the path that still leads to it after the steps that were made, and the last steps.
+    fn put(&self, names: &Names, out: &mut Message, log: &StepLog) {
+        let cell = self.life.cell();
+        out.put("the life of ");
+        names.put_cell(out, cell);
+        out.put(":\n");
+        self.life.put(out);
+        put_way(names, out, log, cell);
+        out.put(LAST_HEAD);
+        out.put_message(&self.last);
+    }
 }
 
 /// The path that still leads to a cell that is gone.
-fn put_way(
-    alloc: Global,
-    out: &mut Vec<u8>,
-    told: &Told,
-    heap: &HeapView,
-    cell: u64,
-) -> Result<(), AllocError> {
-    let names = Names {
-        alloc,
-        module: told.program.module(),
-        heap,
+fn put_way(names: &Names, out: &mut Message, log: &StepLog, cell: u64) {
+    let Ok(path) = path_to(names.alloc, names.heap, log, cell) else {
+        return out.refuse();
     };
-    let path = path_to(alloc, heap, told.log, told.setup.starts.len(), cell)?;
     if path.is_empty() {
-        return put(out, "no global and no root slot leads to it\n");
+        return out.put("no global and no root slot leads to it\n");
     }
-    put(out, "still reached: ")?;
-    put_path_to(&names, out, told.log, &path, cell)?;
-    put(out, "\n")
+    out.put("still reached: ");
+    put_path_to(names, out, log, &path, cell);
+    out.put("\n")
 }
 
-/// The life of a cell that is gone, and the path that still leads to it.
-fn put_life(
+/// The life of a cell that is lost, the path that still leads to it, and the last steps.
+fn put_lost(
     alloc: Global,
-    out: &mut Vec<u8>,
+    out: &mut Message,
     told: &Told,
-    texts: Texts,
-    lost: &Lost,
-) -> Result<(), AllocError> {
-    let mut heap = HeapView::new(alloc, told.program, told.setup)?;
-    let put = match life_of(alloc, &mut heap, told.log, lost) {
-        Ok(life) => {
-            let put = put_life_steps(alloc, out, told, texts, lost, &heap, &life);
-            drop(life);
-            put
-        }
-        Err(refused) => Err(refused),
-    };
-    drop(heap);
-    put
-}
-
-/// The steps of the life of a cell that is gone, which have these places, and the path that leads to it after the last step.
-fn put_life_steps(
-    alloc: Global,
-    out: &mut Vec<u8>,
-    told: &Told,
-    texts: Texts,
-    lost: &Lost,
-    heap: &HeapView,
-    life: &Items<usize>,
-) -> Result<(), AllocError> {
+    listing: &Listing,
+    log: &mut StepLog,
+    heap: &mut HeapView,
+    lost: Lost,
+) {
+    let mut lines = LostLines::new(alloc, lost);
+    if lines.go_through(told, listing, log, heap).is_err() {
+        drop(lines);
+        return out.refuse();
+    }
     let names = Names {
         alloc,
         module: told.program.module(),
         heap,
     };
-    put(out, "the life of ")?;
-    names.put_cell(out, lost.cell)?;
-    put(out, ":\n")?;
-    put_steps_at(alloc, out, told, texts, life)?;
-    put_way(alloc, out, told, heap, lost.cell)
+    lines.put(&names, out, log);
+    drop(lines);
 }
 
 /// The last steps, and before them those that matter for the cause where the run is broken.
-fn put_last(alloc: Global, out: &mut Vec<u8>, told: &Told, texts: Texts) -> Result<(), AllocError> {
-    if let Some(broken) = told.broken {
-        if let Some(lost) = lost_by(broken) {
-            put_life(alloc, out, told, texts, &lost)?;
-        }
+fn put_last(
+    alloc: Global,
+    out: &mut Message,
+    told: &Told,
+    listing: &Listing,
+    log: &mut StepLog,
+    heap: &mut HeapView,
+) {
+    if let Some(lost) = told.broken.and_then(lost_by) {
+        return put_lost(alloc, out, told, listing, log, heap, lost);
     }
-    put(out, "the last steps:\n")?;
-    let count = told.log.steps.len();
-    let first = count.saturating_sub(LAST_STEPS).saturating_add(1);
-    put_between(alloc, out, told, texts, first, count)
+    out.put(LAST_HEAD);
+    let first = told.steps.saturating_sub(LAST_STEPS).saturating_add(1);
+    put_between(alloc, out, told, listing, log, heap, first, told.steps)
 }
 
-/// Tells these steps of a run.
-pub fn put_told(
+/// Tells these steps of a run whose module is listed.
+fn put_steps(
     alloc: Global,
-    out: &mut Vec<u8>,
+    out: &mut Message,
     told: &Told,
+    listing: &Listing,
+    log: &mut StepLog,
     steps: Steps,
-) -> Result<(), AllocError> {
-    let listing = Listing::new(alloc, told.program.module())?;
-    let texts = Texts {
-        log: told.log,
-        listing: &listing,
+) {
+    let Ok(mut heap) = HeapView::new(alloc, told.program, told.setup) else {
+        return out.refuse();
     };
-    let put = match steps {
-        Steps::Last => put_last(alloc, out, told, texts),
-        Steps::Between(first, last) => put_between(alloc, out, told, texts, first, last),
+    match steps {
+        Steps::Last => put_last(alloc, out, told, listing, log, &mut heap),
+        Steps::Between(first, last) => {
+            put_between(alloc, out, told, listing, log, &mut heap, first, last)
+        }
+    }
+    drop(heap);
+}
+
+/// Tells these steps of a run, of which none is made so far.
+pub fn put_told(alloc: Global, out: &mut Message, told: &Told, log: &mut StepLog, steps: Steps) {
+    let Ok(listing) = Listing::new(alloc, told.program.module()) else {
+        return out.refuse();
     };
+    put_steps(alloc, out, told, &listing, log, steps);
     drop(listing);
-    put
 }
