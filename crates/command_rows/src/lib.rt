@@ -5,8 +5,9 @@
 //! It is also migrated with its own certificate, and checked again.
 #![tactic(auto)]
 
+mod accepted;
 mod command_cases;
-mod compared;
+mod done;
 mod printed;
 mod row;
 mod row_failure;

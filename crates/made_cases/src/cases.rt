@@ -1,18 +1,16 @@
-//! All cases.
-use crate::{replaying_cases, running_cases, worker_cases};
+//! The lines of all cases.
+use crate::meetings::write_meetings;
+use crate::stops::write_stops;
 use std::alloc::Global;
 use std::io;
-use std::io::Write;
 use std::thread::Threads;
-use std::time::Clock;
 
 /// Writes what comes of each case.
-pub fn write_cases<O: Write>(
-    rt: &(impl Threads + Clock + Sync),
+pub fn write_cases(
+    rt: &(impl Threads + Sync),
     alloc: Global,
-    out: &mut O,
+    lines: &mut Vec<u8>,
 ) -> io::Result<()> {
-    replaying_cases::write_lines(rt, alloc, out)?;
-    running_cases::write_lines(rt, alloc, out)?;
-    worker_cases::write_lines(rt, alloc, out)
+    write_stops(alloc, lines)?;
+    write_meetings(rt, alloc, lines)
 }

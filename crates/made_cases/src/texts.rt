@@ -1,10 +1,8 @@
-//! Module texts for several cases, and files of such texts.
-use ir_text::read;
-use layout::Program;
+//! Module texts.
 use std::alloc::{AllocError, Global};
 
 /// The seven lines before the functions.
-pub(crate) const HEAD: &str =
+const HEAD: &str =
     "%Node = type { i64, %Node* }\n@g = global %Node* null\ndeclare i8* @dg_alloc(i32)\ndeclare void @dg_safepoint()\ndeclare void @llvm.gcroot(i8**, i8*)\ndeclare i8* @llvm.gcread(i8*, i8**)\ndeclare void @llvm.gcwrite(i8*, i8*, i8**)\n";
 
 /// Loads its root again after the safepoints.
@@ -15,30 +13,13 @@ pub(crate) const FOUR: &str =
 pub(crate) const PUBLISHER_AND_CLEARER: &str =
     "define void @zero() gc \"shadow-stack\" {\nentry:\n  %s = alloca %Node*\n  %r = bitcast %Node** %s to i8**\n  call void @llvm.gcroot(i8** %r, i8* null)\n  %a = call i8* @dg_alloc(i32 0)\n  call void @llvm.gcwrite(i8* %a, i8* null, i8** bitcast (%Node** @g to i8**))\n  call void @dg_safepoint()\n  call void @dg_safepoint()\n  call void @dg_safepoint()\n  %x = load %Node*, %Node** @g\n  store %Node* %x, %Node** %s\n  call void @dg_safepoint()\n  %y = load %Node*, %Node** %s\n  ret void\n}\ndefine void @one() gc \"shadow-stack\" {\nentry:\n  call void @dg_safepoint()\n  call void @llvm.gcwrite(i8* null, i8* null, i8** bitcast (%Node** @g to i8**))\n  call void @dg_safepoint()\n  call void @dg_safepoint()\n  ret void\n}\n";
 
-/// The bytes of these texts, one after the other.
-pub(crate) fn joined(alloc: Global, texts: &[&str]) -> Result<Vec<u8>, AllocError> {
-    let mut bytes = Vec::new(alloc);
-    for text in texts {
-        bytes.extend_from_slice(text.as_bytes())?;
-    }
+/// Claims three cells.
+pub(crate) const CLAIMER: &str =
+    "define void @thrice() gc \"shadow-stack\" {\nentry:\n  %a = call i8* @dg_alloc(i32 0)\n  %b = call i8* @dg_alloc(i32 0)\n  call void @dg_safepoint()\n  call void @dg_safepoint()\n  call void @dg_safepoint()\n  %d = call i8* @dg_alloc(i32 0)\n  ret void\n}\n";
+
+/// The bytes of a module with these functions.
+pub(crate) fn module_of(alloc: Global, functions: &str) -> Result<Vec<u8>, AllocError> {
+    let mut bytes = Vec::from_slice(alloc, HEAD.as_bytes())?;
+    bytes.extend_from_slice(functions.as_bytes())?;
     Ok(bytes)
-}
-
-/// A file of the head and these functions, and one of this text.
-pub(crate) fn two_files(
-    alloc: Global,
-    functions: &str,
-    text: &[u8],
-) -> Result<[Option<Vec<u8>>; 2], AllocError> {
-    let of_module = joined(alloc, [HEAD, functions].as_slice())?;
-    Ok([Some(of_module), Some(Vec::from_slice(alloc, text)?)])
-}
-
-/// The program with these functions.
-pub(crate) fn program_of(alloc: Global, functions: &str) -> Result<Option<Program>, AllocError> {
-    let text = joined(alloc, [HEAD, functions].as_slice())?;
-    match read(alloc, text.as_slice()) {
-        Ok(of_module) => Ok(Program::new(alloc, of_module).ok()),
-        Err(_) => Ok(None),
-    }
 }
