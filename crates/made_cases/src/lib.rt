@@ -1,4 +1,4 @@
-//! Cases that no row can show: replays of traces in which an actor stops for good, and workers and threads that meet. A line is
+//! Cases that are made in code: replays of traces in which an actor stops for good, and workers and threads that meet. A line is
 //! written of each, with its name and what comes of it.
 #![tactic(auto)]
 
