@@ -1,11 +1,10 @@
 //! Commands on a long text, which is made here, and on outputs that take nothing.
 use crate::accepted::CHECK;
-use crate::done::printed_of;
+use crate::done::{printed_of, status_with};
+use crate::output::Output;
 use crate::printed::Printed;
 use crate::row_failure::RowFailure;
-use commands::{Look, Nobody, status_of, work};
 use std::alloc::AllocError;
-use std::io;
 use std::io::Write;
 use std::rt::Runtime;
 use std::thread::Threads;
@@ -19,40 +18,16 @@ fn long_text(rt: &(impl Runtime + AllocGlobal + Threads + Sync)) -> Result<Print
     Ok(printed)
 }
 
-/// A writer that takes nothing.
-#[derive(Drop)]
-struct Full;
-
-impl Write for Full {
-    fn write(&mut self, _bytes: &[u8]) -> io::Result<usize> {
-        Err(io::Error::from(io::ErrorKind::StorageFull))
-    }
-
-    fn flush(&mut self) -> io::Result<()> {
-        Ok(())
-    }
-}
-
 /// The status of `check` of these files where no output takes anything.
 fn status_without_outputs(
     rt: &(impl Runtime + AllocGlobal + Threads + Sync),
     files: &[Option<Vec<u8>>],
 ) -> u8 {
-    let alloc = rt.alloc();
-    let mut saved = Vec::new(alloc);
-    let answered = work(
-        rt,
-        alloc,
-        Look::Plain,
-        &CHECK,
-        files,
-        &mut saved,
-        &mut Full,
-        &mut Full,
-        &mut Nobody,
-    );
+    let mut saved = Vec::new(rt.alloc());
+    let (mut out, mut err) = (Output::Full, Output::Full);
+    let status = status_with(rt, &CHECK, files, &mut saved, &mut out, &mut err);
     drop(saved);
-    status_of(answered)
+    status
 }
 
 /// The status where the module is accepted, and the standard output takes nothing.
@@ -66,7 +41,7 @@ fn status_of_yes(rt: &(impl Runtime + AllocGlobal + Threads + Sync)) -> Result<u
 }
 
 /// Writes a line for each of these cases.
-pub fn write_cases(
+pub fn write_outputs(
     rt: &(impl Runtime + AllocGlobal + Threads + Sync),
     lines: &mut Vec<u8>,
 ) -> Result<(), RowFailure> {

@@ -1,12 +1,38 @@
 //! Commands on the files of a folder.
 ghost use Rattle.command_line.specs.Asked.{asked_by, HasWorkers};
 
+use crate::output::Output;
 use crate::printed::{Printed, bytes_of};
 use crate::row_failure::RowFailure;
 use commands::{Line, LineFault, Look, Nobody, STATUS_USAGE, STATUS_YES, line, status_of, work};
 use std::alloc::{AllocError, Global};
 use std::rt::Runtime;
 use std::thread::Threads;
+
+/// The status of the command of a line on the bytes of its files, with these outputs.
+pub fn status_with(
+    rt: &(impl Runtime + AllocGlobal + Threads + Sync),
+    line: &Line<'_>,
+    files: &[Option<Vec<u8>>],
+    saved: &mut Vec<u8>,
+    out: &mut Output,
+    err: &mut Output,
+) -> u8
+    requires { HasWorkers (asked_by line.now) }
+{
+    let answered = work(
+        rt,
+        rt.alloc(),
+        Look::Plain,
+        line,
+        files,
+        saved,
+        out,
+        err,
+        &mut Nobody,
+    );
+    status_of(answered)
+}
 
 /// What the command of a line prints of the bytes of its files.
 pub fn printed_of(
@@ -18,22 +44,13 @@ pub fn printed_of(
 {
     let alloc = rt.alloc();
     let mut saved = Vec::new(alloc);
-    let (mut out, mut err) = (Vec::new(alloc), Vec::new(alloc));
-    let answered = work(
-        rt,
-        alloc,
-        Look::Plain,
-        line,
-        files,
-        &mut saved,
-        &mut out,
-        &mut err,
-        &mut Nobody,
-    );
+    let mut out = Output::Kept(Vec::new(alloc));
+    let mut err = Output::Kept(Vec::new(alloc));
+    let status = status_with(rt, line, files, &mut saved, &mut out, &mut err);
     Printed {
-        status: status_of(answered),
-        out,
-        err,
+        status,
+        out: out.into_bytes(alloc),
+        err: err.into_bytes(alloc),
         saved: Some(saved),
     }
 }

@@ -9,12 +9,11 @@
 //! - `migrated`: a folder with such files for the check of the opaque text, where they are other ones.
 //! - The files that `args` names. A file that is not there cannot be read by the command either.
 //!
-//! Before the rows it writes a line for each case that `command_rows` and `made_cases` make in code, with its name and what comes of
-//! it. The file `stdout` has what must be written.
+//! Before the rows it writes a line for each case that `command_rows` makes in code, with its name and what comes of it. The file
+//! `stdout` has what must be written.
 #![tactic(auto)]
 
-use command_rows::{RowFailure, Tally, run_rows};
-use std::io;
+use command_rows::{RowFailure, Tally, run_rows, write_cases};
 use std::io::Write;
 use std::process::ExitCode;
 use std::rt::Runtime;
@@ -28,8 +27,7 @@ fn run(
     rt: &(impl Runtime + AllocGlobal + Threads + Sync),
     lines: &mut Vec<u8>,
 ) -> Result<bool, RowFailure> {
-    command_rows::write_cases(rt, lines)?;
-    made_cases::write_cases(rt, rt.alloc(), lines)?;
+    write_cases(rt, lines)?;
     let Tally { alike, different } = run_rows(rt, ROWS, lines)?;
     writeln!(lines, "{alike} rows as wanted, {different} not")?;
     Ok(different == 0)

@@ -88,7 +88,7 @@ fn checked_and_run(
 }
 
 /// Writes whether the workers accept the module and all have met, and whether the threads return, and have met with the collector.
-pub(crate) fn write_meetings(
+pub fn write_meetings(
     rt: &(impl Threads + Sync),
     alloc: Global,
     lines: &mut Vec<u8>,

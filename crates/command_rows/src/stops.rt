@@ -1,20 +1,21 @@
 //! Replays of traces in which an actor stops for good.
+use crate::done::printed_of;
 use crate::texts::{CLAIMER, FOUR, PUBLISHER_AND_CLEARER, module_of};
-use command_line::{Explained, ReplayLine, StepsTold};
-use reports::{STATUS_YES, status_of};
-use run_commands::replay_files;
+use commands::{Explained, Line, ReplayLine, STATUS_YES, StepsTold};
 use std::alloc::{AllocError, Global};
 use std::io;
 use std::io::Write;
+use std::rt::Runtime;
+use std::thread::Threads;
 
-const REPLAY: ReplayLine<'static> = ReplayLine {
+const REPLAY: Line<'static> = Line::Replay(ReplayLine {
     module_path: "module.ll",
     trace_path: "module.trace",
     shapes_path: None,
     steps: StepsTold::NotTold,
     json_path: None,
     explained: Explained::Never,
-};
+});
 
 /// A trace of some functions.
 #[derive(Clone, Copy)]
@@ -51,6 +52,8 @@ const THIRD_CLAIM: Case = Case {
     actors: "00c00cc00ccc00ccccccccccc00",
 };
 
+const CASES: [Case; 4] = [FULL_CYCLE, LATE_FULL_CYCLE, IN_THE_MIDDLE, THIRD_CLAIM];
+
 /// A step of this actor, as a trace has it.
 fn step_of(actor: u8) -> &'static str {
     match actor {
@@ -73,26 +76,39 @@ fn stopped(alloc: Global, case: Case, last: usize, stops: u8) -> Result<Vec<u8>,
 }
 
 /// Whether no step breaks the run of the trace in these files.
-fn is_replayed(alloc: Global, files: &[Option<Vec<u8>>]) -> bool {
-    let answered = replay_files(alloc, REPLAY, files, &mut io::sink(), &mut io::sink());
-    status_of(answered) == STATUS_YES
+fn is_replayed(
+    rt: &(impl Runtime + AllocGlobal + Threads + Sync),
+    files: &[Option<Vec<u8>>],
+) -> bool {
+    let printed = printed_of(rt, &REPLAY, files);
+    let is_replayed = printed.status == STATUS_YES;
+    drop(printed);
+    is_replayed
 }
 
 /// Whether no step breaks the run in which this actor makes no step after this place.
-fn is_sound(alloc: Global, case: Case, last: usize, stops: u8) -> Result<bool, AllocError> {
-    let of_module = module_of(alloc, case.functions)?;
-    let trace = stopped(alloc, case, last, stops)?;
+fn is_sound(
+    rt: &(impl Runtime + AllocGlobal + Threads + Sync),
+    case: Case,
+    last: usize,
+    stops: u8,
+) -> Result<bool, AllocError> {
+    let of_module = module_of(rt.alloc(), case.functions)?;
+    let trace = stopped(rt.alloc(), case, last, stops)?;
     let files = [Some(of_module), Some(trace)];
-    let is_sound = is_replayed(alloc, files.as_slice());
+    let is_sound = is_replayed(rt, files.as_slice());
     drop(files);
     Ok(is_sound)
 }
 
 /// For how many steps of a trace no step breaks the run in which the actor of that step makes no further one.
-fn sound_stops(alloc: Global, case: Case) -> Result<u32, AllocError> {
+fn sound_stops(
+    rt: &(impl Runtime + AllocGlobal + Threads + Sync),
+    case: Case,
+) -> Result<u32, AllocError> {
     let mut sound = 0u32;
     for (last, stops) in case.actors.as_bytes().iter().enumerate() {
-        if is_sound(alloc, case, last, *stops)? {
+        if is_sound(rt, case, last, *stops)? {
             sound = sound.saturating_add(1);
         }
     }
@@ -100,10 +116,13 @@ fn sound_stops(alloc: Global, case: Case) -> Result<u32, AllocError> {
 }
 
 /// Writes for how many steps of each trace its actor may make no further one.
-pub(crate) fn write_stops(alloc: Global, lines: &mut Vec<u8>) -> io::Result<()> {
+pub fn write_stops(
+    rt: &(impl Runtime + AllocGlobal + Threads + Sync),
+    lines: &mut Vec<u8>,
+) -> io::Result<()> {
     write!(lines, "lets_actors_stop_for_good:")?;
-    for case in [FULL_CYCLE, LATE_FULL_CYCLE, IN_THE_MIDDLE, THIRD_CLAIM] {
-        let sound = sound_stops(alloc, case)?;
+    for case in CASES.as_slice() {
+        let sound = sound_stops(rt, *case)?;
         write!(lines, " {sound} of {}", case.actors.len())?;
     }
     writeln!(lines, "")

@@ -13,7 +13,7 @@ const OUT_OF_TURN: u32 = 10;
 
 /// Holds up each piece until all have come. Pieces that are done one after the other never meet.
 #[derive(Drop)]
-pub(crate) struct Meeting {
+pub struct Meeting {
     pieces: u32,
     have_come: AtomicU32,
     have_met: AtomicU32,
@@ -23,7 +23,7 @@ pub(crate) struct Meeting {
 
 impl Meeting {
     /// A gate for this number of pieces.
-    pub(crate) fn of(pieces: u32) -> Meeting {
+    pub fn of(pieces: u32) -> Meeting {
         Meeting {
             pieces,
             have_come: AtomicU32::new(0),
@@ -33,7 +33,7 @@ impl Meeting {
     }
 
     /// Whether each piece has met all others, and then left once.
-    pub(crate) fn is_over(&self) -> bool {
+    pub fn is_over(&self) -> bool {
         self.have_met.load(Ordering::SeqCst) == self.pieces && self.have_left() == self.pieces
     }
 
