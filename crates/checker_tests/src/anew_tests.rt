@@ -7,7 +7,6 @@ use ir_ast::{FuncId, Module};
 use ir_print::print;
 use ir_text::{ReadFault, read};
 use std::alloc::{AllocError, Global};
-use std::test::Fail;
 
 /// What comes before the functions.
 const ITEMS: &str =
@@ -83,95 +82,79 @@ fn are_put_in_place(alloc: Global) -> Result<(bool, bool), AllocError> {
 }
 
 #[test]
-fn puts_a_function_in_its_place(rt: HostRuntime) -> Result<(), Fail> {
+fn puts_a_function_in_its_place(rt: HostRuntime) -> Result<(), AllocError> {
     assert_eq!(rt; are_put_in_place(rt.alloc())?, (true, true));
     Ok(())
 }
 
-/// The fault for which an edit of `@middle` is refused, if it is.
-fn refusal_of(alloc: Global, edit: &str) -> Result<Option<Told>, AllocError> {
-    match after_edit(alloc, edit.as_bytes())? {
-        Edited::Refused(fault) => Ok(Some(told_of_module(&fault))),
-        Edited::Printed(_) | Edited::NoModule => Ok(None),
-    }
-}
-
-/// Edits of `@middle` with the fault of each: another name, before what is missing and before the same name defined twice; another
-/// item; an item after the function; and nothing at all.
-const REFUSED: [(&str, Told); 5] = [
-    ("define void @other() {\n", ("L3", 1, 13)),
-    (LAST, ("L3", 1, 13)),
-    ("@h = global i64 0\n", ("L3", 1, 1)),
-    (TWO_MIDDLES, ("L3", 5, 1)),
-    ("", ("L2", 1, 1)),
-];
-
-/// How many of these edits are refused for the fault beside them, up to the first that is not.
-fn refused(alloc: Global, edits: &[(&str, Told)]) -> Result<usize, AllocError> {
-    for (number, (edit, wanted)) in edits.iter().enumerate() {
-        if refusal_of(alloc, edit)? != Some(*wanted) {
-            return Ok(number);
-        }
-    }
-    Ok(edits.len())
-}
-
-#[test]
-fn refuses_what_is_not_one_function_of_the_name(rt: HostRuntime) -> Result<(), Fail> {
-    assert_eq!(rt; refused(rt.alloc(), REFUSED.as_slice())?, 5);
-    Ok(())
-}
-
-/// What comes before the operand of an edit, in column 13 of its third line.
-const STORES: &str = "define i64 @middle(i64 %a) {\nentry:\n  store i8* ";
-
-/// What comes after it.
-const ENDS: &str = ", i8** null\n  ret i64 %a\n}\n";
-
-/// The fault of an edit, and whether a form is left out that begins with the word of its operand.
-type OperandFault = (Told, bool);
-
-/// The fault of an edit with this operand, if it is refused.
-fn operand_refusal(alloc: Global, operand: &str) -> Result<Option<OperandFault>, AllocError> {
-    let edit = joined(alloc, [STORES, operand, ENDS].as_slice())?;
-    match after_edit(alloc, edit.as_slice())? {
-        Edited::Refused(fault) => Ok(Some((told_of_module(&fault), is_word(&fault, operand)))),
-        Edited::Printed(_) | Edited::NoModule => Ok(None),
-    }
-}
-
-/// Whether a form is left out that begins with this word.
+/// Whether a form is left out that begins with this word; where there is none, whether the fault is another one.
 fn is_word(fault: &ReadFault, wanted: &str) -> bool {
     match fault {
         ReadFault::LeftOut { word, .. } => word.as_slice() == wanted.as_bytes(),
-        _ => false,
+        _ => wanted.is_empty(),
     }
 }
 
-/// Operands with what comes of them: functions before this one, this one and one after it, which are no operands, and an unknown name.
-const REFUSED_OPERANDS: [(&str, OperandFault); 4] = [
-    ("@first", (("L7", 3, 13), true)),
-    ("@middle", (("L7", 3, 13), true)),
-    ("@last", (("L7", 3, 13), true)),
-    ("@nowhere", (("L5", 3, 13), false)),
+/// An edit of `@middle` with its fault, and the word with which the form begins that is left out, if one is.
+type RefusedEdit<'a> = (&'a str, Told, &'a str);
+
+/// Whether an edit of `@middle` is refused so.
+fn is_refused(alloc: Global, refused: RefusedEdit<'_>) -> Result<bool, AllocError> {
+    let (edit, wanted, word) = refused;
+    match after_edit(alloc, edit.as_bytes())? {
+        Edited::Refused(fault) => {
+            let is_alike = told_of_module(&fault) == wanted && is_word(&fault, word);
+            drop(fault);
+            Ok(is_alike)
+        }
+        Edited::Printed(_) | Edited::NoModule => Ok(false),
+    }
+}
+
+/// Another name, before what is missing and before the same name defined twice; another item; an item after the function; nothing at
+/// all; functions before this one, this one and one after it as operands, which they are not; and an unknown name.
+const REFUSED: [RefusedEdit<'static>; 9] = [
+    ("define void @other() {\n", ("L3", 1, 13), ""),
+    (LAST, ("L3", 1, 13), ""),
+    ("@h = global i64 0\n", ("L3", 1, 1), ""),
+    (TWO_MIDDLES, ("L3", 5, 1), ""),
+    ("", ("L2", 1, 1), ""),
+    (
+        "define i64 @middle(i64 %a) {\nentry:\n  store i8* @first, i8** null\n  ret i64 %a\n}\n",
+        ("L7", 3, 13),
+        "@first",
+    ),
+    (
+        "define i64 @middle(i64 %a) {\nentry:\n  store i8* @middle, i8** null\n  ret i64 %a\n}\n",
+        ("L7", 3, 13),
+        "@middle",
+    ),
+    (
+        "define i64 @middle(i64 %a) {\nentry:\n  store i8* @last, i8** null\n  ret i64 %a\n}\n",
+        ("L7", 3, 13),
+        "@last",
+    ),
+    (
+        "define i64 @middle(i64 %a) {\nentry:\n  store i8* @nowhere, i8** null\n  ret i64 %a\n}\n",
+        ("L5", 3, 13),
+        "",
+    ),
 ];
 
-/// How many of these operands are refused for the fault beside them, up to the first that is not.
-fn refused_operands(alloc: Global, operands: &[(&str, OperandFault)]) -> Result<usize, AllocError> {
-    for (number, (operand, wanted)) in operands.iter().enumerate() {
-        if operand_refusal(alloc, operand)? != Some(*wanted) {
-            return Ok(number);
+/// How many of these edits are refused as the table says.
+fn refused(alloc: Global) -> Result<u32, AllocError> {
+    let mut refused = 0u32;
+    for edit in REFUSED {
+        if is_refused(alloc, edit)? {
+            refused = refused.saturating_add(1);
         }
     }
-    Ok(operands.len())
+    Ok(refused)
 }
 
 #[test]
-fn judges_names_by_the_whole_module(rt: HostRuntime) -> Result<(), Fail> {
-    assert_eq!(rt;
-        refused_operands(rt.alloc(), REFUSED_OPERANDS.as_slice())?,
-        4
-    );
+fn refuses_what_is_not_one_function_of_the_name(rt: HostRuntime) -> Result<(), AllocError> {
+    assert_eq!(rt; refused(rt.alloc())?, 9);
     Ok(())
 }
 
@@ -217,7 +200,7 @@ fn edit_fronts(alloc: Global, edit: &str) -> Result<Fronts, AllocError> {
 
 // Without its last line end it is whole.
 #[test]
-fn refuses_each_front_of_a_function(rt: HostRuntime) -> Result<(), Fail> {
+fn refuses_each_front_of_a_function(rt: HostRuntime) -> Result<(), AllocError> {
     let fronts = edit_fronts(rt.alloc(), ANOTHER_MIDDLE)?;
     assert_eq!(rt; fronts, ([0, 0, 0, 1, 0, 0, 0, 0, 0], 223, 0));
     Ok(())

@@ -9,7 +9,6 @@ use ir_ast::Module;
 use ir_text::read;
 use layout::Program;
 use std::alloc::{AllocError, Global};
-use std::test::Fail;
 use trace_text::{TraceFault, read_trace};
 
 /// Reads modules. Their parts are what they define and declare.
@@ -47,31 +46,32 @@ fn module_fronts(alloc: Global, texts: &[&str]) -> Result<Fronts, AllocError> {
     Ok(fronts_of(&Modules { alloc }, text.as_slice()))
 }
 
+/// The fronts of three modules, the last one as a compiler prints it.
+fn all_module_fronts(alloc: Global) -> Result<[Fronts; 3], AllocError> {
+    Ok([
+        module_fronts(alloc, [HEAD, TWO].as_slice())?,
+        module_fronts(alloc, [HEAD, SIX].as_slice())?,
+        module_fronts(alloc, [SIX_AS_PRINTED].as_slice())?,
+    ])
+}
+
 // A module with a line for each item is read where it is cut before or after a line end, and has the items before it. The empty
 // front has none. After the `)` of a declared function a word is read without effect: `d` to `declar` before the four lines
 // that begin with `declare`, and `d` to `defin` before the one that begins with `define`.
-
+//
+// Before the items of the third one are two lines more. After the value of the global `, a` to `, alig` are read, as words without
+// effect, and `, align 8`: five fronts more. After the function comes a line of attributes, with two fronts. Four lines begin with
+// `!`, and are read wherever they are not cut within quotes: at 21, 21, 21 and 10 places, and after three line ends.
 #[test]
-fn reads_each_front_of_a_text(rt: HostRuntime) -> Result<(), Fail> {
-    let fronts = module_fronts(rt.alloc(), [HEAD, TWO].as_slice())?;
-    assert_eq!(rt; fronts, ([1, 2, 2, 8, 8, 8, 8, 7, 1], 516, 0));
-    Ok(())
-}
-
-#[test]
-fn reads_each_front_of_stores(rt: HostRuntime) -> Result<(), Fail> {
-    let fronts = module_fronts(rt.alloc(), [HEAD, SIX].as_slice())?;
-    assert_eq!(rt; fronts, ([1, 2, 2, 8, 8, 8, 8, 7, 1], 664, 0));
-    Ok(())
-}
-
-// Before the items are two lines more. After the value of the global `, a` to `, alig` are read, as words without effect, and
-// `, align 8`: five fronts more. After the function comes a line of attributes, with two fronts. Four lines begin with `!`, and are
-// read wherever they are not cut within quotes: at 21, 21, 21 and 10 places, and after three line ends.
-#[test]
-fn reads_each_front_of_what_a_compiler_prints(rt: HostRuntime) -> Result<(), Fail> {
-    let fronts = module_fronts(rt.alloc(), [SIX_AS_PRINTED].as_slice())?;
-    assert_eq!(rt; fronts, ([5, 2, 7, 8, 8, 8, 8, 7, 80], 977, 0));
+fn reads_each_front_of_modules(rt: HostRuntime) -> Result<(), AllocError> {
+    assert_eq!(rt;
+        all_module_fronts(rt.alloc())?,
+        [
+            ([1, 2, 2, 8, 8, 8, 8, 7, 1], 516, 0),
+            ([1, 2, 2, 8, 8, 8, 8, 7, 1], 664, 0),
+            ([5, 2, 7, 8, 8, 8, 8, 7, 80], 977, 0),
+        ]
+    );
     Ok(())
 }
 
@@ -116,29 +116,35 @@ fn certificate_fronts(
     }
 }
 
+/// The fronts of certificates of three modules, the second one as a compiler prints it, and the third with two functions.
+fn all_certificate_fronts(alloc: Global) -> Result<[Fronts; 3], AllocError> {
+    Ok([
+        certificate_fronts(alloc, [HEAD, SIX].as_slice(), SIX_CERTIFICATES)?,
+        certificate_fronts(
+            alloc,
+            [SIX_AS_PRINTED].as_slice(),
+            SIX_AS_PRINTED_CERTIFICATES,
+        )?,
+        certificate_fronts(
+            alloc,
+            [HEAD, LEAF_AND_TOP].as_slice(),
+            LEAF_AND_TOP_CERTIFICATES,
+        )?,
+    ])
+}
+
 // Certificates without their last line end are whole. Cut before or after the end of the first line, or of a section that is
 // not the last, they have no fault but missing sections.
-
 #[test]
-fn reads_each_front_of_certificates(rt: HostRuntime) -> Result<(), Fail> {
-    let fronts = certificate_fronts(rt.alloc(), [HEAD, SIX].as_slice(), SIX_CERTIFICATES)?;
-    assert_eq!(rt; fronts, ([0, 1, 0, 0, 0, 0, 0, 0, 0], 80, 2));
-    Ok(())
-}
-
-#[test]
-fn reads_each_front_of_certificates_with_numbers(rt: HostRuntime) -> Result<(), Fail> {
-    let texts = [SIX_AS_PRINTED];
-    let fronts = certificate_fronts(rt.alloc(), texts.as_slice(), SIX_AS_PRINTED_CERTIFICATES)?;
-    assert_eq!(rt; fronts, ([0, 1, 0, 0, 0, 0, 0, 0, 0], 78, 2));
-    Ok(())
-}
-
-#[test]
-fn reads_each_front_of_two_certificates(rt: HostRuntime) -> Result<(), Fail> {
-    let texts = [HEAD, LEAF_AND_TOP];
-    let fronts = certificate_fronts(rt.alloc(), texts.as_slice(), LEAF_AND_TOP_CERTIFICATES)?;
-    assert_eq!(rt; fronts, ([0, 0, 1, 0, 0, 0, 0, 0, 0], 65, 4));
+fn reads_each_front_of_certificates(rt: HostRuntime) -> Result<(), AllocError> {
+    assert_eq!(rt;
+        all_certificate_fronts(rt.alloc())?,
+        [
+            ([0, 1, 0, 0, 0, 0, 0, 0, 0], 80, 2),
+            ([0, 1, 0, 0, 0, 0, 0, 0, 0], 78, 2),
+            ([0, 0, 1, 0, 0, 0, 0, 0, 0], 65, 4),
+        ]
+    );
     Ok(())
 }
 
@@ -194,7 +200,7 @@ const IN_THE_MIDDLE: &str =
 
 // Without its last line end it is whole.
 #[test]
-fn reads_each_front_of_a_trace(rt: HostRuntime) -> Result<(), Fail> {
+fn reads_each_front_of_a_trace(rt: HostRuntime) -> Result<(), AllocError> {
     let texts = [HEAD, PUBLISHER_AND_CLEARER];
     let fronts = trace_fronts(rt.alloc(), texts.as_slice(), IN_THE_MIDDLE)?;
     assert_eq!(rt; fronts, ([0, 0, 1, 0, 0, 0, 0, 0, 0], 139, 0));

@@ -1,5 +1,5 @@
-//! Tests of the readers and printers of modules, certificates and traces, of the facts of blocks and of the machine. Each returns
-//! a plain value, which one assertion compares.
+//! Tests of the readers of modules, certificates and traces, and of the facts of blocks. Each returns a plain value, which one
+//! assertion compares.
 #![tactic(auto)]
 
 #[cfg(test)]
@@ -12,12 +12,6 @@ mod faults;
 mod front_tests;
 #[cfg(test)]
 mod fronts;
-#[cfg(test)]
-mod machine_tests;
-#[cfg(test)]
-mod printing_tests;
-#[cfg(test)]
-mod reading_tests;
 #[cfg(test)]
 mod section_tests;
 #[cfg(test)]

@@ -6,7 +6,6 @@ use certificate::{CertFault, Certs, print_cert, read_cert, replace_section};
 use ir_ast::{FuncId, Module};
 use ir_text::read;
 use std::alloc::{AllocError, Global};
-use std::test::Fail;
 
 /// Certificates of `TWO` and `FOUR`.
 const CERTIFICATES: &str =
@@ -99,31 +98,23 @@ fn are_printed(alloc: Global) -> Result<(bool, bool), AllocError> {
 }
 
 #[test]
-fn replaces_the_section_of_this_name(rt: HostRuntime) -> Result<(), Fail> {
+fn replaces_the_section_of_this_name(rt: HostRuntime) -> Result<(), AllocError> {
     assert_eq!(rt; are_printed(rt.alloc())?, (true, true));
     Ok(())
 }
 
-/// The fault for which a section is refused, if it is.
-fn refusal_of(alloc: Global, section: &str) -> Result<Option<Told>, AllocError> {
+/// Whether a section is refused for this fault.
+fn is_refused(alloc: Global, section: &str, wanted: Told) -> Result<bool, AllocError> {
     match outcome_of(alloc, section.as_bytes())? {
-        SectionOutcome::Refused(fault) => Ok(Some(told_of_certificate(fault))),
-        SectionOutcome::Printed(_) | SectionOutcome::NotRead => Ok(None),
+        SectionOutcome::Refused(fault) => Ok(told_of_certificate(fault) == wanted),
+        SectionOutcome::Printed(_) | SectionOutcome::NotRead => Ok(false),
     }
 }
 
-/// How many of these sections are refused for the fault beside them, up to the first that is not.
-fn refused(alloc: Global, sections: &[(&str, Told)]) -> Result<usize, AllocError> {
-    for (number, (section, wanted)) in sections.iter().enumerate() {
-        if refusal_of(alloc, section)? != Some(*wanted) {
-            return Ok(number);
-        }
-    }
-    Ok(sections.len())
-}
-
-/// Sections of another function, of one that is unknown, and of what is no name, with their faults.
-const OTHER_NAMES: [(&str, Told); 3] = [
+/// Sections of another function, of one that is unknown, and of what is no name; a section before another one, one with two ends, and
+/// one after the first line of certificates; a section of a block that is unknown, one without the last block, and one of a block
+/// twice. Each has its fault.
+const REFUSED: [(&str, Told); 9] = [
     (
         "function @two none\nblock %no\nblock %ok\nend\n",
         ("C1", 1, 10),
@@ -133,16 +124,6 @@ const OTHER_NAMES: [(&str, Told); 3] = [
         "function four none\nblock %no\nblock %ok\nend\n",
         ("C1", 1, 10),
     ),
-];
-
-#[test]
-fn refuses_a_section_of_another_name(rt: HostRuntime) -> Result<(), Fail> {
-    assert_eq!(rt; refused(rt.alloc(), OTHER_NAMES.as_slice())?, 3);
-    Ok(())
-}
-
-/// A section before another one, one with two ends, and one after the first line of certificates, with their faults.
-const MORE_THAN_SECTIONS: [(&str, Told); 3] = [
     (
         "function @four may\nblock %no\nblock %ok\nend\nfunction @two none\nblock %no\nblock %ok\nend\n",
         ("C1", 5, 1),
@@ -152,16 +133,6 @@ const MORE_THAN_SECTIONS: [(&str, Told); 3] = [
         "cert 1\nfunction @four may\nblock %no\nblock %ok\nend\n",
         ("C1", 1, 1),
     ),
-];
-
-#[test]
-fn refuses_more_than_one_section(rt: HostRuntime) -> Result<(), Fail> {
-    assert_eq!(rt; refused(rt.alloc(), MORE_THAN_SECTIONS.as_slice())?, 3);
-    Ok(())
-}
-
-/// A section of a block that is unknown, one without the last block, and one of a block twice, with their faults.
-const OTHER_BLOCKS: [(&str, Told); 3] = [
     (
         "function @four may\nblock %no\nblock %yes\nend\n",
         ("C3", 3, 7),
@@ -173,9 +144,20 @@ const OTHER_BLOCKS: [(&str, Told); 3] = [
     ),
 ];
 
+/// How many of these sections are refused for the fault beside them.
+fn refused(alloc: Global) -> Result<u32, AllocError> {
+    let mut refused = 0u32;
+    for (section, wanted) in REFUSED {
+        if is_refused(alloc, section, wanted)? {
+            refused = refused.saturating_add(1);
+        }
+    }
+    Ok(refused)
+}
+
 #[test]
-fn refuses_blocks_that_are_unknown_or_missing(rt: HostRuntime) -> Result<(), Fail> {
-    assert_eq!(rt; refused(rt.alloc(), OTHER_BLOCKS.as_slice())?, 3);
+fn refuses_what_is_not_the_section(rt: HostRuntime) -> Result<(), AllocError> {
+    assert_eq!(rt; refused(rt.alloc())?, 9);
     Ok(())
 }
 
@@ -236,7 +218,7 @@ fn section_fronts(alloc: Global, section: &str) -> Result<Fronts, AllocError> {
 
 // Without its last line end it is whole.
 #[test]
-fn refuses_each_front_of_a_section(rt: HostRuntime) -> Result<(), Fail> {
+fn refuses_each_front_of_a_section(rt: HostRuntime) -> Result<(), AllocError> {
     let fronts = section_fronts(rt.alloc(), SECTION)?;
     assert_eq!(rt; fronts, ([0, 0, 1, 0, 0, 0, 0, 0, 0], 75, 0));
     Ok(())

@@ -1,18 +1,21 @@
 //! What a command prints, compared with what is wanted.
 use crate::row_failure::RowFailure;
-use commands::{STATUS_USAGE, STATUS_YES};
-use made_cases::write_front;
-use std::alloc::Global;
+use std::alloc::{AllocError, Global};
 use std::io::Write;
 use std::rt::Runtime;
 use std::{fs, io};
 
-/// The exit status of a command, and the bytes of its two outputs.
+/// The number of bytes that are shown of a text.
+const SHOWN: usize = 100;
+
+/// The exit status of a command, and the bytes of its two outputs and of the file that it writes.
 #[derive(Drop)]
 pub struct Printed {
     pub status: u8,
     pub out: Vec<u8>,
     pub err: Vec<u8>,
+    /// None of what is wanted where it does not matter.
+    pub saved: Option<Vec<u8>>,
 }
 
 /// Reads an exit status.
@@ -25,91 +28,143 @@ fn status_in(text: &str) -> Result<u8, RowFailure> {
 
 /// Reads the file `status` of a folder.
 fn status_at(rt: &(impl Runtime + AllocGlobal), folder: &str) -> Result<u8, RowFailure> {
-    let path = format!(in rt.alloc(); "{folder}/status")?;
-    let status = fs::read_to_string(rt, path.as_str())?;
-    status_in(status.as_str())
+    let text = needed(rt, folder, "status")?;
+    let status = match str::from_utf8(text.as_slice()) {
+        Ok(text) => status_in(text),
+        Err(_) => Err(RowFailure::Outside),
+    };
+    drop(text);
+    status
 }
 
-/// Reads a file of a folder.
-fn bytes_in(
+/// The bytes of a file of a folder, if it can be read.
+pub fn bytes_of(
+    rt: &(impl Runtime + AllocGlobal),
+    folder: &str,
+    name: &str,
+) -> Result<Option<Vec<u8>>, RowFailure> {
+    let path = format!(in rt.alloc(); "{folder}/{name}")?;
+    let bytes = fs::read(rt, path.as_str());
+    drop(path);
+    match bytes {
+        Ok(bytes) => Ok(Some(bytes)),
+        Err(error) => match RowFailure::from(error) {
+            RowFailure::Memory => Err(RowFailure::Memory),
+            RowFailure::Outside => Ok(None),
+        },
+    }
+}
+
+/// The bytes of a file of a folder, which has to be there.
+pub fn needed(
     rt: &(impl Runtime + AllocGlobal),
     folder: &str,
     name: &str,
 ) -> Result<Vec<u8>, RowFailure> {
-    let path = format!(in rt.alloc(); "{folder}/{name}")?;
-    let bytes = fs::read(rt, path.as_str())?;
-    Ok(bytes)
+    match bytes_of(rt, folder, name)? {
+        Some(bytes) => Ok(bytes),
+        None => Err(RowFailure::Outside),
+    }
+}
+
+/// Whether a text is as wanted. Where the wanted one ends within a line, it is the front of what has to be printed.
+fn is_as_wanted(wanted: &[u8], text: &[u8]) -> bool {
+    match wanted.last() {
+        None | Some(b'\n') => text == wanted,
+        Some(_) => text.starts_with(wanted),
+    }
+}
+
+/// Adds the first bytes of a text, a line end as `\n`.
+fn add_front(lines: &mut Vec<u8>, text: &[u8]) -> Result<(), AllocError> {
+    for byte in text.iter().take(SHOWN) {
+        if *byte == b'\n' {
+            lines.extend_from_slice(b"\\n")?;
+        } else {
+            lines.push(*byte)?;
+        }
+    }
+    Ok(())
+}
+
+/// Writes the wanted and the printed text if they differ.
+fn write_difference(lines: &mut Vec<u8>, name: &str, wanted: &[u8], text: &[u8]) -> io::Result<()> {
+    if is_as_wanted(wanted, text) {
+        return Ok(());
+    }
+    write!(lines, "{name}: wanted '")?;
+    add_front(lines, wanted)?;
+    write!(lines, "', not '")?;
+    add_front(lines, text)?;
+    writeln!(lines, "'")
 }
 
 impl Printed {
-    /// Reads the files `status`, `stdout` and `stderr` of a folder.
+    /// Reads the files `status`, `stdout`, `stderr` and `saved` of a folder. The last one need not be there.
     pub fn read(rt: &(impl Runtime + AllocGlobal), folder: &str) -> Result<Printed, RowFailure> {
         let status = status_at(rt, folder)?;
-        let out = bytes_in(rt, folder, "stdout")?;
-        let err = bytes_in(rt, folder, "stderr")?;
-        Ok(Printed { status, out, err })
+        let out = needed(rt, folder, "stdout")?;
+        let err = needed(rt, folder, "stderr")?;
+        let saved = bytes_of(rt, folder, "saved")?;
+        Ok(Printed {
+            status,
+            out,
+            err,
+            saved,
+        })
     }
 
-    /// A text of `clap`: a fault, or the help or version that was asked for.
-    pub fn of_clap(alloc: Global, text: Vec<u8>, is_fault: bool) -> Printed {
-        if is_fault {
-            Printed {
-                status: STATUS_USAGE,
-                out: Vec::new(alloc),
-                err: text,
-            }
-        } else {
-            Printed {
-                status: STATUS_YES,
-                out: text,
-                err: Vec::new(alloc),
-            }
+    /// What is printed on the standard error before the program ends with this status.
+    pub fn of_error(alloc: Global, status: u8, err: Vec<u8>) -> Printed {
+        Printed {
+            status,
+            out: Vec::new(alloc),
+            err,
+            saved: None,
         }
     }
 
-    fn is_like(&self, other: &Printed) -> bool {
-        self.status == other.status
-            && self.out.as_slice() == other.out.as_slice()
-            && self.err.as_slice() == other.err.as_slice()
+    /// What is printed on the standard output before the program ends with this status.
+    pub fn of_output(alloc: Global, status: u8, out: Vec<u8>) -> Printed {
+        Printed {
+            status,
+            out,
+            err: Vec::new(alloc),
+            saved: None,
+        }
     }
 
     /// Writes the status and both outputs after a name, and ends the line.
-    pub fn write<W: Write>(&self, out: &mut W) -> io::Result<()> {
-        write!(out, ": {} '", self.status)?;
-        write_front(out, self.out.as_slice())?;
-        write!(out, "' '")?;
-        write_front(out, self.err.as_slice())?;
-        writeln!(out, "'")
+    pub fn write(&self, lines: &mut Vec<u8>, name: &str) -> io::Result<()> {
+        write!(lines, "{name}: {} '", self.status)?;
+        add_front(lines, self.out.as_slice())?;
+        write!(lines, "' '")?;
+        add_front(lines, self.err.as_slice())?;
+        writeln!(lines, "'")
     }
 
-    /// Returns whether this is as wanted, and writes what differs in the row of this name.
-    pub fn compare<W: Write>(&self, out: &mut W, name: &str, wanted: &Printed) -> io::Result<bool> {
+    /// What was written to a file, if anything.
+    fn saved(&self) -> &[u8] {
+        match &self.saved {
+            Some(saved) => saved.as_slice(),
+            None => &[],
+        }
+    }
+
+    /// Writes what differs from what is wanted in the row of this name.
+    pub fn compare(&self, wanted: &Printed, name: &str, lines: &mut Vec<u8>) -> io::Result<()> {
         if self.status != wanted.status {
             writeln!(
-                out,
+                lines,
                 "{name}: wanted status {}, not {}",
                 wanted.status, self.status
             )?;
         }
-        write_difference(out, name, wanted.out.as_slice(), self.out.as_slice())?;
-        write_difference(out, name, wanted.err.as_slice(), self.err.as_slice())?;
-        Ok(self.is_like(wanted))
+        write_difference(lines, name, wanted.out.as_slice(), self.out.as_slice())?;
+        write_difference(lines, name, wanted.err.as_slice(), self.err.as_slice())?;
+        match &wanted.saved {
+            Some(saved) => write_difference(lines, name, saved.as_slice(), self.saved()),
+            None => Ok(()),
+        }
     }
-}
-
-/// Writes the wanted and the printed text if they differ.
-fn write_difference<W: Write>(
-    out: &mut W,
-    name: &str,
-    wanted: &[u8],
-    text: &[u8],
-) -> io::Result<()> {
-    if wanted == text {
-        return Ok(());
-    }
-    write!(out, "{name}: wanted '")?;
-    write_front(out, wanted)?;
-    write!(out, "', not '")?;
-    write_front(out, text)?;
-    writeln!(out, "'")
 }

@@ -1,5 +1,5 @@
 //! All rows.
-use crate::compared::compare_row;
+use crate::row::compare_row;
 use crate::row_failure::RowFailure;
 use std::fs;
 use std::io::Write;
@@ -13,41 +13,54 @@ pub struct Tally {
     pub different: u32,
 }
 
-/// Runs the command of a row. A row whose own files cannot be read is not as wanted.
-fn try_row<O: Write>(
+/// Compares what the command of a row prints, and writes what differs. A row whose own files cannot be read is not as wanted.
+fn try_row(
     rt: &(impl Runtime + AllocGlobal + Threads + Sync),
     name: &str,
-    out: &mut O,
-) -> Result<bool, RowFailure> {
-    match compare_row(rt, name, out) {
+    lines: &mut Vec<u8>,
+) -> Result<(), RowFailure> {
+    match compare_row(rt, name, lines) {
         Err(RowFailure::Outside) => {
             writeln!(
-                out,
+                lines,
                 "{name}: wanted the files args, status, stdout and stderr"
             )?;
-            Ok(false)
+            Ok(())
         }
         answer => answer,
     }
 }
 
-/// Runs the rows that the file at this path names, one a line. Returns how many are as wanted, and writes what differs.
-pub fn run_rows<O: Write>(
+/// Runs the rows with these names, one a line. Returns how many are as wanted, and writes what differs.
+fn run_all(
     rt: &(impl Runtime + AllocGlobal + Threads + Sync),
-    path: &str,
-    out: &mut O,
+    names: &str,
+    lines: &mut Vec<u8>,
 ) -> Result<Tally, RowFailure> {
-    let names = fs::read_to_string(rt, path)?;
     let mut tally = Tally {
         alike: 0,
         different: 0,
     };
     for name in names.lines() {
-        if try_row(rt, name, out)? {
+        let before = lines.len();
+        try_row(rt, name, lines)?;
+        if lines.len() == before {
             tally.alike = tally.alike.saturating_add(1);
         } else {
             tally.different = tally.different.saturating_add(1);
         }
     }
     Ok(tally)
+}
+
+/// Runs the rows that the file at this path names, one a line. Returns how many are as wanted, and writes what differs.
+pub fn run_rows(
+    rt: &(impl Runtime + AllocGlobal + Threads + Sync),
+    path: &str,
+    lines: &mut Vec<u8>,
+) -> Result<Tally, RowFailure> {
+    let names = fs::read_to_string(rt, path)?;
+    let tally = run_all(rt, names.as_str(), lines);
+    drop(names);
+    tally
 }

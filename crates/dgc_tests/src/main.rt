@@ -3,16 +3,17 @@
 //!
 //! `rows.txt` names the rows, one a line. The folder `rows/NAME` of a row has these files:
 //! - `args`: the command line after `dgc`, one word a line.
-//! - `status`, `stdout`, `stderr`: the wanted exit status and the wanted bytes of both outputs.
+//! - `status`, `stdout`, `stderr`: the wanted exit status and the wanted bytes of both outputs. Where wanted bytes end within a line,
+//!   more may follow them.
+//! - `saved`: the wanted bytes of the file that the command writes. Without it they do not matter.
 //! - `migrated`: a folder with such files for the check of the opaque text, where they are other ones.
 //! - The files that `args` names. A file that is not there cannot be read by the command either.
 //!
-//! Before the rows it writes a line for each case that `command_rows` and `made_cases` make in code, with its name and what comes of
-//! it. The file `stdout` has what must be written.
+//! Before the rows it writes a line for each case that `command_rows` makes in code, with its name and what comes of it. The file
+//! `stdout` has what must be written.
 #![tactic(auto)]
 
-use command_rows::{RowFailure, Tally, run_rows};
-use std::io;
+use command_rows::{RowFailure, Tally, run_rows, write_cases};
 use std::io::Write;
 use std::process::ExitCode;
 use std::rt::Runtime;
@@ -22,32 +23,34 @@ use std::thread::Threads;
 const ROWS: &str = "rows.txt";
 
 /// Writes what comes of the cases that are made in code. Then runs all rows and writes how many are as wanted. Returns whether all are.
-fn run<O: Write>(
+fn run(
     rt: &(impl Runtime + AllocGlobal + Threads + Sync),
-    out: &mut O,
+    lines: &mut Vec<u8>,
 ) -> Result<bool, RowFailure> {
-    command_rows::write_cases(rt, out)?;
-    made_cases::write_cases(rt, rt.alloc(), out)?;
-    let Tally { alike, different } = run_rows(rt, ROWS, out)?;
-    writeln!(out, "{alike} rows as wanted, {different} not")?;
+    write_cases(rt, lines)?;
+    let Tally { alike, different } = run_rows(rt, ROWS, lines)?;
+    writeln!(lines, "{alike} rows as wanted, {different} not")?;
     Ok(different == 0)
 }
 
-/// Writes why not all rows were run.
-fn write_failure<E: Write>(err: &mut E, failure: RowFailure) -> io::Result<()> {
+/// Why not all rows were run.
+fn text_of(failure: RowFailure) -> &'static str {
     match failure {
-        RowFailure::Memory => writeln!(err, "error memory"),
-        RowFailure::Outside => writeln!(err, "error file {ROWS}"),
+        RowFailure::Memory => "error memory\n",
+        RowFailure::Outside => "error file rows.txt\n",
     }
 }
 
 fn main(rt: HostRuntime) -> ExitCode {
-    match run(&rt, &mut rt.stdout()) {
-        Ok(true) => ExitCode::SUCCESS,
-        Ok(false) => ExitCode::FAILURE,
-        Err(failure) => {
-            let _ = write_failure(&mut rt.stderr(), failure);
-            ExitCode::FAILURE
-        }
+    let mut lines = Vec::new(rt.alloc());
+    let outcome = run(&rt, &mut lines);
+    let written = rt.stdout().write_all(lines.as_slice());
+    drop(lines);
+    if let Err(failure) = outcome {
+        let _ = rt.stderr().write_all(text_of(failure).as_bytes());
+    }
+    match (outcome, written) {
+        (Ok(true), Ok(())) => ExitCode::SUCCESS,
+        _ => ExitCode::FAILURE,
     }
 }

@@ -42,6 +42,10 @@ second_global s first others e = ap (λ (globals : List WordKind). slice_get glo
 pub three_cells : (s : Setup) → s.pools ≡ 2 ∷ [] → cells s ≡ 3
 three_cells s e = ap (λ (pools : List ℕ). cells_in pools) e
 
+-- the globals' cell and a pool of four
+pub five_cells : (s : Setup) → s.pools ≡ 4 ∷ [] → cells s ≡ 5
+five_cells s e = ap (λ (pools : List ℕ). cells_in pools) e
+
 -- a small number fits each operation
 pub small_fits : (todo : Todo) (found : ℕ) → found < 2 ^ 32 → IsAnswer todo found
 small_fits (Reading cell word) found small = tt

@@ -1,2 +1,1 @@
-pub mod Coloured
 pub mod Rootless

@@ -2,21 +2,8 @@
 ghost use Rattle.std.specs.Prelude.{◌≤◌};
 
 use crate::parts::is_ask;
-use colours::{Ask, Colour, DONE, Op, Place, claim_at, colour, mark_at};
+use colours::{Ask, Colour, DONE, Op, Place, colour};
 use handshake::{Safepoint, answer_safepoint};
-
-/// The colours that a mark and a claim write at a stage.
-fn values_at(stage: u8) -> (u64, u64) {
-    (mark_at(u64::from(stage)), claim_at(u64::from(stage)))
-}
-
-#[test]
-fn marks_and_claims_of_the_first_stages(rt: HostRuntime) {
-    assert_eq!(rt;
-        [0, 1, 2, 3, 4, 6].map(values_at),
-        [(0, 1), (2, 1), (2, 1), (2, 3), (4, 3), (4, 5)]
-    );
-}
 
 /// The name of a word's colour in the second cycle.
 fn name_of(word: u64) -> &'static str
@@ -50,66 +37,41 @@ fn asks_for(op: &mut Op, operations: &[(Ask, u32)]) -> bool {
     op.ask().is_none()
 }
 
-#[test]
-fn a_store_marks_both_values_at_the_first_stage(rt: HostRuntime) {
-    assert!(rt;
-        asks_for(
-            &mut Op::write(1, 0, 3, 2),
-            &[
-                (Ask::Load(Place::Word(0, 3)), 5),
-                (Ask::FetchMax(Place::Colour(5), 2), 1),
-                (Ask::FetchMax(Place::Colour(2), 2), 1),
-                (Ask::Store(Place::Word(0, 3), 2), 5),
-            ]
-        )
-    );
+/// A store marks both values at the first stage.
+const STORE: [(Ask, u32); 4] = [
+    (Ask::Load(Place::Word(0, 3)), 5),
+    (Ask::FetchMax(Place::Colour(5), 2), 1),
+    (Ask::FetchMax(Place::Colour(2), 2), 1),
+    (Ask::Store(Place::Word(0, 3), 2), 5),
+];
+
+/// An allocation begins at its hint, here the third of three cells.
+const ALLOCATION: [(Ask, u32); 3] = [
+    (Ask::CompareExchange(Place::Colour(6), 0, 3), 1),
+    (Ask::CompareExchange(Place::Colour(4), 0, 3), 1),
+    (Ask::CompareExchange(Place::Colour(5), 0, 3), 1),
+];
+
+/// A late thread looks twice, and leaves where another stage was posted meanwhile.
+const BEGINNING: [(Ask, u32); 4] = [
+    (Ask::Load(Place::Posted), 4),
+    (Ask::Store(Place::Stage(2), 4), u32::MAX),
+    (Ask::Load(Place::Posted), 5),
+    (Ask::Store(Place::Stage(2), DONE), 4),
+];
+
+/// Whether calls of three kinds ask for these operations.
+fn ask_for_them() -> [bool; 3] {
+    [
+        asks_for(&mut Op::write(1, 0, 3, 2), STORE.as_slice()),
+        asks_for(&mut Op::alloc(3, 4, 3, 2), ALLOCATION.as_slice()),
+        asks_for(&mut Op::begin(2), BEGINNING.as_slice()),
+    ]
 }
 
 #[test]
-fn an_allocation_takes_the_second_cell(rt: HostRuntime) {
-    assert!(rt;
-        asks_for(
-            &mut Op::alloc(3, 4, 2, 0),
-            &[
-                (Ask::CompareExchange(Place::Colour(4), 0, 3), 1),
-                (Ask::CompareExchange(Place::Colour(5), 0, 3), 0),
-            ]
-        )
-    );
-}
-
-#[test]
-fn an_allocation_begins_at_its_hint(rt: HostRuntime) {
-    assert!(rt;
-        asks_for(
-            &mut Op::alloc(3, 4, 3, 2),
-            &[
-                (Ask::CompareExchange(Place::Colour(6), 0, 3), 1),
-                (Ask::CompareExchange(Place::Colour(4), 0, 3), 1),
-                (Ask::CompareExchange(Place::Colour(5), 0, 3), 1),
-            ]
-        )
-    );
-}
-
-#[test]
-fn an_allocation_from_an_empty_pool_tries_nothing(rt: HostRuntime) {
-    assert!(rt; asks_for(&mut Op::alloc(3, 4, 0, 0), &[]));
-}
-
-#[test]
-fn a_late_thread_looks_twice(rt: HostRuntime) {
-    assert!(rt;
-        asks_for(
-            &mut Op::begin(2),
-            &[
-                (Ask::Load(Place::Posted), 4),
-                (Ask::Store(Place::Stage(2), 4), u32::MAX),
-                (Ask::Load(Place::Posted), 5),
-                (Ask::Store(Place::Stage(2), DONE), 4),
-            ]
-        )
-    );
+fn calls_ask_for_their_operations(rt: HostRuntime) {
+    assert_eq!(rt; ask_for_them(), [true, true, true]);
 }
 
 /// Whether a safepoint asks for these operations, and for none after them.

@@ -5,8 +5,6 @@
 #[cfg(test)]
 mod call_tests;
 #[cfg(test)]
-mod collector_tests;
-#[cfg(test)]
 mod cycles;
 #[cfg(test)]
 mod late;

@@ -1,5 +1,5 @@
 //! New heaps, with their tokens.
-ghost use Rattle.std.specs.Prelude.{◌≡◌, ◌<◌, ◌^◌, [], ◌∷◌, true, false, length, IfOk, IfSome};
+ghost use Rattle.std.specs.Prelude.{◌≡◌, ◌<◌, ◌^◌, [], ◌∷◌, true, false, length, IfSome};
 ghost use Rattle.pools.specs.Heap.{IsSetup};
 ghost use Rattle.pools.specs.declared.word_kind.WordKind.TheVariants.{Reference};
 ghost use Rattle.heap_table.specs.Holders.{MayCall, MayBegin};
@@ -10,7 +10,6 @@ use heap_table::{Heap, Mutator, Plan, Sweeper};
 use items::Items;
 use pools::{LayoutId, Layouts, Pools, WordKind};
 use std::alloc::Global;
-use std::test::Fail;
 
 /// The only layout of each heap here.
 pub fn the_layout() -> LayoutId
@@ -20,30 +19,35 @@ pub fn the_layout() -> LayoutId
 }
 
 /// It has no words.
-pub fn one_layout(alloc: Global) -> Result<Layouts, Fail>
-    ensures { IfOk result (λ layouts. layouts ≡ [] ∷ []) }
+pub fn one_layout(alloc: Global) -> Option<Layouts>
+    ensures { IfSome result (λ layouts. layouts ≡ [] ∷ []) }
 {
     let mut layouts = Layouts::new(alloc);
-    layouts.push(Items::new(alloc))?;
-    Ok(layouts)
+    match layouts.push(Items::new(alloc)) {
+        Ok(()) => Some(layouts),
+        Err(_) => None,
+    }
 }
 
 /// A pool of cells of the only layout.
-pub fn pool_of(alloc: Global, layouts: &Layouts, cells: u32) -> Result<Pools, Fail>
+pub fn pool_of(alloc: Global, layouts: &Layouts, cells: u32) -> Option<Pools>
     requires { layouts.now ≡ [] ∷ [] }
-    ensures { IfOk result (λ pools. pools ≡ cells ∷ []) }
+    ensures { IfSome result (λ pools. pools ≡ cells ∷ []) }
 {
-    Ok(Pools::new(alloc, layouts, &[cells])?)
+    match Pools::new(alloc, layouts, &[cells]) {
+        Ok(pools) => Some(pools),
+        Err(_) => None,
+    }
 }
 
 /// The only layout, and a pool of cells of it.
-pub fn ground(alloc: Global, cells: u32) -> Result<(Layouts, Pools), Fail>
-    ensures layouts { IfOk result (λ made. made.0 ≡ [] ∷ []) }
-    ensures pools { IfOk result (λ made. made.1 ≡ cells ∷ []) }
+pub fn ground(alloc: Global, cells: u32) -> Option<(Layouts, Pools)>
+    ensures layouts { IfSome result (λ made. made.0 ≡ [] ∷ []) }
+    ensures pools { IfSome result (λ made. made.1 ≡ cells ∷ []) }
 {
     let layouts = one_layout(alloc)?;
     let pools = pool_of(alloc, &layouts, cells)?;
-    Ok((layouts, pools))
+    Some((layouts, pools))
 }
 
 /// No globals.
@@ -99,21 +103,50 @@ pub fn open<'a>(
     globals: &'a [WordKind],
     threads: u32,
     late: &'a [bool],
-) -> Result<(Heap<'a>, Vec<Mutator>, Sweeper<'a>), Fail>
+) -> Option<(Heap<'a>, Vec<Mutator>, Sweeper<'a>)>
     requires { layouts.now ≡ [] ∷ [] }
-    ensures late { IfOk result (λ made. made.0.setup.late ≡ late.now) }
-    ensures pools { IfOk result (λ made. made.0.setup.pools ≡ pools.now) }
-    ensures globals { IfOk result (λ made. made.0.setup.globals ≡ globals.now) }
-    ensures threads { IfOk result (λ made. made.0.setup.threads ≡ threads) }
-    ensures tokens { IfOk result (λ made. (length made.1.items ≡ threads) × AreNew made.0 0 made.1.items) }
-    ensures sweeper { IfOk result (λ made. IsSweeperOf made.0 made.2) }
+    ensures late { IfSome result (λ made. made.0.setup.late ≡ late.now) }
+    ensures pools { IfSome result (λ made. made.0.setup.pools ≡ pools.now) }
+    ensures globals { IfSome result (λ made. made.0.setup.globals ≡ globals.now) }
+    ensures threads { IfSome result (λ made. made.0.setup.threads ≡ threads) }
+    ensures tokens { IfSome result (λ made. (length made.1.items ≡ threads) × AreNew made.0 0 made.1.items) }
+    ensures sweeper { IfSome result (λ made. IsSweeperOf made.0 made.2) }
 {
     if globals.len() > 2 {
-        return Err(Fail::new("more than two globals"));
+        return None;
     }
     let plan = plan_of(pools, layouts, globals, threads as usize, late);
-    let (heap, mutators, sweeper) = Heap::new(alloc, plan)?;
-    Ok((heap, mutators, sweeper))
+    match Heap::new(alloc, plan) {
+        Ok(opened) => Some(opened),
+        Err(_) => None,
+    }
+}
+
+/// A new heap for one thread, which is not late, with its token and that of the collector.
+pub fn open_for_one<'a>(
+    alloc: Global,
+    layouts: &'a Layouts,
+    pools: &'a Pools,
+    globals: &'a [WordKind],
+) -> Option<(Heap<'a>, Mutator, Sweeper<'a>)>
+    requires { layouts.now ≡ [] ∷ [] }
+    ensures pools { IfSome result (λ made. made.0.setup.pools ≡ pools.now) }
+    ensures globals { IfSome result (λ made. made.0.setup.globals ≡ globals.now) }
+    ensures token { IfSome result (λ made. MayCall made.0 made.1) }
+    ensures log { IfSome result (λ made. made.1.log ≡ []) }
+    ensures sweeper { IfSome result (λ made. IsSweeperOf made.0 made.2) }
+{
+    let (heap, mut mutators, sweeper) = open(alloc, layouts, pools, globals, 1, &[])?;
+    let token = last_token(&heap, &mut mutators);
+    drop(mutators);
+    match token {
+        Some(me) => Some((heap, me, sweeper)),
+        None => {
+            drop(sweeper);
+            drop(heap);
+            None
+        }
+    }
 }
 
 /// The last of the tokens, where no thread is late.

@@ -1,10 +1,9 @@
 //! A thread that finds no memory for a list of its roots, beside the collector.
 ghost use Rattle.std.specs.Prelude.{◌≡◌, ◌<◌, [], ◌∷◌, length};
 ghost use Rattle.heap_table.specs.Holders.{MayCall};
-ghost use Rattle.heap_table.specs.Opening.{AreNew};
 ghost use Rattle.heap_table.specs.Sweepers.{IsSweeperOf};
 
-use crate::opening::{ground, last_token, no_globals, open};
+use crate::opening::{ground, no_globals, open_for_one};
 use crate::steps::turn_on;
 use heap_table::{Heap, Mutator, Sweeper};
 use moves::{Answer, Call, RootsAfter, Runner, WordValue};
@@ -12,7 +11,6 @@ use pools::{Layouts, Pools};
 use runs::Machine;
 use serving::{ServingEnd, serve};
 use std::alloc::{AllocError, Global};
-use std::test::Fail;
 
 /// A thread that asks for one safepoint after another. There is no memory for a list of its roots.
 #[derive(Drop)]
@@ -73,43 +71,22 @@ fn starve(
     (matches!(end, ServingEnd::Memory), sweeper.cycles() > 0)
 }
 
-/// Does this with the last of the tokens.
-fn starve_the_last(
-    alloc: Global,
-    heap: &Heap<'_>,
-    mutators: &mut Vec<Mutator>,
-    sweeper: &mut Sweeper<'_>,
-) -> Result<(bool, bool), Fail>
-    requires present { heap.now.setup.late ≡ [] }
-    requires tokens { AreNew heap.now 0 mutators.old.items }
-    requires sweeper { IsSweeperOf heap.now sweeper.old }
-{
-    match last_token(heap, mutators) {
-        Some(mut me) => {
-            let starved = starve(alloc, heap, &mut me, sweeper);
-            drop(me);
-            Ok(starved)
-        }
-        None => Err(Fail::new("a token")),
-    }
-}
-
-/// Opens a heap for that.
-fn starved_anew(alloc: Global, layouts: &Layouts, pools: &Pools) -> Result<(bool, bool), Fail>
+/// Does this on a new heap.
+fn starved_anew(alloc: Global, layouts: &Layouts, pools: &Pools) -> Option<(bool, bool)>
     requires layouts { layouts.now ≡ [] ∷ [] }
     requires pools { 0 < length pools.now }
 {
     let globals = no_globals();
-    let (heap, mut mutators, mut sweeper) = open(alloc, layouts, pools, &globals, 1, &[])?;
-    let starved = starve_the_last(alloc, &heap, &mut mutators, &mut sweeper);
-    drop(mutators);
+    let (heap, mut me, mut sweeper) = open_for_one(alloc, layouts, pools, &globals)?;
+    let starved = starve(alloc, &heap, &mut me, &mut sweeper);
+    drop(me);
     drop(sweeper);
     drop(heap);
-    starved
+    Some(starved)
 }
 
 /// On a pool of one cell.
-fn starved_of_one_cell(alloc: Global) -> Result<(bool, bool), Fail> {
+fn starved_of_one_cell(alloc: Global) -> Option<(bool, bool)> {
     let (layouts, pools) = ground(alloc, 1)?;
     let starved = starved_anew(alloc, &layouts, &pools);
     drop(pools);
@@ -118,7 +95,6 @@ fn starved_of_one_cell(alloc: Global) -> Result<(bool, bool), Fail> {
 }
 
 #[test]
-fn a_thread_without_memory_holds_up_no_cycle(rt: HostRuntime) -> Result<(), Fail> {
-    assert_eq!(rt; starved_of_one_cell(rt.alloc())?, (true, true));
-    Ok(())
+fn a_thread_without_memory_holds_up_no_cycle(rt: HostRuntime) {
+    assert_eq!(rt; starved_of_one_cell(rt.alloc()), Some((true, true)));
 }

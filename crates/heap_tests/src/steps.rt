@@ -11,8 +11,7 @@ use crate::opening::the_layout;
 use crate::parts::is_turn;
 use colours::Turn;
 use heap_table::{Closed, Heap, Mutator, Sweeper};
-use std::alloc::Global;
-use std::test::Fail;
+use std::alloc::{AllocError, Global};
 use std::thread::{Threads, join_mut};
 
 /// Takes a cell.
@@ -64,53 +63,49 @@ pub fn turn_on(heap: &Heap<'_>, sweeper: &mut Sweeper<'_>, turns: u32)
     }
 }
 
-/// Two threads take a cell each, and write it to a global each.
-pub fn keep_two(
+/// A cell that a thread wrote to its global, and what it read there then; and two more cells that it took.
+pub type Share = ((u32, u64), [u32; 2]);
+
+/// Takes a cell for a global, and then two more.
+pub fn take_share(heap: &Heap<'_>, me: &mut Mutator, word: u32) -> Share
+    requires token { MayCall heap.now me.old }
+    requires layout { 0 < length heap.now.setup.pools }
+    requires word { kind_of heap.now.setup 0 word ≡ Some (Reference 0) }
+    ensures token { MayCall heap.now me.new }
+{
+    (keep_a_cell(heap, me, word), take_two(heap, me))
+}
+
+/// Two threads do so, with a global each.
+pub fn take_shares(
     rt: &impl Threads,
     heap: &Heap<'_>,
     first: &mut Mutator,
     second: &mut Mutator,
-) -> ((u32, u64), (u32, u64))
+) -> (Share, Share)
     requires first { MayCall heap.now first.old }
     requires second { MayCall heap.now second.old }
     requires layout { 0 < length heap.now.setup.pools }
     requires word { kind_of heap.now.setup 0 0 ≡ Some (Reference 0) }
     requires other_word { kind_of heap.now.setup 0 1 ≡ Some (Reference 0) }
-{
-    join_mut(
-        rt,
-        &mut || keep_a_cell(heap, first, 0),
-        &mut || keep_a_cell(heap, second, 1),
-    )
-}
-
-/// Two threads take two cells each.
-pub fn take_four(
-    rt: &impl Threads,
-    heap: &Heap<'_>,
-    first: &mut Mutator,
-    second: &mut Mutator,
-) -> [u32; 4]
-    requires first { MayCall heap.now first.old }
-    requires second { MayCall heap.now second.old }
-    requires layout { 0 < length heap.now.setup.pools }
     ensures first { MayCall heap.now first.new }
     ensures second { MayCall heap.now second.new }
 {
-    let ([a, b], [c, d]) = join_mut(
+    join_mut(
         rt,
-        &mut || -> [u32; 2]
+        &mut || -> Share
             requires token { MayCall heap.now first.now }
             requires layout { 0 < length heap.now.setup.pools }
+            requires word { kind_of heap.now.setup 0 0 ≡ Some (Reference 0) }
             ensures { MayCall heap.entry.now first.exit.now }
-        { take_two(heap, first) },
-        &mut || -> [u32; 2]
+        { take_share(heap, first, 0) },
+        &mut || -> Share
             requires token { MayCall heap.now second.now }
             requires layout { 0 < length heap.now.setup.pools }
+            requires word { kind_of heap.now.setup 0 1 ≡ Some (Reference 0) }
             ensures { MayCall heap.entry.now second.exit.now }
-        { take_two(heap, second) },
-    );
-    [a, b, c, d]
+        { take_share(heap, second, 1) },
+    )
 }
 
 /// Whether this number of next turns of the collector each find the only thread at its first stage.
@@ -163,18 +158,21 @@ pub fn close_one<'a>(
     heap: Heap<'a>,
     me: Mutator,
     sweeper: Sweeper<'_>,
-) -> Result<Closed<'a>, Fail>
+) -> Result<Closed<'a>, AllocError>
     requires token { IsOf heap me }
     requires sweeper { IsSweeperOf heap sweeper }
     ensures { IfOk result (λ closed. closed.setup ≡ heap.entry.setup) }
 {
-    let mut mutators = Vec::new(alloc);
-    mutators.push(me)?;
+    let mutators = vec![in alloc; me]?;
     Ok(heap.close(mutators, sweeper))
 }
 
 /// Two tokens in a list.
-fn listed(alloc: Global, heap: &Heap<'_>, tokens: (Mutator, Mutator)) -> Result<Vec<Mutator>, Fail>
+fn listed(
+    alloc: Global,
+    heap: &Heap<'_>,
+    tokens: (Mutator, Mutator),
+) -> Result<Vec<Mutator>, AllocError>
     requires first { IsOf heap.now tokens.0 }
     requires second { IsOf heap.now tokens.1 }
     ensures { IfOk result (λ list. AreOf heap.now list.items) }
@@ -188,7 +186,7 @@ pub fn close_two<'a>(
     heap: Heap<'a>,
     tokens: (Mutator, Mutator),
     sweeper: Sweeper<'_>,
-) -> Result<Closed<'a>, Fail>
+) -> Result<Closed<'a>, AllocError>
     requires first { IsOf heap tokens.0 }
     requires second { IsOf heap tokens.1 }
     requires sweeper { IsSweeperOf heap sweeper }
@@ -208,10 +206,24 @@ pub fn answer(heap: &Heap<'_>, me: &mut Mutator) -> bool
 
 /// The colours of the cells of a heap of two cells, that of the globals' cell first.
 #[tactic(auto, using(crate::proofs::HeapTokens::three_cells))]
-pub fn colours_of(closed: &Closed<'_>) -> [u64; 3]
+pub fn colours_of_two(closed: &Closed<'_>) -> [u64; 3]
     requires { closed.now.setup.pools ≡ 2 ∷ [] }
 {
     [closed.colour(0), closed.colour(1), closed.colour(2)]
+}
+
+/// Those of a heap of four cells.
+#[tactic(auto, using(crate::proofs::HeapTokens::five_cells))]
+pub fn colours_of_four(closed: &Closed<'_>) -> [u64; 5]
+    requires { closed.now.setup.pools ≡ 4 ∷ [] }
+{
+    [
+        closed.colour(0),
+        closed.colour(1),
+        closed.colour(2),
+        closed.colour(3),
+        closed.colour(4),
+    ]
 }
 
 /// The stage words of two threads.

@@ -1,0 +1,232 @@
+//! A module and its certificate, of which further commands are made.
+use crate::done::{done, printed_of};
+use crate::printed::{Printed, bytes_of};
+use crate::row_failure::RowFailure;
+use commands::{CheckLine, Explained, Line, MakeLine, MigrateLine, Refusals, STATUS_YES, Why};
+use ir_print::print;
+use ir_text::read;
+use std::alloc::{AllocError, Global};
+use std::rt::Runtime;
+use std::thread::Threads;
+
+/// A check of texts that are made.
+pub const CHECK: Line<'static> = Line::Check(CheckLine {
+    module_path: "module.ll",
+    certificate_path: "module.cert",
+    workers: 1,
+    explained: Explained::Never,
+    refusals: Refusals::First,
+});
+
+/// A folder with a module and its certificate.
+#[derive(Clone, Copy)]
+pub struct Certified<'a> {
+    pub folder: &'a str,
+    pub module_path: &'a str,
+    pub certificate_path: &'a str,
+}
+
+/// What a check by three workers prints.
+pub fn checked_by_three(
+    rt: &(impl Runtime + AllocGlobal + Threads + Sync),
+    row: Certified<'_>,
+) -> Result<Printed, RowFailure> {
+    let line = Line::Check(CheckLine {
+        module_path: row.module_path,
+        certificate_path: row.certificate_path,
+        workers: 3,
+        explained: Explained::Never,
+        refusals: Refusals::First,
+    });
+    done(rt, row.folder, &line)
+}
+
+/// A text of the shapes of a certificate, if it has some: its lines between the first one and the first section.
+fn shapes_in(alloc: Global, certificate: &str) -> Result<Option<Vec<u8>>, AllocError> {
+    if !certificate.starts_with("cert 2") {
+        return Ok(None);
+    }
+    let mut shapes = Vec::from_slice(alloc, b"shapes 1\n")?;
+    for line in certificate.lines().skip(1) {
+        if line.starts_with("function") {
+            break;
+        }
+        shapes.extend_from_slice(line.as_bytes())?;
+        shapes.push(b'\n')?;
+    }
+    Ok(Some(shapes))
+}
+
+/// The same of the bytes of a certificate, if it can be read.
+fn shapes_of(alloc: Global, certificate: &Option<Vec<u8>>) -> Result<Option<Vec<u8>>, AllocError> {
+    let Some(bytes) = certificate else {
+        return Ok(None);
+    };
+    match str::from_utf8(bytes.as_slice()) {
+        Ok(text) => shapes_in(alloc, text),
+        Err(_) => Ok(None),
+    }
+}
+
+/// The same of the certificate of a row.
+fn shapes(
+    rt: &(impl Runtime + AllocGlobal),
+    row: Certified<'_>,
+) -> Result<Option<Vec<u8>>, RowFailure> {
+    let certificate = bytes_of(rt, row.folder, row.certificate_path)?;
+    let shapes = shapes_of(rt.alloc(), &certificate);
+    drop(certificate);
+    Ok(shapes?)
+}
+
+/// The module of a row, and this file beside it.
+fn beside(
+    rt: &(impl Runtime + AllocGlobal),
+    row: Certified<'_>,
+    second: Option<Vec<u8>>,
+) -> Result<[Option<Vec<u8>>; 2], RowFailure> {
+    let of_module = bytes_of(rt, row.folder, row.module_path)?;
+    Ok([of_module, second])
+}
+
+/// What `make` prints of the module, with the shapes of its certificate, if that has some.
+fn made(
+    rt: &(impl Runtime + AllocGlobal + Threads + Sync),
+    row: Certified<'_>,
+) -> Result<Printed, RowFailure> {
+    let shapes = shapes(rt, row)?;
+    let shapes_path = if shapes.is_some() {
+        Some("module.shapes")
+    } else {
+        None
+    };
+    let files = beside(rt, row, shapes)?;
+    let line = Line::Make(MakeLine {
+        module_path: row.module_path,
+        shapes_path,
+        why: Why::NotWanted,
+        explained: Explained::Never,
+    });
+    let printed = printed_of(rt, &line, files.as_slice());
+    drop(files);
+    Ok(printed)
+}
+
+/// What a check prints of the module and this certificate.
+fn checked_with(
+    rt: &(impl Runtime + AllocGlobal + Threads + Sync),
+    row: Certified<'_>,
+    certificate: Vec<u8>,
+) -> Result<Printed, RowFailure> {
+    let files = beside(rt, row, Some(certificate))?;
+    let printed = printed_of(rt, &CHECK, files.as_slice());
+    drop(files);
+    Ok(printed)
+}
+
+/// What a check prints of the module and the certificate that is made of it. What is printed in place of the certificate, if there is none.
+pub fn checked_as_made(
+    rt: &(impl Runtime + AllocGlobal + Threads + Sync),
+    row: Certified<'_>,
+) -> Result<Printed, RowFailure> {
+    match text_in(made(rt, row)?) {
+        Ok(certificate) => checked_with(rt, row, certificate),
+        Err(printed) => Ok(printed),
+    }
+}
+
+/// The text that was printed, if the status says so; otherwise what was printed.
+fn text_in(printed: Printed) -> Result<Vec<u8>, Printed> {
+    if printed.status == STATUS_YES {
+        Ok(printed.out)
+    } else {
+        Err(printed)
+    }
+}
+
+/// What `migrate` prints of the module.
+pub fn migrated_module(
+    rt: &(impl Runtime + AllocGlobal + Threads + Sync),
+    row: Certified<'_>,
+) -> Result<Printed, RowFailure> {
+    let line = Line::Migrate(MigrateLine {
+        module_path: row.module_path,
+        certificate_path: None,
+    });
+    done(rt, row.folder, &line)
+}
+
+/// What `migrate` prints of the certificate.
+fn migrated_certificate(
+    rt: &(impl Runtime + AllocGlobal + Threads + Sync),
+    row: Certified<'_>,
+) -> Result<Printed, RowFailure> {
+    let line = Line::Migrate(MigrateLine {
+        module_path: row.module_path,
+        certificate_path: Some(row.certificate_path),
+    });
+    done(rt, row.folder, &line)
+}
+
+/// What a check prints of these two texts.
+fn checked(
+    rt: &(impl Runtime + AllocGlobal + Threads + Sync),
+    of_module: Vec<u8>,
+    certificate: Vec<u8>,
+) -> Printed {
+    let files = [Some(of_module), Some(certificate)];
+    let printed = printed_of(rt, &CHECK, files.as_slice());
+    drop(files);
+    printed
+}
+
+/// What a check prints of this opaque text of the module and the migrated certificate. What is printed in place of one of them, if it is not there.
+pub fn checked_as_migrated(
+    rt: &(impl Runtime + AllocGlobal + Threads + Sync),
+    row: Certified<'_>,
+    migrated: Printed,
+) -> Result<Printed, RowFailure> {
+    if migrated.status != STATUS_YES {
+        return Ok(migrated);
+    }
+    match text_in(migrated_certificate(rt, row)?) {
+        Ok(certificate) => Ok(checked(rt, migrated.out, certificate)),
+        Err(printed) => Ok(printed),
+    }
+}
+
+/// Whether a text of a module is printed as it is, once it is read.
+fn is_printed_again(alloc: Global, text: &[u8]) -> Result<bool, AllocError> {
+    match read(alloc, text) {
+        Ok(of_module) => {
+            let printed = print(alloc, &of_module);
+            drop(of_module);
+            Ok(printed?.as_slice() == text)
+        }
+        Err(_) => Ok(false),
+    }
+}
+
+/// Whether the module is this text.
+fn is_module(
+    rt: &(impl Runtime + AllocGlobal),
+    row: Certified<'_>,
+    text: &[u8],
+) -> Result<bool, RowFailure> {
+    let own = bytes_of(rt, row.folder, row.module_path)?;
+    let is_module = matches!(&own, Some(own) if own.as_slice() == text);
+    drop(own);
+    Ok(is_module)
+}
+
+/// Whether this opaque text of the module is printed as it is, once it is read. Text that has no typed pointer is left as it is.
+pub fn is_opaque_text(
+    rt: &(impl Runtime + AllocGlobal),
+    row: Certified<'_>,
+    text: &[u8],
+) -> Result<bool, RowFailure> {
+    if is_printed_again(rt.alloc(), text)? {
+        return Ok(true);
+    }
+    is_module(rt, row, text)
+}
