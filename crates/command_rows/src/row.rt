@@ -31,8 +31,26 @@ fn compare(
     Ok(compared?)
 }
 
-/// Compares what a check prints of the opaque text of a module and its certificate, and writes what differs. So it does where that text
-/// is printed in another way, once it is read.
+/// Writes where this opaque text of a module is printed in another way, once it is read.
+fn compare_text(
+    rt: &(impl Runtime + AllocGlobal),
+    row: Row<'_>,
+    certified: Certified<'_>,
+    text: &[u8],
+    lines: &mut Vec<u8>,
+) -> Result<(), RowFailure> {
+    if is_opaque_text(rt, certified, text)? {
+        return Ok(());
+    }
+    writeln!(
+        lines,
+        "{}: its opaque text is printed in another way",
+        row.name
+    )?;
+    Ok(())
+}
+
+/// Compares the opaque text of a module, and what a check prints of it and its certificate, and writes what differs.
 fn compare_migrated(
     rt: &(impl Runtime + AllocGlobal + Threads + Sync),
     row: Row<'_>,
@@ -41,15 +59,14 @@ fn compare_migrated(
     lines: &mut Vec<u8>,
 ) -> Result<(), RowFailure> {
     let migrated = migrated_module(rt, certified)?;
-    if !is_opaque_text(rt, certified, migrated.out.as_slice())? {
-        writeln!(
-            lines,
-            "{}: its opaque text is printed in another way",
-            row.name
-        )?;
-    }
-    let printed = checked_as_migrated(rt, certified, migrated)?;
-    compare(printed, wanted, row, lines)
+    let compared = compare_text(rt, row, certified, migrated.out.as_slice(), lines);
+    compare(
+        checked_as_migrated(rt, certified, migrated)?,
+        wanted,
+        row,
+        lines,
+    )?;
+    compared
 }
 
 /// What a check has to print of the opaque text, if the row has a folder for it.

@@ -115,15 +115,24 @@ fn sound_stops(
     Ok(sound)
 }
 
-/// Writes for how many steps of each trace its actor may make no further one.
+/// Writes for how many steps of a trace its actor may make no further one.
+fn write_stop(
+    rt: &(impl Runtime + AllocGlobal + Threads + Sync),
+    case: Case,
+    lines: &mut Vec<u8>,
+) -> io::Result<()> {
+    let sound = sound_stops(rt, case)?;
+    write!(lines, " {sound} of {}", case.actors.len())
+}
+
+/// Writes this for each trace.
 pub fn write_stops(
     rt: &(impl Runtime + AllocGlobal + Threads + Sync),
     lines: &mut Vec<u8>,
 ) -> io::Result<()> {
     write!(lines, "lets_actors_stop_for_good:")?;
     for case in CASES.as_slice() {
-        let sound = sound_stops(rt, *case)?;
-        write!(lines, " {sound} of {}", case.actors.len())?;
+        write_stop(rt, *case, lines)?;
     }
     writeln!(lines, "")
 }
