@@ -7,12 +7,12 @@ ghost use Rattle.replay.specs.Outcomes.{IsOutcome};
 ghost use Rattle.replay.specs.declared.outcome.Outcome.TheVariants as outcome;
 ghost use Rattle.shortening.specs.Shorter.{IsBreaking, kind_of};
 
-use crate::broken_trace::BrokenTrace;
 use crate::kind::{Kind, kind_of};
+use crate::merging::in_fewer_lines;
+use crate::shortening_broken_trace::BrokenTrace;
 use layout::Program;
 use program_runner::SetupFault;
 use replay::{Break, Outcome, replay};
-use schedules::in_fewer_lines;
 use std::alloc::{AllocError, Global};
 use trace_parts::{total, up_to};
 use trace_text::Trace;
