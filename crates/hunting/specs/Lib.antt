@@ -1,1 +1,3 @@
+pub mod Biased
 pub mod Hunts
+pub mod Happened

@@ -1,5 +1,5 @@
 //! What a hunt draws for a thread: numbers, and integers of parameters.
-use biased::below;
+use crate::numbers::below;
 use ir_ast::{IrType, Module, Parameter};
 use machine::wrapped;
 use rand_core::Rng;

@@ -1,9 +1,28 @@
 //! A search for a schedule that breaks a run of a module: it draws the pools, the threads and the steps by itself.
+//! Schedules with few switches, which seeds draw: an actor goes on as long as lots say, or until its rank falls, and switches come more
+//! often around loads, stores, barriers, handshakes, claims and frees, where threads may also stand for long. The first of some seeds whose
+//! schedule breaks its run.
+//! How much happened in the runs of seeds that break none: cells that were claimed and freed, cycles of the collector, and threads that
+//! ended.
 #![tactic(auto)]
 
+mod biased_counting;
+mod biased_drawing;
+mod biased_searching;
+mod changes;
+mod counting;
 mod drawing;
+mod habits;
+mod numbers;
+mod places;
+mod scheduler;
 mod searching;
+mod seen;
 mod starts;
 
+pub use biased_counting::counted_biased;
+pub use biased_searching::{BiasedOutcome, BrokenSeed, biased_trace, first_broken};
+pub use counting::{Happened, counted};
+pub use numbers::below;
 pub use searching::{ALIKE, HuntLimits, HuntReport, Hunted, hunt};
 pub use shortening::{BrokenTrace, ShorterTrace};

@@ -5,8 +5,8 @@ ghost use Rattle.shortening.specs.Shorter.{IsBreaking};
 ghost use Rattle.hunting.specs.Hunts.{IsHunted};
 ghost use Rattle.hunting.specs.declared.searching.Hunted.TheVariants.{Nothing};
 
+use crate::biased_searching::{BiasedOutcome, first_broken};
 use crate::starts::drawn_start;
-use biased::{BiasedOutcome, first_broken};
 use certs::Section;
 use layout::Program;
 use program_runner::SetupFault;

@@ -4,7 +4,7 @@ ghost use Rattle.std.specs.List.{AllByRecursion};
 ghost use Rattle.trace_text.specs.Traces.{IsTraceOf, IsStartOf};
 
 use crate::drawing::{bits_of, integer};
-use biased::below;
+use crate::numbers::below;
 use certs::Section;
 use ir_ast::{FuncId, Function, Module};
 use items::Items;

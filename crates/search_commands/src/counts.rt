@@ -5,7 +5,7 @@ ghost use Rattle.trace_text.specs.Traces.{IsTraceOf};
 
 use crate::chunks::past_seed;
 use command_line::{Draws, Search, SoakLine};
-use happened::{Happened, counted, counted_biased};
+use hunting::{Happened, counted, counted_biased};
 use layout::Program;
 use reports::{Traced, read_traced};
 use std::alloc::Global;

@@ -2,7 +2,7 @@
 use Rattle.std.proofs.Common.{◌≡◌, ◌+◌}
 use Rattle.trace_text.specs.Traces.{step_sum}
 use Rattle.trace_parts.specs.Parts.{AreOfActors}
-use Rattle.biased.proofs.drawing.drawn_steps.Given as goal
+use Rattle.hunting.proofs.biased_drawing.drawn_steps.Given as goal
 
 abbrev pub invariant-loop-left : goal.invariant-loop-left
 invariant-loop-left l = record {

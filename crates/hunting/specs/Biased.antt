@@ -3,8 +3,8 @@ use Rattle.std.specs.Prelude.{ℕ, ◌≡◌, ◌<◌, ◌≤◌}
 use Rattle.layout.specs.Layouts.{LaidOut}
 use Rattle.trace_text.specs.declared.trace.Setup.{Setup}
 use Rattle.shortening.specs.Shorter.{IsBreaking}
-use Rattle.biased.specs.declared.searching.BiasedOutcome.{BiasedOutcome}
-use Rattle.biased.specs.declared.searching.BiasedOutcome.TheVariants.{Broken, Sound}
+use Rattle.hunting.specs.declared.biased_searching.BiasedOutcome.{BiasedOutcome}
+use Rattle.hunting.specs.declared.biased_searching.BiasedOutcome.TheVariants.{Broken, Sound}
 
 -- of the seeds from the first one to one past the last: a trace of one of them, from this setup, whose last step is the first that breaks its run. Where none is found, nothing is said
 abbrev pub IsBiasedOutcome : LaidOut → Setup → (first past : ℕ) → BiasedOutcome → Type 0

@@ -5,9 +5,9 @@ ghost use Rattle.trace_text.specs.Traces.{IsTraceOf};
 ghost use Rattle.program_runner.specs.Setups.{IsSetupFault, HasNoFault, IsCertifiedSetup};
 ghost use Rattle.program_runner.specs.declared.setup_fault.SetupFault.TheVariants as fault;
 ghost use Rattle.shortening.specs.Shorter.{IsBreaking};
-ghost use Rattle.biased.specs.Biased.{IsBiasedOutcome, IsSoundOutcome};
+ghost use Rattle.hunting.specs.Biased.{IsBiasedOutcome, IsSoundOutcome};
 
-use crate::drawing::drawn_steps;
+use crate::biased_drawing::drawn_steps;
 use items::Items;
 use layout::Program;
 use program_runner::SetupFault;

@@ -1,9 +1,9 @@
 -- The counts of one more seed are those of its report.
 use Rattle.std.proofs.Common.{◌≡◌, ◌+◌, IfSome, sym, ap, subst, arith}
 use Rattle.replay.specs.declared.outcome.Report.{Report}
-use Rattle.happened.specs.declared.counting.Happened.{Happened}
-use Rattle.happened.specs.Happened.{IsCounted, IsReportOfSeed, NoSeed, Further}
-use Rattle.happened.proofs.counting.counted.Goals as goal
+use Rattle.hunting.specs.declared.counting.Happened.{Happened}
+use Rattle.hunting.specs.Happened.{IsCounted, IsReportOfSeed, NoSeed, Further}
+use Rattle.hunting.proofs.counting.counted.Goals as goal
 
 pub loop-seed-init : goal.loop-seed-init
 loop-seed-init c =

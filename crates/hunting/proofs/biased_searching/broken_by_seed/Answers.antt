@@ -2,7 +2,7 @@
 use Rattle.std.proofs.Common.{sym, subst}
 use Rattle.program_runner.specs.Setups.{IsCertifiedSetup}
 use Rattle.trace_text.specs.declared.trace.Setup.{Setup}
-use Rattle.biased.proofs.searching.broken_by_seed.Goals as goal
+use Rattle.hunting.proofs.biased_searching.broken_by_seed.Goals as goal
 
 pub returns-clause-safe : goal.returns-clause-safe
 returns-clause-safe c certs is =

@@ -1,7 +1,7 @@
 -- the counts are those of the seeds so far
 use Rattle.std.proofs.Common.{◌≡◌, ◌+◌}
-use Rattle.happened.specs.Happened.{IsCounted}
-use Rattle.happened.proofs.counting.counted.Given as goal
+use Rattle.hunting.specs.Happened.{IsCounted}
+use Rattle.hunting.proofs.counting.counted.Given as goal
 
 abbrev pub invariant-loop-seed : goal.invariant-loop-seed
 invariant-loop-seed l = record {

@@ -7,7 +7,7 @@ use Rattle.replay.specs.Soaks.{actors_drawn}
 use Rattle.replay.specs.declared.outcome.Report.{Report}
 use Rattle.replay.specs.declared.thread_outcome.ThreadOutcome.{ThreadOutcome}
 use Rattle.replay.specs.declared.thread_outcome.ThreadOutcome.TheVariants.{Absent, Returned, Ended, Running}
-use Rattle.happened.specs.declared.counting.Happened.{Happened}
+use Rattle.hunting.specs.declared.counting.Happened.{Happened}
 
 -- the thread returned from its first function, or ended otherwise
 abbrev pub is_ended : ThreadOutcome → Bool

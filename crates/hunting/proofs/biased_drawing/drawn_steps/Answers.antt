@@ -1,5 +1,5 @@
 use Rattle.std.proofs.Common.{◌∙◌, arith}
-use Rattle.biased.proofs.drawing.drawn_steps.Goals as goal
+use Rattle.hunting.proofs.biased_drawing.drawn_steps.Goals as goal
 
 pub loop-left-preserved : goal.loop-left-preserved
 loop-left-preserved c = record {

@@ -4,8 +4,8 @@ ghost use Rattle.trace_text.specs.Traces.{IsTraceOf};
 ghost use Rattle.program_runner.specs.Setups.{IsSetupFault};
 ghost use Rattle.program_runner.specs.declared.setup_fault.SetupFault.TheVariants as fault;
 
+use crate::biased_searching::biased_trace;
 use crate::counting::Happened;
-use biased::biased_trace;
 use layout::Program;
 use program_runner::SetupFault;
 use replay::{Outcome, Report, replay};
