@@ -1,5 +1,9 @@
-//! `dgc_tests`, the program: runs commands of `dgc` on files and compares what they print with what is wanted. `command_rows` says
-//! what is compared.
+//! `dgc_tests`, the program: runs commands of `dgc` on files and compares what they print with what is wanted. Also cases that are made
+//! in code: a text that is too long, outputs that take nothing, replays of traces in which an actor stops for good, and workers and
+//! threads that meet. A line is written of each case.
+//!
+//! Each check is run by one worker and by three. Of each module that is accepted a certificate is made, with which it is accepted too.
+//! It is also migrated with its own certificate, and checked again.
 //!
 //! `rows.txt` names the rows, one a line. The folder `rows/NAME` of a row has these files:
 //! - `args`: the command line after `dgc`, one word a line.
@@ -9,11 +13,27 @@
 //! - `migrated`: a folder with such files for the check of the opaque text, where they are other ones.
 //! - The files that `args` names. A file that is not there cannot be read by the command either.
 //!
-//! Before the rows it writes a line for each case that `command_rows` makes in code, with its name and what comes of it. The file
-//! `stdout` has what must be written.
+//! Before the rows it writes the lines of the cases, each with its name and what comes of it. The file `stdout` has what must be
+//! written.
 #![tactic(auto)]
 
-use command_rows::{RowFailure, Tally, run_rows, write_cases};
+mod accepted;
+mod cases;
+mod command_cases;
+mod done;
+mod meeting;
+mod meetings;
+mod output;
+mod printed;
+mod row;
+mod row_failure;
+mod stops;
+mod tally;
+mod texts;
+
+use crate::cases::write_cases;
+use crate::row_failure::RowFailure;
+use crate::tally::{Tally, run_rows};
 use std::io::Write;
 use std::process::ExitCode;
 use std::rt::Runtime;

@@ -1,9 +1,7 @@
-//! A search for a schedule that breaks a run of a module: it draws the pools, the threads and the steps by itself.
-//! Schedules with few switches, which seeds draw: an actor goes on as long as lots say, or until its rank falls, and switches come more
-//! often around loads, stores, barriers, handshakes, claims and frees, where threads may also stand for long. The first of some seeds whose
-//! schedule breaks its run.
-//! How much happened in the runs of seeds that break none: cells that were claimed and freed, cycles of the collector, and threads that
-//! ended.
+//! Searches for a schedule that breaks a run. Seeds draw schedules with few switches: an actor goes on as long as lots say, or until its
+//! rank falls, and switches come more often around loads, stores, barriers, handshakes, claims and frees, where threads may also stand
+//! for long. A hunt draws the pools and the threads too. Of seeds that break no run it is counted how much happened: cells that were
+//! claimed and freed, cycles of the collector, and threads that ended.
 #![tactic(auto)]
 
 mod biased_counting;

@@ -7,9 +7,9 @@ ghost use Rattle.replay.specs.Outcomes.{IsOutcome};
 ghost use Rattle.replay.specs.declared.outcome.Outcome.TheVariants as outcome;
 ghost use Rattle.shortening.specs.Shorter.{IsBreaking, kind_of};
 
+use crate::breaking::BrokenTrace;
 use crate::kind::{Kind, kind_of};
 use crate::merging::in_fewer_lines;
-use crate::shortening_broken_trace::BrokenTrace;
 use layout::Program;
 use program_runner::SetupFault;
 use replay::{Break, Outcome, replay};

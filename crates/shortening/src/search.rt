@@ -2,10 +2,10 @@
 ghost use Rattle.std.specs.Prelude.{◌≡◌, ◌<◌, ◌≤◌, ◌+◌, IfOk, OnOk};
 ghost use Rattle.shortening.specs.Shorter.{IsBreaking, kind_of};
 
+use crate::breaking::BrokenTrace;
 use crate::change::Change;
 use crate::judging::judged;
 use crate::kind::{Kind, kind_of};
-use crate::shortening_broken_trace::BrokenTrace;
 use layout::Program;
 use std::alloc::{AllocError, Global};
 

@@ -1,6 +1,6 @@
 //! How the steps are told.
 ghost use Rattle.std.specs.Prelude.{OnOk};
-ghost use Rattle.explained_checks.specs.Explained.{GivesText};
+ghost use Rattle.std.specs.Io.KnownBytes.{Appends};
 ghost use Rattle.trace_text.specs.Traces.{IsTraceOf};
 
 use certificate::CertFault;
@@ -178,7 +178,7 @@ pub fn words_of_steps(
 
 /// Writes the words of steps.
 pub fn tell_steps<O: Write>(words: &[u8], out: &mut O) -> io::Result<()>
-    ensures { OnOk result (GivesText (O.contents out.old) (O.contents out.new)) }
+    ensures { OnOk result (Appends (O.contents out.old) (O.contents out.new) words.now) }
 {
     out.write_all(words)
 }
