@@ -15,9 +15,8 @@ use std::alloc::{AllocError, Global};
 use std::io;
 use std::io::Write;
 use std::mem::replace;
-use step_json::{path_of_break, put_json};
 use step_log::StepLog;
-use told_steps::{Steps, Told, put_told};
+use told_steps::{Steps, Told, path_of_break, put_json, put_told};
 use trace_text::TraceFault;
 
 /// How steps are written.

@@ -1,11 +1,14 @@
 //! The lines that say what holds before the first step that is written.
+use crate::events::Event;
 use crate::frames::put_frames_at;
-use crate::lines::{CellLine, StageLine};
+use crate::put_event::Names;
+use crate::shade::Shade;
+use crate::step_json_lines::{CellLine, StageLine};
 use crate::texts::put_line;
+use crate::told::Told;
 use messages::Message;
 use std::alloc::AllocError;
 use step_log::StepLog;
-use told_steps::{Event, Names, Shade, Told};
 
 /// What the words of a cell hold.
 fn words_of(names: &Names, cell: u64) -> Result<Vec<u64>, AllocError> {

@@ -1,10 +1,11 @@
 //! The lines of frames.
-use crate::lines::{FrameLine, Root};
+use crate::paths::put_root_name;
+use crate::put_event::Names;
+use crate::step_json_lines::{FrameLine, Root};
 use crate::texts::{function_name, put_line, text_in};
 use messages::Message;
 use std::alloc::AllocError;
 use step_log::{FrameNote, StepLog};
-use told_steps::{Names, put_root_name};
 
 /// A root slot with what it refers to.
 fn root_of(names: &Names, note: &FrameNote, root: usize, cell: u32) -> Result<Root, AllocError> {

@@ -1,15 +1,19 @@
 //! The lines of steps, after those that come before.
+use crate::events::Event;
 use crate::frames::put_frames;
+use crate::going::{go_on_to, go_to, stretches_to};
 use crate::heads::put_heads;
-use crate::lines::StepLine;
+use crate::heap_view::HeapView;
+use crate::lines::{Texts, put_done};
+use crate::listing::Listing;
+use crate::put_event::Names;
 use crate::state::put_state;
+use crate::step_json_lines::StepLine;
 use crate::texts::{place_name, put_line, text_in, thread_in};
+use crate::told::{Steps, Told};
 use messages::Message;
 use std::alloc::{AllocError, Global};
 use step_log::{LogStep, StepLog};
-use told_steps::{
-    Event, HeapView, Listing, Names, Steps, Texts, Told, go_on_to, go_to, put_done, stretches_to,
-};
 
 /// How many of the last steps are written where no others are asked for.
 const LAST_STEPS: usize = 100_000;

@@ -1,4 +1,6 @@
 //! Parts of the lines.
+use crate::listing::Listing;
+use crate::put_event::Names;
 use ir_ast::FuncId;
 use machine::FramePlace;
 use messages::Message;
@@ -7,7 +9,6 @@ use name_text::Blank;
 use serde::Serialize;
 use serde_json::to_vec;
 use std::alloc::{AllocError, Global};
-use told_steps::{Listing, Names};
 
 /// Writes a line.
 pub fn put_line<T: Serialize>(alloc: Global, out: &mut Message, line: &T) {

@@ -1,6 +1,12 @@
 //! The lines before those of the steps: the run, its break, threads, pools, globals, and the text of the module.
-use crate::lines::{BrokenLine, GlobalLine, PoolLine, RunLine, TextLine, ThreadLine};
+use crate::going::go_to;
+use crate::heap_view::HeapView;
+use crate::listing::Listing;
+use crate::paths::{path_to, put_path_to};
+use crate::put_event::Names;
+use crate::step_json_lines::{BrokenLine, GlobalLine, PoolLine, RunLine, TextLine, ThreadLine};
 use crate::texts::{function_name, put_line, text_in, thread_in};
+use crate::told::Told;
 use ir_ast::{FuncId, SymbolId};
 use messages::Message;
 use moves::Cause;
@@ -10,7 +16,6 @@ use replay::{Break, BreakCause};
 use std::alloc::{AllocError, Global};
 use step_log::StepLog;
 use stepping::Gone;
-use told_steps::{HeapView, Listing, Names, Told, go_to, path_to, put_path_to};
 
 /// How the lines are to be read.
 const FORMAT: u32 = 1;
