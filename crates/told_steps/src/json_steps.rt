@@ -1,15 +1,15 @@
 //! The lines of steps, after those that come before.
 use crate::events::Event;
-use crate::frames::put_frames;
 use crate::going::{go_on_to, go_to, stretches_to};
-use crate::heads::put_heads;
 use crate::heap_view::HeapView;
+use crate::json_frames::put_frames;
+use crate::json_heads::put_heads;
+use crate::json_lines::StepLine;
+use crate::json_state::put_state;
+use crate::json_texts::{place_name, put_line, text_in, thread_in};
 use crate::lines::{Texts, put_done};
 use crate::listing::Listing;
 use crate::put_event::Names;
-use crate::state::put_state;
-use crate::step_json_lines::StepLine;
-use crate::texts::{place_name, put_line, text_in, thread_in};
 use crate::told::{Steps, Told};
 use messages::Message;
 use std::alloc::{AllocError, Global};

@@ -1,10 +1,10 @@
 //! The lines that say what holds before the first step that is written.
 use crate::events::Event;
-use crate::frames::put_frames_at;
+use crate::json_frames::put_frames_at;
+use crate::json_lines::{CellLine, StageLine};
+use crate::json_texts::put_line;
 use crate::put_event::Names;
 use crate::shade::Shade;
-use crate::step_json_lines::{CellLine, StageLine};
-use crate::texts::put_line;
 use crate::told::Told;
 use messages::Message;
 use std::alloc::AllocError;

@@ -1,8 +1,8 @@
 //! The lines of frames.
+use crate::json_lines::{FrameLine, Root};
+use crate::json_texts::{function_name, put_line, text_in};
 use crate::paths::put_root_name;
 use crate::put_event::Names;
-use crate::step_json_lines::{FrameLine, Root};
-use crate::texts::{function_name, put_line, text_in};
 use messages::Message;
 use std::alloc::AllocError;
 use step_log::{FrameNote, StepLog};

@@ -1,11 +1,11 @@
 //! The lines before those of the steps: the run, its break, threads, pools, globals, and the text of the module.
 use crate::going::go_to;
 use crate::heap_view::HeapView;
+use crate::json_lines::{BrokenLine, GlobalLine, PoolLine, RunLine, TextLine, ThreadLine};
+use crate::json_texts::{function_name, put_line, text_in, thread_in};
 use crate::listing::Listing;
 use crate::paths::{path_to, put_path_to};
 use crate::put_event::Names;
-use crate::step_json_lines::{BrokenLine, GlobalLine, PoolLine, RunLine, TextLine, ThreadLine};
-use crate::texts::{function_name, put_line, text_in, thread_in};
 use crate::told::Told;
 use ir_ast::{FuncId, SymbolId};
 use messages::Message;
