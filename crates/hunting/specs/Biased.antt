@@ -2,7 +2,7 @@
 use Rattle.std.specs.Prelude.{ℕ, ◌≡◌, ◌<◌, ◌≤◌}
 use Rattle.layout.specs.Layouts.{LaidOut}
 use Rattle.trace_text.specs.declared.trace.Setup.{Setup}
-use Rattle.shortening.specs.Shorter.{IsBreaking}
+use Rattle.hunting.specs.Shorter.{IsBreaking}
 use Rattle.hunting.specs.declared.biased_searching.BiasedOutcome.{BiasedOutcome}
 use Rattle.hunting.specs.declared.biased_searching.BiasedOutcome.TheVariants.{Broken, Sound}
 

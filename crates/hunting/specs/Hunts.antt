@@ -1,6 +1,6 @@
 -- What a hunt finds.
 use Rattle.layout.specs.Layouts.{LaidOut}
-use Rattle.shortening.specs.Shorter.{IsBreaking}
+use Rattle.hunting.specs.Shorter.{IsBreaking}
 use Rattle.hunting.specs.declared.searching.Hunted.{Hunted}
 use Rattle.hunting.specs.declared.searching.Hunted.TheVariants.{Broken, Nothing}
 

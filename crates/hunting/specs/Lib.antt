@@ -1,3 +1,4 @@
+pub mod Shorter
 pub mod Biased
 pub mod Hunts
 pub mod Happened

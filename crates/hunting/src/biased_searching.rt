@@ -4,15 +4,16 @@ ghost use Rattle.certs.specs.declared.section.Section.{Section};
 ghost use Rattle.trace_text.specs.Traces.{IsTraceOf};
 ghost use Rattle.program_runner.specs.Setups.{IsSetupFault, HasNoFault, IsCertifiedSetup};
 ghost use Rattle.program_runner.specs.declared.setup_fault.SetupFault.TheVariants as fault;
-ghost use Rattle.shortening.specs.Shorter.{IsBreaking};
+ghost use Rattle.hunting.specs.Shorter.{IsBreaking};
 ghost use Rattle.hunting.specs.Biased.{IsBiasedOutcome, IsSoundOutcome};
 
 use crate::biased_drawing::drawn_steps;
+use crate::breaking::BrokenTrace;
+use crate::judging::broken_trace_of;
 use items::Items;
 use layout::Program;
 use program_runner::SetupFault;
 use replay::replay;
-use shortening::{BrokenTrace, broken_trace_of};
 use std::alloc::Global;
 use trace_parts::with_steps;
 use trace_text::{STEP_LIMIT, Trace};

@@ -1,16 +1,17 @@
 //! The search.
 ghost use Rattle.std.specs.Prelude.{◌≡◌, ◌≤◌, IfOk, IfSome};
 ghost use Rattle.trace_text.specs.Traces.{IsTraceOf};
-ghost use Rattle.shortening.specs.Shorter.{IsBreaking};
+ghost use Rattle.hunting.specs.Shorter.{IsBreaking};
 ghost use Rattle.hunting.specs.Hunts.{IsHunted};
 ghost use Rattle.hunting.specs.declared.searching.Hunted.TheVariants.{Nothing};
 
 use crate::biased_searching::{BiasedOutcome, first_broken};
+use crate::breaking::BrokenTrace;
+use crate::shortening::{ShorterTrace, shortened};
 use crate::starts::drawn_start;
 use certs::Section;
 use layout::Program;
 use program_runner::SetupFault;
-use shortening::{BrokenTrace, ShorterTrace, shortened};
 use std::alloc::{AllocError, Global};
 use trace_text::Trace;
 

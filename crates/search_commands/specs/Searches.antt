@@ -21,7 +21,7 @@ use Rattle.program_runner.specs.declared.setup_fault.SetupFault.TheVariants as s
 use Rattle.replay.specs.Soaks.{AreSoundFrom, IsLeastBreak}
 use Rattle.replay.specs.declared.outcome.Break.{Break}
 use Rattle.replay.specs.declared.outcome.SeedBreak.{SeedBreak}
-use Rattle.shortening.specs.Shorter.{IsBreaking, kind_of}
+use Rattle.hunting.specs.Shorter.{IsBreaking, kind_of}
 use Rattle.reports.specs.Files.{HasProgram, IsNoProgram, of_unread}
 use Rattle.reports.specs.Report.{Answer, of_layout_reason, no_memory}
 use Rattle.reports.specs.Said.{Said, OnOutput, OnError, OnBoth, OfCertified}

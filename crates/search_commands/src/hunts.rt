@@ -3,7 +3,7 @@ ghost use Rattle.std.specs.Prelude.{◌≡◌, ◌≤◌, false, is_some, option
 ghost use Rattle.std.specs.Io.KnownBytes.{Appends};
 ghost use Rattle.hunting.specs.Hunts.{IsHunted};
 ghost use Rattle.hunting.specs.declared.searching.Hunted.TheVariants.{Nothing};
-ghost use Rattle.shortening.specs.Shorter.{IsBreaking};
+ghost use Rattle.hunting.specs.Shorter.{IsBreaking};
 ghost use Rattle.reports.specs.Files as spec;
 ghost use Rattle.reports.specs.Files.{HasProgram, IsNoProgram};
 ghost use Rattle.reports.specs.Report.{IsTold};

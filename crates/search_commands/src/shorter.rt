@@ -1,14 +1,14 @@
 //! Shorter traces: how they are saved, and what is printed of them.
 ghost use Rattle.std.specs.Prelude.{◌≡◌, ◌≤◌, IfOk, OnOk, OnErr};
 ghost use Rattle.std.specs.Io.KnownBytes.{Appends};
-ghost use Rattle.shortening.specs.Shorter.{IsBreaking, kind_of};
+ghost use Rattle.hunting.specs.Shorter.{IsBreaking, kind_of};
 ghost use Rattle.trace_text.specs.Print.{trace_shown};
 ghost use Rattle.search_commands.specs.Searches.{IsAdded, IsShorter, shorter_text, tries_text};
 
+use hunting::{BrokenTrace, ShorterTrace, shortened};
 use layout::Program;
 use replay::Break;
 use run_commands::write_break;
-use shortening::{BrokenTrace, ShorterTrace, shortened};
 use std::alloc::{AllocError, Global};
 use std::io;
 use std::io::Write;

@@ -3,7 +3,7 @@ use Rattle.std.proofs.lemmas.Result.{IfOk-weaker}
 use Rattle.program_runner.specs.declared.setup_fault.SetupFault.TheVariants.{Memory}
 use Rattle.trace_text.specs.Print.{trace_shown}
 use Rattle.replay.specs.declared.outcome.SeedBreak.{SeedBreak}
-use Rattle.shortening.specs.Shorter.{kind_of}
+use Rattle.hunting.specs.Shorter.{kind_of}
 use Rattle.reports.specs.Said.{OnOutput, OnError}
 use Rattle.search_commands.specs.Searches.{IsAdded, IsFound, biased_shortened, biased_not_started}
 use Rattle.search_commands.proofs.few_switches.tell_shorter.Goals as goal

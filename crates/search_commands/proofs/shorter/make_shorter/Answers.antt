@@ -1,7 +1,7 @@
 use Rattle.std.proofs.Common.{◌∙◌, ◌≤◌, ap, sym, subst}
 use Rattle.std.proofs.lemmas.Result.{IfOk-weaker}
 use Rattle.replay.specs.declared.outcome.Break.{Break}
-use Rattle.shortening.specs.Shorter.{kind_of}
+use Rattle.hunting.specs.Shorter.{kind_of}
 use Rattle.search_commands.proofs.shorter.make_shorter.Goals as goal
 
 pub returns-in-Ok-clause-kind : goal.returns-in-Ok-clause-kind

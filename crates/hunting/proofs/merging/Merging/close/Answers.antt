@@ -3,7 +3,7 @@ use Rattle.std.specs.List.{AllByRecursion}
 use Rattle.moves.specs.Runs.{IsActor}
 use Rattle.trace_text.specs.declared.trace.Steps.{Steps}
 use Rattle.replay.specs.Lists.{actors_of}
-use Rattle.shortening.proofs.merging.Merging.close.Goals as goal
+use Rattle.hunting.proofs.merging.Merging.close.Goals as goal
 
 pub returns-clause-actors : goal.returns-clause-actors
 returns-clause-actors c = ap actors_of c.in_ok-push.ensures.ok

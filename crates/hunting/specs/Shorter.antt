@@ -10,8 +10,8 @@ use Rattle.replay.specs.declared.outcome.Break.{Break}
 use Rattle.replay.specs.declared.outcome.BreakCause.{BreakCause}
 use Rattle.replay.specs.declared.outcome.BreakCause.TheVariants as cause
 use Rattle.replay.specs.declared.outcome.Outcome.TheVariants.{Broken}
-use Rattle.shortening.specs.declared.kind.Kind.{Kind}
-use Rattle.shortening.specs.declared.kind.Kind.TheVariants.{Wrong, TouchBlue, TouchBirth, ReachBlue, ReachBirth}
+use Rattle.hunting.specs.declared.kind.Kind.{Kind}
+use Rattle.hunting.specs.declared.kind.Kind.TheVariants.{Wrong, TouchBlue, TouchBirth, ReachBlue, ReachBirth}
 
 -- the kind of a cause: what is printed of it but for the cell
 abbrev pub kind_of : BreakCause → Kind

@@ -5,9 +5,9 @@ use Rattle.trace_text.specs.declared.trace.Steps.{Steps}
 use Rattle.moves.specs.declared.actor.Actor.{Actor}
 use Rattle.trace_text.specs.declared.trace.Setup.{Setup}
 use Rattle.replay.specs.Lists.{actors_of, IsFirstBreak}
-use Rattle.shortening.proofs.Drawn.{drawn_breaks, length-actors_drawn}
-use Rattle.shortening.proofs.Merges.{same_trace, length-actors_of}
-use Rattle.shortening.proofs.broken_seed.broken_trace.Goals as goal
+use Rattle.hunting.proofs.Drawn.{drawn_breaks, length-actors_drawn}
+use Rattle.hunting.proofs.Merges.{same_trace, length-actors_of}
+use Rattle.hunting.proofs.broken_seed.broken_trace.Goals as goal
 
 pub returns-in-Ok-clause-is_trace : goal.returns-in-Ok-clause-is_trace
 returns-in-Ok-clause-is_trace c p is =

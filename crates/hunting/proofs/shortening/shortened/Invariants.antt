@@ -1,7 +1,7 @@
 -- what was found so far breaks its run by the same kind of cause, and was found within the tries
 use Rattle.std.proofs.Common.{◌≡◌, ◌≤◌}
-use Rattle.shortening.specs.Shorter.{IsBreaking, kind_of}
-use Rattle.shortening.proofs.search.shortened.Given as goal
+use Rattle.hunting.specs.Shorter.{IsBreaking, kind_of}
+use Rattle.hunting.proofs.shortening.shortened.Given as goal
 
 abbrev pub invariant-loop-turn : goal.invariant-loop-turn
 invariant-loop-turn l = record {

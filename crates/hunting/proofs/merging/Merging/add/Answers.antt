@@ -2,8 +2,8 @@ use Rattle.std.proofs.Common.{[], ◌∷◌, ◌++◌, ◌∙◌, List, ap}
 use Rattle.moves.specs.Runs.{IsActor}
 use Rattle.trace_text.specs.declared.trace.Steps.{Steps}
 use Rattle.replay.specs.Lists.{actors_of}
-use Rattle.shortening.proofs.Merges.{actors_of-append, actors_of-joined, all-append, all-first, all-last}
-use Rattle.shortening.proofs.merging.Merging.add.Goals as goal
+use Rattle.hunting.proofs.Merges.{actors_of-append, actors_of-joined, all-append, all-first, all-last}
+use Rattle.hunting.proofs.merging.Merging.add.Goals as goal
 
 pub returns-in-Some-clause-actors : goal.returns-in-Some-clause-actors
 returns-in-Some-clause-actors c = actors_of-joined c.args.self.now.lines c.args.self.now.last c.args.next c.in-Some.both c.in-Some.ensures.actors

@@ -3,8 +3,8 @@ use Rattle.std.specs.List.{AllByRecursion}
 use Rattle.moves.specs.Runs.{IsActor}
 use Rattle.trace_text.specs.declared.trace.Steps.{Steps}
 use Rattle.replay.specs.Lists.{actors_of}
-use Rattle.shortening.proofs.Merges.{same_trace}
-use Rattle.shortening.proofs.merging.in_fewer_lines.Goals as goal
+use Rattle.hunting.proofs.Merges.{same_trace}
+use Rattle.hunting.proofs.merging.in_fewer_lines.Goals as goal
 
 pub returns-in-Ok-clause-is_trace : goal.returns-in-Ok-clause-is_trace
 returns-in-Ok-clause-is_trace c p is =

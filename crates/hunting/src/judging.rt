@@ -5,7 +5,7 @@ ghost use Rattle.trace_text.specs.Traces.{IsTraceOf};
 ghost use Rattle.program_runner.specs.Setups.{IsCertifiedSetup};
 ghost use Rattle.replay.specs.Outcomes.{IsOutcome};
 ghost use Rattle.replay.specs.declared.outcome.Outcome.TheVariants as outcome;
-ghost use Rattle.shortening.specs.Shorter.{IsBreaking, kind_of};
+ghost use Rattle.hunting.specs.Shorter.{IsBreaking, kind_of};
 
 use crate::breaking::BrokenTrace;
 use crate::kind::{Kind, kind_of};

@@ -8,8 +8,8 @@ use Rattle.moves.specs.Runs.{IsActor}
 use Rattle.moves.specs.declared.actor.Actor.TheVariants as actor
 use Rattle.trace_text.specs.declared.trace.Steps.{Steps}
 use Rattle.replay.specs.Lists.{actors_of}
-use Rattle.shortening.proofs.Merges.{actors_of-append, all-first, all-last}
-use Rattle.shortening.proofs.merging.merged.Goals as goal
+use Rattle.hunting.proofs.Merges.{actors_of-append, all-first, all-last}
+use Rattle.hunting.proofs.merging.merged.Goals as goal
 
 -- no steps of the collector, with which the list begins
 abbrev first : Steps

@@ -1,5 +1,5 @@
 ghost use Rattle.std.specs.Prelude.{◌≡◌};
-ghost use Rattle.shortening.specs.Shorter.{kind_of};
+ghost use Rattle.hunting.specs.Shorter.{kind_of};
 
 use moves::Cause;
 use replay::BreakCause;

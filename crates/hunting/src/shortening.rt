@@ -1,11 +1,11 @@
 //! The search for a shorter trace.
 ghost use Rattle.std.specs.Prelude.{◌≡◌, ◌<◌, ◌≤◌, ◌+◌, IfOk, OnOk};
-ghost use Rattle.shortening.specs.Shorter.{IsBreaking, kind_of};
+ghost use Rattle.hunting.specs.Shorter.{IsBreaking, kind_of};
 
 use crate::breaking::BrokenTrace;
-use crate::change::Change;
 use crate::judging::judged;
 use crate::kind::{Kind, kind_of};
+use crate::shorter_trace::Change;
 use layout::Program;
 use std::alloc::{AllocError, Global};
 
