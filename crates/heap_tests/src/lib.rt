@@ -18,3 +18,5 @@ mod starved;
 mod steps;
 #[cfg(test)]
 mod tests;
+#[cfg(test)]
+mod two_cells;

@@ -108,6 +108,35 @@ pub fn take_shares(
     )
 }
 
+/// Two threads take two cells each.
+pub fn take_four(
+    rt: &impl Threads,
+    heap: &Heap<'_>,
+    first: &mut Mutator,
+    second: &mut Mutator,
+) -> [u32; 4]
+    requires first { MayCall heap.now first.old }
+    requires second { MayCall heap.now second.old }
+    requires layout { 0 < length heap.now.setup.pools }
+    ensures first { MayCall heap.now first.new }
+    ensures second { MayCall heap.now second.new }
+{
+    let ([a, b], [c, d]) = join_mut(
+        rt,
+        &mut || -> [u32; 2]
+            requires token { MayCall heap.now first.now }
+            requires layout { 0 < length heap.now.setup.pools }
+            ensures { MayCall heap.entry.now first.exit.now }
+        { take_two(heap, first) },
+        &mut || -> [u32; 2]
+            requires token { MayCall heap.now second.now }
+            requires layout { 0 < length heap.now.setup.pools }
+            ensures { MayCall heap.entry.now second.exit.now }
+        { take_two(heap, second) },
+    );
+    [a, b, c, d]
+}
+
 /// Whether this number of next turns of the collector each find the only thread at its first stage.
 pub fn are_looks(heap: &Heap<'_>, sweeper: &mut Sweeper<'_>, turns: u32) -> bool
     requires { IsSweeperOf heap.now sweeper.old }
