@@ -2,8 +2,21 @@
 ghost use Rattle.std.specs.Prelude.{◌≤◌};
 
 use crate::parts::is_ask;
-use colours::{Ask, Colour, DONE, Op, Place, colour};
+use colours::{Ask, Colour, DONE, Op, Place, claim_at, colour, mark_at};
 use handshake::{Safepoint, answer_safepoint};
+
+/// The colours that a mark and a claim write at a stage.
+fn values_at(stage: u8) -> (u64, u64) {
+    (mark_at(u64::from(stage)), claim_at(u64::from(stage)))
+}
+
+#[test]
+fn marks_and_claims_of_the_first_stages(rt: HostRuntime) {
+    assert_eq!(rt;
+        [0, 1, 2, 3, 4, 6].map(values_at),
+        [(0, 1), (2, 1), (2, 1), (2, 3), (4, 3), (4, 5)]
+    );
+}
 
 /// The name of a word's colour in the second cycle.
 fn name_of(word: u64) -> &'static str

@@ -12,9 +12,9 @@ use crate::opening::{
     two_references, two_tokens,
 };
 use crate::steps::{
-    Share, are_looks, begin_and_take, close_new, close_one, close_two, colours_of_four,
-    colours_of_two, finish, global, stages_of_two, take, take_shares, take_two, turn_and_answer,
-    turn_on, turns_are,
+    Share, begin_and_take, close_new, close_one, close_two, colours_of_four, colours_of_two,
+    finish, global, stages_of_two, take, take_shares, take_two, turn_and_answer, turn_on,
+    turns_are,
 };
 use colours::{DONE, Turn};
 use heap_table::{Heap, Mutator, Sweeper};
@@ -257,27 +257,15 @@ fn first_turns_without_threads(rt: HostRuntime) {
     assert_eq!(rt; turned_of_one_cell(rt.alloc()), Some((true, (4, 3, 0))));
 }
 
-/// Whether the collector asks a thread that makes no call, and waits for it on and on; and how many sweeps it has made.
-fn waits(heap: &Heap<'_>, sweeper: &mut Sweeper<'_>) -> (bool, u64)
-    requires { IsSweeperOf heap.now sweeper.old }
-    ensures { IsSweeperOf heap.now sweeper.new }
-{
-    let has_asked = turns_are(heap, sweeper, &[Turn::PostStage(1)]);
-    let has_waited = are_looks(heap, sweeper, 9_999);
-    (has_asked && has_waited, sweeper.cycles())
-}
+/// The first cell; whether there was a question each time; and the last three cells.
+type TakenAround = (u32, [bool; 3], ([u32; 2], u32));
 
-/// What `waits` returns; the first cell; whether there was a question each time; and the last three cells.
-type TakenAround = ((bool, u64), u32, [bool; 3], ([u32; 2], u32));
-
-/// The collector waits for the only thread. That takes a cell, answers three stages, each after four turns, and after the rest of the
-/// cycle tries three times.
+/// The only thread takes a cell, answers three stages, each after four turns, and after the rest of the cycle tries three times.
 fn taken_around_a_cycle(heap: &Heap<'_>, me: &mut Mutator, sweeper: &mut Sweeper<'_>) -> TakenAround
     requires token { MayCall heap.now me.old }
     requires sweeper { IsSweeperOf heap.now sweeper.old }
     requires layout { 0 < length heap.now.setup.pools }
 {
-    let waited = waits(heap, sweeper);
     let first = take(heap, me);
     let answered = [
         turn_and_answer(heap, me, sweeper, 4),
@@ -285,12 +273,7 @@ fn taken_around_a_cycle(heap: &Heap<'_>, me: &mut Mutator, sweeper: &mut Sweeper
         turn_and_answer(heap, me, sweeper, 4),
     ];
     turn_on(heap, sweeper, 100);
-    (
-        waited,
-        first,
-        answered,
-        (take_two(heap, me), take(heap, me)),
-    )
+    (first, answered, (take_two(heap, me), take(heap, me)))
 }
 
 /// Opens a heap for that.
@@ -317,10 +300,10 @@ fn taken_of_two_cells(alloc: Global) -> Option<TakenAround> {
 }
 
 #[test]
-fn the_collector_waits_and_tries_begin_after_the_cell_won_last(rt: HostRuntime) {
+fn tries_begin_after_the_cell_won_last(rt: HostRuntime) {
     assert_eq!(rt;
         taken_of_two_cells(rt.alloc()),
-        Some(((true, 0), 1, [true, true, true], ([2, 1], 0)))
+        Some((1, [true, true, true], ([2, 1], 0)))
     );
 }
 

@@ -1,11 +1,14 @@
-//! Two real threads on a pool of two cells.
+//! On a pool of two cells: two real threads, and a thread that makes no call.
 ghost use Rattle.std.specs.Prelude.{◌≡◌, ◌<◌, [], ◌∷◌, length};
 ghost use Rattle.heap_table.specs.Holders.{IsOf, MayCall};
+ghost use Rattle.heap_table.specs.Opening.{AreNew};
 ghost use Rattle.heap_table.specs.Sweepers.{IsSweeperOf};
 
 use crate::opening::{ground, no_globals, open, two_tokens};
-use crate::steps::{close_two, colours_of_two, finish, stages_of_two, take_four};
-use colours::DONE;
+use crate::steps::{
+    are_looks, close_new, close_two, colours_of_two, finish, stages_of_two, take_four, turns_are,
+};
+use colours::{DONE, Turn};
 use heap_table::{Heap, Mutator, Sweeper};
 use pools::{Layouts, Pools};
 use std::alloc::Global;
@@ -91,5 +94,60 @@ fn two_threads_share_two_cells(rt: HostRuntime) {
     assert_eq!(rt;
         shared_of_two_cells(&rt, rt.alloc()),
         Some(([0, 0, 1, 2], (0, [DONE, DONE]), [1, 1, 1]))
+    );
+}
+
+/// Whether the collector asks a thread that makes no call, and waits for it on and on; and how many sweeps it has made.
+fn waits(heap: &Heap<'_>, sweeper: &mut Sweeper<'_>) -> (bool, u64)
+    requires { IsSweeperOf heap.now sweeper.old }
+    ensures { IsSweeperOf heap.now sweeper.new }
+{
+    let has_asked = turns_are(heap, sweeper, &[Turn::PostStage(1)]);
+    let has_waited = are_looks(heap, sweeper, 9_999);
+    (has_asked && has_waited, sweeper.cycles())
+}
+
+/// What `waits` returns; the posted stage and the thread's own; and the colours.
+type Waited = ((bool, u64), (u64, u64), [u64; 3]);
+
+/// What comes of a new heap of one thread, where the collector waits for it.
+fn wait_and_close(heap: Heap<'_>, mutators: Vec<Mutator>, mut sweeper: Sweeper<'_>) -> Waited
+    requires tokens { AreNew heap 0 mutators.items }
+    requires sweeper { IsSweeperOf heap sweeper }
+    requires threads { heap.setup.threads ≡ 1 }
+    requires pools { heap.setup.pools ≡ 2 ∷ [] }
+{
+    let waited = waits(&heap, &mut sweeper);
+    let closed = close_new(heap, mutators, sweeper);
+    let stages = (closed.posted(), closed.stage(0));
+    let colours = colours_of_two(&closed);
+    drop(closed);
+    (waited, stages, colours)
+}
+
+/// Opens that heap.
+fn waited(alloc: Global, layouts: &Layouts, pools: &Pools) -> Option<Waited>
+    requires layouts { layouts.now ≡ [] ∷ [] }
+    requires pools { pools.now ≡ 2 ∷ [] }
+{
+    let globals = no_globals();
+    let (heap, mutators, sweeper) = open(alloc, layouts, pools, &globals, 1, &[])?;
+    Some(wait_and_close(heap, mutators, sweeper))
+}
+
+/// The same, with its ground.
+fn waited_of_two_cells(alloc: Global) -> Option<Waited> {
+    let (layouts, pools) = ground(alloc, 2)?;
+    let made = waited(alloc, &layouts, &pools);
+    drop(pools);
+    drop(layouts);
+    made
+}
+
+#[test]
+fn a_thread_without_a_call_holds_up_no_turn(rt: HostRuntime) {
+    assert_eq!(rt;
+        waited_of_two_cells(rt.alloc()),
+        Some(((true, 0), (1, 0), [1, 0, 0]))
     );
 }
