@@ -53,6 +53,7 @@ impl<'a> StepLog<'a> {
     }
 
     /// Makes the next steps, this number of them or all that are left, and logs them in place of those before.
+    /// Where memory is refused, some of them may have been made, and not all of these are logged.
     pub fn go_on(&mut self, count: usize) -> Result<(), AllocError>
         ensures left { OnOk result (self.new.left ≡ drop count self.old.left) }
         // The log has a step for each of their actors: what it made after the run of those before it.
