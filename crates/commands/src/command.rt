@@ -17,22 +17,24 @@ use explained_checks::{
 use migrate_command::migrate_files;
 use recheck_command::recheck_files;
 use reports::{STATUS_NO, STATUS_UNREADABLE, STATUS_YES};
-use run_commands::{replay_files, run_files};
+use run_commands::run_files;
 use search_commands::{Onlooker, hunt_files, soak_files, tell_happened};
 use std::alloc::{AllocError, Global};
 use std::io;
 use std::io::Write;
 use std::thread::Threads;
 use std::time::Clock;
-use step_commands::{save_steps, tell_steps, words_of_steps};
+use step_commands::{replay_files, tell_steps};
 
-/// Does the command of a line, without explanations. What it asks to write to a file of its own is appended to `saved`.
+/// Does the command of a line, without explanations. What it asks to write to a file of its own is appended to `saved`, and the steps of a
+/// replay that are to be told replace `words`.
 fn answer<O: Write, E: Write>(
     rt: &(impl Threads + Clock + Sync),
     alloc: Global,
     line: &Line<'_>,
     files: &[Option<Vec<u8>>],
     saved: &mut Vec<u8>,
+    words: &mut Vec<u8>,
     out: &mut O,
     err: &mut E,
     onlooker: &mut impl Onlooker,
@@ -45,59 +47,12 @@ fn answer<O: Write, E: Write>(
         Line::Check(asked) => check_files(rt, alloc, asked, files, out, err),
         Line::Make(asked) => make_file(alloc, asked, files, out, err),
         Line::Recheck(asked) => recheck_files(alloc, asked, files, out, err),
-        Line::Replay(asked) => replay_files(alloc, asked, files, out, err),
+        Line::Replay(asked) => replay_files(alloc, asked, files, saved, words, out, err),
         Line::Soak(asked) => soak_files(rt, alloc, asked, files, saved, out, err, onlooker),
         Line::Hunt(asked) => hunt_files(rt, alloc, asked, files, saved, out, err, onlooker),
         Line::Run(asked) => run_files(rt, alloc, asked, files, out, err),
         Line::Explain(asked) => explain_code(asked, out, err),
         Line::Migrate(asked) => migrate_files(alloc, asked, files, out, err),
-    }
-}
-
-/// The steps of a replay in words, if its line asks for that.
-fn words_replayed(
-    alloc: Global,
-    asked: ReplayLine<'_>,
-    files: &[Option<Vec<u8>>],
-) -> Result<Vec<u8>, AllocError> {
-    if asked.steps.is_wanted() {
-        return words_of_steps(alloc, asked, files);
-    }
-    Ok(Vec::new(alloc))
-}
-
-/// Appends the steps of a replay as JSON, if its line asks for that.
-fn save_replayed(
-    alloc: Global,
-    asked: ReplayLine<'_>,
-    files: &[Option<Vec<u8>>],
-    saved: &mut Vec<u8>,
-) -> Result<(), AllocError>
-    ensures { is_some (save_of (asked_by (Replay asked.entry))) ≡ false → saved.new.items ≡ saved.old.items }
-{
-    if asked.json_path.is_some() {
-        return save_steps(alloc, asked, files, saved);
-    }
-    Ok(())
-}
-
-/// The steps of a command in words, and appended to `saved` as JSON, as far as the line asks for them.
-fn steps_of(
-    alloc: Global,
-    line: &Line<'_>,
-    files: &[Option<Vec<u8>>],
-    saved: &mut Vec<u8>,
-) -> Result<Vec<u8>, AllocError>
-    ensures saved { (after : List ℕ) (said : Said) → OfCommand (asked_by line.now) (spec.file_at files.now) saved.new.items after said
-        → OfCommand (asked_by line.now) (spec.file_at files.now) saved.old.items after said }
-    ensures kept { is_some (save_of (asked_by line.now)) ≡ false → saved.new.items ≡ saved.old.items }
-{
-    match *line {
-        Line::Replay(asked) => {
-            save_replayed(alloc, asked, files, saved)?;
-            words_replayed(alloc, asked, files)
-        }
-        _ => Ok(Vec::new(alloc)),
     }
 }
 
@@ -286,9 +241,9 @@ pub fn work<O: Write, E: Write>(
     ensures said { IfOk result (SaysAndTells (asks_for_steps (asked_by line.now)) (is_explained (asked_by line.now)) (OfCommand (asked_by line.now) (spec.file_at files.now) saved.old.items saved.new.items) (O.contents out.old) (O.contents out.new) (E.contents err.old) (E.contents err.new)) }
     ensures kept { is_some (save_of (asked_by line.now)) ≡ false → saved.new.items ≡ saved.old.items }
 {
-    let steps = steps_of(alloc, line, files, saved)?;
-    let status = answer(rt, alloc, line, files, saved, out, err, onlooker)?;
-    tell(line, status, steps.as_slice(), out)?;
+    let mut words = Vec::new(alloc);
+    let status = answer(rt, alloc, line, files, saved, &mut words, out, err, onlooker)?;
+    tell(line, status, words.as_slice(), out)?;
     explain(alloc, look, line, files, status, err)?;
     Ok(status)
 }

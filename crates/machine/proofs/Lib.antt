@@ -4,3 +4,4 @@ mod Phis
 mod Arguments
 mod Kept
 mod Roots
+mod Waiting

@@ -7,5 +7,6 @@ pub mod Machine
 pub mod Log
 pub mod Start
 pub mod Entered
+pub mod Waiting
 pub mod Endings
 pub mod WrappedFits

@@ -235,7 +235,7 @@ pub fn put(registers: &mut Items<Value>, name: ValueId, value: Value)
 }
 
 /// A value is put in the place of another; past the end nothing is put.
-fn put_at(values: &mut Items<Value>, at: usize, value: Value)
+pub fn put_at(values: &mut Items<Value>, at: usize, value: Value)
     ensures { values.new ≡ slice_set values.old at value }
 {
     if at >= values.len() {

@@ -13,6 +13,7 @@ use crate::entered::Entered;
 use crate::entry::entry_frame;
 use crate::frame::Frame;
 use crate::value::Value;
+use crate::waiting_frame::{WaitingFrame, many_registers};
 use ir_ast::{Argument, End, FuncId, Function, Instr, Module, Op, ValueId};
 use std::alloc::{AllocError, Global};
 use std::mem;
@@ -54,15 +55,21 @@ pub fn with_room(called: Option<FuncId>, below: usize, asked: Action) -> Action
 }
 
 /// A frame is put above the running one, which goes on at the next place once it runs again.
-fn push_frame(running: &mut Frame, below: &mut Vec<Frame>, frame: Frame) -> Result<(), AllocError>
+fn push_frame(
+    alloc: Global,
+    running: &mut Frame,
+    below: &mut Vec<WaitingFrame>,
+    frame: Frame,
+) -> Result<(), AllocError>
     requires { running.old.place + 1 < 2 ^ 64 }
     ensures running { running.new ≡ (if is_ok result then frame else running.old) }
     ensures below { below.new.items ≡ (if is_ok result then below.old.items ++ go_on running.old ∷ [] else below.old.items) }
 {
+    let many = many_registers(alloc, running.registers.as_slice())?;
     below.reserve(1)?;
     let mut caller = mem::replace(running, frame);
     caller.place += 1;
-    below.push(caller)?;
+    below.push(WaitingFrame::new(alloc, caller, many))?;
     Ok(())
 }
 
@@ -100,7 +107,7 @@ fn call(
     alloc: Global,
     entered: &mut Entered<'_>,
     running: &mut Frame,
-    below: &mut Vec<Frame>,
+    below: &mut Vec<WaitingFrame>,
     number: FuncId,
     into: Option<ValueId>,
     arguments: &[Argument],
@@ -129,7 +136,7 @@ fn call(
         into,
         arguments,
     )?;
-    push_frame(running, below, frame)?;
+    push_frame(alloc, running, below, frame)?;
     Ok(true)
 }
 
@@ -174,18 +181,30 @@ fn follow(entered: &mut Entered<'_>, running: &mut Frame, function: &Function, e
 }
 
 /// The running frame is left: its caller's takes the result. Whether there is one.
-fn leave_function(running: &mut Frame, below: &mut Vec<Frame>, value: Value) -> bool
-    ensures frames { frames_unless (not result) running.new (reverse below.new.items) ≡ frames_returned running.old.into value (reverse below.old.items) }
+fn leave_function(
+    alloc: Global,
+    running: &mut Frame,
+    below: &mut Vec<WaitingFrame>,
+    value: Value,
+) -> Result<bool, AllocError>
+    ensures ok { IfOk result (λ goes_on. frames_unless (not goes_on) running.new (reverse below.new.items) ≡ frames_returned running.old.into value (reverse below.old.items)) }
+    ensures err { OnErr result ((running.new ≡ running.old) × (below.new.items ≡ below.old.items)) }
     ensures entered { (tables : List (Option SlotTable)) → WereEntered tables (running.old ∷ below.old.items) → WereEntered tables (running.new ∷ below.new.items) }
 {
-    match below.pop() {
-        Some(caller) => {
+    let Some(caller) = below.pop() else {
+        return Ok(false);
+    };
+    match caller.running(alloc) {
+        Ok(caller) => {
             let into = running.into;
             *running = caller;
             running.set_register(into, value);
-            true
+            Ok(true)
         }
-        None => false,
+        Err(caller) => {
+            below.push(caller)?;
+            Err(AllocError)
+        }
     }
 }
 
@@ -194,7 +213,7 @@ pub fn after_instr(
     alloc: Global,
     entered: &mut Entered<'_>,
     running: &mut Frame,
-    below: &mut Vec<Frame>,
+    below: &mut Vec<WaitingFrame>,
     function: &Function,
     instr: &Instr,
     answer: Answer,
@@ -228,28 +247,30 @@ pub fn after_instr(
 
 /// The thread goes on after the end of a block of its running frame. Whether it has not ended.
 pub fn after_end(
+    alloc: Global,
     entered: &mut Entered<'_>,
     running: &mut Frame,
-    below: &mut Vec<Frame>,
+    below: &mut Vec<WaitingFrame>,
     function: &Function,
     end: &End,
-) -> bool
+) -> Result<bool, AllocError>
     requires entered { WereEntered entered.old.tables (running.old ∷ below.old.items) }
     requires function { slice_get entered.old.program.of_module.functions running.old.function ≡ Some function.now }
     ensures program { entered.new.program ≡ entered.old.program }
     ensures entered { WereEntered entered.new.tables (running.new ∷ below.new.items) }
-    ensures frames { frames_unless (not result) running.new (reverse below.new.items) ≡ after_end entered.old.program function.now running.old (reverse below.old.items) end.now }
+    ensures ok { IfOk result (λ goes_on. frames_unless (not goes_on) running.new (reverse below.new.items) ≡ after_end entered.old.program function.now running.old (reverse below.old.items) end.now) }
+    ensures err { OnErr result ((running.new ≡ running.old) × (below.new.items ≡ below.old.items)) }
 {
     match end {
-        End::Unreachable => false,
+        End::Unreachable => Ok(false),
         End::ReturnVoid | End::Return(_) => {
             let of_module = entered.program().module();
             let value = result_of(of_module, running.registers.as_slice(), end);
-            leave_function(running, below, value)
+            leave_function(alloc, running, below, value)
         }
         End::Jump(_) | End::Branch { .. } | End::Switch { .. } => {
             follow(entered, running, function, end);
-            true
+            Ok(true)
         }
     }
 }

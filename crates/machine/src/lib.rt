@@ -25,6 +25,7 @@ mod numbers;
 mod operands;
 mod thread;
 mod value;
+mod waiting_frame;
 
 pub use action::Action;
 pub use answer::Answer;

@@ -23,6 +23,7 @@ use crate::frames::{above_callers, after_end, after_instr, with_room};
 use crate::integers::wrapped;
 use crate::kinds::{bits_at, is_integer};
 use crate::value::Value;
+use crate::waiting_frame::WaitingFrame;
 use ir_ast::{End, FuncId, Function, Instr, Module, Parameter};
 use layout::Program;
 use std::alloc::{AllocError, Global};
@@ -49,7 +50,7 @@ pub struct Thread<'a> {
     entered: Entered<'a>,
     running: Frame,
     /// The frames that wait below it, the newest last.
-    below: Vec<Frame>,
+    below: Vec<WaitingFrame>,
     ended: bool,
 }
 
@@ -169,7 +170,7 @@ impl<'a> Thread<'a> {
             return Ok(all);
         }
         for frame in &self.below {
-            self.entered.add_roots(frame, &mut all)?;
+            self.entered.add_roots(frame.frame(), &mut all)?;
         }
         self.entered.add_roots(&self.running, &mut all)?;
         Ok(all)
@@ -226,7 +227,7 @@ impl<'a> Thread<'a> {
         let goes_on = match instr_at(function, running.block, running.place) {
             Some(instr) => after_instr(*alloc, entered, running, below, function, instr, answer)?,
             None => match end_at(function, running.block) {
-                Some(end) => after_end(entered, running, below, function, end),
+                Some(end) => after_end(*alloc, entered, running, below, function, end)?,
                 None => true,
             },
         };
@@ -261,16 +262,16 @@ fn first_frame(
     frame
 }
 
-/// A frame of those that run, the newest being number 0.
-fn frame_at<'a>(running: &'a Frame, below: &'a [Frame], frame: usize) -> &'a Frame
+/// A frame of those that run, the newest being number 0; of one that waits all but its registers.
+fn frame_at<'a>(running: &'a Frame, below: &'a [WaitingFrame], frame: usize) -> &'a Frame
     requires { frame ≤ length below.now }
-    ensures frame { slice_get (running.now ∷ reverse below.now) frame ≡ Some result.now }
+    ensures frame { (of : AFrame) → slice_get (running.now ∷ reverse below.now) frame ≡ Some of → of ≡ record result.now { registers = of.registers } }
     ensures entered { (tables : List (Option SlotTable)) → WereEntered tables (running.now ∷ below.now) → WasEntered tables result.now.function }
 {
     if frame == 0 {
         return running;
     }
-    &below[below.len() - frame]
+    below[below.len() - frame].frame()
 }
 
 fn instr_at(function: &Function, block: usize, place: usize) -> Option<&Instr>

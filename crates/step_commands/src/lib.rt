@@ -1,7 +1,7 @@
-//! What `replay` gives besides its answer: the steps of the run, in words and as JSON. The files are read again, and the trace is
-//! replayed for its outcome and for its steps.
+//! The command `replay`: the answer, and the steps of the run, in words and as JSON.
 #![tactic(auto)]
 
+mod replaying;
 mod steps_told;
 
-pub use steps_told::{save_steps, tell_steps, words_of_steps};
+pub use replaying::{replay_files, tell_steps};

@@ -1,23 +1,14 @@
 //! How the steps are told.
-ghost use Rattle.std.specs.Prelude.{OnOk};
-ghost use Rattle.std.specs.Io.KnownBytes.{Appends};
 ghost use Rattle.trace_text.specs.Traces.{IsTraceOf};
 
-use certificate::CertFault;
-use command_line::{ReplayLine, StepsTold};
-use ir_text::ReadFault;
-use layout::LayoutFault;
+use command_line::StepsTold;
 use messages::Message;
-use program_runner::SetupFault;
-use replay::{Outcome, replay};
-use reports::{Traced, Unread, read_traced};
+use replay::Outcome;
+use reports::Traced;
 use std::alloc::{AllocError, Global};
-use std::io;
-use std::io::Write;
 use std::mem::replace;
 use step_log::StepLog;
 use told_steps::{Steps, Told, path_of_break, put_json, put_told};
-use trace_text::TraceFault;
 
 /// How steps are written.
 #[derive(Clone, Copy)]
@@ -111,88 +102,34 @@ fn put_steps(alloc: Global, out: &mut Message, traced: &Traced, outcome: &Outcom
     }
 }
 
-/// Writes the steps of a trace. There are none where a thread may not begin.
-fn put_traced(alloc: Global, out: &mut Message, traced: &Traced, form: Form)
-    requires { IsTraceOf traced.now.program traced.now.trace }
-{
-    match replay(alloc, &traced.program, &traced.trace) {
-        Ok(outcome) => put_steps(alloc, out, traced, &outcome, form),
-        Err(SetupFault::Memory) => out.refuse(),
-        Err(_) => {}
-    }
-}
-
-/// Whether files are not read for want of memory.
-fn finds_no_memory(unread: &Unread<'_>) -> bool {
-    match unread {
-        Unread::NoFile(_) => false,
-        Unread::NoModule(fault) => matches!(fault, ReadFault::Memory),
-        Unread::NoLayouts(refused) => matches!(refused.fault, LayoutFault::Memory),
-        Unread::NoCertificate(_, fault) | Unread::NoEdits(fault) => {
-            matches!(fault, CertFault::Memory)
-        }
-        Unread::NoTrace(fault) => matches!(fault, TraceFault::Memory),
-    }
-}
-
-/// What is told of files that are not read: nothing, unless memory was refused.
-fn put_unread(out: &mut Message, unread: &Unread<'_>) {
-    if finds_no_memory(unread) {
-        out.refuse();
-    }
-}
-
-/// Writes the steps of the files of a line. There are none of files that are not read.
-fn put_files(
-    alloc: Global,
-    out: &mut Message,
-    asked: ReplayLine<'_>,
-    files: &[Option<Vec<u8>>],
-    form: Form,
-) {
-    let paths = (asked.module_path, asked.trace_path, asked.shapes_path);
-    match read_traced(alloc, paths, files) {
-        Ok(traced) => {
-            put_traced(alloc, out, &traced, form);
-            drop(traced);
-        }
-        Err(unread) => {
-            put_unread(out, &unread);
-            drop(unread);
-        }
-    }
-}
-
-/// The steps that a line asks for, in words. They are empty where the files are not read, and where a thread may not begin.
+/// These steps of a trace with this outcome, in words.
 pub fn words_of_steps(
     alloc: Global,
-    asked: ReplayLine<'_>,
-    files: &[Option<Vec<u8>>],
-) -> Result<Vec<u8>, AllocError> {
+    steps: StepsTold,
+    traced: &Traced,
+    outcome: &Outcome,
+) -> Result<Vec<u8>, AllocError>
+    requires { IsTraceOf traced.now.program traced.now.trace }
+{
     let mut words = Message::new(alloc);
-    let form = Form::Words(steps_asked(asked.steps));
-    put_files(alloc, &mut words, asked, files, form);
+    let form = Form::Words(steps_asked(steps));
+    put_steps(alloc, &mut words, traced, outcome, form);
     words.finish()
 }
 
-/// Writes the words of steps.
-pub fn tell_steps<O: Write>(words: &[u8], out: &mut O) -> io::Result<()>
-    ensures { OnOk result (Appends (O.contents out.old) (O.contents out.new) words.now) }
-{
-    out.write_all(words)
-}
-
-/// Appends the steps that a line asks for as JSON. Nothing is appended where the files are not read, and where a thread may not begin.
-/// Where memory is refused, nothing is left.
+/// Appends these steps of a trace with this outcome as JSON. Where memory is refused, nothing is left.
 pub fn save_steps(
     alloc: Global,
-    asked: ReplayLine<'_>,
-    files: &[Option<Vec<u8>>],
+    steps: StepsTold,
+    traced: &Traced,
+    outcome: &Outcome,
     saved: &mut Vec<u8>,
-) -> Result<(), AllocError> {
-    let form = Form::Json(steps_asked(asked.steps));
+) -> Result<(), AllocError>
+    requires { IsTraceOf traced.now.program traced.now.trace }
+{
+    let form = Form::Json(steps_asked(steps));
     let mut lines = Message::after(alloc, replace(saved, Vec::new(alloc)));
-    put_files(alloc, &mut lines, asked, files, form);
+    put_steps(alloc, &mut lines, traced, outcome, form);
     *saved = lines.finish()?;
     Ok(())
 }

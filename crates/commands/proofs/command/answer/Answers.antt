@@ -22,7 +22,10 @@ pub returns-in-Recheck-clause-said : goal.returns-in-Recheck-clause-said
 returns-in-Recheck-clause-said g c = rw c.in-Recheck.is c.recheck_files.ensures
 
 pub returns-in-Replay-clause-said : goal.returns-in-Replay-clause-said
-returns-in-Replay-clause-said g c = rw c.in-Replay.is c.replay_files.ensures
+returns-in-Replay-clause-said g c = rw c.in-Replay.is c.replay_files.ensures.said
+
+pub returns-in-Replay-clause-kept : goal.returns-in-Replay-clause-kept
+returns-in-Replay-clause-kept g c = rw c.in-Replay.is c.replay_files.ensures.kept
 
 pub returns-in-Soak-clause-said : goal.returns-in-Soak-clause-said
 returns-in-Soak-clause-said g c =

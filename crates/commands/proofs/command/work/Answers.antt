@@ -4,4 +4,4 @@ use Rattle.commands.proofs.command.work.Goals as goal
 pub returns-clause-said : goal.returns-clause-said
 returns-clause-said g c =
     let said = c.in_ok-status.ensures.said in
-    (_, _, (said.0, c.in_ok-steps.ensures.saved _ said.0 said.1, said.2), c.in_ok-tell.ensures, c.in_ok-explain.ensures)
+    (_, _, said, c.in_ok-tell.ensures, c.in_ok-explain.ensures)
