@@ -16,7 +16,7 @@ use Rattle.command_line.specs.declared.asked.Refusals.{Refusals}
 use Rattle.command_line.specs.declared.asked.Refusals.TheVariants.{First, OfBlocks}
 use Rattle.command_line.specs.declared.asked.Why.{Why}
 use Rattle.command_line.specs.declared.asked.Why.TheVariants.{Wanted}
-use Rattle.refusals.specs.Refusals.{AreOfFunctions}
+use Rattle.module_check.specs.Refusals.{AreOfFunctions}
 use Rattle.reports.specs.Report.{Answer, line_of, made_text, no, no_answer, no_memory, of_layout_fault, yes}
 use Rattle.reports.specs.Files.{HasShaped, IsNoShaped, of_unread}
 use Rattle.reports.specs.Said.{Said, OnOutput, OnError, OnBoth, OfVerdict}

@@ -1,2 +1,5 @@
 pub mod Checks
 pub mod Explained
+pub mod Migrating
+pub mod Rechecks
+pub mod EditedFiles

@@ -1,11 +1,16 @@
-//! The commands `check`, `make` and `explain`.
+//! The commands on a module and its certificate: `check`, `make`, `recheck` and `migrate`; and `explain`.
 #![tactic(auto)]
 
 mod checking;
+mod codes;
 mod explaining;
 mod making;
+mod migrating;
+mod rechecking;
 mod refusing;
 
 pub use checking::check_files;
 pub use explaining::explain_code;
 pub use making::make_file;
+pub use migrating::migrate_files;
+pub use rechecking::recheck_files;

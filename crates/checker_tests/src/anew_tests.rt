@@ -2,10 +2,9 @@
 use crate::faults::{Told, told_of_module};
 use crate::fronts::{Front, Fronts, NONE, Reader, cut_module, fronts_of};
 use crate::texts::joined;
-use function_text::replace;
 use ir_ast::{FuncId, Module};
 use ir_print::print;
-use ir_text::{ReadFault, read};
+use ir_text::{ReadFault, read, replace};
 use std::alloc::{AllocError, Global};
 
 /// What comes before the functions.

@@ -5,8 +5,8 @@ use Rattle.explained_checks.specs.Explained.{GivesText}
 use Rattle.reports.specs.Said.{Said, OfCertified, Says}
 use Rattle.check_commands.specs.Checks.{OfCerts, OfMake}
 use Rattle.check_commands.specs.Explained.{OfExplain}
-use Rattle.migrate_command.specs.Migrating.{OfMigrate}
-use Rattle.recheck_command.specs.EditedFiles.{OfEditsFile}
+use Rattle.check_commands.specs.Migrating.{OfMigrate}
+use Rattle.check_commands.specs.EditedFiles.{OfEditsFile}
 use Rattle.run_commands.specs.TraceRuns.{OfRun, OfRunCerts, OfTrace}
 use Rattle.search_commands.specs.Searches.{OfHuntFiles, OfSeeds}
 

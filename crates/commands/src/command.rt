@@ -6,7 +6,7 @@ ghost use Rattle.command_line.specs.declared.asked.Line.TheVariants.{Check, Make
 ghost use Rattle.reports.specs.Said.{Said, Says};
 ghost use Rattle.reports.specs.Files as spec;
 
-use check_commands::{check_files, explain_code, make_file};
+use check_commands::{check_files, explain_code, make_file, migrate_files, recheck_files};
 use command_line::{
     CheckLine, Line, MakeLine, RecheckLine, Refusals, ReplayLine, RunLine, SoakLine,
 };
@@ -14,17 +14,14 @@ use explained_checks::{
     Look, explain_check, explain_check_of_blocks, explain_make, explain_recheck, explain_run,
     explain_traced,
 };
-use migrate_command::migrate_files;
-use recheck_command::recheck_files;
 use reports::{STATUS_NO, STATUS_UNREADABLE, STATUS_YES};
-use run_commands::run_files;
+use run_commands::{replay_files, run_files, tell_steps};
 use search_commands::{Onlooker, hunt_files, soak_files, tell_happened};
 use std::alloc::{AllocError, Global};
 use std::io;
 use std::io::Write;
 use std::thread::Threads;
 use std::time::Clock;
-use step_commands::{replay_files, tell_steps};
 
 /// Does the command of a line, without explanations. What it asks to write to a file of its own is appended to `saved`, and the steps of a
 /// replay that are to be told replace `words`.
@@ -242,7 +239,9 @@ pub fn work<O: Write, E: Write>(
     ensures kept { is_some (save_of (asked_by line.now)) ≡ false → saved.new.items ≡ saved.old.items }
 {
     let mut words = Vec::new(alloc);
-    let status = answer(rt, alloc, line, files, saved, &mut words, out, err, onlooker)?;
+    let status = answer(
+        rt, alloc, line, files, saved, &mut words, out, err, onlooker,
+    )?;
     tell(line, status, words.as_slice(), out)?;
     explain(alloc, look, line, files, status, err)?;
     Ok(status)

@@ -10,8 +10,7 @@ use fault_texts::{CheckedTexts, TracedTexts, put_cert_fault, put_layout_fault, p
 use ir_tokens::{TEXT_LIMIT, read_tokens};
 use layout::Program;
 use messages::{Look, Message, NamedText, Pen};
-use module_check::{Reason, UnderCheck, fault_in_module};
-use refusals::first_refusals;
+use module_check::{Reason, UnderCheck, fault_in_module, first_refusals};
 use reports::{Certified, Unread, read_certified};
 use std::alloc::{AllocError, Global};
 use std::io;

@@ -7,9 +7,8 @@ use facts::Known;
 use ir_ast::{Argument, Constant, Element, IrType, Op, Operand, Runtime, TypeId, ValueId};
 use messages::{Ink, Message};
 use name_text::Blank;
-use origins::{Definition, definition_of};
 use pools::{LayoutId, WordKind};
-use scenes::{Scene, There, arguments_of, is_runtime_call, slot_among};
+use scenes::{Definition, Scene, There, arguments_of, definition_of, is_runtime_call, slot_among};
 use types::{part_at, runtime_called};
 
 /// An index of an array that is not known to be small enough.

@@ -14,8 +14,7 @@ use certs::{Claim, Fact};
 use facts::{Facts, SlotFact};
 use ir_ast::{Block, BlockId, End, Function, Incoming, Operand, Phi, ValueId};
 use messages::Message;
-use origins::{Sought, cert_position, local};
-use scenes::{Scene, Spot, put_known};
+use scenes::{Scene, Sought, Spot, cert_position, local, put_known};
 use std::alloc::AllocError;
 use types::target_of;
 

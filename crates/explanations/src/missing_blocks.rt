@@ -7,8 +7,9 @@ use certs::{Age, Fact};
 use facts::{Class, Facts, Known};
 use ir_ast::{BlockId, Function, ValueId};
 use messages::Message;
-use origins::{Definition, block_id, blocks_between, is_missing, leads_to};
-use scenes::{Scene, Spot, put_block, put_claim};
+use scenes::{
+    Definition, Scene, Spot, block_id, blocks_between, is_missing, leads_to, put_block, put_claim,
+};
 use std::alloc::AllocError;
 
 /// How many blocks are named at most.

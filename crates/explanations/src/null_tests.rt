@@ -3,7 +3,7 @@ use crate::edges::decided;
 use crate::nulls::is_value;
 use crate::unknown::instr_in;
 use ir_ast::{BlockId, Comparison, Constant, Function, Instr, NumberOp, Op, Operand, ValueId};
-use origins::{Definition, definition_of};
+use scenes::{Definition, definition_of};
 
 /// Whether one operand is a value, and the other one null.
 fn are_compared(value: ValueId, first: &Operand, second: &Operand) -> bool {

@@ -5,8 +5,7 @@ use crate::unknown::instr_in;
 use crate::write_barrier::spot_of;
 use ir_ast::{Instr, MemoryOp, Op, Operand, ValueId};
 use messages::Message;
-use origins::{Definition, definition_of, local};
-use scenes::{Scene, Spot};
+use scenes::{Definition, Scene, Spot, definition_of, local};
 
 /// Over how many instructions a place is followed back at most.
 const STEPS: usize = 64;

@@ -2,8 +2,7 @@
 use crate::told::Told;
 use ir_ast::{BlockId, Function, Incoming};
 use number_tables::{put, row_or};
-use origins::{block_id, leads_to};
-use scenes::{Scene, There};
+use scenes::{Scene, There, block_id, leads_to};
 use std::alloc::{AllocError, Global};
 use types::target_of;
 

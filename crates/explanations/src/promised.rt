@@ -6,9 +6,8 @@ use certs::{Promise, Section};
 use facts::{Facts, Known};
 use ir_ast::{Call, Constant, End, FuncId, Function, Op, Operand, SymbolSort, ValueId};
 use messages::Message;
-use origins::{Sought, cert_position};
 use pools::LayoutId;
-use scenes::{Scene, There};
+use scenes::{Scene, Sought, There, cert_position};
 
 /// Which word of a promise is not kept.
 #[derive(Clone, Copy)]

@@ -25,10 +25,9 @@ use ir_ast::{Function, Operand, Runtime};
 use layout::Program;
 use messages::{Ink, Message, NamedText, Pen};
 use offered_lines::{Pointers, declare_of};
-use origins::{Sought, local};
 use scenes::{
-    Scene, Source, arguments_of, is_runtime_call, operands_of, place_of, put_known, put_spot,
-    subject_of,
+    Scene, Sought, Source, arguments_of, is_runtime_call, local, operands_of, place_of, put_known,
+    put_spot, subject_of,
 };
 use shadow_stack::slots_of;
 use std::alloc::AllocError;

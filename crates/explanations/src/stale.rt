@@ -8,9 +8,8 @@ use facts::{ClassId, Facts, Known};
 use ir_ast::{Instr, MemoryOp, Op, Operand, Runtime, ValueId};
 use messages::Message;
 use offered_lines::{Unheld, put_new_root_lines, put_slot_name, put_wanted_declare};
-use origins::{Lost, safepoint_before};
 use pools::LayoutId;
-use scenes::{Scene, Spot};
+use scenes::{Lost, Scene, Spot, safepoint_before};
 use std::alloc::AllocError;
 
 fn class_of(facts: &Facts, value: ValueId) -> Option<ClassId> {

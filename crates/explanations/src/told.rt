@@ -2,8 +2,7 @@
 use ir_ast::{BlockId, LocalSort, Op, Operand, TypeId, ValueId};
 use messages::Message;
 use offered_lines::put_type;
-use origins::local;
-use scenes::{Scene, There, put_block, put_function, put_operand, put_symbol};
+use scenes::{Scene, There, local, put_block, put_function, put_operand, put_symbol};
 
 /// The value that an operand names.
 pub fn value_in(operand: Option<Operand>) -> Option<ValueId> {

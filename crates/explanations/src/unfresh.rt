@@ -7,8 +7,7 @@ use diagnosis::{Change, last_change};
 use facts::{ClassId, Facts, Known};
 use ir_ast::{Operand, ValueId};
 use messages::Message;
-use origins::safepoint_before;
-use scenes::{Scene, Spot};
+use scenes::{Scene, Spot, safepoint_before};
 use shadow_stack::SlotId;
 use std::alloc::AllocError;
 

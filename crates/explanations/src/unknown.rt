@@ -6,8 +6,9 @@ use crate::told::{Told, put_text};
 use certs::{Claim, Fact};
 use ir_ast::{BlockId, Function, Instr, Op, ValueId};
 use messages::Message;
-use origins::{Definition, Sought, cert_position, claim_after, definition_of, is_bypassed};
-use scenes::{Scene, Spot};
+use scenes::{
+    Definition, Scene, Sought, Spot, cert_position, claim_after, definition_of, is_bypassed,
+};
 use std::alloc::AllocError;
 
 /// Why nothing is known of a value.

@@ -7,9 +7,8 @@ use ir_ast::{Block, BlockId, Instr, MemoryOp, Op, Operand, Runtime, ValueId};
 use messages::Message;
 use name_text::Blank;
 use offered_lines::{Slot, put_root_lines, put_wanted_declare};
-use origins::block_id;
 use pools::LayoutId;
-use scenes::Scene;
+use scenes::{Scene, block_id};
 use std::alloc::AllocError;
 
 /// What a slot holds that is no root.

@@ -7,8 +7,7 @@ use facts::Known;
 use ir_ast::{Operand, Runtime, ValueId};
 use messages::Message;
 use offered_lines::put_wanted_declare;
-use origins::{Definition, definition_of};
-use scenes::{Scene, Spot, reference_of};
+use scenes::{Definition, Scene, Spot, definition_of, reference_of};
 
 /// The reference in whose cell an operand is a place.
 pub fn base_of(scene: &Scene, operand: &Option<Operand>) -> Option<ValueId> {

@@ -3,9 +3,8 @@ use crate::faults::{put_fault_at, put_near, put_told, put_whole_fault};
 use crate::forms::trace_form_of;
 use explain::Code;
 use ir_tokens::Position;
-use messages::{Ink, Message, NamedText, Pen};
+use messages::{Ink, Message, NamedText, Pen, line_numbered};
 use name_text::{past_blanks, word};
-use places::line_numbered;
 use trace_text::TraceFault;
 
 /// The texts of a run: a trace and its module.

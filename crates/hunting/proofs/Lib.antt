@@ -1,2 +1,3 @@
+pub mod Sums
 mod Merges
 mod Drawn

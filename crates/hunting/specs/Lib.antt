@@ -1,3 +1,4 @@
+pub mod Parts
 pub mod Shorter
 pub mod Biased
 pub mod Hunts

@@ -2,10 +2,11 @@
 ghost use Rattle.std.specs.Prelude.{◌≡◌, ◌≢◌, ◌<◌, ◌≤◌, length, IfOk, IfErr};
 ghost use Rattle.moves.specs.Runs.{IsActor};
 ghost use Rattle.trace_text.specs.Traces.{step_sum};
-ghost use Rattle.trace_parts.specs.Parts.{AreOfActors};
+ghost use Rattle.hunting.specs.Parts.{AreOfActors};
 ghost use Rattle.program_runner.specs.Setups.{IsSetupOf, IsSetupFault, HasNoFault};
 ghost use Rattle.program_runner.specs.declared.setup_fault.SetupFault.TheVariants as fault;
 
+use crate::lines::add_line;
 use crate::scheduler::Scheduler;
 use crate::seen::{breaks, look_at, may_break, posts};
 use items::Items;
@@ -15,7 +16,6 @@ use program_runner::SetupFault;
 use replay::World;
 use std::alloc::{AllocError, Global};
 use stepping::MadeStep;
-use trace_parts::add_line;
 use trace_text::{Setup, Steps};
 
 /// How many stages the collector posts after the last step of the threads: those of two cycles, and one more.

@@ -10,12 +10,12 @@ ghost use Rattle.hunting.specs.Biased.{IsBiasedOutcome, IsSoundOutcome};
 use crate::biased_drawing::drawn_steps;
 use crate::breaking::BrokenTrace;
 use crate::judging::broken_trace_of;
+use crate::steps::with_steps;
 use items::Items;
 use layout::Program;
 use program_runner::SetupFault;
 use replay::replay;
 use std::alloc::Global;
-use trace_parts::with_steps;
 use trace_text::{STEP_LIMIT, Trace};
 
 /// A seed whose schedule breaks its run.

@@ -4,12 +4,12 @@ ghost use Rattle.program_runner.specs.Setups.{IsSetupFault};
 ghost use Rattle.program_runner.specs.declared.setup_fault.SetupFault.TheVariants as fault;
 ghost use Rattle.hunting.specs.Happened.{IsCounted, IsReportOfSeed, is_ended, ends_in, cycles_in, nothing, with_report};
 
+use crate::steps::with_steps;
 use items::Items;
 use layout::Program;
 use program_runner::SetupFault;
 use replay::{Outcome, Report, ThreadOutcome, drawn_trace, replay};
 use std::alloc::Global;
-use trace_parts::with_steps;
 use trace_text::{STEP_LIMIT, Trace};
 
 /// How much happened in the runs of some seeds.

@@ -10,11 +10,11 @@ ghost use Rattle.hunting.specs.Shorter.{IsBreaking, kind_of};
 use crate::breaking::BrokenTrace;
 use crate::kind::{Kind, kind_of};
 use crate::merging::in_fewer_lines;
+use crate::steps::{total, up_to};
 use layout::Program;
 use program_runner::SetupFault;
 use replay::{Break, Outcome, replay};
 use std::alloc::{AllocError, Global};
-use trace_parts::{total, up_to};
 use trace_text::Trace;
 
 /// The trace up to its break, if it breaks its run.

@@ -2,14 +2,13 @@
 ghost use Rattle.std.specs.Prelude.{◌≡◌, ◌<◌, ◌≤◌, length, IfOk, IfSome};
 ghost use Rattle.trace_text.specs.Traces.{IsTraceOf};
 
+use crate::setups::{with_fewer_cells, without_thread};
+use crate::steps::{total, with_fewer_steps, with_lines_swapped, without_lines};
 use layout::Program;
 use moves::Actor;
 use pools::LayoutId;
 use replay::drawn_trace;
 use std::alloc::{AllocError, Global};
-use trace_parts::{
-    total, with_fewer_cells, with_fewer_steps, with_lines_swapped, without_lines, without_thread,
-};
 use trace_text::{STEP_LIMIT, Steps, Trace};
 
 /// The last of the seeds, from 0, that draw steps for the threads that are left.

@@ -5,6 +5,7 @@ ghost use Rattle.trace_text.specs.Traces.{IsTraceOf, IsStartOf};
 
 use crate::drawing::{bits_of, integer};
 use crate::numbers::below;
+use crate::pool_counts::pools_with;
 use certs::Section;
 use ir_ast::{FuncId, Function, Module};
 use items::Items;
@@ -12,7 +13,6 @@ use layout::Program;
 use rand_core::{Rng, SeedableRng};
 use rand_pcg::Pcg32;
 use std::alloc::{AllocError, Global};
-use trace_parts::pools_with;
 use trace_text::{Arrival, Setup, Start, Trace};
 
 /// How many threads begin at most.

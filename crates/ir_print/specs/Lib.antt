@@ -12,5 +12,4 @@ pub mod Ends
 pub mod Instructions
 pub mod Blocks
 pub mod Items
-pub mod Standing
 pub mod Fits

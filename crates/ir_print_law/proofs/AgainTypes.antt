@@ -24,7 +24,7 @@ use Rattle.ir_forms.specs.Names.{is_at}
 use Rattle.ir_forms.specs.Place.{Place}
 use Rattle.ir_forms.specs.Written as w
 use Rattle.ir_forms.specs.Written.{has_opaque, no_parameters, integer, bits_at, begins_unread_type}
-use Rattle.ir_print.specs.Standing.{Stands, IsSeam, AreBlanks}
+use Rattle.ir_print_law.specs.Stands.{Stands, IsSeam, AreBlanks}
 use Rattle.ir_print_law.proofs.Constants.{integer_types_are_read, are_digits}
 use Rattle.name_text.specs.declared.blank.Blank.TheVariants as blank
 use Rattle.name_text.specs.Reading.{name_spelled}

@@ -6,8 +6,8 @@ use Rattle.lemmas.specs.Lists.{get_end, get_front}
 use Rattle.ir_ast.specs.declared.function.Function.{Function}
 use Rattle.ir_ast.specs.declared.module.Module.{Module}
 use Rattle.ir_tokens.specs.Bytes.{Text}
-use Rattle.function_text.specs.Anew.{named_head}
-use Rattle.function_text.specs.Replaced.{name_in, name_of}
+use Rattle.ir_text.specs.Anew.{named_head}
+use Rattle.ir_text.specs.Replaced.{name_in, name_of}
 use Rattle.ir_text.specs.ItemsOfText.{body_after}
 use Rattle.ir_text.specs.Read.{module_of, start}
 use Rattle.name_text.specs.Readings.{AreBytes}

@@ -22,7 +22,7 @@ use Rattle.ir_forms.specs.declared.uses.SymbolUse.{SymbolUse}
 use Rattle.ir_forms.specs.declared.input.Input.{Input}
 use Rattle.ir_forms.specs.Input.{unexpected}
 use Rattle.ir_forms.specs.Names.{symbol_number, with_symbol, new_symbol, first_missing}
-use Rattle.function_text.specs.Anew.{start_anew, is_named, named_head, ends, anew, with_sorts, late_anew}
+use Rattle.ir_text.specs.Anew.{start_anew, is_named, named_head, ends, anew, with_sorts, late_anew}
 use Rattle.ir_text.specs.ItemsOfText.{function_name_by, function_name, open_body, with_function}
 use Rattle.ir_text.specs.Late.{is_struct, is_right, wrong_symbol, wrong_struct}
 use Rattle.copies.specs.Tables.{tables_of}

@@ -18,7 +18,7 @@ use Rattle.ir_forms.specs.Written as w
 use Rattle.ir_forms.specs.Decorations.{either}
 use Rattle.ir_forms.specs.Lists as lists
 use Rattle.ir_print.specs.Operands.{operand_text, argument_text}
-use Rattle.ir_print.specs.Standing.{Stands, IsSeam, AreBlanks}
+use Rattle.ir_print_law.specs.Stands.{Stands, IsSeam, AreBlanks}
 use Rattle.ir_print_law.specs.PartsAgain.{AreAlike, IsArgumentAgain}
 use Rattle.ir_print_law.specs.Parts.{IsArgument}
 use Rattle.ir_print_law.proofs.State.{Invariant, Ready, Reads, Any}

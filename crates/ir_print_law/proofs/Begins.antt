@@ -17,7 +17,7 @@ use Rattle.ir_print.specs.Ends.{end_text}
 use Rattle.ir_print.specs.Instructions.{op_text}
 use Rattle.ir_print.specs.Names.{key_text}
 use Rattle.ir_print_law.specs.Readings.{IsKey}
-use Rattle.ir_print.specs.Standing.{Stands, IsSeam, AreBlanks}
+use Rattle.ir_print_law.specs.Stands.{Stands, IsSeam, AreBlanks}
 use Rattle.ir_print_law.proofs.NamesRead.{digits_text, name_key_text}
 use Rattle.ir_print_law.proofs.Words.{word_comes, local_comes, local_number_comes}
 use Rattle.ir_print_law.specs.Printable.{gives_value}

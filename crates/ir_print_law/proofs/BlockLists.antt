@@ -15,7 +15,7 @@ use Rattle.ir_forms.specs.ManyWith.{Follows}
 use Rattle.ir_text.specs.Blocks.{further, at_close, after_block}
 use Rattle.ir_print.specs.Blocks.{block_text}
 use Rattle.ir_print.specs.Names.{name_at}
-use Rattle.ir_print.specs.Standing.{Stands}
+use Rattle.ir_print_law.specs.Stands.{Stands}
 use Rattle.ir_print_law.proofs.Words.{sign_comes, seen}
 use Rattle.ir_print_law.specs.Definitions.{block_keys, value_keys_of}
 use Rattle.ir_print_law.specs.Printable.{IsBlock}

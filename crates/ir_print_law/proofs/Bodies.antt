@@ -24,7 +24,7 @@ use Rattle.ir_print.specs.Instructions.{op_text, instruction_line}
 use Rattle.ir_print.specs.Ends.{end_text, end_line}
 use Rattle.ir_print.specs.Names.{name_at}
 use Rattle.ir_print_law.specs.Readings.{IsKey}
-use Rattle.ir_print.specs.Standing.{Stands}
+use Rattle.ir_print_law.specs.Stands.{Stands}
 use Rattle.ir_print_law.specs.Definitions.{result_keys}
 use Rattle.ir_print_law.specs.Printable.{IsInstr}
 use Rattle.ir_print_law.specs.PartsAgain.{AreAlike}

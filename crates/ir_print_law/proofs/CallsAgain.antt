@@ -21,7 +21,7 @@ use Rattle.ir_forms.specs.Written as w
 use Rattle.ir_forms.specs.Lists as lists
 use Rattle.ir_print.specs.Operands.{argument_text, listed}
 use Rattle.ir_print.specs.Calls.{call_text}
-use Rattle.ir_print.specs.Standing.{AreBlanks, Stands}
+use Rattle.ir_print_law.specs.Stands.{AreBlanks, Stands}
 use Rattle.ir_print.specs.Types.{type_text}
 use Rattle.ir_print_law.specs.PartsAgain.{IsResultAgain, IsArgumentAgain}
 use Rattle.ir_print_law.specs.Calls.{IsCallAgain, IsCall}

@@ -16,7 +16,7 @@ use Rattle.ir_forms.specs.Names.{set_type}
 use Rattle.ir_forms.specs.Written as w
 use Rattle.ir_print.specs.Casts.{cast_text}
 use Rattle.ir_print.specs.Parts.{typed, converted_text}
-use Rattle.ir_print.specs.Standing.{AreBlanks, Stands}
+use Rattle.ir_print_law.specs.Stands.{AreBlanks, Stands}
 use Rattle.ir_print_law.specs.Casts.{IsCastAgain, IsCast}
 use Rattle.ir_print_law.proofs.State.{Invariant, Ready, Reads}
 use Rattle.ir_print_law.proofs.Steps.{word_skipped}

@@ -23,7 +23,7 @@ use Rattle.ir_forms.specs.Written as w
 use Rattle.ir_print.specs.Choices.{choice_text}
 use Rattle.ir_print.specs.Operands.{operand_text, typed_text}
 use Rattle.ir_print.specs.Parts.{typed}
-use Rattle.ir_print.specs.Standing.{IsSeam, AreBlanks, Stands}
+use Rattle.ir_print_law.specs.Stands.{IsSeam, AreBlanks, Stands}
 use Rattle.ir_print_law.specs.Choices.{IsChoiceAgain, IsChoice}
 use Rattle.ir_print_law.specs.Parts.{ArePair}
 use Rattle.ir_print_law.proofs.State.{Invariant, Ready, Reads, Any}

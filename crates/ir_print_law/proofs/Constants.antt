@@ -22,7 +22,7 @@ use Rattle.ir_forms.specs.Input.{advanced}
 use Rattle.ir_forms.specs.Operand.{constant, constant_by, number, number_at, truth_of}
 use Rattle.ir_print.specs.Operands.{truth_text, bit_of, number_text}
 use Rattle.ir_print.specs.Fits.{FitsType, constant_shown}
-use Rattle.ir_print.specs.Standing.{Stands, IsSeam, AreBlanks, AreDigits}
+use Rattle.ir_print_law.specs.Stands.{Stands, IsSeam, AreBlanks, AreDigits}
 use Rattle.std.specs.Prelude.{◌&&◌, ◌||◌}
 use Rattle.std.proofs.Common.{drop}
 use Rattle.lemmas.specs.Bools.{and_parts, or_second}

@@ -25,7 +25,7 @@ use Rattle.ir_print_law.proofs.DeclareLines.{declare_goes}
 use Rattle.ir_print_law.proofs.Results.{begins_item}
 use Rattle.ir_print_law.proofs.FunctionLists.{function_names, define_comes, functions_go}
 use Rattle.ir_print.specs.Names.{name_at, global_text}
-use Rattle.ir_print.specs.Standing.{Stands, AreBlanks}
+use Rattle.ir_print_law.specs.Stands.{Stands, AreBlanks}
 use Rattle.ir_print_law.proofs.Words.{word_comes}
 use Rattle.ir_print_law.specs.Definitions.{AreNew, defined_globals}
 use Rattle.ir_print_law.specs.Printable.{IsFunction, IsDeclare, IsPrintable, IsSymbol}

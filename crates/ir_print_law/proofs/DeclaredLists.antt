@@ -19,7 +19,7 @@ use Rattle.ir_forms.specs.Decorations.{begins_decoration}
 use Rattle.ir_forms.specs.Lists.{at_round}
 use Rattle.ir_text.specs.Parameters.{declared_parameter, declared_name, declared_name_by}
 use Rattle.ir_print.specs.Operands.{listed}
-use Rattle.ir_print.specs.Standing.{Stands, IsSeam, AreBlanks}
+use Rattle.ir_print_law.specs.Stands.{Stands, IsSeam, AreBlanks}
 use Rattle.ir_print.specs.Types.{type_text}
 use Rattle.ir_print_law.proofs.Words.{comma_comes, close_round_comes, seen}
 use Rattle.ir_print_law.specs.Printable.{IsAnyType}

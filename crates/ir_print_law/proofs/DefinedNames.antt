@@ -9,7 +9,7 @@ use Rattle.ir_ast.specs.LocalKeys.{key_of_name}
 use Rattle.ir_forms.specs.Number as numbers
 use Rattle.ir_tokens.specs.Bytes.{Text, is_digit}
 use Rattle.name_text.specs.Readings.{AreBytes}
-use Rattle.ir_print.specs.Standing.{AreDigits}
+use Rattle.ir_print_law.specs.Stands.{AreDigits}
 use Rattle.name_text.specs.Spelled.{number_is}
 use Rattle.ir_print_law.proofs.Constants.{are_digits}
 use Rattle.ir_print_law.specs.Definitions.{AreDefined}

@@ -26,7 +26,7 @@ use Rattle.ir_forms.specs.Written as w
 use Rattle.ir_print.specs.Elements.{index_text, element_word, element_text}
 use Rattle.ir_print.specs.Operands.{operand_text, argument_text}
 use Rattle.ir_print.specs.Parts.{typed, placed_text}
-use Rattle.ir_print.specs.Standing.{Stands, IsSeam, AreBlanks}
+use Rattle.ir_print_law.specs.Stands.{Stands, IsSeam, AreBlanks}
 use Rattle.ir_print.specs.Types.{type_text}
 use Rattle.ir_print_law.specs.Elements.{IsElementAgain, IsElement}
 use Rattle.ir_print_law.specs.Parts.{IsArgument}

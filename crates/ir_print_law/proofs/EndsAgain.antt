@@ -26,7 +26,7 @@ use Rattle.ir_forms.specs.Numbers as numbers
 use Rattle.ir_print.specs.Operands.{operand_text, typed_text, argument_text}
 use Rattle.ir_print.specs.Ends.{case_text, target_text, end_text}
 use Rattle.ir_print.specs.Parts.{typed}
-use Rattle.ir_print.specs.Standing.{Stands, IsSeam, AreBlanks}
+use Rattle.ir_print_law.specs.Stands.{Stands, IsSeam, AreBlanks}
 use Rattle.ir_print.specs.Types.{type_text}
 use Rattle.ir_print_law.specs.Parts.{IsType, IsArgument, IsCondition, IsTarget}
 use Rattle.ir_print_law.specs.Shapes.{Shape, Integer, bits_of_shape}

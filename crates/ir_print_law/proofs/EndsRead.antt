@@ -16,7 +16,7 @@ use Rattle.ir_forms.specs.Ends.{terminator, terminator_by, br, br_after, jump, b
 use Rattle.ir_forms.specs.Decorations.{either}
 use Rattle.ir_print_law.specs.Ends.{JumpsAreRead, EmptyReturnsAreRead, UnreachablesAreRead}
 use Rattle.ir_print.specs.Names.{local_text}
-use Rattle.ir_print.specs.Standing.{Stands}
+use Rattle.ir_print_law.specs.Stands.{Stands}
 use Rattle.ir_print_law.proofs.NamesRead.{targets_are_read}
 use Rattle.ir_print_law.proofs.Words.{word_comes, seen}
 

@@ -11,7 +11,7 @@ use Rattle.ir_forms.specs.Input.{advanced}
 use Rattle.ir_forms.specs.Decorations.{flags, flagged_word}
 use Rattle.ir_forms.specs.Starts.{is_flag_of}
 use Rattle.ir_forms.specs.Written as w
-use Rattle.ir_print.specs.Standing.{Stands, IsSeam, AreBlanks}
+use Rattle.ir_print_law.specs.Stands.{Stands, IsSeam, AreBlanks}
 use Rattle.name_text.specs.Names.{is_plain}
 use Rattle.ir_print_law.proofs.State.{Invariant, Ready, Reads}
 use Rattle.ir_print_law.proofs.Steps.{word_skipped}

@@ -25,7 +25,7 @@ use Rattle.ir_forms.specs.declared.uses.LocalUse.{LocalUse}
 use Rattle.ir_forms.specs.Decorations.{either}
 use Rattle.ir_forms.specs.Input.{left, unexpected, advanced, expect, expect_takes}
 use Rattle.ir_forms.specs.Names.{is_wanted, first_missing}
-use Rattle.function_text.specs.Anew.{is_named, named_head, ends, anew}
+use Rattle.ir_text.specs.Anew.{is_named, named_head, ends, anew}
 use Rattle.ir_text.specs.Blocks.{blocks}
 use Rattle.ir_text.specs.ItemsOfText.{collector_name, collector, head_end, defined_result_by, defined_result, function_name_by, function_name, open_body_by, open_body, head_after, body_after, with_function, end_function, earlier}
 use Rattle.ir_text.specs.declared.items_of_text.FunctionHead.{FunctionHead}

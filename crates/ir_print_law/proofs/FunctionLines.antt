@@ -27,7 +27,7 @@ use Rattle.name_text.specs.declared.blank.Blank.TheVariants as blank
 use Rattle.ir_print.specs.Names.{name_at, global_text}
 use Rattle.ir_print.specs.Operands.{listed}
 use Rattle.ir_print_law.specs.Readings.{IsKey}
-use Rattle.ir_print.specs.Standing.{AreBlanks}
+use Rattle.ir_print_law.specs.Stands.{AreBlanks}
 use Rattle.ir_print.specs.Types.{type_text}
 use Rattle.ir_print_law.proofs.Words.{global_comes}
 use Rattle.ir_print_law.specs.Definitions.{AreDefined, defined_keys, parameter_key, parameter_keys, value_keys_of, block_keys, defined_globals}

@@ -17,7 +17,7 @@ use Rattle.ir_forms.specs.declared.input.Input.{Input}
 use Rattle.ir_text.specs.ItemsOfText.{item, at_end_of_text}
 use Rattle.ir_print.specs.Items.{function_text}
 use Rattle.ir_print.specs.Names.{name_at}
-use Rattle.ir_print.specs.Standing.{Stands, AreBlanks}
+use Rattle.ir_print_law.specs.Stands.{Stands, AreBlanks}
 use Rattle.ir_print_law.proofs.Words.{word_comes, seen}
 use Rattle.ir_print_law.specs.Definitions.{AreNew, defined_globals}
 use Rattle.ir_print_law.specs.Printable.{IsFunction, IsPrintable, IsSymbol}

@@ -34,7 +34,7 @@ use Rattle.name_text.specs.Readings.{AreBytes}
 use Rattle.name_text.specs.declared.blank.Blank.TheVariants as blank
 use Rattle.ir_print.specs.Names.{name_at, global_text}
 use Rattle.ir_print.specs.Operands.{constant_text, is_bit, number_text, truth_text, bit_of}
-use Rattle.ir_print.specs.Standing.{Stands, IsSeam, AreBlanks}
+use Rattle.ir_print_law.specs.Stands.{Stands, IsSeam, AreBlanks}
 use Rattle.ir_print.specs.Types.{type_text}
 use Rattle.ir_print_law.proofs.Constants.{are_digits, constants_are_read, wide}
 use Rattle.ir_print_law.proofs.Words.{global_comes, word_comes, number_comes}

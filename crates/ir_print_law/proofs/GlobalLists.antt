@@ -24,7 +24,7 @@ use Rattle.ir_print_law.proofs.Types.{Comes}
 use Rattle.ir_print_law.proofs.Results.{begins_item}
 use Rattle.ir_print_law.proofs.FunctionLists.{function_names}
 use Rattle.ir_print.specs.Names.{name_at}
-use Rattle.ir_print.specs.Standing.{Stands, AreBlanks}
+use Rattle.ir_print_law.specs.Stands.{Stands, AreBlanks}
 use Rattle.ir_print_law.specs.Definitions.{AreNew, defined_globals}
 use Rattle.ir_print_law.specs.Printable.{IsFunction, IsGlobal, IsDeclare, IsPrintable, IsSymbol}
 use Rattle.ir_print_law.specs.PartsAgain.{AreAlike}

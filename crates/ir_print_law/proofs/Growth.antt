@@ -18,10 +18,10 @@ use Rattle.ir_forms.specs.declared.input.Input.{Input}
 use Rattle.ir_forms.specs.Input.{unexpected}
 use Rattle.ir_forms.specs.Written.{with_type_interned}
 use Rattle.ir_forms.specs.Names.{new_symbol, new_value, numbered_value, unnamed_value, new_label, numbered_label, unnamed_label}
-use Rattle.function_text.specs.Anew.{start_anew, is_named, named_head, ends, anew, anew_of}
+use Rattle.ir_text.specs.Anew.{start_anew, is_named, named_head, ends, anew, anew_of}
 use Rattle.ir_text.specs.ItemsOfText.{function_name_by, function_name, open_body, with_function}
 use Rattle.copies.specs.Tables.{tables_of}
-use Rattle.function_text.specs.Replaced.{name_of, with_replacement, IsReplaced}
+use Rattle.ir_text.specs.Replaced.{name_of, with_replacement, IsReplaced}
 use Rattle.ir_print_law.specs.Growing.{TablesStay}
 use Rattle.ir_print_law.specs.OneTypes.{AreOnce, HasOneTypes}
 use Rattle.ir_print_law.proofs.Blocks.{blocks_keep, parameters_keep}

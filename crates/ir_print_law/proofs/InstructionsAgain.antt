@@ -9,7 +9,7 @@ use Rattle.ir_forms.specs.declared.input.Input.{Input}
 use Rattle.ir_forms.specs.declared.site.Site.{Site}
 use Rattle.ir_forms.specs.Instructions as whole
 use Rattle.ir_print.specs.Instructions.{op_text}
-use Rattle.ir_print.specs.Standing.{AreBlanks}
+use Rattle.ir_print_law.specs.Stands.{AreBlanks}
 use Rattle.ir_print_law.specs.Printable.{IsOp, gives_value}
 use Rattle.ir_print_law.proofs.State.{Invariant, Ready, Reads}
 use Rattle.ir_print_law.proofs.ArgumentsAgain.{EndsLine}

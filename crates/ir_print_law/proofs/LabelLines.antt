@@ -21,7 +21,7 @@ use Rattle.name_text.specs.Names.{name_text}
 use Rattle.name_text.specs.declared.blank.Blank.TheVariants as blank
 use Rattle.ir_print.specs.Names.{key_text}
 use Rattle.ir_print_law.specs.Readings.{IsKey}
-use Rattle.ir_print.specs.Standing.{Stands}
+use Rattle.ir_print_law.specs.Stands.{Stands}
 use Rattle.ir_print_law.proofs.Constants.{are_digits}
 use Rattle.ir_print_law.proofs.NamesRead.{digits_text, name_key_text, labels_are_read}
 use Rattle.ir_print_law.proofs.Words.{label_comes}

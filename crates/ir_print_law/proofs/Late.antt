@@ -10,7 +10,7 @@ use Rattle.ir_tokens.specs.Bytes.{Text}
 use Rattle.ir_forms.specs.declared.input.Input.{Input}
 use Rattle.ir_forms.specs.declared.uses.StructUse.{StructUse}
 use Rattle.ir_forms.specs.declared.uses.SymbolUse.{SymbolUse}
-use Rattle.function_text.specs.Anew.{with_sorts, late_anew}
+use Rattle.ir_text.specs.Anew.{with_sorts, late_anew}
 use Rattle.copies.specs.Tables.{tables_of}
 use Rattle.ir_text.specs.Late.{is_right, is_right_symbol, is_function_operand, is_struct, is_right_struct, operand_fault, function_operand, wrong_symbol, wrong_struct}
 use Rattle.ir_print_law.specs.Places.{symbol_in, AreRight}

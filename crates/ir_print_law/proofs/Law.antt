@@ -16,8 +16,8 @@ use Rattle.ir_forms.specs.declared.fault.Fault.TheVariants as fault
 use Rattle.ir_forms.specs.declared.input.Input.{Input}
 use Rattle.ir_forms.specs.declared.table.Table.{Table}
 use Rattle.copies.specs.Tables.{tables_of}
-use Rattle.function_text.specs.Anew.{start_anew, anew_of}
-use Rattle.function_text.specs.Replaced.{name_of, with_replacement}
+use Rattle.ir_text.specs.Anew.{start_anew, anew_of}
+use Rattle.ir_text.specs.Replaced.{name_of, with_replacement}
 use Rattle.ir_text.specs.Read.{located}
 use Rattle.ir_print_law.specs.Places.{moved, IsWithin, IsExcuse}
 use Rattle.ir_print_law.specs.Standing.{IsClosed, StandsBetween, IsOfTables, AreReadAnew}

@@ -16,7 +16,7 @@ use Rattle.ir_ast.specs.declared.module.Module.{Module}
 use Rattle.ir_tokens.specs.Bytes.{Text}
 use Rattle.ir_forms.specs.Names.{is_symbol, is_function}
 use Rattle.ir_forms.specs.declared.input.Input.{Input}
-use Rattle.function_text.specs.Anew.{sort_before, sorts_before}
+use Rattle.ir_text.specs.Anew.{sort_before, sorts_before}
 use Rattle.ir_text.specs.Read.{module_of}
 use Rattle.ir_print_law.specs.Definitions.{defined_structs, defined_globals, declared_functions, defined_functions}
 use Rattle.ir_print_law.specs.ModuleNames.{HasModuleNames}

@@ -25,7 +25,7 @@ use Rattle.ir_forms.specs.Memory as forms
 use Rattle.ir_print.specs.Memory.{memory_op_text}
 use Rattle.ir_print.specs.Operands.{operand_text, typed_text, argument_text}
 use Rattle.ir_print.specs.Parts.{typed, placed_text}
-use Rattle.ir_print.specs.Standing.{IsSeam, AreBlanks, Stands}
+use Rattle.ir_print_law.specs.Stands.{IsSeam, AreBlanks, Stands}
 use Rattle.ir_print.specs.Types.{type_text}
 use Rattle.ir_print_law.specs.Memory.{IsMemoryOpAgain, IsMemoryOp, IsMemoryOpWithin, memory_gives_value}
 use Rattle.ir_print_law.specs.ModuleNames.{HasModuleNames}

@@ -28,7 +28,7 @@ use Rattle.ir_text.specs.Late.{is_struct, is_right, is_right_struct, is_right_sy
 use Rattle.ir_text.specs.Read.{module_of}
 use Rattle.name_text.specs.Readings.{AreBytes}
 use Rattle.ir_print.specs.Names.{name_at}
-use Rattle.ir_print.specs.Standing.{AreDigits}
+use Rattle.ir_print_law.specs.Stands.{AreDigits}
 use Rattle.ir_print_law.specs.OneTypes.{AreOnce}
 use Rattle.ir_print_law.proofs.OneTypes.{once_more}
 use Rattle.ir_print_law.specs.Definitions.{defined_structs, declared_functions, defined_functions, used_symbols}

@@ -30,7 +30,7 @@ use Rattle.ir_tokens.specs.Bytes.{class_of}
 use Rattle.ir_tokens.specs.Keywords.{word_kind, keywords}
 use Rattle.ir_print.specs.Names.{local_text}
 use Rattle.ir_print_law.specs.Readings.{IsKey, LocalsAreRead, LocalOperandsAreRead, TargetsAreRead, NewValuesAreRead, LabelsAreRead, CollectorsAreRead, GlobalOperandsAreRead, CalleesAreRead, StructNamesAreRead}
-use Rattle.ir_print.specs.Standing.{Stands, IsSeam, AreBlanks, AreDigits}
+use Rattle.ir_print_law.specs.Stands.{Stands, IsSeam, AreBlanks, AreDigits}
 use Rattle.name_text.specs.Reading.{name_spelled, digits_spelled}
 use Rattle.ir_print_law.proofs.Spelled.{label_spelled, quoted_spelled}
 use Rattle.ir_print_law.proofs.Words.{global_comes, local_comes, local_number_comes, word_comes, expected, quoted_comes, label_comes, seen}

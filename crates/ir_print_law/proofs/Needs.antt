@@ -9,7 +9,7 @@ use Rattle.ir_forms.specs.Input.{Form}
 use Rattle.ir_forms.specs.Cursor.{kind}
 use Rattle.ir_forms.specs.Place.{Place}
 use Rattle.ir_forms.specs.Written.{begins_type, any_type, passed_type, held_type, struct_body}
-use Rattle.ir_print.specs.Standing.{Stands, IsSeam, AreBlanks}
+use Rattle.ir_print_law.specs.Stands.{Stands, IsSeam, AreBlanks}
 use Rattle.ir_print.specs.Types.{type_text}
 use Rattle.ir_print_law.specs.Parts.{IsType}
 use Rattle.ir_print_law.specs.Shapes.{Shape, HasShape, levels, is_passed_shape, is_held_shape, is_struct_shape}

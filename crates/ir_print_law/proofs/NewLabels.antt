@@ -20,7 +20,7 @@ use Rattle.ir_forms.specs.Table.{mentioned}
 use Rattle.ir_forms.specs.declared.input.Input.{Input}
 use Rattle.ir_forms.specs.Names as names
 use Rattle.ir_print_law.specs.Readings.{IsKey}
-use Rattle.ir_print.specs.Standing.{Stands, AreDigits}
+use Rattle.ir_print_law.specs.Stands.{Stands, AreDigits}
 use Rattle.name_text.specs.Spelled.{number_is}
 use Rattle.ir_print_law.proofs.Constants.{are_digits}
 use Rattle.ir_print_law.proofs.Spelled.{label_number_read, label_number_spelled}

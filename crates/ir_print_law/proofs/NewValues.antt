@@ -19,7 +19,7 @@ use Rattle.name_text.specs.Names.{name_text}
 use Rattle.name_text.specs.Readings.{AreBytes}
 use Rattle.name_text.specs.declared.blank.Blank.TheVariants as blank
 use Rattle.ir_print.specs.Names.{key_text}
-use Rattle.ir_print.specs.Standing.{Stands, IsSeam, AreBlanks}
+use Rattle.ir_print_law.specs.Stands.{Stands, IsSeam, AreBlanks}
 use Rattle.ir_print_law.proofs.Constants.{are_digits}
 use Rattle.ir_print_law.proofs.NamesRead.{digits_text, name_key_text, new_values_are_read}
 use Rattle.ir_print_law.proofs.Numbered.{numbered_values_are_read}

@@ -11,7 +11,7 @@ use Rattle.ir_tokens.specs.Bytes.{Text, is_digit}
 use Rattle.ir_forms.specs.Number as numbers
 use Rattle.name_text.specs.Numbers as written
 use Rattle.ir_forms.specs.Names.{is_at}
-use Rattle.ir_print.specs.Standing.{AreDigits}
+use Rattle.ir_print_law.specs.Stands.{AreDigits}
 
 model : IsNumeralModel (λ (s : Text). list_all is_digit s ≡ true) (numbers.decimal_after 0)
 model = numerals_by_fold _ (search rules) numbers.decimal_after (search rules)

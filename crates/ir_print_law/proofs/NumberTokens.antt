@@ -18,7 +18,7 @@ use Rattle.ir_tokens.specs.Keywords.{keywords, kind_in, other_word, word_kind, i
 use Rattle.ir_tokens.specs.Names.{spelling, bare, unquoted, name_of}
 use Rattle.ir_tokens.specs.Tokens.{token, token_by, word, number, quote, local, local_by, global, global_by, is_record, record_by, record_name, group, group_by, metadata, metadata_by, name, digits, quotation, sign, label_or, Cut, IsLexed}
 use Rattle.ir_forms.specs.Cursor.{is_local_number}
-use Rattle.ir_print.specs.Standing.{AreDigits}
+use Rattle.ir_print_law.specs.Stands.{AreDigits}
 use Rattle.name_text.specs.Reading.{digits_spelled}
 
 -- a number in place of a local name spells digits

@@ -32,7 +32,7 @@ use Rattle.ir_forms.specs.Numbers as numbers
 use Rattle.ir_print.specs.Numbers.{arithmetic_word, comparison_word, resize_word, number_op_text}
 use Rattle.ir_print.specs.Operands.{operand_text, typed_text}
 use Rattle.ir_print.specs.Parts.{typed, pair_text, converted_text}
-use Rattle.ir_print.specs.Standing.{Stands, IsSeam, AreBlanks}
+use Rattle.ir_print_law.specs.Stands.{Stands, IsSeam, AreBlanks}
 use Rattle.ir_print.specs.Types.{type_text}
 use Rattle.name_text.specs.Names.{is_plain}
 use Rattle.ir_print_law.specs.ModuleNames.{HasModuleNames}

@@ -19,7 +19,7 @@ use Rattle.ir_print.specs.Choices.{incoming_text}
 use Rattle.ir_print.specs.Ends.{end_text}
 use Rattle.ir_print.specs.Instructions.{op_text}
 use Rattle.ir_print.specs.Operands.{listed}
-use Rattle.ir_print.specs.Standing.{IsSeam, AreBlanks}
+use Rattle.ir_print_law.specs.Stands.{IsSeam, AreBlanks}
 use Rattle.ir_print.specs.Types.{type_text}
 use Rattle.ir_print_law.specs.Printable.{IsOp, IsPhi, IsEnd, gives_value}
 use Rattle.ir_print_law.proofs.State.{Ready, Reads}

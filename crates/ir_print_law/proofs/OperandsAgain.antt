@@ -31,7 +31,7 @@ use Rattle.name_text.specs.Readings.{AreBytes}
 use Rattle.name_text.specs.declared.blank.Blank.TheVariants as blank
 use Rattle.ir_print.specs.Names.{name_at, key_text, local_text, global_text}
 use Rattle.ir_print.specs.Operands.{is_bit, number_text, constant_text, operand_text, cast_global_text}
-use Rattle.ir_print.specs.Standing.{Stands, IsSeam, AreBlanks}
+use Rattle.ir_print_law.specs.Stands.{Stands, IsSeam, AreBlanks}
 use Rattle.ir_print.specs.Types.{type_text}
 use Rattle.ir_print_law.proofs.Constants.{constant_is_read}
 use Rattle.ir_print_law.proofs.NamesRead.{local_operands_are_read, few}

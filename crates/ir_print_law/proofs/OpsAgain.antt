@@ -8,7 +8,7 @@ use Rattle.ir_tokens.specs.Bytes.{Text}
 use Rattle.ir_print_law.specs.Again.{IsInstrAgain}
 use Rattle.ir_tokens.specs.Keywords.{word_kind}
 use Rattle.ir_forms.specs.Cursor.{kind}
-use Rattle.ir_print.specs.Standing.{IsSeam, AreBlanks}
+use Rattle.ir_print_law.specs.Stands.{IsSeam, AreBlanks}
 use Rattle.ir_forms.specs.declared.input.Input.{Input}
 use Rattle.ir_forms.specs.declared.site.Site.{Site}
 use Rattle.ir_forms.specs.Input.{Form}

@@ -9,7 +9,7 @@ use Rattle.ir_tokens.specs.declared.token.Kind.{Kind}
 use Rattle.ir_tokens.specs.declared.token.Kind.TheVariants as k
 use Rattle.ir_tokens.specs.Bytes.{Text}
 use Rattle.ir_forms.specs.Cursor.{kind}
-use Rattle.ir_print.specs.Standing.{Stands}
+use Rattle.ir_print_law.specs.Stands.{Stands}
 use Rattle.ir_forms.specs.Written.{has_opaque}
 use Rattle.ir_print_law.specs.Definitions.{defined_structs}
 use Rattle.ir_print_law.proofs.State.{Ready}

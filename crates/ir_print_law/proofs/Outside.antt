@@ -7,7 +7,7 @@ use Rattle.ir_forms.specs.declared.table.Table.{Table}
 use Rattle.ir_forms.specs.declared.uses.LocalUse.{LocalUse}
 use Rattle.ir_forms.specs.declared.input.Input.{Input}
 use Rattle.name_text.specs.Readings.{AreBytes}
-use Rattle.ir_print.specs.Standing.{AreDigits}
+use Rattle.ir_print_law.specs.Stands.{AreDigits}
 use Rattle.ir_print_law.proofs.Reading.{Reading}
 
 -- the state with these local names, uses of them, and counts

@@ -27,7 +27,7 @@ use Rattle.ir_print.specs.Items.{parameter_text}
 use Rattle.ir_print.specs.Names.{key_text, local_text}
 use Rattle.ir_print.specs.Operands.{listed}
 use Rattle.ir_print_law.specs.Readings.{IsKey}
-use Rattle.ir_print.specs.Standing.{Stands, IsSeam, AreBlanks}
+use Rattle.ir_print_law.specs.Stands.{Stands, IsSeam, AreBlanks}
 use Rattle.ir_print.specs.Types.{type_text}
 use Rattle.ir_print_law.proofs.Words.{seen, comma_comes, close_round_comes}
 use Rattle.ir_print_law.specs.Definitions.{parameter_key}

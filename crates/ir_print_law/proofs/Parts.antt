@@ -30,7 +30,7 @@ use Rattle.ir_print.specs.Names.{name_at, key_text, local_text}
 use Rattle.ir_print.specs.Operands.{operand_text, typed_text}
 use Rattle.ir_print.specs.Ends.{target_text}
 use Rattle.ir_print.specs.Parts.{typed, pair_text}
-use Rattle.ir_print.specs.Standing.{IsSeam, AreBlanks}
+use Rattle.ir_print_law.specs.Stands.{IsSeam, AreBlanks}
 use Rattle.ir_print_law.proofs.NamesRead.{locals_are_read}
 use Rattle.ir_print_law.proofs.Words.{sign_comes}
 use Rattle.ir_print_law.specs.PartsAgain.{IsNameAgain, IsArgumentAgain, ArePairAgain}

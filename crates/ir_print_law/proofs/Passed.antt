@@ -15,7 +15,7 @@ use Rattle.ir_forms.specs.Cursor.{kind, sees, spelled}
 use Rattle.ir_forms.specs.declared.input.Input.{Input}
 use Rattle.ir_forms.specs.Input.{Form}
 use Rattle.ir_forms.specs.Names.{new_symbol, with_symbol}
-use Rattle.function_text.specs.Anew.{named_head}
+use Rattle.ir_text.specs.Anew.{named_head}
 use Rattle.ir_text.specs.ItemsOfText.{function_name_by, function_name, open_body, body_after, with_function, head, definition, item_by, item, at_end_of_text}
 use Rattle.ir_text.specs.Read.{module_of, start}
 use Rattle.name_text.specs.Readings.{AreBytes}

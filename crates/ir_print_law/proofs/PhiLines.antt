@@ -19,7 +19,7 @@ use Rattle.ir_forms.specs.Choices.{is_local, begins_phi, at_no_phi, phi_value, p
 use Rattle.ir_print.specs.Choices.{incoming_text, phi_line}
 use Rattle.ir_print.specs.Names.{name_at, key_text, local_text}
 use Rattle.ir_print.specs.Operands.{listed}
-use Rattle.ir_print.specs.Standing.{Stands, IsSeam, AreBlanks}
+use Rattle.ir_print_law.specs.Stands.{Stands, IsSeam, AreBlanks}
 use Rattle.ir_print.specs.Types.{type_text}
 use Rattle.ir_print_law.specs.PartsAgain.{AreAlike}
 use Rattle.ir_print_law.specs.Again.{IsPhiAgain}

@@ -28,7 +28,7 @@ use Rattle.ir_forms.specs.Written as w
 use Rattle.ir_print.specs.Choices.{incoming_text}
 use Rattle.ir_print.specs.Names.{name_at, local_text}
 use Rattle.ir_print.specs.Operands.{operand_text, listed}
-use Rattle.ir_print.specs.Standing.{AreBlanks}
+use Rattle.ir_print_law.specs.Stands.{AreBlanks}
 use Rattle.ir_print.specs.Types.{type_text}
 use Rattle.ir_print_law.specs.PartsAgain.{AreAlike, IsTypeAgain}
 use Rattle.ir_print_law.specs.Again.{IsIncomingAgain}

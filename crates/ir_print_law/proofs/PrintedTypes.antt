@@ -19,7 +19,7 @@ use Rattle.ir_forms.specs.Written.{has_opaque, is_pointer, is_scalar, is_passed,
 use Rattle.name_text.specs.Names.{name_text}
 use Rattle.name_text.specs.declared.blank.Blank.TheVariants as blank
 use Rattle.ir_print.specs.Types.{type_text, type_within, type_by, fields_text, further_field}
-use Rattle.ir_print.specs.Standing.{AreBlanks}
+use Rattle.ir_print_law.specs.Stands.{AreBlanks}
 use Rattle.ir_print_law.specs.PartsAgain.{IsTypeAgain}
 use Rattle.ir_print_law.specs.Definitions.{defined_structs}
 use Rattle.ir_print_law.specs.Shapes.{Shape, Integer, Pointer, Array, Empty, Struct, Named, Opaque, HasShape, IsWritten, levels, is_scalar_shape, is_pointer_shape, is_passed_shape, is_held_shape, is_struct_shape}

@@ -11,9 +11,9 @@ use Rattle.ir_ast.specs.declared.ir_type.IrType.{IrType}
 use Rattle.ir_ast.specs.declared.module.Module.{Module}
 use Rattle.ir_tokens.specs.Bytes.{Text}
 use Rattle.ir_forms.specs.declared.input.Input.{Input}
-use Rattle.function_text.specs.Anew.{start_anew, anew, anew_of}
+use Rattle.ir_text.specs.Anew.{start_anew, anew, anew_of}
 use Rattle.copies.specs.Tables.{tables_of}
-use Rattle.function_text.specs.Replaced.{name_in, put_function, with_replacement, IsReplaced}
+use Rattle.ir_text.specs.Replaced.{name_in, put_function, with_replacement, IsReplaced}
 use Rattle.name_text.specs.Readings.{AreBytes}
 use Rattle.ir_print.specs.Names.{name_at}
 use Rattle.ir_print_law.specs.Definitions.{AreNew, defined_globals, declared_functions, defined_functions}

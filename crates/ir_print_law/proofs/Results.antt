@@ -23,7 +23,7 @@ use Rattle.ir_print.specs.Items.{collector_text}
 use Rattle.name_text.specs.Names.{name_text, quoted_text}
 use Rattle.name_text.specs.Readings.{AreBytes}
 use Rattle.name_text.specs.declared.blank.Blank.TheVariants as blank
-use Rattle.ir_print.specs.Standing.{Stands, IsSeam, AreBlanks}
+use Rattle.ir_print_law.specs.Stands.{Stands, IsSeam, AreBlanks}
 use Rattle.ir_print.specs.Types.{type_text}
 use Rattle.ir_print_law.proofs.NamesRead.{collectors_are_read}
 use Rattle.ir_print_law.proofs.Words.{sign_comes, word_comes, global_comes, seen}

@@ -8,7 +8,7 @@ use Rattle.ir_tokens.specs.declared.token.Kind.{Kind}
 use Rattle.ir_tokens.specs.Bytes.{Text, is_letter, is_digit, class_of, first_class, is_name, is_name_class}
 use Rattle.ir_tokens.specs.Form.{begins}
 use Rattle.ir_tokens.specs.Tokens.{label_or}
-use Rattle.ir_print.specs.Standing.{ends_token, IsSeam}
+use Rattle.ir_print_law.specs.Stands.{ends_token, IsSeam}
 
 no_name_class : (x : ByteClass) → ends_token x ≡ true → is_name_class x ≡ false
 no_name_class c.Letter e = absurd cc

@@ -19,7 +19,7 @@ use Rattle.ir_forms.specs.Written as w
 use Rattle.ir_forms.specs.Lists as lists
 use Rattle.ir_print.specs.Operands.{typed_text}
 use Rattle.ir_print.specs.Parts.{typed, converted_text}
-use Rattle.ir_print.specs.Standing.{AreBlanks}
+use Rattle.ir_print_law.specs.Stands.{AreBlanks}
 use Rattle.ir_print_law.specs.PartsAgain.{IsTypeAgain, IsArgumentAgain}
 use Rattle.ir_print_law.specs.Parts.{IsConverted}
 use Rattle.ir_print_law.proofs.State.{Invariant, Ready, Grows, IsLater, Reads}

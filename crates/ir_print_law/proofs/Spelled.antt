@@ -14,7 +14,7 @@ use Rattle.name_text.specs.Names.{begins_plain, is_plain, quoted_byte, quoted_te
 use Rattle.name_text.specs.Readings.{AreBytes}
 use Rattle.name_text.specs.declared.blank.Blank.TheVariants as blank
 use Rattle.name_text.specs.Reading.{quotes_read, passes, first_letter, in_quotes, global_token, local_token, quotes_spelled, name_spelled, digits_pass, digit_class, number_token, digits_spelled}
-use Rattle.ir_print.specs.Standing.{IsSeam, AreDigits}
+use Rattle.ir_print_law.specs.Stands.{IsSeam, AreDigits}
 use Rattle.ir_print_law.proofs.Seams.{no_name, no_digit, no_label}
 
 -- ---- words and numbers

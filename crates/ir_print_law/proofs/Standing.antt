@@ -10,7 +10,7 @@ use Rattle.ir_tokens.specs.Form.{Outcome}
 use Rattle.ir_tokens.specs.Names.{bare, unquoted}
 use Rattle.ir_tokens.specs.Tokens.{token, past_gap, ends_line, before, make, ended, on_token, lex_at, lex_from}
 use Rattle.ir_forms.specs.Place.{Place}
-use Rattle.ir_print.specs.Standing.{Stands}
+use Rattle.ir_print_law.specs.Stands.{Stands}
 use Rattle.ir_forms.specs.Cursor.{kind, kind_first, spelling, spelled, spelled_first, start, start_first, size, size_first, next, rest_of}
 
 -- tokens before those that are read

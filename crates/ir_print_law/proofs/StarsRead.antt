@@ -15,7 +15,7 @@ use Rattle.ir_forms.specs.Written.{has_opaque, is_other_kind, pointers, star_or,
 use Rattle.grammar.specs.Grammar.{pure, refuse, ◌>>=◌, ◌>>◌}
 use Rattle.ir_print_law.proofs.OneKind.{and_false, opaque_stays}
 use Rattle.ir_print_law.specs.Stars.{stars, starred_number, StarsAreRead}
-use Rattle.ir_print.specs.Standing.{Stands}
+use Rattle.ir_print_law.specs.Stands.{Stands}
 use Rattle.ir_print_law.proofs.Words.{sign_comes, seen}
 
 pub type_place_within : (t : IrType) (types : List IrType) → number_of_type t types ≤ length types

@@ -15,7 +15,7 @@ use Rattle.ir_forms.specs.Written.{has_opaque, with_type_interned}
 use Rattle.ir_forms.specs.Intrinsics.{is_left_out}
 use Rattle.name_text.specs.Readings.{AreBytes}
 use Rattle.ir_print_law.specs.Readings.{IsKey}
-use Rattle.ir_print.specs.Standing.{Stands}
+use Rattle.ir_print_law.specs.Stands.{Stands}
 use Rattle.ir_print_law.specs.Definitions.{defined_structs, defined_globals, used_keys, used_symbols}
 use Rattle.ir_print_law.proofs.Tables.{Begins, AreInOrder}
 

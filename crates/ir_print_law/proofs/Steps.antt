@@ -19,7 +19,7 @@ use Rattle.ir_forms.specs.declared.input.Input.{Input}
 use Rattle.ir_forms.specs.Input.{Form, left, advanced, skip, expect, sees_is}
 use Rattle.ir_forms.specs.Written.{has_opaque, intern, intern_pointer, interned_pointer, is_second_kind, with_type_interned}
 use Rattle.name_text.specs.Names.{is_plain}
-use Rattle.ir_print.specs.Standing.{Stands, IsSeam, AreBlanks}
+use Rattle.ir_print_law.specs.Stands.{Stands, IsSeam, AreBlanks}
 use Rattle.ir_print_law.proofs.Words.{word_comes, sign_comes, expected}
 use Rattle.ir_print_law.proofs.Tables.{IsInOrder, begins_itself, begins_further, type_begins, type_there, type_length}
 use Rattle.ir_print_law.proofs.State.{Invariant, HasRoom, Ready, Grows, IsLater, Reads}

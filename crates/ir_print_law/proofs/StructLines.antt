@@ -19,7 +19,7 @@ use Rattle.name_text.specs.Names.{name_text}
 use Rattle.name_text.specs.Readings.{AreBytes}
 use Rattle.name_text.specs.declared.blank.Blank.TheVariants as blank
 use Rattle.ir_print.specs.Names.{name_at, struct_text}
-use Rattle.ir_print.specs.Standing.{Stands, AreBlanks}
+use Rattle.ir_print_law.specs.Stands.{Stands, AreBlanks}
 use Rattle.ir_print.specs.Types.{type_text}
 use Rattle.ir_print_law.proofs.Words.{sign_comes}
 use Rattle.ir_print_law.specs.Again.{IsStructAgain}

@@ -25,7 +25,7 @@ use Rattle.ir_print.specs.Types.{type_text}
 use Rattle.ir_ast.specs.declared.items_of_module.Declare.{Declare}
 use Rattle.ir_print_law.proofs.FunctionLists.{function_names}
 use Rattle.ir_print.specs.Names.{name_at}
-use Rattle.ir_print.specs.Standing.{Stands, AreBlanks}
+use Rattle.ir_print_law.specs.Stands.{Stands, AreBlanks}
 use Rattle.ir_print_law.specs.Definitions.{AreNew}
 use Rattle.ir_print_law.specs.Printable.{IsStructType, IsPrintable}
 use Rattle.ir_print_law.specs.PartsAgain.{AreAlike}

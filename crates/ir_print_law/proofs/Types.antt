@@ -30,7 +30,7 @@ use Rattle.ir_forms.specs.Written.{has_opaque, intern, intern_pointer, opaque_ty
 use Rattle.name_text.specs.Names.{name_text, is_plain, quoted_text}
 use Rattle.name_text.specs.Readings.{AreBytes}
 use Rattle.name_text.specs.declared.blank.Blank.TheVariants as blank
-use Rattle.ir_print.specs.Standing.{Stands, IsSeam, AreBlanks, AreDigits}
+use Rattle.ir_print_law.specs.Stands.{Stands, IsSeam, AreBlanks, AreDigits}
 use Rattle.ir_print_law.specs.Stars.{stars}
 use Rattle.name_text.specs.Spelled.{number_is}
 use Rattle.ir_print_law.proofs.Constants.{integer_types_are_read, are_digits, no_minus}

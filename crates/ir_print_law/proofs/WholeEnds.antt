@@ -17,7 +17,7 @@ use Rattle.ir_forms.specs.declared.input.Input.{Input}
 use Rattle.ir_text.specs.Late as late
 use Rattle.ir_text.specs.Late.{late_fault, first_of_faults, earliest, operand_fault}
 use Rattle.ir_text.specs.Read.{start}
-use Rattle.ir_print.specs.Standing.{Stands}
+use Rattle.ir_print_law.specs.Stands.{Stands}
 use Rattle.ir_print_law.specs.Definitions.{defined_structs, defined_globals, functions_of, used_symbols}
 use Rattle.ir_print_law.proofs.WholeFunctionEnds.{none_found, nobody}
 use Rattle.ir_print_law.proofs.Known.{Far, Holds, IsStructUse, IsSymbolUse, StructsKnown, SymbolsKnown}

@@ -19,7 +19,7 @@ use Rattle.ir_forms.specs.Place.{Place}
 use Rattle.ir_forms.specs.Input.{Form, unexpected, advanced, skip, expect, start_of}
 use Rattle.ir_forms.specs.Written as w
 use Rattle.ir_forms.specs.Written.{has_opaque, part, firm, begins_type}
-use Rattle.ir_print.specs.Standing.{Stands, IsSeam, AreBlanks}
+use Rattle.ir_print_law.specs.Stands.{Stands, IsSeam, AreBlanks}
 use Rattle.ir_print_law.specs.Stars.{stars}
 use Rattle.ir_print_law.proofs.Constants.{integer_types_are_read, are_digits}
 use Rattle.ir_print_law.proofs.Words.{sign_comes, number_comes, local_comes, word_comes, seen}

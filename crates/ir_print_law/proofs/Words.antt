@@ -17,7 +17,7 @@ use Rattle.ir_forms.specs.Input.{expect, advanced}
 use Rattle.name_text.specs.Names.{is_plain, quoted_byte, quoted_text, name_text}
 use Rattle.name_text.specs.Readings.{AreBytes}
 use Rattle.name_text.specs.declared.blank.Blank.TheVariants as blank
-use Rattle.ir_print.specs.Standing.{Stands, IsSeam, AreBlanks, AreDigits}
+use Rattle.ir_print_law.specs.Stands.{Stands, IsSeam, AreBlanks, AreDigits}
 use Rattle.name_text.specs.Seams.{is_no}
 use Rattle.ir_print_law.proofs.Seams.{apart}
 use Rattle.ir_print_law.proofs.Spelled.{word_read, number_read, global_read, local_read, local_number_read, quoted_read, label_read}

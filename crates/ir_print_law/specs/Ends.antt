@@ -11,7 +11,7 @@ use Rattle.ir_forms.specs.Ends.{terminator}
 use Rattle.ir_print.specs.Names.{name_at}
 use Rattle.ir_print.specs.Ends.{end_text}
 use Rattle.ir_print_law.specs.Readings.{IsKey}
-use Rattle.ir_print.specs.Standing.{Stands, IsSeam, AreBlanks}
+use Rattle.ir_print_law.specs.Stands.{Stands, IsSeam, AreBlanks}
 use Rattle.ir_ast.specs.declared.module.Module.{Module}
 
 -- a jump is read as the jump to the block of this name

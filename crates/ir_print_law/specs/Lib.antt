@@ -1,3 +1,4 @@
+pub mod Stands
 pub mod Shapes
 pub mod TypeOrder
 pub mod NumberedTypes

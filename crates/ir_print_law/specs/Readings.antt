@@ -24,7 +24,7 @@ use Rattle.name_text.specs.Readings.{AreBytes}
 use Rattle.name_text.specs.declared.blank.Blank.TheVariants as blank
 use Rattle.ir_print.specs.Names.{name_at, local_text}
 use Rattle.ir_print.specs.Fits.{FitsType, constant_shown}
-use Rattle.ir_print.specs.Standing.{Stands, IsSeam, AreBlanks, AreDigits}
+use Rattle.ir_print_law.specs.Stands.{Stands, IsSeam, AreBlanks, AreDigits}
 
 -- After blanks this form reads these bytes as this value, and makes this state of the one that it reads from. Then the bytes after them
 -- come next.

@@ -15,8 +15,8 @@ use Rattle.ir_forms.specs.Names.{is_symbol, is_function}
 use Rattle.ir_forms.specs.Table.{empty}
 use Rattle.ir_forms.specs.declared.input.Input.{Input}
 use Rattle.ir_forms.specs.declared.table.Table.{Table}
-use Rattle.function_text.specs.Anew.{sorts_before, named_head}
-use Rattle.function_text.specs.Replaced.{name_of, IsReplaced, IsReplaceFault}
+use Rattle.ir_text.specs.Anew.{sorts_before, named_head}
+use Rattle.ir_text.specs.Replaced.{name_of, IsReplaced, IsReplaceFault}
 use Rattle.ir_text.specs.ItemsOfText.{body_after, definition, item, at_end_of_text}
 use Rattle.ir_text.specs.Late.{late_fault}
 use Rattle.ir_text.specs.Read.{text_limit, start, module_of, IsText}

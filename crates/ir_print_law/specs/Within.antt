@@ -18,7 +18,7 @@ use Rattle.ir_ast.specs.declared.op.Op.{Op}
 use Rattle.ir_ast.specs.declared.op.Op.TheVariants as op
 use Rattle.ir_tokens.specs.Bytes.{Text}
 use Rattle.ir_text.specs.Read.{IsText}
-use Rattle.function_text.specs.Replaced.{IsReplaced}
+use Rattle.ir_text.specs.Replaced.{IsReplaced}
 use Rattle.name_text.specs.Readings.{AreBytes}
 use Rattle.ir_print_law.specs.PartsWithin.{AreSlotsBelow, HasType, HasStructName, HasSymbol, HasValue, HasBlock, HasTarget, HasResult, IsOperandWithin, IsArgumentWithin}
 use Rattle.ir_print_law.specs.Numbers.{IsNumberOpWithin}

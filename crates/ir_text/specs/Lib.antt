@@ -5,3 +5,5 @@ pub mod Blocks
 pub mod ItemsOfText
 pub mod Late
 pub mod Read
+pub mod Anew
+pub mod Replaced

@@ -1,6 +1,8 @@
-//! The reader of modules: the text of LLVM IR to a module, exactly.
+//! Modules as text: the text of LLVM IR is read to a module, exactly; and one function is read anew from a text of its own, which takes
+//! the old one's place.
 #![tactic(auto)]
 
+mod anew;
 mod blocks;
 mod items_of_text;
 mod late;
@@ -8,10 +10,12 @@ mod lines;
 mod parameters;
 mod read_fault;
 mod reader;
+mod replaced;
 mod starts;
 
+pub use anew::{Replacement, read_function};
 pub use ir_print::print;
 pub use items_of_text::{FunctionHead, body_after, defined_result, head_after};
-pub use late::late_fault;
 pub use read_fault::ReadFault;
-pub use reader::{located, read};
+pub use reader::read;
+pub use replaced::{copy_first, name_of, replace};

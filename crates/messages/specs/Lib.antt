@@ -1,0 +1,3 @@
+pub mod CertLines
+pub mod Instructions
+pub mod Lines

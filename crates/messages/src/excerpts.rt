@@ -1,9 +1,9 @@
 //! A line of a text with its number, and a caret under a part of it. Columns are those of a terminal; tabs stay; what a terminal would
 //! obey is shown as `?`; a long line is cut around the caret.
+use crate::lines::{line_at, line_numbered};
 use crate::look::{Ink, Pen};
 use crate::message::Message;
 use ir_tokens::{Position, Token};
-use places::{line_at, line_numbered};
 use std::str;
 use unicode_width::UnicodeWidthChar;
 

@@ -1,1 +1,2 @@
 mod Threads
+pub mod First

@@ -2,3 +2,4 @@ pub mod Accepted
 pub mod OneLayout
 pub mod Exclusive
 pub mod Discipline
+pub mod Refusals

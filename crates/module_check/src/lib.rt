@@ -1,12 +1,17 @@
-//! The check of a whole module against its certificates, and modules that it accepted.
+//! The check of a whole module against its certificates, modules that it accepted, and the first refusal of each block of one that is
+//! not certified.
 #![tactic(auto)]
 
 mod accepted;
+mod finding;
+mod refusals;
 mod under_check;
 mod verdict;
 
 pub use accepted::Accepted;
 pub use block_check::{Rows, check_block, check_function, check_rows, rows};
 pub use block_rules::{Detail, Refusal, Rule};
+pub use finding::first_refusals;
+pub use refusals::Refusals;
 pub use under_check::UnderCheck;
 pub use verdict::{NotAccepted, Reason, check, fault_in_module};

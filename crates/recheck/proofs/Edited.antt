@@ -6,7 +6,7 @@ use Rattle.ir_ast.specs.declared.module.Module.{Module}
 use Rattle.ir_ast.specs.declared.shapes.Shapes.{Shapes}
 use Rattle.ir_tokens.specs.Bytes.{Text}
 use Rattle.ir_text.specs.Read.{Gives}
-use Rattle.function_text.specs.Replaced.{IsReplaced, IsReplaceFault, put_function}
+use Rattle.ir_text.specs.Replaced.{IsReplaced, IsReplaceFault, put_function}
 use Rattle.copies.specs.declared.tables.Tables.{Tables}
 use Rattle.ir_text.specs.declared.read_fault.ReadFault.{ReadFault}
 use Rattle.ir_text.specs.declared.read_fault.ReadFault.TheVariants as read

@@ -18,7 +18,7 @@ use Rattle.certificate.specs.Laws.{StayFitting}
 use Rattle.certificate.specs.Replaced.{FitOthers}
 use Rattle.edit_text.specs.declared.edit.Edit.{Edit}
 use Rattle.edit_text.specs.declared.edit.Edit.TheVariants as edit
-use Rattle.function_text.specs.Replaced.{IsReplaced, put_function}
+use Rattle.ir_text.specs.Replaced.{IsReplaced, put_function}
 use Rattle.layout.specs.Functions.{with_functions}
 use Rattle.answers.specs.Laws.{FitAlone, RootsFitAlone}
 use Rattle.recheck.specs.Edits.{kept_text, module_in, IsReadAt, IsPut, IsShapedSection}

@@ -8,7 +8,7 @@ use Rattle.ir_ast.specs.declared.module.Module.{Module}
 use Rattle.ir_ast.specs.declared.shapes.Shapes.{Shapes}
 use Rattle.certs.specs.Families.{is_opaque_text}
 use Rattle.certs.specs.ShapesFit.{all_shapes_fit, global_fits, root_row_fits, roots_fit, row_fits, shape_fits, shapes_fit}
-use Rattle.function_text.specs.Replaced.{put_function}
+use Rattle.ir_text.specs.Replaced.{put_function}
 use Rattle.layout.specs.Functions.{with_functions}
 use Rattle.answers.specs.Laws.{RootsFitAlone}
 use Rattle.recheck.specs.ShapedRoots.{roots_there}

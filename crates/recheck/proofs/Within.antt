@@ -6,11 +6,11 @@ use Rattle.ir_ast.specs.declared.ir_type.IrType.{IrType}
 use Rattle.ir_ast.specs.declared.items_of_module.SymbolSort.{SymbolSort}
 use Rattle.ir_ast.specs.declared.module.Module.{Module}
 use Rattle.ir_tokens.specs.Bytes.{Text}
-use Rattle.function_text.specs.Anew.{IsTextAnew, IsFaultAnew}
+use Rattle.ir_text.specs.Anew.{IsTextAnew, IsFaultAnew}
 use Rattle.ir_text.specs.Read.{Gives}
 use Rattle.copies.specs.Tables.{tables_of}
-use Rattle.function_text.specs.Replaced.{name_of, with_parts, with_replacement, IsReplaced, IsReplaceFault}
-use Rattle.function_text.specs.declared.anew.Replacement.{Replacement}
+use Rattle.ir_text.specs.Replaced.{name_of, with_parts, with_replacement, IsReplaced, IsReplaceFault}
+use Rattle.ir_text.specs.declared.anew.Replacement.{Replacement}
 use Rattle.copies.specs.declared.tables.Tables.{Tables}
 use Rattle.ir_text.specs.declared.read_fault.ReadFault.{ReadFault}
 use Rattle.ir_text.specs.declared.read_fault.ReadFault.TheVariants as read

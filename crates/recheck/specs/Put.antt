@@ -5,7 +5,7 @@ use Rattle.ir_ast.specs.declared.module.Module.{Module}
 use Rattle.ir_ast.specs.declared.shapes.Shapes.{Shapes}
 use Rattle.ir_tokens.specs.Bytes.{Text}
 use Rattle.copies.specs.Tables.{tables_of}
-use Rattle.function_text.specs.Replaced.{IsReplaced}
+use Rattle.ir_text.specs.Replaced.{IsReplaced}
 use Rattle.copies.specs.declared.tables.Tables.{Tables}
 use Rattle.certs.specs.declared.section.Section.{Section}
 use Rattle.layout.specs.Functions.{with_functions, laid_with}

@@ -11,7 +11,7 @@ use Rattle.certs.specs.Fits.{section_fits}
 use Rattle.certs.specs.declared.section.Mark.TheVariants.{May}
 use Rattle.certs.specs.Plain.{plain_section, plain_section_fits}
 use Rattle.certs.specs.declared.section.Section.{Section}
-use Rattle.function_text.specs.Replaced.{put_function}
+use Rattle.ir_text.specs.Replaced.{put_function}
 
 -- ---- one of the sections is another one
 

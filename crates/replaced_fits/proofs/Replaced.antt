@@ -12,8 +12,8 @@ use Rattle.ir_ast.specs.declared.ir_type.IrType.TheVariants as type
 use Rattle.ir_ast.specs.declared.module.Module.{Module}
 use Rattle.ir_ast.specs.declared.shapes.Shapes.{Shapes}
 use Rattle.ir_tokens.specs.Bytes.{Text}
-use Rattle.function_text.specs.Replaced.{IsReplaced, put_function}
-use Rattle.function_text.specs.declared.anew.Replacement.{Replacement}
+use Rattle.ir_text.specs.Replaced.{IsReplaced, put_function}
+use Rattle.ir_text.specs.declared.anew.Replacement.{Replacement}
 use Rattle.ir_print_law.specs.Growing.{ReplacingKeepsTables, TablesStay}
 use Rattle.layout.specs.Layouts.{wants_shapes}
 use Rattle.types.specs.References.{struct_in, struct_in_is}

@@ -4,7 +4,7 @@ use Rattle.ir_ast.specs.declared.function.Function.{Function}
 use Rattle.ir_ast.specs.declared.module.Module.{Module}
 use Rattle.ir_ast.specs.declared.shapes.Shapes.{Shapes}
 use Rattle.ir_tokens.specs.Bytes.{Text}
-use Rattle.function_text.specs.Replaced.{IsReplaced}
+use Rattle.ir_text.specs.Replaced.{IsReplaced}
 use Rattle.ir_print_law.specs.Wholes.{IsWhole}
 use Rattle.ir_print_law.specs.Within.{IsWithin}
 use Rattle.layout.specs.Layouts.{wants_shapes}

@@ -4,8 +4,7 @@ use diagnosis::facts_before;
 use facts::Facts;
 use ir_ast::{BlockId, End, Function, Instr, Operand, Phi, ValueId};
 use ir_tokens::Token;
-use messages::{NamedText, Pen};
-use places::{Numbers, first_token};
+use messages::{NamedText, Numbers, Pen, first_token};
 use shadow_stack::slots_of;
 use std::alloc::AllocError;
 

@@ -3,9 +3,8 @@ use ir_ast::{Block, Function, Module};
 use ir_print::print;
 use items::Items;
 use machine::FramePlace;
-use messages::Message;
+use messages::{Message, line_at};
 use name_text::Blank;
-use places::line_at;
 use std::alloc::{AllocError, Global};
 
 /// The text of a module as it is printed: an instruction a line.

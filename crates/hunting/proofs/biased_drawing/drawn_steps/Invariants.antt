@@ -1,7 +1,7 @@
 -- the lines so far, and the steps that are left
 use Rattle.std.proofs.Common.{◌≡◌, ◌+◌}
 use Rattle.trace_text.specs.Traces.{step_sum}
-use Rattle.trace_parts.specs.Parts.{AreOfActors}
+use Rattle.hunting.specs.Parts.{AreOfActors}
 use Rattle.hunting.proofs.biased_drawing.drawn_steps.Given as goal
 
 abbrev pub invariant-loop-left : goal.invariant-loop-left

@@ -1,0 +1,202 @@
+//! The command `recheck`. Its lines are kept until the last edit, so that nothing is printed where memory is refused on the way.
+ghost use Rattle.std.specs.Prelude.{◌≡◌, ◌≢◌, ◌++◌, ℕ, List, true, IfOk, OnOk};
+ghost use Rattle.std.specs.Io.KnownBytes.{Appends};
+ghost use Rattle.certs.specs.Fits.{fits};
+ghost use Rattle.reports.specs.Said.{OfCertified, Says};
+ghost use Rattle.check_commands.specs.EditedFiles.{OfEdited, OfEditsFile, OfRechecked};
+ghost use Rattle.reports.specs.Files.{file_at};
+ghost use Rattle.check_commands.specs.Rechecks as spec;
+ghost use Rattle.check_commands.specs.Rechecks.{OfEdit, OfEdits, OfSession};
+ghost use Rattle.reports.specs.Report.{Answer, IsTold};
+ghost use Rattle.recheck.specs.declared.edit_fault.EditFault.TheVariants as edit_fault;
+
+use crate::codes::code_of_edit;
+use command_line::RecheckLine;
+use recheck::{Edit, EditFault, Session};
+use reports::{
+    Certified, STATUS_NO, STATUS_YES, accepted, edits_in, line_of_refusal, memory, not_laid_out,
+    read_certified, refused, unread,
+};
+use std::alloc::{AllocError, Global};
+use std::io;
+use std::io::Write;
+
+/// Writes the verdict on a session, as `check` prints it. Returns the status that goes with it.
+fn write_verdict<W: Write>(alloc: Global, session: &Session, lines: &mut W) -> io::Result<u8>
+    ensures { IfOk result (λ status. (verdict : Answer) × OfSession session.now verdict × IsTold (W.contents lines.old) (W.contents lines.new) status verdict) }
+{
+    let of_module = session.program().module();
+    match session.verdict() {
+        None => accepted(lines, of_module.functions.len()),
+        Some(refusal) => {
+            let line = line_of_refusal(alloc, of_module, session.certs(), &refusal)?;
+            refused(lines, of_module, &refusal, line.as_slice())
+        }
+    }
+}
+
+/// Writes the line of an edit that was accepted: `1 rechecked 2 yes 2`.
+fn write_accepted<W: Write>(
+    alloc: Global,
+    number: usize,
+    session: &Session,
+    lines: &mut W,
+) -> io::Result<()>
+    ensures { OnOk result ((verdict : Answer) × OfSession session.now verdict × Appends (W.contents lines.old) (W.contents lines.new) (spec.accepted_text number session.now.rechecked verdict)) }
+{
+    write!(lines, "{number} rechecked {} ", session.rechecked())?;
+    write_verdict(alloc, session, lines)?;
+    Ok(())
+}
+
+/// Writes the line of an edit that was refused: `1 refused L5`. An edit for which memory ran out has no line.
+fn write_refused<W: Write>(number: usize, fault: &EditFault, lines: &mut W) -> io::Result<()>
+    ensures { OnOk result ((fault.now ≢ edit_fault.Memory) × Appends (W.contents lines.old) (W.contents lines.new) (spec.refused_text number fault.now)) }
+{
+    match fault {
+        EditFault::Memory => Err(io::Error::from(AllocError)),
+        fault => writeln!(lines, "{number} refused {}", code_of_edit(fault)),
+    }
+}
+
+/// Applies an edit and writes its line.
+fn write_edit<W: Write>(
+    alloc: Global,
+    number: usize,
+    session: &mut Session,
+    edit: &Edit,
+    lines: &mut W,
+) -> io::Result<()>
+    ensures { OnOk result ((line : List ℕ) × OfEdit number session.old edit.now session.new line × Appends (W.contents lines.old) (W.contents lines.new) line) }
+{
+    match session.apply(alloc, edit) {
+        Ok(()) => write_accepted(alloc, number, session, lines),
+        Err(fault) => {
+            let written = write_refused(number, &fault, lines);
+            drop(fault);
+            written
+        }
+    }
+}
+
+/// Applies edits and writes the line of each, numbered from 1.
+fn write_edits<W: Write>(
+    alloc: Global,
+    session: &mut Session,
+    edits: &[Edit],
+    lines: &mut W,
+) -> io::Result<()>
+    ensures { OnOk result ((told : List ℕ) × OfEdits 1 session.old edits.now session.new told × Appends (W.contents lines.old) (W.contents lines.new) told) }
+{
+    for (place, edit) in edits.iter().enumerate() {
+        write_edit(alloc, place + 1, session, edit, lines)?;
+    }
+    Ok(())
+}
+
+/// The status that goes with the verdict on a session.
+fn status_of_verdict(session: &Session) -> u8
+    ensures { (verdict : Answer) × OfSession session.now verdict × (result ≡ verdict.status) }
+{
+    match session.verdict() {
+        None => STATUS_YES,
+        Some(_) => STATUS_NO,
+    }
+}
+
+/// The lines of a session that is edited: the first verdict, and one for each edit. A write to them fails only where memory is
+/// refused.
+fn lines_of(alloc: Global, session: &mut Session, edits: &[Edit]) -> io::Result<Vec<u8>>
+    ensures { IfOk result (λ lines. (first : Answer) × (told : List ℕ) × OfSession session.old first × OfEdits 1 session.old edits.now session.new told × (lines.items ≡ first.text ++ told)) }
+{
+    let mut lines = Vec::new(alloc);
+    write_verdict(alloc, session, &mut lines)?;
+    write_edits(alloc, session, edits, &mut lines)?;
+    Ok(lines)
+}
+
+/// Edits a session that begins, and prints its lines.
+fn edit_session<O: Write, E: Write>(
+    alloc: Global,
+    session: &mut Session,
+    edits: &[Edit],
+    out: &mut O,
+    err: &mut E,
+) -> io::Result<u8>
+    ensures { IfOk result (Says (OfEdited session.old edits.now) (O.contents out.old) (O.contents out.new) (E.contents err.old) (E.contents err.new)) }
+{
+    match lines_of(alloc, session, edits) {
+        Ok(lines) => {
+            out.write_all(lines.as_slice())?;
+            Ok(status_of_verdict(session))
+        }
+        Err(_) => memory(err),
+    }
+}
+
+/// Begins a session of a module with its certificates, and edits it.
+fn recheck_certified<O: Write, E: Write>(
+    alloc: Global,
+    certified: Certified,
+    edits: &[Edit],
+    out: &mut O,
+    err: &mut E,
+) -> io::Result<u8>
+    requires { fits certified.of_module certified.certs.sections ≡ true }
+    ensures { IfOk result (Says (OfRechecked certified.of_module certified.certs edits.now) (O.contents out.old) (O.contents out.new) (E.contents err.old) (E.contents err.new)) }
+{
+    match Session::new(alloc, certified.of_module, certified.certs) {
+        Ok(mut session) => {
+            let status = edit_session(alloc, &mut session, edits, out, err);
+            drop(session);
+            status
+        }
+        Err(answer) => {
+            let status = not_laid_out(err, &answer);
+            drop(answer);
+            status
+        }
+    }
+}
+
+/// Reads the edits of this path, the third file, and applies them to a module with its certificates.
+fn recheck_edits<O: Write, E: Write>(
+    alloc: Global,
+    certified: Certified,
+    path: &str,
+    files: &[Option<Vec<u8>>],
+    out: &mut O,
+    err: &mut E,
+) -> io::Result<u8>
+    requires { fits certified.of_module certified.certs.sections ≡ true }
+    ensures { IfOk result (Says (OfEditsFile path.now (file_at files.now 2) certified.of_module certified.certs) (O.contents out.old) (O.contents out.new) (E.contents err.old) (E.contents err.new)) }
+{
+    match edits_in(alloc, path, files, 2) {
+        Ok(edits) => {
+            let status = recheck_certified(alloc, certified, edits.as_slice(), out, err);
+            drop(edits);
+            status
+        }
+        Err(fault) => {
+            drop(certified);
+            unread(err, fault)
+        }
+    }
+}
+
+/// Checks the module of a line against its certificate, and again after each of its edits. The first fault counts: of each file in
+/// the line's order, its path and then its text, of the edits their frame; then of the layouts.
+pub fn recheck_files<O: Write, E: Write>(
+    alloc: Global,
+    asked: RecheckLine<'_>,
+    files: &[Option<Vec<u8>>],
+    out: &mut O,
+    err: &mut E,
+) -> io::Result<u8>
+    ensures { IfOk result (Says (OfCertified (OfEditsFile asked.entry.edits_path.now (file_at files.now 2)) asked.entry.module_path.now asked.entry.certificate_path.now (file_at files.now 0) (file_at files.now 1)) (O.contents out.old) (O.contents out.new) (E.contents err.old) (E.contents err.new)) }
+{
+    match read_certified(alloc, (asked.module_path, asked.certificate_path), files) {
+        Ok(certified) => recheck_edits(alloc, certified, asked.edits_path, files, out, err),
+        Err(fault) => unread(err, fault),
+    }
+}

@@ -1,2 +1,0 @@
-pub mod AnewLaws
-pub mod ReplacedLaws

@@ -1,2 +1,0 @@
-pub mod Anew
-pub mod Replaced

@@ -1,0 +1,23 @@
+use Rattle.std.proofs.Common.{◌+◌, ◌<◌, ◌≤◌, List, length, get_or, sym, subst, arith}
+use Rattle.std.proofs.lemmas.Option.{slice_get-get_or}
+use Rattle.trace_text.specs.Traces.{step_sum}
+use Rattle.moves.specs.declared.actor.Actor.TheVariants as actor
+use Rattle.trace_text.specs.declared.trace.Steps.{Steps}
+use Rattle.hunting.specs.Parts.{between}
+use Rattle.hunting.proofs.Sums.{sum_between}
+use Rattle.hunting.proofs.steps.with_line_cut.Goals as goal
+
+-- no steps, for the places past the end of a list
+abbrev none : Steps
+none = record { actor = actor.Thread 0; count = 0 }
+
+pub replaced-requires-clause-few : goal.replaced-requires-clause-few
+replaced-requires-clause-few c =
+    let lines = c.as_slice.result.now in
+    let from = c.args.places.0 in
+    let to = c.args.places.1 in
+    let within = subst (λ (l : List Steps). from < length l) (sym c.as_slice.ensures) c.requires.place in
+    let there = slice_get-get_or lines from none within in
+    let some = sum_between from to lines (get_or lines from none) there c.requires.order in
+    let least = c.min.ensures in
+    subst (λ (l : List Steps). 0 + c.min.result ≤ step_sum (between from to l)) c.as_slice.ensures (omega (arith, some, least))

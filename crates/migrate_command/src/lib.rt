@@ -1,6 +1,0 @@
-//! The command `migrate`.
-#![tactic(auto)]
-
-mod migrating;
-
-pub use migrating::migrate_files;

@@ -1,3 +1,0 @@
-pub mod CertLines
-pub mod Instructions
-pub mod Lines

@@ -1,2 +1,0 @@
-pub mod Rechecks
-pub mod EditedFiles

@@ -1,6 +1,0 @@
--- the counts of the layouts so far
-use Rattle.std.proofs.Common.{◌≡◌, take}
-use Rattle.trace_parts.proofs.pool_counts.counts_in.Given as goal
-
-abbrev pub invariant-loop-layout : goal.invariant-loop-layout
-invariant-loop-layout l = l.counts ≡ take l.layout l.pools
