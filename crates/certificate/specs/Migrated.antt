@@ -3,7 +3,7 @@ use Rattle.std.specs.Prelude.{◌≡◌, ◌⊎◌, ℕ, ◌+◌, Bool, false, n
 use Rattle.ir_ast.specs.declared.function.Function.{Function}
 use Rattle.ir_ast.specs.declared.function.Parameter.{Parameter}
 use Rattle.ir_ast.specs.declared.module.Module.{Module}
-use Rattle.opaque.specs.Opaque.{opaque_module}
+use Rattle.copies.specs.Opaque.{opaque_module}
 use Rattle.layout.specs.FieldRows.{AreFieldRows}
 use Rattle.name_text.specs.declared.found.WordFault.TheVariants.{Wrong}
 use Rattle.types.specs.References.{referenced_layout}

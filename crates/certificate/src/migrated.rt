@@ -3,7 +3,7 @@ ghost use Rattle.std.specs.Prelude.{◌≡◌, ◌⊎◌, Some, slice_get, IfOk,
 ghost use Rattle.certificate.specs.Migrated as spec;
 ghost use Rattle.certificate.specs.Migrated.{IsMigration};
 ghost use Rattle.certificate.specs.declared.fault.CertFault.TheVariants as fault;
-ghost use Rattle.opaque.specs.Opaque.{opaque_module};
+ghost use Rattle.copies.specs.Opaque.{opaque_module};
 
 use crate::fault::CertFault;
 use crate::input::WordFault;
@@ -12,10 +12,10 @@ use crate::replaced::{copied_blocks, copied_certs, copied_section};
 use crate::shape_draft::shapes_gap;
 use crate::typed_shapes::typed_draft;
 use certs::{Certs, Promise, Section, is_opaque_text};
+use copies::opaque;
 use ir_ast::{Function, Module, Parameter, Shapes, TypeId};
 use items::Items;
 use layout::field_rows;
-use opaque::opaque;
 use pools::LayoutId;
 use std::alloc::{AllocError, Global};
 use types::is_reference;

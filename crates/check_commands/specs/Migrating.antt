@@ -2,7 +2,7 @@
 use Rattle.std.specs.Prelude.{◌≡◌, ◌≢◌, ◌⊎◌, ℕ, List, [], Option, Some, None, Err, Ok, true, false, if◌then◌else◌, unwrap_or}
 use Rattle.ir_ast.specs.declared.module.Module.{Module}
 use Rattle.ir_print.specs.Items.{text_of}
-use Rattle.opaque.specs.Opaque.{opaque_module}
+use Rattle.copies.specs.Opaque.{opaque_module}
 use Rattle.certs.specs.declared.certs.Certs.{Certs}
 use Rattle.certificate.specs.Migrated.{IsMigration, is_typed_text}
 use Rattle.certificate.specs.Print.{cert_text}

@@ -2,7 +2,7 @@
 ghost use Rattle.std.specs.Prelude.{◌≡◌, Ok, IfOk, option_map};
 ghost use Rattle.certificate.specs.Migrated.{IsMigration};
 ghost use Rattle.check_commands.specs.Migrating.{bytes_at, migrated_text, OfCerts, OfMigrate, OfMigrated, OfModule, OfText};
-ghost use Rattle.opaque.specs.Opaque.{opaque_module};
+ghost use Rattle.copies.specs.Opaque.{opaque_module};
 ghost use Rattle.reports.specs.Files as spec;
 ghost use Rattle.reports.specs.Report.{IsTold, made_text};
 ghost use Rattle.reports.specs.Said.{OfCertified, Says};
@@ -10,9 +10,9 @@ ghost use Rattle.reports.specs.Said.{OfCertified, Says};
 use certificate::{is_typed_text, migrate, print_cert};
 use certs::Certs;
 use command_line::MigrateLine;
+use copies::opaque;
 use ir_ast::Module;
 use ir_print::print;
-use opaque::opaque;
 use reports::{
     Certified, STATUS_YES, file_at, memory, module_in, no_certificate, read_certified, unread,
 };

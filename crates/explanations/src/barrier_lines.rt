@@ -2,8 +2,7 @@
 use crate::nulls::is_value;
 use crate::told::{Told, type_of, value_in};
 use ir_ast::{Constant, MemoryOp, Op, Operand, TypeId, ValueId};
-use messages::Message;
-use offered_lines::{CODE_MARGIN, put_new_name, put_type};
+use messages::{CODE_MARGIN, Message, put_new_name, put_type};
 use scenes::{Scene, There, put_operand};
 use std::alloc::AllocError;
 

@@ -23,8 +23,7 @@ use diagnosis::facts_before;
 use facts::Facts;
 use ir_ast::{Function, Operand, Runtime};
 use layout::Program;
-use messages::{Ink, Message, NamedText, Pen};
-use offered_lines::{Pointers, declare_of};
+use messages::{Ink, Message, NamedText, Pen, Pointers, declare_of};
 use scenes::{
     Scene, Sought, Source, arguments_of, is_runtime_call, local, operands_of, place_of, put_known,
     put_spot, subject_of,

@@ -1,7 +1,6 @@
 //! Texts with holes, which names of the refused instruction fill: `{it} is stored into {place}`.
 use ir_ast::{BlockId, LocalSort, Op, Operand, TypeId, ValueId};
-use messages::Message;
-use offered_lines::put_type;
+use messages::{Message, put_type};
 use scenes::{Scene, There, local, put_block, put_function, put_operand, put_symbol};
 
 /// The value that an operand names.

@@ -5,8 +5,7 @@ use crate::told::Told;
 use certs::is_opaque_text;
 use facts::Known;
 use ir_ast::{Operand, Runtime, ValueId};
-use messages::Message;
-use offered_lines::put_wanted_declare;
+use messages::{Message, put_wanted_declare};
 use scenes::{Definition, Scene, Spot, definition_of, reference_of};
 
 /// The reference in whose cell an operand is a place.

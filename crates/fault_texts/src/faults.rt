@@ -10,9 +10,11 @@ use ir_ast::{Function, Module, Runtime, SymbolId, ValueId};
 use ir_text::ReadFault;
 use ir_tokens::Position;
 use layout::LayoutFault;
-use messages::{Ink, Message, NamedText, Pen, line_numbered, put_path_at, put_position_line};
+use messages::{
+    Ink, Message, NamedText, Pen, Pointers, declare_of, line_numbered, put_path_at,
+    put_position_line,
+};
 use name_text::{Blank, past_blanks, past_word, word};
-use offered_lines::{Pointers, declare_of};
 use pools::LayoutId;
 use std::alloc::{AllocError, Global};
 

@@ -1,7 +1,6 @@
 //! What was expected where a text goes on with no form: the form that its line begins.
 use ir_tokens::{Kind, Lexed, TEXT_LIMIT, Token, read_tokens};
-use messages::NamedText;
-use offered_lines::Pointers;
+use messages::{NamedText, Pointers};
 use std::alloc::{AllocError, Global};
 
 /// The form of an item of the module.

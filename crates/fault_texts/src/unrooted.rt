@@ -2,9 +2,10 @@
 use crate::faults::{put_told, word_after};
 use ir_ast::{Function, LocalSort, Module, Runtime, SymbolSort, ValueId};
 use ir_tokens::Position;
-use messages::{Ink, Message, NamedText, Pen, line_numbered};
+use messages::{
+    Ink, Message, NamedText, Pen, Slot, line_numbered, put_root_lines, put_wanted_declare,
+};
 use name_text::{Sigil, name_in, past_blanks, word};
-use offered_lines::{Slot, put_root_lines, put_wanted_declare};
 use std::alloc::{AllocError, Global};
 
 /// The line of a position.

@@ -16,7 +16,7 @@ use Rattle.ir_ast.specs.declared.module.Module.{Module}
 use Rattle.ir_ast.specs.declared.shapes.Shapes.{Shapes}
 use Rattle.pools.specs.declared.word_kind.WordKind.{WordKind}
 use Rattle.pools.specs.declared.word_kind.WordKind.TheVariants as kind
-use Rattle.opaque.specs.Opaque.{new_number, opaque_global, opaque_module, opaque_struct, opaque_type, opaque_types}
+use Rattle.copies.specs.Opaque.{new_number, opaque_global, opaque_module, opaque_struct, opaque_type, opaque_types}
 use Rattle.types.specs.Elements.{body_in, body_of_layout, body_named}
 use Rattle.types.specs.Globals.{held_in}
 use Rattle.types.specs.References.{is_opaque_type, layout_after, part_of_pointer, referenced_layout, struct_named}

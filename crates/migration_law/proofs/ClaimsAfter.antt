@@ -5,7 +5,7 @@ use Rattle.lemmas.specs.Bools.{and_true, and_parts}
 use Rattle.ir_ast.specs.Numbers.{small}
 use Rattle.ir_ast.specs.declared.function.Function.{Function}
 use Rattle.ir_ast.specs.declared.module.Module.{Module}
-use Rattle.opaque.specs.Opaque.{opaque_function}
+use Rattle.copies.specs.Opaque.{opaque_function}
 use Rattle.types.specs.Globals.{global_named}
 use Rattle.certs.specs.Families.{family_of_value, is_address, is_integer, is_opaque_text, is_reference, refers_to, same_bits}
 use Rattle.certs.specs.Fits.{all_named_listed, below_fits, claim_fits, claims_fit, fact_fits, is_count, layout_fits, lists_once, promise_fits, promised_below_fits, promised_fits, promised_layout_fits, says_something, stands_for, words_fit}

@@ -14,7 +14,7 @@ use Rattle.ir_ast.specs.declared.ir_type.IrType.TheVariants as type
 use Rattle.ir_ast.specs.declared.module.Module.{Module}
 use Rattle.ir_ast.specs.declared.op.Op.{Op}
 use Rattle.ir_ast.specs.declared.op.Op.TheVariants as op
-use Rattle.opaque.specs.Opaque.{new_number, opaque_block, opaque_function, opaque_instr, opaque_argument, opaque_module, opaque_op, opaque_sort, opaque_type, opaque_types}
+use Rattle.copies.specs.Opaque.{new_number, opaque_block, opaque_function, opaque_instr, opaque_argument, opaque_module, opaque_op, opaque_sort, opaque_type, opaque_types}
 use Rattle.types.specs.Elements.{element_type}
 use Rattle.types.specs.References.{is_opaque, is_opaque_type, layout_after, layout_of_struct, part_of_pointer, pointee, referenced_layout, struct_in, struct_named}
 use Rattle.types.specs.ValueTypes.{instruction_at, instruction_in}

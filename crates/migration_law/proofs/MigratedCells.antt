@@ -3,7 +3,7 @@ use Rattle.std.proofs.Common.{◌≡◌, false, not, if◌then◌else◌, Option
 use Rattle.lemmas.specs.Bools.{and_parts, not_true}
 use Rattle.ir_ast.specs.declared.module.Module.{Module}
 use Rattle.ir_ast.specs.declared.shapes.Shapes.{Shapes}
-use Rattle.opaque.specs.Opaque.{opaque_module}
+use Rattle.copies.specs.Opaque.{opaque_module}
 use Rattle.layout.specs.Functions.{with_shapes}
 use Rattle.certs.specs.Families.{is_opaque_text}
 use Rattle.certs.specs.declared.certs.Certs.{Certs}

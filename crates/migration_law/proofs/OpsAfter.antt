@@ -28,7 +28,7 @@ use Rattle.ir_ast.specs.declared.operand.Operand.{Operand}
 use Rattle.ir_ast.specs.declared.operand.Operand.TheVariants as operand
 use Rattle.ir_forms.specs.CaseValues.{value_of, with_value}
 use Rattle.ir_forms.specs.declared.case_values.CaseValue.{CaseValue}
-use Rattle.opaque.specs.Opaque.{new_number, opaque_argument, opaque_block, opaque_declare, opaque_end, opaque_function, opaque_global, opaque_incoming, opaque_instr, opaque_memory, opaque_number, opaque_op, opaque_operand, opaque_parameter, opaque_phi}
+use Rattle.copies.specs.Opaque.{new_number, opaque_argument, opaque_block, opaque_declare, opaque_end, opaque_function, opaque_global, opaque_incoming, opaque_instr, opaque_memory, opaque_number, opaque_op, opaque_operand, opaque_parameter, opaque_phi}
 use Rattle.ir_print_law.specs.Calls.{IsCall}
 use Rattle.ir_print_law.specs.Definitions.{block_keys, defined_globals, defined_keys, functions_of, label_keys, parameter_key, parameter_keys, phi_key, result_keys, value_keys, value_keys_of}
 use Rattle.ir_print_law.specs.Memory.{IsMemoryOp, memory_gives_value}

@@ -9,7 +9,7 @@ use Rattle.ir_ast.specs.declared.items_of_module.Global.{Global}
 use Rattle.ir_ast.specs.declared.items_of_module.StructType.{StructType}
 use Rattle.ir_ast.specs.declared.module.Module.{Module}
 use Rattle.name_text.specs.Readings.{AreBytes}
-use Rattle.opaque.specs.Opaque.{new_number, opaque_block, opaque_declare, opaque_function, opaque_global, opaque_parameter, opaque_struct}
+use Rattle.copies.specs.Opaque.{new_number, opaque_block, opaque_declare, opaque_function, opaque_global, opaque_parameter, opaque_struct}
 use Rattle.ir_print_law.specs.Definitions.{AreDefined, AreNew}
 use Rattle.ir_print_law.specs.Parts.{IsVoid}
 use Rattle.ir_print_law.specs.Printable.{IsAnyType, IsBlock, IsDeclare, IsFunction, IsGlobal, IsInitial, IsParameter, IsPassed, IsPrintable, IsStructType, IsSymbol}

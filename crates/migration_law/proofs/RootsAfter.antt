@@ -21,7 +21,7 @@ use Rattle.ir_ast.specs.declared.operand.Operand.{Operand}
 use Rattle.ir_ast.specs.declared.operand.Operand.TheVariants as operand
 use Rattle.ir_ast.specs.declared.runtime.Runtime.{Runtime}
 use Rattle.ir_ast.specs.declared.runtime.Runtime.TheVariants as runtime
-use Rattle.opaque.specs.Opaque.{new_number, opaque_argument, opaque_block, opaque_declare, opaque_function, opaque_instr, opaque_op, opaque_operand, opaque_sort}
+use Rattle.copies.specs.Opaque.{new_number, opaque_argument, opaque_block, opaque_declare, opaque_function, opaque_instr, opaque_op, opaque_operand, opaque_sort}
 use Rattle.shadow_stack.specs.Slots.{draft_of, first_slot, is_among, is_reference_held, names_of, operand_slot, origin_of, recorded, recorded_blocks, recorded_op, slot_of, slot_rooted, slot_rooted_by, slots_of, with_root, with_roots, with_roots_of}
 use Rattle.types.specs.References.{is_opaque, referenced_layout}
 use Rattle.types.specs.RuntimeCall.{runtime_called, runtime_of_declare, runtime_of_sort}

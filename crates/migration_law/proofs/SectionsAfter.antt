@@ -6,7 +6,7 @@ use Rattle.ir_ast.specs.Places.{map-length}
 use Rattle.ir_ast.specs.declared.function.Function.{Function}
 use Rattle.ir_ast.specs.declared.function.Parameter.{Parameter}
 use Rattle.ir_ast.specs.declared.module.Module.{Module}
-use Rattle.opaque.specs.Opaque.{opaque_block, opaque_function, opaque_module, opaque_parameter}
+use Rattle.copies.specs.Opaque.{opaque_block, opaque_function, opaque_module, opaque_parameter}
 use Rattle.types.specs.References.{referenced_layout}
 use Rattle.certs.specs.Families.{family_of_type, family_of_value, is_opaque_text}
 use Rattle.certs.specs.Fits.{blocks_fit, claims_fit, entry_is_empty, fits, parameter_fits, parameters_fit, promised_fits, section_fits}

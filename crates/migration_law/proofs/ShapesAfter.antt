@@ -11,7 +11,7 @@ use Rattle.ir_ast.specs.declared.ir_type.IrType.TheVariants as type
 use Rattle.ir_ast.specs.declared.items_of_module.StructType.{StructType}
 use Rattle.ir_ast.specs.declared.module.Module.{Module}
 use Rattle.ir_forms.specs.Written.{has_opaque}
-use Rattle.opaque.specs.Opaque.{new_number, opaque_module, opaque_struct, opaque_type, opaque_types}
+use Rattle.copies.specs.Opaque.{new_number, opaque_module, opaque_struct, opaque_type, opaque_types}
 use Rattle.ir_print_law.specs.Definitions.{defined_structs}
 use Rattle.ir_print_law.specs.Parts.{IsPlaceType, IsScalar, IsType, IsVoid}
 use Rattle.ir_print_law.specs.Printable.{is_void}

@@ -8,7 +8,7 @@ use Rattle.ir_ast.specs.declared.ir_type.IrType.{IrType}
 use Rattle.ir_ast.specs.declared.ir_type.IrType.TheVariants as type
 use Rattle.ir_print_law.specs.NumberedTypes.{type_there, type_length}
 use Rattle.migration_law.specs.PartsBefore.{ComesAfterParts}
-use Rattle.opaque.specs.Opaque.{Renumbered, new_number, opaque_type, opaque_types, with_type, with_types}
+use Rattle.copies.specs.Opaque.{Renumbered, new_number, opaque_type, opaque_types, with_type, with_types}
 
 -- ---- a table in which one type is numbered
 

@@ -8,7 +8,7 @@ use Rattle.ir_ast.specs.declared.ir_type.IrType.{IrType}
 use Rattle.ir_ast.specs.declared.ir_type.IrType.TheVariants as type
 use Rattle.ir_print_law.specs.NumberedTypes.{type_there}
 use Rattle.migration_law.specs.PartsBefore.{ArePartsBefore, ComesAfterParts}
-use Rattle.opaque.specs.Opaque.{Renumbered, new_number, opaque_type, opaque_types, with_type, with_types}
+use Rattle.copies.specs.Opaque.{Renumbered, new_number, opaque_type, opaque_types, with_type, with_types}
 use Rattle.migration_law.proofs.Tables.{type_in_order}
 
 -- the types that were renumbered so far have numbers in the new table, in which the rest of each struct is before it

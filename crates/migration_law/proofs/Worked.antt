@@ -2,7 +2,7 @@
 use Rattle.std.proofs.Common.{◌≡◌, zero, suc, List, [], ◌∷◌, refl, subst, arith}
 use Rattle.ir_ast.specs.declared.ir_type.IrType.{IrType}
 use Rattle.ir_ast.specs.declared.ir_type.IrType.TheVariants as type
-use Rattle.opaque.specs.Opaque.{opaque_types}
+use Rattle.copies.specs.Opaque.{opaque_types}
 use Rattle.migration_law.specs.PartsBefore.{ArePartsBefore, ComesAfterParts}
 
 -- `%Node = type { i64, %Node* }`

@@ -2,7 +2,7 @@
 use Rattle.std.specs.Prelude.{◌≡◌, true, List, Ok, map}
 use Rattle.ir_ast.specs.declared.module.Module.{Module}
 use Rattle.pools.specs.declared.word_kind.WordKind.{WordKind}
-use Rattle.opaque.specs.Opaque.{opaque_module}
+use Rattle.copies.specs.Opaque.{opaque_module}
 use Rattle.layout.specs.Functions.{with_shapes}
 use Rattle.layout.specs.Globals.{AreGlobals, globals_of, word_of_global}
 use Rattle.layout.specs.Layouts.{AreLayouts}

@@ -7,7 +7,7 @@ use Rattle.ir_ast.specs.declared.function.Parameter.{Parameter}
 use Rattle.ir_ast.specs.declared.instr.Instr.{Instr}
 use Rattle.ir_ast.specs.declared.module.Module.{Module}
 use Rattle.ir_ast.specs.declared.op.Op.TheVariants as op
-use Rattle.opaque.specs.Opaque.{opaque_module}
+use Rattle.copies.specs.Opaque.{opaque_module}
 use Rattle.types.specs.References.{pointee}
 use Rattle.types.specs.ValueTypes.{instruction_at}
 use Rattle.certs.specs.Fits.{fits}

@@ -1,7 +1,7 @@
 -- A printable module is printable once it is opaque.
 use Rattle.std.specs.Prelude.{◌≤◌, length}
 use Rattle.ir_ast.specs.declared.module.Module.{Module}
-use Rattle.opaque.specs.Opaque.{opaque_module}
+use Rattle.copies.specs.Opaque.{opaque_module}
 use Rattle.ir_text.specs.Read.{text_limit}
 use Rattle.ir_print.specs.Items.{text_of}
 use Rattle.ir_print_law.specs.Printable.{IsPrintable}

@@ -1,7 +1,7 @@
 use Rattle.std.proofs.Common.{◌≡◌, ◌∙◌, ℕ, List, Bool, true, false, Ok, ap, inl, inr, refl, subst, sym}
 use Rattle.std.proofs.lemmas.Result.{IfOk-weaker}
 use Rattle.ir_ast.specs.declared.module.Module.{Module}
-use Rattle.opaque.specs.Opaque.{opaque_module}
+use Rattle.copies.specs.Opaque.{opaque_module}
 use Rattle.certs.specs.declared.certs.Certs.{Certs}
 use Rattle.certificate.specs.Migrated.{IsMigration, is_typed_text}
 use Rattle.certificate.specs.Print.{cert_text}

@@ -2,7 +2,7 @@ use Rattle.std.proofs.Common.{◌≡◌, ◌∙◌, ℕ, List, Bool, true, false
 use Rattle.std.proofs.lemmas.Result.{IfOk-weaker}
 use Rattle.ir_ast.specs.declared.module.Module.{Module}
 use Rattle.ir_print.specs.Items.{text_of}
-use Rattle.opaque.specs.Opaque.{opaque_module}
+use Rattle.copies.specs.Opaque.{opaque_module}
 use Rattle.certificate.specs.Migrated.{is_typed_text}
 use Rattle.check_commands.specs.Migrating.{migrated_text}
 use Rattle.check_commands.proofs.migrating.text_by.Goals as goal

@@ -1,6 +1,6 @@
 use Rattle.migration_law.proofs.PrintableAfter.{printable}
 use Rattle.migration_law.proofs.printed_law.opaque_printed_law.Goals as goal
-use Rattle.opaque.specs.Opaque.{opaque_module}
+use Rattle.copies.specs.Opaque.{opaque_module}
 
 pub returns-clause-printable : goal.returns-clause-printable
 returns-clause-printable c m ordered h = printable m ordered h

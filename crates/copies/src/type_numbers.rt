@@ -1,6 +1,6 @@
 //! The table of types with `ptr` for each pointer.
 ghost use Rattle.std.specs.Prelude.{◌≡◌, Some, IfOk, OnOk, slice_get};
-ghost use Rattle.opaque.specs.Opaque as spec;
+ghost use Rattle.copies.specs.Opaque as spec;
 
 use ir_ast::{IrType, TypeId, Types};
 use items::Items;

@@ -1,17 +1,18 @@
 //! Functions with the new numbers of their types.
 ghost use Rattle.std.specs.Prelude.{◌≡◌, IfOk};
-ghost use Rattle.opaque.specs.Opaque as spec;
+ghost use Rattle.copies.specs.Opaque as spec;
 
+use crate::function::copy_collector;
 use crate::made_opaque::{MadeOpaque, all_opaque};
 use crate::op::{opaque_argument, opaque_operand};
+use crate::tables::copy_names;
 use crate::type_numbers::new_number;
-use copies::{copy_collector, copy_names};
 use ir_ast::{Block, End, Function, Incoming, LocalSort, Parameter, Phi, TypeId};
 use items::Items;
 use std::alloc::{AllocError, Global};
 
 impl MadeOpaque for Incoming {
-    ghost use Rattle.opaque.specs.Opaque.{opaque_incoming};
+    ghost use Rattle.copies.specs.Opaque.{opaque_incoming};
 
     ghost opaque = { λ _. opaque_incoming };
 
@@ -24,7 +25,7 @@ impl MadeOpaque for Incoming {
 }
 
 impl MadeOpaque for Phi {
-    ghost use Rattle.opaque.specs.Opaque.{opaque_phi};
+    ghost use Rattle.copies.specs.Opaque.{opaque_phi};
 
     ghost opaque = { opaque_phi };
 
@@ -71,7 +72,7 @@ fn opaque_end(alloc: Global, numbers: &[TypeId], end: &End) -> Result<End, Alloc
 }
 
 impl MadeOpaque for Block {
-    ghost use Rattle.opaque.specs.Opaque.{opaque_block};
+    ghost use Rattle.copies.specs.Opaque.{opaque_block};
 
     ghost opaque = { opaque_block };
 
@@ -89,7 +90,7 @@ impl MadeOpaque for Block {
 }
 
 impl MadeOpaque for Parameter {
-    ghost use Rattle.opaque.specs.Opaque.{opaque_parameter};
+    ghost use Rattle.copies.specs.Opaque.{opaque_parameter};
 
     ghost opaque = { opaque_parameter };
 
@@ -102,7 +103,7 @@ impl MadeOpaque for Parameter {
 }
 
 impl MadeOpaque for LocalSort {
-    ghost use Rattle.opaque.specs.Opaque.{opaque_sort};
+    ghost use Rattle.copies.specs.Opaque.{opaque_sort};
 
     ghost opaque = { opaque_sort };
 
@@ -116,7 +117,7 @@ impl MadeOpaque for LocalSort {
 }
 
 impl MadeOpaque for Function {
-    ghost use Rattle.opaque.specs.Opaque.{opaque_function};
+    ghost use Rattle.copies.specs.Opaque.{opaque_function};
 
     ghost opaque = { opaque_function };
 

@@ -1,17 +1,18 @@
 //! A whole module with `ptr` for each pointer.
 ghost use Rattle.std.specs.Prelude.{◌≡◌, map, IfOk};
 ghost use Rattle.copies.specs.Tables.{tables_of};
-ghost use Rattle.opaque.specs.Opaque as spec;
-ghost use Rattle.opaque.specs.Opaque.{opaque_module};
+ghost use Rattle.copies.specs.Opaque as spec;
+ghost use Rattle.copies.specs.Opaque.{opaque_module};
 
 use crate::made_opaque::{MadeOpaque, all_opaque};
+use crate::of_module::{Defined, copy_shapes, joined};
+use crate::tables::{Tables, copy_tables};
 use crate::type_numbers::{Renumbered, new_number, opaque_types};
-use copies::{Defined, Tables, copy_shapes, copy_tables, joined};
 use ir_ast::{Declare, Global as GlobalWord, Module, StructType, TypeId};
 use std::alloc::{AllocError, Global};
 
 impl MadeOpaque for StructType {
-    ghost use Rattle.opaque.specs.Opaque.{opaque_struct};
+    ghost use Rattle.copies.specs.Opaque.{opaque_struct};
 
     ghost opaque = { opaque_struct };
 
@@ -24,7 +25,7 @@ impl MadeOpaque for StructType {
 }
 
 impl MadeOpaque for TypeId {
-    ghost use Rattle.opaque.specs.Opaque.{new_number};
+    ghost use Rattle.copies.specs.Opaque.{new_number};
 
     ghost opaque = { new_number };
 
@@ -34,7 +35,7 @@ impl MadeOpaque for TypeId {
 }
 
 impl MadeOpaque for Declare {
-    ghost use Rattle.opaque.specs.Opaque.{opaque_declare};
+    ghost use Rattle.copies.specs.Opaque.{opaque_declare};
 
     ghost opaque = { opaque_declare };
 
@@ -49,7 +50,7 @@ impl MadeOpaque for Declare {
 }
 
 impl MadeOpaque for GlobalWord {
-    ghost use Rattle.opaque.specs.Opaque.{opaque_global};
+    ghost use Rattle.copies.specs.Opaque.{opaque_global};
 
     ghost opaque = { opaque_global };
 

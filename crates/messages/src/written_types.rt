@@ -1,6 +1,6 @@
 //! Types as they are written, of integers and of pointers to named structs.
+use crate::message::Message;
 use ir_ast::{IrType, Module, TypeId};
-use messages::Message;
 use name_text::Blank;
 use std::alloc::Global;
 use types::pointee;

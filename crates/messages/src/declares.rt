@@ -1,7 +1,7 @@
 //! How the functions of the runtime are declared.
+use crate::message::Message;
 use crate::pointers::Pointers;
 use ir_ast::{Declare, Module, Runtime};
-use messages::Message;
 
 fn typed_declare(runtime: &Runtime) -> &'static str {
     match runtime {

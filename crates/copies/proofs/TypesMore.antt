@@ -3,7 +3,7 @@ use Rattle.std.proofs.Common.{◌≡◌, ℕ, zero, suc, ◌+◌, ◌<◌, ◌�
 use Rattle.std.proofs.Math.Seq.{drop-cons}
 use Rattle.std.proofs.lemmas.Option.{slice_get_within, get_or_from_slice_get}
 use Rattle.ir_ast.specs.declared.ir_type.IrType.{IrType}
-use Rattle.opaque.specs.Opaque.{Renumbered, with_type, with_types}
+use Rattle.copies.specs.Opaque.{Renumbered, with_type, with_types}
 
 -- a table of these types and numbers
 abbrev table : List IrType → List ℕ → Renumbered

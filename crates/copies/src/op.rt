@@ -1,6 +1,6 @@
 //! Instructions with the new numbers of their types.
 ghost use Rattle.std.specs.Prelude.{◌≡◌, IfOk};
-ghost use Rattle.opaque.specs.Opaque as spec;
+ghost use Rattle.copies.specs.Opaque as spec;
 
 use crate::made_opaque::{MadeOpaque, all_opaque};
 use crate::type_numbers::new_number;
@@ -29,7 +29,7 @@ pub fn opaque_argument(numbers: &[TypeId], argument: Argument) -> Argument
 }
 
 impl MadeOpaque for Argument {
-    ghost use Rattle.opaque.specs.Opaque.{opaque_argument};
+    ghost use Rattle.copies.specs.Opaque.{opaque_argument};
 
     ghost opaque = { opaque_argument };
 
@@ -167,7 +167,7 @@ fn opaque_op(alloc: Global, numbers: &[TypeId], op: &Op) -> Result<Op, AllocErro
 }
 
 impl MadeOpaque for Instr {
-    ghost use Rattle.opaque.specs.Opaque.{opaque_instr};
+    ghost use Rattle.copies.specs.Opaque.{opaque_instr};
 
     ghost opaque = { opaque_instr };
 

@@ -1,6 +1,6 @@
 //! Names for values that are to be added to a function.
+use crate::message::Message;
 use ir_ast::{Function, ValueId, name_of_key};
-use messages::Message;
 use name_text::Blank;
 use std::alloc::{AllocError, Global};
 

@@ -1,9 +1,9 @@
 //! How a slot is made a root.
+use crate::message::Message;
 use crate::new_names::put_new_name;
 use crate::pointers::Pointers;
 use crate::written_types::put_type;
 use ir_ast::{Function, LocalSort, Module, TypeId, ValueId};
-use messages::Message;
 use name_text::Blank;
 use pools::LayoutId;
 use std::alloc::Global;

@@ -1,9 +1,9 @@
 use Rattle.std.proofs.Common.{◌≡◌, ◌<◌, length, slice_get, Some, None, ap, sym, ◌∙◌, arith}
-use Rattle.opaque.specs.Opaque.{opaque_types}
-use Rattle.opaque.specs.declared.type_numbers.Renumbered.{Renumbered}
-use Rattle.opaque.proofs.TypesMore.{one_more, some_within}
-use Rattle.opaque.proofs.type_numbers.opaque_types.Goals.{in-Some+in_ok-add, in_default}
-use Rattle.opaque.proofs.type_numbers.opaque_types.Goals as goal
+use Rattle.copies.specs.Opaque.{opaque_types}
+use Rattle.copies.specs.declared.type_numbers.Renumbered.{Renumbered}
+use Rattle.copies.proofs.TypesMore.{one_more, some_within}
+use Rattle.copies.proofs.type_numbers.opaque_types.Goals.{in-Some+in_ok-add, in_default}
+use Rattle.copies.proofs.type_numbers.opaque_types.Goals as goal
 
 pub loop-number-preserved : goal.loop-number-preserved
 loop-number-preserved c = elim c.match-get.branch [
