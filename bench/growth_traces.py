@@ -51,6 +51,13 @@ def deep_threads(n):
     return DEEP, trace("".join(f"t {i} 10005\n" for i in range(n)), "", "start @down\n" * n), 10000 * n
 
 
+@kind("names of a function of 10,000 frames", 5000, "replay")
+def many_names(n):
+    """A function that calls itself until it is at the limit of frames, with blocks that it never enters."""
+    blocks = lines(n, lambda i: f"b{i}:\n  br label %b{(i + 1) % n}")
+    return DEEP.replace("}\n", blocks + "}\n"), trace("t 0 10005\n", "", "start @down\n"), n
+
+
 STORES = """%Node = type { i64, %Node* }
 @g = global %Node* null
 """ + DECLARED + """define void @spin() gc "shadow-stack" {

@@ -1,7 +1,7 @@
 //! Law of edits: where the text of a function stands in a whole text that is read, it is read alone too.
 ghost use Rattle.ir_print_law.specs.Standing.{AreCounted, AreReadAlone, AreReadAnew, StayCounted};
 
-/// Where a text stands in a whole text as one function of a module, `function_text::replace` reads it alone. Otherwise it is refused for the
+/// Where a text stands in a whole text as one function of a module, `ir_text::replace` reads it alone. Otherwise it is refused for the
 /// tables of the module that is edited: they have no room for more, or they have pointers of another kind.
 pub fn read_alone_law()
     ensures whole { AreReadAlone }
