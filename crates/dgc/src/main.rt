@@ -10,10 +10,11 @@ mod ticking;
 
 ghost use Rattle.command_line.specs.Asked.{asked_by, HasWorkers};
 
-use answering::answer_to;
-use commands::{Line, LineFault, Look, Nobody, STATUS_USAGE, STATUS_YES, line, memory, status_of};
+use answering::answer_of;
+use commands::{Line, LineFault, Look, STATUS_USAGE, STATUS_YES, line, memory, status_of};
 use failure::Failure;
 use files::bytes_of;
+use progress::Watcher;
 use std::env::VarError;
 use std::io::{IsTerminal, Stderr, Write};
 use std::process::ExitCode;
@@ -46,10 +47,11 @@ fn answer<O: Write, E: Write>(
         files.push(bytes)?;
     }
     let files = files.as_slice();
-    match errors {
-        Errors::Elsewhere => answer_to(rt, Look::Plain, line, files, out, err, &mut Nobody),
-        Errors::Terminal(terminal) => answer_on_terminal(rt, terminal, line, files, out, err),
-    }
+    let answer = match errors {
+        Errors::Elsewhere => answer_of(rt, Look::Plain, line, files, &mut Watcher::Nobody)?,
+        Errors::Terminal(terminal) => answer_on_terminal(rt, terminal, line, files)?,
+    };
+    answer.write(rt, line, out, err)
 }
 
 /// The words of the command line.

@@ -3,7 +3,7 @@ ghost use Rattle.std.specs.Prelude.{◌<◌};
 
 use commands::{Onlooker, SoFar};
 use std::io;
-use std::io::Write;
+use std::io::{Stderr, Write};
 use std::time::Duration;
 
 /// Of a command that takes fewer seconds nothing is shown.
@@ -31,8 +31,8 @@ enum Shown {
 
 /// What a terminal shows of a command: one line, which is written anew, and is gone when the command is over.
 #[derive(Drop)]
-pub struct Progress<W> {
-    terminal: W,
+pub struct Progress {
+    terminal: Stderr,
     shown: Shown,
 }
 
@@ -63,7 +63,7 @@ fn seconds_left(so_far: SoFar) -> u64 {
 }
 
 /// Writes how many seeds were tried, how many in a second, and how long the others take, in the place of the line.
-fn write_so_far<W: Write>(terminal: &mut W, so_far: SoFar) -> io::Result<()> {
+fn write_so_far(terminal: &mut Stderr, so_far: SoFar) -> io::Result<()> {
     let SoFar { tried, seeds, .. } = so_far;
     let a_second = seeds_a_second(so_far);
     let left = seconds_left(so_far);
@@ -74,7 +74,7 @@ fn write_so_far<W: Write>(terminal: &mut W, so_far: SoFar) -> io::Result<()> {
 }
 
 /// Writes a text in the place of the line.
-fn write_text<W: Write>(terminal: &mut W, text: Text<'_>) -> io::Result<()> {
+fn write_text(terminal: &mut Stderr, text: Text<'_>) -> io::Result<()> {
     match text {
         Text::Nothing => write!(terminal, "\r\x1b[K")?,
         Text::Working(command, seconds) => write!(terminal, "\r{command}: {seconds} s\x1b[K")?,
@@ -87,9 +87,9 @@ fn write_text<W: Write>(terminal: &mut W, text: Text<'_>) -> io::Result<()> {
     terminal.flush()
 }
 
-impl<W: Write> Progress<W> {
+impl Progress {
     /// Nothing is shown so far.
-    pub fn on(terminal: W) -> Progress<W> {
+    pub fn on(terminal: Stderr) -> Progress {
         Progress {
             terminal,
             shown: Shown::Nothing,
@@ -123,18 +123,32 @@ impl<W: Write> Progress<W> {
     }
 }
 
-impl<W: Write> Onlooker for Progress<W> {
+/// Who watches a command while it works.
+#[derive(Drop)]
+pub enum Watcher {
+    Nobody,
+    /// A terminal, which shows how far a search is.
+    Terminal(Progress),
+}
+
+impl Onlooker for Watcher {
     fn goes_on(&mut self, so_far: SoFar) {
-        if so_far.elapsed.as_secs() >= SHORT {
-            self.show(Text::Searching(so_far));
+        if let Watcher::Terminal(progress) = self
+            && so_far.elapsed.as_secs() >= SHORT
+        {
+            progress.show(Text::Searching(so_far));
         }
     }
 
     fn shortens(&mut self, seed: u32) {
-        self.show(Text::Shortening(seed));
+        if let Watcher::Terminal(progress) = self {
+            progress.show(Text::Shortening(seed));
+        }
     }
 
     fn ended(&mut self) {
-        self.clear();
+        if let Watcher::Terminal(progress) = self {
+            progress.clear();
+        }
     }
 }
