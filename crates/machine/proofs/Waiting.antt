@@ -6,10 +6,10 @@ use Rattle.machine.specs.Kinds.{is_set}
 use Rattle.machine.specs.Waiting.{set_each}
 use Rattle.machine.specs.declared.value.Value.{Value}
 use Rattle.machine.specs.declared.value.Value.TheVariants as value
-use Rattle.machine.specs.declared.waiting_frame.SetRegister.{SetRegister}
+use Rattle.machine.specs.declared.waiting_frame.RegisterValue.{RegisterValue}
 
 -- one register more is set
-pub set_more : (set : List SetRegister) (one : SetRegister) (registers : List Value) → set_each (set ++ one ∷ []) registers ≡ slice_set (set_each set registers) one.register one.value
+pub set_more : (set : List RegisterValue) (one : RegisterValue) (registers : List Value) → set_each (set ++ one ∷ []) registers ≡ slice_set (set_each set registers) one.register one.value
 set_more [] one registers = refl
 set_more (first ∷ set) one registers = set_more set one (slice_set registers first.register first.value)
 
@@ -31,7 +31,7 @@ after_one : (front : List Value) (v : Value) (rest : List Value) → (front ++ v
 after_one [] v rest = refl
 after_one (first ∷ front) v rest = ap (λ l. first ∷ l) (after_one front v rest)
 
--- the first registers, and so many that are not set
+-- the first registers, and the others not set
 abbrev pub front_of : List Value → ℕ → List Value
 front_of registers i = take i registers ++ replicate (length registers - i) value.Unset
 

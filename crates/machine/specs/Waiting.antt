@@ -3,15 +3,15 @@ use Rattle.std.specs.Prelude.{ℕ, List, [], ◌∷◌, replicate, slice_set, Op
 use Rattle.machine.specs.declared.frame.Frame.{Frame}
 use Rattle.machine.specs.declared.value.Value.{Value}
 use Rattle.machine.specs.declared.value.Value.TheVariants as value
-use Rattle.machine.specs.declared.waiting_frame.SetRegister.{SetRegister}
+use Rattle.machine.specs.declared.waiting_frame.RegisterValue.{RegisterValue}
 
 -- each of these registers takes its value
-abbrev pub set_each : List SetRegister → List Value → List Value
+abbrev pub set_each : List RegisterValue → List Value → List Value
 set_each [] registers = registers
 set_each (one ∷ others) registers = set_each others (slice_set registers one.register one.value)
 
--- so many registers, of which these are set and no others
-abbrev pub registers_with : (count : ℕ) → List SetRegister → List Value
+-- registers of this number, of which these are set and no others
+abbrev pub registers_with : (count : ℕ) → List RegisterValue → List Value
 registers_with count set = set_each set (replicate count value.Unset)
 
 -- a frame with these registers, if there are any in place of its own

@@ -9,24 +9,24 @@ use items::Items;
 use std::alloc::{AllocError, Global};
 use std::marker::Model;
 
-/// So many registers are kept whole.
-const FEW: usize = 64;
+/// A frame with at most this number of registers keeps them whole.
+const KEPT_WHOLE: usize = 64;
 
-/// A register that is set.
+/// A register that is set, and its value.
 #[derive(Clone, Copy)]
-pub struct SetRegister {
+pub struct RegisterValue {
     pub register: usize,
     pub value: Value,
 }
 
-/// Registers: how many there are, and those that are set.
+/// Registers of which only those that are set take memory: how many there are, and these.
 #[derive(Drop)]
-pub struct SetRegisters {
+pub struct SparseRegisters {
     count: usize,
-    set: Items<SetRegister>,
+    set: Items<RegisterValue>,
 }
 
-impl Model for SetRegisters {
+impl Model for SparseRegisters {
     ghost use Rattle.std.specs.Prelude.{List};
     ghost use Rattle.machine.specs.declared.value.Value.{Value as AValue};
     ghost use Rattle.machine.specs.Waiting.{registers_with};
@@ -36,18 +36,18 @@ impl Model for SetRegisters {
     ghost view = { λ registers. registers_with registers.count registers.set };
 }
 
-impl SetRegisters {
+impl SparseRegisters {
     fn of(alloc: Global, registers: &[Value]) -> Result<Self, AllocError>
         ensures { IfOk result (λ kept. kept ≡ registers.now) }
     {
-        let mut set = Vec::with_capacity(alloc, FEW)?;
+        let mut set = Vec::with_capacity(alloc, KEPT_WHOLE)?;
         for register in 0..registers.len() {
             let value = registers[register];
             if is_set(&value) {
-                set.push(SetRegister { register, value })?;
+                set.push(RegisterValue { register, value })?;
             }
         }
-        Ok(SetRegisters {
+        Ok(SparseRegisters {
             count: registers.len(),
             set: Items::from_vec(set),
         })
@@ -69,13 +69,13 @@ impl SetRegisters {
 pub fn many_registers(
     alloc: Global,
     registers: &[Value],
-) -> Result<Option<SetRegisters>, AllocError>
+) -> Result<Option<SparseRegisters>, AllocError>
     ensures { IfOk result (λ many. IfSome many (λ kept. kept ≡ registers.now)) }
 {
-    if registers.len() <= FEW {
+    if registers.len() <= KEPT_WHOLE {
         return Ok(None);
     }
-    let kept = SetRegisters::of(alloc, registers)?;
+    let kept = SparseRegisters::of(alloc, registers)?;
     Ok(Some(kept))
 }
 
@@ -84,7 +84,7 @@ pub fn many_registers(
 pub struct WaitingFrame {
     /// The frame, without its registers where there are many.
     frame: Frame,
-    many: Option<SetRegisters>,
+    many: Option<SparseRegisters>,
 }
 
 impl Model for WaitingFrame {
@@ -98,7 +98,7 @@ impl Model for WaitingFrame {
 
 impl WaitingFrame {
     /// A frame waits. Where it has many registers, they are these.
-    pub fn new(alloc: Global, frame: Frame, many: Option<SetRegisters>) -> Self
+    pub fn new(alloc: Global, frame: Frame, many: Option<SparseRegisters>) -> Self
         requires { IfSome many (λ registers. registers ≡ frame.registers) }
         ensures { result ≡ frame }
     {

@@ -4,8 +4,8 @@ use Rattle.machine.specs.Kinds.{is_set}
 use Rattle.machine.specs.Waiting.{registers_with}
 use Rattle.machine.specs.declared.value.Value.TheVariants as value
 use Rattle.machine.proofs.Waiting.{front_of, set_more, one_set, one_unset}
-use Rattle.machine.proofs.waiting_frame.SetRegisters.of.Goals as goal
-use Rattle.machine.proofs.waiting_frame.SetRegisters.of.Goals.{then-is_set+in_ok-push, else-is_set}
+use Rattle.machine.proofs.waiting_frame.SparseRegisters.of.Goals as goal
+use Rattle.machine.proofs.waiting_frame.SparseRegisters.of.Goals.{then-is_set+in_ok-push, else-is_set}
 
 pub loop-register-preserved : goal.loop-register-preserved
 loop-register-preserved c =
