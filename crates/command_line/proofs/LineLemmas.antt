@@ -1,5 +1,5 @@
 -- From what `clap` gives to what a line asks for.
-use Rattle.std.proofs.Common.{◌≡◌, ◌∙◌, ◌&&◌, ◌^◌, ℕ, nat_lt, List, length, Option, Some, None, codes, refl, ap, ap₂, sym, option_map, unwrap_or, lt-ltb, ltb-true}
+use Rattle.std.proofs.Common.{◌≡◌, ◌∙◌, ◌&&◌, ◌^◌, ℕ, nat_lt, List, length, Option, Some, None, refl, ap, ap₂, sym, option_map, unwrap_or, lt-ltb, ltb-true}
 use Rattle.std.specs.Prelude.{IfErr, IfOk, IsErrAnd, IsOkAnd, Result, Ok, Err, option_and_then, if◌then◌else◌, true, false, Bool}
 use Rattle.std.specs.Result.{result_ok}
 use Rattle.std.specs.Str.{all_ascii_digits}
@@ -7,25 +7,18 @@ use Rattle.std.specs.Str.Parse.{ParsesUnsigned, digits_value, without_leading_pl
 use Rattle.std.proofs.Common.{inl, inr, subst, true≢false}
 use Rattle.std.proofs.lemmas.Str.Parse.{IsNumeralModel, numerals_by_value, tells_all_ascii_digits}
 use Rattle.std.specs.Box.{box_value}
-use Rattle.clap.specs.Words.{HasKind, ReadsOne, Row, Text, fault_of, first_value, found_of, is_simple, is_simple_and_free, kind_of, one_text, rows_of, subcommand_name_of, subcommand_of, subcommand_rows_of}
+use Rattle.clap.specs.Words.{HasKind, ReadsOne, Row, Text, fault_of, found_of, is_simple, is_simple_and_free, kind_of, one_text, rows_of, subcommand_name_of, subcommand_of, subcommand_rows_of}
 use Rattle.clap.specs.declared.parser.matches.ArgMatches.{ArgMatches}
 use Rattle.clap.specs.declared.parser.matches.ArgMatches.TheViews.{out-ArgMatches, out-SubCommand}
 use Rattle.clap.specs.declared.parser.matches.Found.{Found}
 use Rattle.clap.specs.declared.error.Error.{Error}
 use Rattle.clap.proofs.OnLiterals.{clap_on_literals}
-use Rattle.clap.proofs.WalkLemmas.{first_value-rows, one_text-rows}
+use Rattle.clap.proofs.WalkLemmas.{one_text-rows}
 use Rattle.command_line.specs.Asked.{Asked, fault_of_error, is_memory_kind}
 use Rattle.command_line.specs.declared.asked.Line.{Line}
 use Rattle.command_line.specs.declared.asked.LineFault.{LineFault}
 use Rattle.command_line.specs.declared.asked.LineFault.TheVariants.{Memory, Words}
-use Rattle.command_line.specs.Grammar.{IsRefusalOf, asked_in, asked_of, dgc_app, number_in, number_of, paths_in}
-
--- both paths from the texts that were given
-pub paths_from : (held : Found) (second : Text) (m p : Option Text) → m ≡ first_value held (codes "MODULE") → p ≡ first_value held second
-    → option_and_then (λ m. option_map (λ p. (m, p)) p) m ≡ paths_in second (rows_of held)
-paths_from held second m p em ep =
-    ap₂ (λ (m p : Option Text). option_and_then (λ m. option_map (λ p. (m, p)) p) m)
-    (em ∙ first_value-rows held (codes "MODULE")) (ep ∙ first_value-rows held second)
+use Rattle.command_line.specs.Grammar.{IsRefusalOf, asked_in, asked_of, dgc_app, number_in, number_of}
 
 -- what follows of a result that is there, and of what holds of it if it is
 pub of_both : {A E R : Type 0} (made : Result A E) (P Q : A → Type 0) → IsOkAnd made P → IfOk made Q → ((a : A) → P a → Q a → R) → R

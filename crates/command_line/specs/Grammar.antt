@@ -3,10 +3,12 @@ use Rattle.std.specs.Prelude.{◌≡◌, ◌&&◌, ◌||◌, ◌^◌, ℕ, pos, 
 use Rattle.std.specs.Option.{option_map_or}
 use Rattle.std.specs.Str.{all_ascii_digits, bytes_eq}
 use Rattle.std.specs.Str.Parse.{digits_value, without_leading_plus}
-use Rattle.clap.specs.Words.{App, IsAmong, Row, Rule, Text, fault_of, first_of, kind_of, new_app, new_rule, one_of, subcommand_of, with_rule, with_subcommand}
+use Rattle.clap.specs.Words.{App, IsAmong, Row, Rule, Text, fault_of, first_of, kind_of, new_app, new_rule, one_of, subcommand_of, with_subcommand}
 use Rattle.clap.specs.declared.builder.action.ArgAction.TheVariants.{SetTrue}
 use Rattle.clap.specs.declared.builder.value_parser.ValueParser.TheVariants.{Signed}
 use Rattle.command_line.specs.Asked.{Asked, check, make, recheck, replay, soak, hunt, run, explain, migrate}
+use Rattle.command_line.specs.declared.grammar.Argument.{Argument}
+use Rattle.command_line.specs.declared.grammar.Argument.TheVariants.{File, MayBeGiven, Number, Workers, ExplainWhen, Optional, NumberOr, Flag, Path}
 use Rattle.command_line.specs.declared.asked.Explained.{Explained}
 use Rattle.command_line.specs.declared.asked.Explained.TheVariants.{Always, OnTerminal, Never}
 use Rattle.command_line.specs.declared.asked.LineFault.{LineFault}
@@ -27,48 +29,35 @@ use Rattle.command_line.specs.declared.asked.Why.TheVariants.{Wanted, NotWanted}
 abbrev pub file_rule : Text → Rule
 file_rule name = record (new_rule name) { required = true }
 
--- an option that has to be given, and whose value is a number of 32 bits
-abbrev pub number_rule : Text → Rule
-number_rule name = record (new_rule name) {
+-- an option that has a value, and which may be left out
+abbrev pub valued_rule : Text → Rule
+valued_rule name = record (new_rule name) {
   long = Some name;
-  required = true;
   value_names = 1;
-  parser = Some (Signed (pos 0) (pos 4294967295));
 }
+
+-- an option that may be left out, and whose value is a number of 32 bits
+abbrev pub optional_rule : Text → Rule
+optional_rule name = record (valued_rule name) { parser = Some (Signed (pos 0) (pos 4294967295)) }
+
+-- the same, which has to be given
+abbrev pub number_rule : Text → Rule
+number_rule name = record (optional_rule name) { required = true }
+
+-- a number of 32 bits again; where it is left out it is this number
+abbrev pub default_rule : (name default : Text) → Rule
+default_rule name default = record (optional_rule name) { defaults = default ∷ [] }
 
 -- an option whose value is a number from 1 to 64, and 1 where it is not given
 abbrev pub workers_rule : Rule
-workers_rule = record (new_rule (codes "workers")) {
-  long = Some (codes "workers");
-  value_names = 1;
+workers_rule = record (valued_rule (codes "workers")) {
   defaults = codes "1" ∷ [];
   parser = Some (Signed (pos 1) (pos 64));
 }
 
 -- an option whose value says when a refusal is explained, and which may be left out
 abbrev pub explain_rule : Rule
-explain_rule = record (new_rule (codes "explain")) {
-  long = Some (codes "explain");
-  value_names = 1;
-  defaults = codes "auto" ∷ [];
-}
-
--- an option that may be left out, and whose value is a number of 32 bits
-abbrev pub optional_rule : Text → Rule
-optional_rule name = record (new_rule name) {
-  long = Some name;
-  value_names = 1;
-  parser = Some (Signed (pos 0) (pos 4294967295));
-}
-
--- the same; where it is left out it is this number
-abbrev pub default_rule : (name default : Text) → Rule
-default_rule name default = record (new_rule name) {
-  long = Some name;
-  value_names = 1;
-  defaults = default ∷ [];
-  parser = Some (Signed (pos 0) (pos 4294967295));
-}
+explain_rule = record (valued_rule (codes "explain")) { defaults = codes "auto" ∷ [] }
 
 -- an option without a value, which may be left out
 abbrev pub flag_rule : Text → Rule
@@ -77,96 +66,65 @@ flag_rule name = record (new_rule name) {
   action = Some SetTrue;
 }
 
--- an option whose value is a file's path, and which may be left out
-abbrev pub path_rule : Text → Rule
-path_rule name = record (new_rule name) {
-  long = Some name;
-  value_names = 1;
-}
+-- what `clap` asks of an argument
+abbrev pub rule_of_argument : Argument → Rule
+rule_of_argument (File name help) = file_rule name.now
+rule_of_argument (MayBeGiven name help) = new_rule name.now
+rule_of_argument (Number name shown help) = number_rule name.now
+rule_of_argument Workers = workers_rule
+rule_of_argument ExplainWhen = explain_rule
+rule_of_argument (Optional name shown help) = optional_rule name.now
+rule_of_argument (NumberOr name default shown help) = default_rule name.now default.now
+rule_of_argument (Flag name help) = flag_rule name.now
+rule_of_argument (Path name help) = valued_rule name.now
 
--- NAME MODULE: a command on a module
-abbrev pub module_app : (name : Text) → App
-module_app name = with_rule (new_app name) (file_rule (codes "MODULE"))
-
--- NAME MODULE SECOND: a command on two files
-abbrev pub files_app : (name second : Text) → App
-files_app name second = with_rule (module_app name) (file_rule second)
-
--- NAME MODULE [--shapes FILE]: a command on a module and its shapes
-abbrev pub shaped_app : (name : Text) → App
-shaped_app name = with_rule (module_app name) (path_rule (codes "shapes"))
-
--- NAME MODULE TRACE [--shapes FILE]: a command on a module and a trace
-abbrev pub traced_app : (name : Text) → App
-traced_app name = with_rule (files_app name (codes "TRACE")) (path_rule (codes "shapes"))
-
--- check MODULE CERT [--workers N] [--explain WHEN]
-abbrev pub explained_check_app : App
-explained_check_app = with_rule (with_rule (files_app (codes "check") (codes "CERT")) workers_rule) explain_rule
+-- a command of this name with arguments of these rules
+abbrev pub command_app : (name : Text) → List Rule → App
+command_app name rules = record { top = record (new_app name).top { rules = rules }; subs = [] }
 
 -- check MODULE CERT [--workers N] [--explain WHEN] [--all] [--limit N]
 abbrev pub check_app : App
-check_app = with_rule (with_rule explained_check_app (flag_rule (codes "all"))) (optional_rule (codes "limit"))
+check_app = command_app (codes "check") (file_rule (codes "MODULE") ∷ file_rule (codes "CERT") ∷ workers_rule ∷ explain_rule ∷ flag_rule (codes "all") ∷ optional_rule (codes "limit") ∷ [])
 
 -- make MODULE [--shapes FILE] [--why] [--explain WHEN]
 abbrev pub make_app : App
-make_app = with_rule (with_rule (shaped_app (codes "make")) (flag_rule (codes "why"))) explain_rule
+make_app = command_app (codes "make") (file_rule (codes "MODULE") ∷ valued_rule (codes "shapes") ∷ flag_rule (codes "why") ∷ explain_rule ∷ [])
 
 -- recheck MODULE CERT EDITS [--explain WHEN]
 abbrev pub recheck_app : App
-recheck_app = with_rule (with_rule (files_app (codes "recheck") (codes "CERT")) (file_rule (codes "EDITS"))) explain_rule
-
--- replay MODULE TRACE [--shapes FILE] [--steps] [--from N]
-abbrev pub steps_app : App
-steps_app = with_rule (with_rule (traced_app (codes "replay")) (flag_rule (codes "steps"))) (optional_rule (codes "from"))
+recheck_app = command_app (codes "recheck") (file_rule (codes "MODULE") ∷ file_rule (codes "CERT") ∷ file_rule (codes "EDITS") ∷ explain_rule ∷ [])
 
 -- replay MODULE TRACE [--shapes FILE] [--steps] [--from N] [--to M] [--json FILE] [--explain WHEN]
 abbrev pub replay_app : App
-replay_app = with_rule (with_rule (with_rule steps_app (optional_rule (codes "to"))) (path_rule (codes "json"))) explain_rule
-
--- soak MODULE TRACE [--shapes FILE] --seeds N --steps S
-abbrev pub seeds_app : App
-seeds_app = with_rule (with_rule (traced_app (codes "soak")) (number_rule (codes "seeds"))) (number_rule (codes "steps"))
-
--- soak MODULE TRACE [--shapes FILE] --seeds N --steps S [--first F] [--save FILE]
-abbrev pub saved_soak_app : App
-saved_soak_app = with_rule (with_rule seeds_app (default_rule (codes "first") (codes "0"))) (path_rule (codes "save"))
-
--- soak MODULE TRACE [--shapes FILE] --seeds N --steps S [--first F] [--save FILE] [--bias] [--seconds N]
-abbrev pub searching_soak_app : App
-searching_soak_app = with_rule (with_rule saved_soak_app (flag_rule (codes "bias"))) (optional_rule (codes "seconds"))
+replay_app = command_app (codes "replay")
+    (file_rule (codes "MODULE") ∷ file_rule (codes "TRACE") ∷ valued_rule (codes "shapes") ∷ flag_rule (codes "steps")
+    ∷ optional_rule (codes "from") ∷ optional_rule (codes "to") ∷ valued_rule (codes "json") ∷ explain_rule ∷ [])
 
 -- soak MODULE TRACE [--shapes FILE] --seeds N --steps S [--first F] [--save FILE] [--bias] [--seconds N] [--shrink] [--tries N] [--explain WHEN]
 abbrev pub soak_app : App
-soak_app = with_rule (with_rule (with_rule searching_soak_app (flag_rule (codes "shrink"))) (optional_rule (codes "tries"))) explain_rule
-
--- hunt MODULE [--shapes FILE] [--cert FILE] [--seeds N]
-abbrev pub hunted_app : App
-hunted_app = with_rule (with_rule (shaped_app (codes "hunt")) (path_rule (codes "cert"))) (default_rule (codes "seeds") (codes "10000"))
-
--- hunt MODULE [--shapes FILE] [--cert FILE] [--seeds N] [--steps S] [--tries N]
-abbrev pub tried_hunt_app : App
-tried_hunt_app = with_rule (with_rule hunted_app (default_rule (codes "steps") (codes "1000"))) (default_rule (codes "tries") (codes "10000"))
+soak_app = command_app (codes "soak")
+    (file_rule (codes "MODULE") ∷ file_rule (codes "TRACE") ∷ valued_rule (codes "shapes") ∷ number_rule (codes "seeds") ∷ number_rule (codes "steps") ∷ default_rule (codes "first") (codes "0")
+    ∷ valued_rule (codes "save") ∷ flag_rule (codes "bias") ∷ optional_rule (codes "seconds") ∷ flag_rule (codes "shrink") ∷ optional_rule (codes "tries") ∷ explain_rule ∷ [])
 
 -- hunt MODULE [--shapes FILE] [--cert FILE] [--seeds N] [--steps S] [--tries N] [--seconds N] [--save FILE]
 abbrev pub hunt_app : App
-hunt_app = with_rule (with_rule tried_hunt_app (optional_rule (codes "seconds"))) (path_rule (codes "save"))
-
--- run MODULE CERT TRACE
-abbrev pub run_files_app : App
-run_files_app = with_rule (files_app (codes "run") (codes "CERT")) (file_rule (codes "TRACE"))
+hunt_app = command_app (codes "hunt")
+    (file_rule (codes "MODULE") ∷ valued_rule (codes "shapes") ∷ valued_rule (codes "cert") ∷ default_rule (codes "seeds") (codes "10000")
+    ∷ default_rule (codes "steps") (codes "1000") ∷ default_rule (codes "tries") (codes "10000") ∷ optional_rule (codes "seconds") ∷ valued_rule (codes "save") ∷ [])
 
 -- run MODULE CERT TRACE [--turns N] [--steps S] [--explain WHEN]
 abbrev pub run_app : App
-run_app = with_rule (with_rule (with_rule run_files_app (default_rule (codes "turns") (codes "1000000"))) (default_rule (codes "steps") (codes "1000000"))) explain_rule
+run_app = command_app (codes "run")
+    (file_rule (codes "MODULE") ∷ file_rule (codes "CERT") ∷ file_rule (codes "TRACE")
+    ∷ default_rule (codes "turns") (codes "1000000") ∷ default_rule (codes "steps") (codes "1000000") ∷ explain_rule ∷ [])
 
 -- explain [CODE]
 abbrev pub explain_app : App
-explain_app = with_rule (new_app (codes "explain")) (new_rule (codes "CODE"))
+explain_app = command_app (codes "explain") (new_rule (codes "CODE") ∷ [])
 
 -- migrate MODULE [CERT]
 abbrev pub migrate_app : App
-migrate_app = with_rule (module_app (codes "migrate")) (new_rule (codes "CERT"))
+migrate_app = command_app (codes "migrate") (file_rule (codes "MODULE") ∷ new_rule (codes "CERT") ∷ [])
 
 -- a command that has a version, and needs a subcommand
 abbrev pub with_version_and_commands : App → App

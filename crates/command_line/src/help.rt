@@ -1,18 +1,19 @@
 //! What the help of the command line says.
 
-/// What the help says of a command on two files.
+/// What the help says of a command.
 #[derive(Clone, Copy)]
 pub(crate) struct CommandHelp {
     /// What the command does, in one line.
     pub(crate) about: &'static str,
-    /// What the file after the module is.
-    pub(crate) second: &'static str,
     /// What is printed, and the exit statuses.
     pub(crate) after: &'static str,
 }
 
 pub(crate) const MODULE: &str =
     "A module: textual LLVM IR with gcroot and the shadow stack (docs/TEXT.md)";
+
+pub(crate) const CERT: &str =
+    "A certificate: what its author claims to hold at each block (docs/CERTIFICATES.md)";
 
 pub(crate) const SHAPES: &str =
     "The shapes of a module that writes `ptr`: what its pointers refer to (docs/CERTIFICATES.md)";
@@ -31,6 +32,9 @@ pub(crate) const SEEDS: &str = "How many seeds; without --first they are 0 to N-
 
 pub(crate) const STEPS: &str = "How many steps each seed makes";
 
+pub(crate) const REPLAY_TRACE: &str =
+    "A trace: how a run begins, and who makes its steps (docs/TRACES.md)";
+
 pub(crate) const REPLAY_STEPS: &str =
     "Also tell the steps: the last 40, and those that matter for the break (docs/STEPS.md)";
 
@@ -40,6 +44,9 @@ pub(crate) const TO: &str = "With --steps or --json: the last step that is told"
 
 pub(crate) const JSON: &str =
     "The file to which the steps are written as JSON, a line for each: the last 100000, or those that --from and --to say";
+
+pub(crate) const SOAK_TRACE: &str =
+    "A trace: how each run begins; its steps are ignored (docs/TRACES.md)";
 
 pub(crate) const FIRST: &str = "The first seed";
 
@@ -77,7 +84,6 @@ pub(crate) const RUN_STEPS: &str = "After how many of its steps a thread is stop
 
 pub(crate) const CHECK: CommandHelp = CommandHelp {
     about: "Checks a module against a certificate",
-    second: "A certificate: what its author claims to hold at each block (docs/CERTIFICATES.md)",
     after: "\
 Prints `yes F`, where F is the number of defined functions. Or prints `no @f %b I Kn`:
 the function, the block, the place of the instruction in its block (from 0), and the rule
@@ -98,9 +104,9 @@ Exit status:
 
 pub(crate) const WHY: &str = "Where there is no answer, also prints what is refused";
 
-pub(crate) const MAKE_ABOUT: &str = "Makes a certificate of a module";
-
-pub(crate) const MAKE_AFTER: &str = "\
+pub(crate) const MAKE: CommandHelp = CommandHelp {
+    about: "Makes a certificate of a module",
+    after: "\
 Prints a certificate with which `dgc check` says yes. Or prints `no answer`: none of those
 that were tried is accepted. With --why the line that `dgc check` prints for the boldest of
 them goes to standard error, as `no @f %b I Kn`.
@@ -114,11 +120,11 @@ Exit status:
   1  no answer
   2  the text is not read, or the module has no layouts
   3  memory was refused
-  4  the command line is refused, a file cannot be read, or a write failed";
+  4  the command line is refused, a file cannot be read, or a write failed",
+};
 
 pub(crate) const RECHECK: CommandHelp = CommandHelp {
     about: "Checks a module against a certificate, and again after each of some edits",
-    second: "A certificate: what its author claims to hold at each block (docs/CERTIFICATES.md)",
     after: "\
 Prints what `dgc check` does. Then puts the texts of each edit in the place of what is there,
 and prints a line for it, as `2 rechecked 3 yes 4`: the edit's number from 1, how many
@@ -140,7 +146,6 @@ Exit status:
 
 pub(crate) const REPLAY: CommandHelp = CommandHelp {
     about: "Makes the steps of a trace, and says which one breaks the run",
-    second: "A trace: how a run begins, and who makes its steps (docs/TRACES.md)",
     after: "\
 Each step is one atomic step of a thread or of the collector. Prints the first step after
 which the run is broken, who made it, and why, as `broken 32 t 0 touch-blue 1`. Or prints
@@ -162,7 +167,6 @@ Exit status:
 
 pub(crate) const SOAK: CommandHelp = CommandHelp {
     about: "Makes S steps for each of N seeds, and says which one breaks the run",
-    second: "A trace: how each run begins; its steps are ignored (docs/TRACES.md)",
     after: "\
 Each seed draws who makes the next step: a thread or the collector. Prints `sound N seeds`.
 Or prints the least seed whose run is broken, the first step after which it is broken, who
@@ -190,9 +194,9 @@ Exit status:
   4  the command line is refused, a file cannot be read, or a write failed",
 };
 
-pub(crate) const HUNT_ABOUT: &str = "Searches for a short schedule that breaks a run of a module";
-
-pub(crate) const HUNT_AFTER: &str = "\
+pub(crate) const HUNT: CommandHelp = CommandHelp {
+    about: "Searches for a short schedule that breaks a run of a module",
+    after: "\
 Needs no trace. Every 64 seeds the next one draws a start: one to three threads at functions
 that take no reference, with integers of their types, and pools of one to four cells. Each
 seed draws S steps, many of them with few switches between threads and the collector. The
@@ -211,11 +215,11 @@ Exit status:
   1  broken
   2  a text is not read, or the module has no layouts
   3  memory was refused
-  4  the command line is refused, a file cannot be read, or a write failed";
+  4  the command line is refused, a file cannot be read, or a write failed",
+};
 
 pub(crate) const RUN: CommandHelp = CommandHelp {
     about: "Runs a checked module on real threads, beside the collector",
-    second: "A certificate: what its author claims to hold at each block (docs/CERTIFICATES.md)",
     after: "\
 Checks the module against the certificate. Where that says no, prints what `dgc check` does.
 Otherwise each thread of the trace runs on a thread of the machine, and the collector on one
@@ -236,22 +240,22 @@ Exit status:
 
 pub(crate) const CODE: &str = "A code, as K6; in lower case too. Without it all codes are listed";
 
-pub(crate) const EXPLAIN_ABOUT: &str = "Tells of a code that is printed of a refusal or a fault";
-
-pub(crate) const EXPLAIN_AFTER: &str = "\
+pub(crate) const EXPLAIN: CommandHelp = CommandHelp {
+    about: "Tells of a code that is printed of a refusal or a fault",
+    after: "\
 Prints the rule, why the collector or the check needs it, a refused example and an accepted
 one (docs/RULES.md). Or, without a code, prints a line for each code.
 
 Exit status:
   0  the code was explained, or the codes were listed
-  4  no code is named so, the command line is refused, or a write failed";
+  4  no code is named so, the command line is refused, or a write failed",
+};
 
 pub(crate) const MIGRATED: &str = "A certificate of the module; without it the module is printed";
 
-pub(crate) const MIGRATE_ABOUT: &str =
-    "Turns a module with typed pointers, or its certificate, into opaque text";
-
-pub(crate) const MIGRATE_AFTER: &str = "\
+pub(crate) const MIGRATE: CommandHelp = CommandHelp {
+    about: "Turns a module with typed pointers, or its certificate, into opaque text",
+    after: "\
 Without CERT prints the module with `ptr` for each typed pointer, and with the global for each
 bitcast of one. With CERT prints the certificate of that text: what the types said stands in
 it as shapes and as `ref L` of parameters and results. Files without a typed pointer are
@@ -265,17 +269,19 @@ Exit status:
   0  the text is printed
   2  a text is not read, or a pointer has no shape
   3  memory was refused
-  4  the command line is refused, a file cannot be read, or a write failed";
+  4  the command line is refused, a file cannot be read, or a write failed",
+};
 
-pub(crate) const DGC_ABOUT: &str = "\
+pub(crate) const DGC: CommandHelp = CommandHelp {
+    about: "\
 Checks code that compilers emit against a concurrent mark-and-sweep garbage collector.
-Also runs that code beside the collector, one atomic step at a time or on real threads.";
-
-pub(crate) const DGC_AFTER: &str = "\
+Also runs that code beside the collector, one atomic step at a time or on real threads.",
+    after: "\
 Exit status:
   0  yes or sound, a certificate was made, the threads were run, a code was explained, a text
      was migrated, or help or the version was asked for
   1  no, no answer, or broken
   2  a text is not read, the module has no layouts, or a thread may not begin
   3  memory was refused
-  4  the command line is refused, a file cannot be read, or a write failed";
+  4  the command line is refused, a file cannot be read, or a write failed",
+};

@@ -26,12 +26,8 @@ fn text_given<'a>(given: &ArgMatches<'a>, name: &str) -> Option<&'a str>
 fn paths_given<'a>(given: &ArgMatches<'a>, second: &str) -> Option<(&'a str, &'a str)>
     ensures { option_map (λ paths. (paths.0.now, paths.1.now)) result ≡ paths_in second.now (rows_of (found_of given.now)) }
 {
-    let Some(module_path) = given.get_str("MODULE") else {
-        return None;
-    };
-    let Some(path) = given.get_str(second) else {
-        return None;
-    };
+    let module_path = text_given(given, "MODULE")?;
+    let path = text_given(given, second)?;
     Some((module_path, path))
 }
 
