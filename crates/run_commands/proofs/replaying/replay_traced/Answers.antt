@@ -4,8 +4,8 @@ use Rattle.reports.specs.Said.{OnOutput, OnError}
 use Rattle.run_commands.specs.TraceRuns.{came, not_begun}
 use Rattle.run_commands.proofs.replaying.replay_traced.Goals as goal
 
-pub returns-in-Ok-clause-said : goal.returns-in-Ok-clause-said
-returns-in-Ok-clause-said g c =
+pub returns-in_ok-make_steps-in-Ok-clause-said : goal.returns-in_ok-make_steps-in-Ok-clause-said
+returns-in_ok-make_steps-in-Ok-clause-said g c =
     IfOk-weaker c.replayed.result _ _
     (λ status told. (OnOutput _, came c.in-Ok.outcome c.in-Ok.ensures.no_fault c.in-Ok.ensures.outcome, (told, refl)))
     c.replayed.ensures
