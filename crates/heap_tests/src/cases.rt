@@ -20,7 +20,7 @@ use pools::{Layouts, Pools};
 use std::alloc::Global;
 use std::thread::Threads;
 
-/// What is done with a heap without late threads.
+/// What is done with a heap.
 #[derive(Clone, Copy)]
 pub enum Deed {
     FirstTurns,
@@ -29,6 +29,8 @@ pub enum Deed {
     TakesAround,
     Starves,
     Shares,
+    BeginsLate,
+    ReadsLate,
 }
 
 /// What its only thread does with it.
@@ -148,7 +150,7 @@ fn by_both(
     seen
 }
 
-/// What is seen of a heap while there are threads: with late ones what these do, and otherwise this deed.
+/// What is seen of a heap under this deed. A deed of late threads is one of a heap that has them, and of no other.
 #[tactic(auto, using(crate::proofs::HeapTokens::are_of))]
 fn seen_of(
     rt: &impl Threads,
@@ -173,16 +175,16 @@ fn seen_of(
         ([], Deed::Waits) => waits(heap, sweeper),
         ([], Deed::Shares) if globals > 1 => by_two(rt, heap, mutators, globals),
         ([], _) => by_one(alloc, heap, mutators, sweeper, globals, deed),
-        ([true], _) if mutators.len() == 1 => by_late(heap, mutators, sweeper),
-        ([false, true], _) if mutators.len() == 2 && globals > 0 => by_both(
+        ([true], Deed::BeginsLate) if mutators.len() == 1 => by_late(heap, mutators, sweeper),
+        ([false, true], Deed::ReadsLate) if mutators.len() == 2 && globals > 0 => by_both(
             rt, heap, mutators, sweeper, globals,
         ),
         _ => NOTHING,
     }
 }
 
-/// What is seen of a heap; and at its end the posted stage, the stages of two threads, and the colours of five cells, 0 where there is
-/// none. The last number is the first global without a thread.
+/// What is seen of a heap; and at its end the posted stage, the stages of two threads, and the colours of five cells, 0 where there
+/// is none. The last number is the first global of a heap without threads.
 pub type Told = (Seen, [u64; 9]);
 
 /// What is left of a heap at its end.

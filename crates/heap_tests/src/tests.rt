@@ -92,14 +92,14 @@ fn a_thread_without_memory_holds_up_no_cycle(rt: HostRuntime) {
 #[test]
 fn a_late_thread_begins_at_the_posted_stage(rt: HostRuntime) {
     assert_eq!(rt;
-        seen(&rt, rt.alloc(), size(1, 0, 1), &[true], Deed::Waits),
+        seen(&rt, rt.alloc(), size(1, 0, 1), &[true], Deed::BeginsLate),
         Some([2, 1, 0, 0, 0, 0, 0, 0, 0, 0, 0])
     );
 }
 
 /// The cell, what was read, and the stages of the threads, where the late one has begun at one that was posted after a whole cycle.
 fn read_after_a_cycle(rt: &impl Threads, alloc: Global) -> Option<[u64; 4]> {
-    let (seen, end) = told(rt, alloc, size(2, 1, 2), &[false, true], Deed::Waits)?;
+    let (seen, end) = told(rt, alloc, size(2, 1, 2), &[false, true], Deed::ReadsLate)?;
     let ([cell, stage, found, ..], [posted, first, late, ..]) = (seen, end);
     // A cycle takes 23 turns before the late thread has begun, and the next one posts stage 4.
     if stage < 4 || posted < stage {
