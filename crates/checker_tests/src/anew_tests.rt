@@ -69,12 +69,12 @@ fn told_in(alloc: Global, of_module: &Module, edit: &str, word: &str) -> Result<
     }
 }
 
-/// Both edits are put in the place of `@middle`.
-const PUT_IN_PLACE: [Edit<'static>; 2] = [(MIDDLE, IN_PLACE, ""), (ANOTHER_MIDDLE, IN_PLACE, "")];
-
-/// Another name, before what is missing and before the same name defined twice; another item; an item after the function; nothing at
-/// all; functions before this one, this one and one after it as operands, which they are not; and an unknown name.
-const REFUSED: [Edit<'static>; 9] = [
+/// Two edits are put in the place of `@middle`. Refused are another name, before what is missing and before the same name defined
+/// twice; another item; an item after the function; nothing at all; functions before this one, this one and one after it as operands,
+/// which they are not; and an unknown name.
+const EDITS: [Edit<'static>; 11] = [
+    (MIDDLE, IN_PLACE, ""),
+    (ANOTHER_MIDDLE, IN_PLACE, ""),
     ("define void @other() {\n", ("L3", 1, 13), ""),
     (LAST, ("L3", 1, 13), ""),
     ("@h = global i64 0\n", ("L3", 1, 1), ""),
@@ -127,13 +127,8 @@ fn alike(alloc: Global, edits: &[Edit<'_>]) -> Result<u32, AllocError> {
 }
 
 #[test]
-fn puts_a_function_in_its_place(rt: HostRuntime) {
-    assert_eq!(rt; alike(rt.alloc(), PUT_IN_PLACE.as_slice()).ok(), Some(2));
-}
-
-#[test]
-fn refuses_what_is_not_one_function_of_the_name(rt: HostRuntime) {
-    assert_eq!(rt; alike(rt.alloc(), REFUSED.as_slice()).ok(), Some(9));
+fn only_one_function_of_the_name_is_put_in_its_place(rt: HostRuntime) {
+    assert_eq!(rt; alike(rt.alloc(), EDITS.as_slice()).ok(), Some(11));
 }
 
 // Without its last line end it is whole.

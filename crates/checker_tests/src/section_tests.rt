@@ -113,21 +113,12 @@ fn alike(alloc: Global, sections: &[Section<'_>]) -> Result<u32, AllocError> {
 const SECTION_WITH_COMMENTS: &str =
     " ; before\n\nfunction @\"four\" none ; names\nblock %no\n%x ref Node\nblock %ok\n%x ref Node nonnull\nend";
 
-/// Both texts of the section are put in the place of the old one.
-const PUT_IN_PLACE: [Section<'static>; 2] = [
+/// Both texts of the section are put in the place of the old one. Refused are sections of another function, of one that is unknown,
+/// and of what is no name; a section before another one, one with two ends, and one after the first line of certificates; a section
+/// of a block that is unknown, one without the last block, and one of a block twice. Each has its fault.
+const SECTIONS: [Section<'static>; 11] = [
     (SECTION, IN_PLACE),
     (SECTION_WITH_COMMENTS, IN_PLACE),
-];
-
-#[test]
-fn replaces_the_section_of_this_name(rt: HostRuntime) {
-    assert_eq!(rt; alike(rt.alloc(), PUT_IN_PLACE.as_slice()).ok(), Some(2));
-}
-
-/// Sections of another function, of one that is unknown, and of what is no name; a section before another one, one with two ends, and
-/// one after the first line of certificates; a section of a block that is unknown, one without the last block, and one of a block
-/// twice. Each has its fault.
-const REFUSED: [Section<'static>; 9] = [
     (
         "function @two none\nblock %no\nblock %ok\nend\n",
         ("C1", 1, 10),
@@ -158,8 +149,8 @@ const REFUSED: [Section<'static>; 9] = [
 ];
 
 #[test]
-fn refuses_what_is_not_the_section(rt: HostRuntime) {
-    assert_eq!(rt; alike(rt.alloc(), REFUSED.as_slice()).ok(), Some(9));
+fn only_a_section_of_the_name_is_put_in_its_place(rt: HostRuntime) {
+    assert_eq!(rt; alike(rt.alloc(), SECTIONS.as_slice()).ok(), Some(11));
 }
 
 // Without its last line end it is whole.
