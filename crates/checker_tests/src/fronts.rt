@@ -1,8 +1,7 @@
 //! The fronts of a text: what comes of it where it is cut at each of its bytes.
 use certificate::{CertFault, Certs, read_cert, replace_section};
-use function_text::replace;
 use ir_ast::{FuncId, Module};
-use ir_text::{ReadFault, read};
+use ir_text::{ReadFault, read, replace};
 use ir_tokens::Position;
 use layout::Program;
 use std::alloc::Global;
