@@ -1,9 +1,9 @@
 -- The tokens of a new heap, its globals and cells, and what its calls find.
-use Rattle.std.proofs.Common.{◌≡◌, ◌<◌, ◌^◌, ℕ, suc, ◌+◌, false, Bool, Some, zero, List, [], ◌∷◌, ◌++◌, length, take, sym, ap, subst, arith}
+use Rattle.std.proofs.Common.{◌≡◌, ◌<◌, ◌^◌, ℕ, suc, ◌+◌, false, Bool, Some, List, [], ◌∷◌, ◌++◌, length, sym, ap, subst, arith}
 use Rattle.std.specs.Prelude.{MatchBool, slice_get, slice_index_or}
 use Rattle.pools.specs.declared.word_kind.WordKind.{WordKind}
 use Rattle.pools.specs.declared.word_kind.WordKind.TheVariants.{Reference}
-use Rattle.pools.specs.Heap.{Setup, cells, cells_in, kind_of, words_of_cell}
+use Rattle.pools.specs.Heap.{Setup, cells, cells_in, kind_of}
 use Rattle.colours.specs.Calls.{Todo, Reading, Replacing, Trying, Polling, Beginning, Arriving, Checking, Steps, IsAnswer}
 use Rattle.colours.specs.Steps.{Step}
 use Rattle.heap_words.specs.Tokens.{Shared}
@@ -28,32 +28,23 @@ pub are_of : (heap : Shared) (first : ℕ) (tokens : List Holder) → AreNew hea
 are_of heap first [] h = tt
 are_of heap first (token ∷ tokens) h = (h.0.of, are_of heap (suc first) tokens h.1)
 
--- one more token
-pub are_of_more : (heap : Shared) (tokens : List Holder) (token : Holder) → AreOf heap tokens → IsOf heap token → AreOf heap (tokens ++ token ∷ [])
-are_of_more heap [] token h of = (of, tt)
-are_of_more heap (x ∷ tokens) token h of = (h.0, are_of_more heap tokens token h.1 of)
-
--- where there is a global, the first one is a reference
-pub has_first : (s : Setup) (n : ℕ) → s.globals ≡ take n (Reference 0 ∷ Reference 0 ∷ []) → 0 < n → kind_of s 0 0 ≡ Some (Reference 0)
+-- the first global is a reference
+pub first_global : (s : Setup) (others : List WordKind) → s.globals ≡ Reference 0 ∷ others → kind_of s 0 0 ≡ Some (Reference 0)
 unfolding kind_of
-has_first s zero e h = absurd (omega arith)
-has_first s (suc n) e h = ap (λ (globals : List WordKind). slice_get globals 0) e
+first_global s others e = ap (λ (globals : List WordKind). slice_get globals 0) e
 
--- where there are two, so is the second
-pub has_second : (s : Setup) (n : ℕ) → s.globals ≡ take n (Reference 0 ∷ Reference 0 ∷ []) → 1 < n → kind_of s 0 1 ≡ Some (Reference 0)
+-- and the second
+pub second_global : (s : Setup) (first : WordKind) (others : List WordKind) → s.globals ≡ first ∷ Reference 0 ∷ others → kind_of s 0 1 ≡ Some (Reference 0)
 unfolding kind_of
-has_second s zero e h = absurd (omega arith)
-has_second s (suc zero) e h = absurd (omega arith)
-has_second s (suc (suc n)) e h = ap (λ (globals : List WordKind). slice_get globals 1) e
+second_global s first others e = ap (λ (globals : List WordKind). slice_get globals 1) e
 
--- where there is a global, it is a word of the globals' cell
-pub has_word : (s : Setup) (n : ℕ) → s.globals ≡ take n (Reference 0 ∷ Reference 0 ∷ []) → 0 < n → 0 < length (words_of_cell s 0)
-has_word s zero e h = absurd (omega arith)
-has_word s (suc n) e h = subst (λ (globals : List WordKind). 0 < length globals) (sym e) (omega arith)
+-- the globals' cell and a pool of two
+pub three_cells : (s : Setup) → s.pools ≡ 2 ∷ [] → cells s ≡ 3
+three_cells s e = ap (λ (pools : List ℕ). cells_in pools) e
 
--- the globals' cell, and those of the only pool
-pub many_cells : (s : Setup) (n : ℕ) → s.pools ≡ n ∷ [] → cells s ≡ suc n
-many_cells s n e = omega (arith, ap (λ (pools : List ℕ). cells_in pools) e)
+-- the globals' cell and a pool of four
+pub five_cells : (s : Setup) → s.pools ≡ 4 ∷ [] → cells s ≡ 5
+five_cells s e = ap (λ (pools : List ℕ). cells_in pools) e
 
 -- a small number fits each operation
 pub small_fits : (todo : Todo) (found : ℕ) → found < 2 ^ 32 → IsAnswer todo found

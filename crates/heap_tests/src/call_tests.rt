@@ -13,14 +13,7 @@ fn values_at(stage: u8) -> (u64, u64) {
 #[test]
 fn marks_and_claims_of_the_first_stages(rt: HostRuntime) {
     assert_eq!(rt;
-        [
-            values_at(0),
-            values_at(1),
-            values_at(2),
-            values_at(3),
-            values_at(4),
-            values_at(6),
-        ],
+        [0, 1, 2, 3, 4, 6].map(values_at),
         [(0, 1), (2, 1), (2, 1), (2, 3), (4, 3), (4, 5)]
     );
 }

@@ -2,18 +2,16 @@
 ghost use Rattle.std.specs.Prelude.{◌≡◌, ◌<◌, length, Some};
 ghost use Rattle.pools.specs.Heap.{kind_of};
 ghost use Rattle.pools.specs.declared.word_kind.WordKind.TheVariants.{Reference};
-ghost use Rattle.heap_table.specs.Holders.{IsOf, MayCall};
+ghost use Rattle.heap_table.specs.Holders.{MayCall};
 ghost use Rattle.heap_table.specs.Sweepers.{IsSweeperOf};
 
 use crate::parts::is_turn;
-use crate::steps::{
-    NOTHING, Seen, answer, finish, global, keep_a_cell, take, take_two, turn_and_answer, turn_on,
-};
+use crate::steps::{answer, global, keep_a_cell, take, take_two};
 use colours::Turn;
 use heap_table::{Heap, Mutator, Sweeper};
 
 /// The turns of the first cycle over one null global and one blue cell, without a thread, and the first turn of the second.
-const FIRST_TURNS: [Turn; 12] = [
+pub const FIRST_TURNS: [Turn; 12] = [
     Turn::PostStage(1),
     Turn::PostStage(2),
     Turn::MarkFound(0, 1),
@@ -53,7 +51,7 @@ const ANSWERED_TURNS: [Turn; 19] = [
 ];
 
 /// Whether the collector's next turns are these, where the thread answers after each of them and names no roots.
-fn answered_turns_are(
+pub fn answered_turns_are(
     heap: &Heap<'_>,
     me: &mut Mutator,
     sweeper: &mut Sweeper<'_>,
@@ -86,67 +84,25 @@ pub fn answer_each(heap: &Heap<'_>, me: &mut Mutator, sweeper: &mut Sweeper<'_>,
     }
 }
 
-/// Whether the collector's next turns are these.
-fn turns_are(heap: &Heap<'_>, sweeper: &mut Sweeper<'_>, turns: &[Turn]) -> bool
-    requires { IsSweeperOf heap.now sweeper.old }
-    ensures { IsSweeperOf heap.now sweeper.new }
+/// Takes a cell for the first global, and then two more.
+pub fn take_all(heap: &Heap<'_>, me: &mut Mutator) -> [u32; 3]
+    requires token { MayCall heap.now me.old }
+    requires layout { 0 < length heap.now.setup.pools }
+    requires word { kind_of heap.now.setup 0 0 ≡ Some (Reference 0) }
+    ensures token { MayCall heap.now me.new }
 {
-    for turn in turns {
-        if !is_turn(sweeper.turn(heap), *turn) {
-            return false;
-        }
-    }
-    true
-}
-
-/// Whether the first turns without a thread are made as they are listed: 1, or otherwise 0.
-pub fn first_turns(heap: &Heap<'_>, sweeper: &mut Sweeper<'_>) -> Seen
-    requires { IsSweeperOf heap.now sweeper.old }
-    ensures { IsSweeperOf heap.now sweeper.new }
-{
-    let are_first = turns_are(heap, sweeper, &FIRST_TURNS);
-    [are_first as u64, 0, 0, 0, 0, 0, 0, 0, 0, 0, 0]
-}
-
-/// Whether this number of next turns of the collector each find the only thread at its first stage.
-fn are_looks(heap: &Heap<'_>, sweeper: &mut Sweeper<'_>, turns: u32) -> bool
-    requires { IsSweeperOf heap.now sweeper.old }
-    ensures { IsSweeperOf heap.now sweeper.new }
-{
-    for _ in 0..turns {
-        if !is_turn(sweeper.turn(heap), Turn::ReadStage(0, 0)) {
-            return false;
-        }
-    }
-    true
-}
-
-/// Whether the collector asks a thread that makes no call, whether it waits for it on and on, each 1 or otherwise 0; and how many
-/// sweeps it has made.
-pub fn waits(heap: &Heap<'_>, sweeper: &mut Sweeper<'_>) -> Seen
-    requires { IsSweeperOf heap.now sweeper.old }
-    ensures { IsSweeperOf heap.now sweeper.new }
-{
-    let has_asked = turns_are(heap, sweeper, &[Turn::PostStage(1)]) as u64;
-    let has_waited = are_looks(heap, sweeper, 9_999) as u64;
-    [
-        has_asked,
-        has_waited,
-        sweeper.cycles(),
-        0,
-        0,
-        0,
-        0,
-        0,
-        0,
-        0,
-        0,
-    ]
+    let (kept, _) = keep_a_cell(heap, me, 0);
+    let [second, third] = take_two(heap, me);
+    [kept, second, third]
 }
 
 /// Makes the turns of the first cycle. Returns how many sweeps had looked at their last cell before and after that look; and what an
 /// allocation gave before the last turn, and two after it. None where the turns are others.
-fn first_cycle(heap: &Heap<'_>, me: &mut Mutator, sweeper: &mut Sweeper<'_>) -> Option<[u64; 5]>
+pub fn first_cycle(
+    heap: &Heap<'_>,
+    me: &mut Mutator,
+    sweeper: &mut Sweeper<'_>,
+) -> Option<([u64; 2], [u32; 3])>
     requires token { MayCall heap.now me.old }
     requires sweeper { IsSweeperOf heap.now sweeper.old }
     requires layout { 0 < length heap.now.setup.pools }
@@ -161,17 +117,17 @@ fn first_cycle(heap: &Heap<'_>, me: &mut Mutator, sweeper: &mut Sweeper<'_>) -> 
         return None;
     }
     let after = sweeper.cycles();
-    let early = take(heap, me) as u64;
+    let early = take(heap, me);
     if !answered_turns_are(heap, me, sweeper, &[Turn::Free(2)]) {
         return None;
     }
     let [freed, last] = take_two(heap, me);
-    Some([before, after, early, freed, last])
+    Some(([before, after], [early, freed, last]))
 }
 
 /// Makes the turns of the second cycle, which are as many. Returns how many sweeps had looked at their last cell before and after that
 /// look, and what the first global holds after the last turn.
-fn second_cycle(heap: &Heap<'_>, me: &mut Mutator, sweeper: &mut Sweeper<'_>) -> [u64; 3]
+pub fn second_cycle(heap: &Heap<'_>, me: &mut Mutator, sweeper: &mut Sweeper<'_>) -> ([u64; 2], u64)
     requires token { MayCall heap.now me.old }
     requires sweeper { IsSweeperOf heap.now sweeper.old }
     requires word { kind_of heap.now.setup 0 0 ≡ Some (Reference 0) }
@@ -183,69 +139,5 @@ fn second_cycle(heap: &Heap<'_>, me: &mut Mutator, sweeper: &mut Sweeper<'_>) ->
     answer_each(heap, me, sweeper, 1);
     let after = sweeper.cycles();
     answer_each(heap, me, sweeper, 1);
-    [before, after, global(heap, me, 0)]
-}
-
-/// The only thread takes a cell for the global and two more, answers each stage of two cycles, and ends. Returns the cells, and what
-/// came of the cycles.
-pub fn two_cycles(heap: &Heap<'_>, me: &mut Mutator, sweeper: &mut Sweeper<'_>) -> Seen
-    requires token { MayCall heap.now me.old }
-    requires sweeper { IsSweeperOf heap.now sweeper.old }
-    requires layout { 0 < length heap.now.setup.pools }
-    requires word { kind_of heap.now.setup 0 0 ≡ Some (Reference 0) }
-    ensures token { IsOf heap.now me.new }
-    ensures sweeper { IsSweeperOf heap.now sweeper.new }
-{
-    let kept = keep_a_cell(heap, me, 0);
-    let [second, third] = take_two(heap, me);
-    let Some(first) = first_cycle(heap, me, sweeper) else {
-        return NOTHING;
-    };
-    let [before, after, early, freed, last] = first;
-    let [second_before, second_after, held] = second_cycle(heap, me, sweeper);
-    finish(heap, me);
-    [
-        kept,
-        second,
-        third,
-        before,
-        after,
-        early,
-        freed,
-        last,
-        second_before,
-        second_after,
-        held,
-    ]
-}
-
-/// The only thread takes a cell, answers three stages, each after four turns, and after the rest of the cycle tries three times.
-/// Returns the first cell; whether there was a question each time; and the last three cells.
-pub fn taken_around_a_cycle(heap: &Heap<'_>, me: &mut Mutator, sweeper: &mut Sweeper<'_>) -> Seen
-    requires token { MayCall heap.now me.old }
-    requires sweeper { IsSweeperOf heap.now sweeper.old }
-    requires layout { 0 < length heap.now.setup.pools }
-    ensures token { IsOf heap.now me.new }
-    ensures sweeper { IsSweeperOf heap.now sweeper.new }
-{
-    let first = take(heap, me) as u64;
-    let answered = turn_and_answer(heap, me, sweeper, 4);
-    let answered_again = turn_and_answer(heap, me, sweeper, 4);
-    let answered_last = turn_and_answer(heap, me, sweeper, 4);
-    turn_on(heap, sweeper, 100);
-    let [second, third] = take_two(heap, me);
-    let fourth = take(heap, me) as u64;
-    [
-        first,
-        answered,
-        answered_again,
-        answered_last,
-        second,
-        third,
-        fourth,
-        0,
-        0,
-        0,
-        0,
-    ]
+    ([before, after], global(heap, me, 0))
 }

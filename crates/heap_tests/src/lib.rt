@@ -5,8 +5,6 @@
 #[cfg(test)]
 mod call_tests;
 #[cfg(test)]
-mod cases;
-#[cfg(test)]
 mod cycles;
 #[cfg(test)]
 mod late;
@@ -15,10 +13,10 @@ mod opening;
 #[cfg(test)]
 mod parts;
 #[cfg(test)]
-mod shares;
-#[cfg(test)]
 mod starved;
 #[cfg(test)]
 mod steps;
 #[cfg(test)]
 mod tests;
+#[cfg(test)]
+mod two_cells;

@@ -1,9 +1,8 @@
 //! New heaps, with their tokens.
-ghost use Rattle.std.specs.Prelude.{◌≡◌, ◌<◌, ◌^◌, [], ◌∷◌, true, false, take, length, IfSome};
+ghost use Rattle.std.specs.Prelude.{◌≡◌, ◌<◌, ◌^◌, [], ◌∷◌, true, false, length, IfSome};
 ghost use Rattle.pools.specs.Heap.{IsSetup};
 ghost use Rattle.pools.specs.declared.word_kind.WordKind.TheVariants.{Reference};
-ghost use Rattle.heap_table.specs.Closing.{AreOf};
-ghost use Rattle.heap_table.specs.Holders.{IsOf, MayCall, MayBegin};
+ghost use Rattle.heap_table.specs.Holders.{MayCall, MayBegin};
 ghost use Rattle.heap_table.specs.Opening.{AreNew};
 ghost use Rattle.heap_table.specs.Sweepers.{IsSweeperOf};
 
@@ -51,15 +50,21 @@ pub fn ground(alloc: Global, cells: u32) -> Option<(Layouts, Pools)>
     Some((layouts, pools))
 }
 
-/// How many cells, globals and threads a heap has.
-#[derive(Clone, Copy)]
-pub struct Size {
-    pub cells: u32,
-    pub globals: usize,
-    pub threads: u32,
+/// No globals.
+pub fn no_globals() -> [WordKind; 0]
+    ensures { result ≡ [] }
+{
+    []
 }
 
-/// Two globals that are references.
+/// A global that is a reference.
+pub fn one_reference() -> [WordKind; 1]
+    ensures { result ≡ Reference 0 ∷ [] }
+{
+    [WordKind::Reference(the_layout())]
+}
+
+/// Two of them.
 pub fn two_references() -> [WordKind; 2]
     ensures { result ≡ Reference 0 ∷ Reference 0 ∷ [] }
 {
@@ -90,32 +95,57 @@ fn plan_of<'a>(
     }
 }
 
-/// A new heap with the first of these globals, at most two, which are null, and the tokens of its threads and of its collector.
+/// A new heap with at most two globals, which are null, and the tokens of its threads and of its collector.
 pub fn open<'a>(
     alloc: Global,
     layouts: &'a Layouts,
     pools: &'a Pools,
-    references: &'a [WordKind; 2],
-    size: Size,
+    globals: &'a [WordKind],
+    threads: u32,
     late: &'a [bool],
 ) -> Option<(Heap<'a>, Vec<Mutator>, Sweeper<'a>)>
-    requires layouts { layouts.now ≡ [] ∷ [] }
-    requires references { references.now ≡ Reference 0 ∷ Reference 0 ∷ [] }
+    requires { layouts.now ≡ [] ∷ [] }
     ensures late { IfSome result (λ made. made.0.setup.late ≡ late.now) }
     ensures pools { IfSome result (λ made. made.0.setup.pools ≡ pools.now) }
-    ensures globals { IfSome result (λ made. made.0.setup.globals ≡ take size.globals (Reference 0 ∷ Reference 0 ∷ [])) }
-    ensures threads { IfSome result (λ made. made.0.setup.threads ≡ size.threads) }
-    ensures tokens { IfSome result (λ made. (length made.1.items ≡ size.threads) × AreNew made.0 0 made.1.items) }
+    ensures globals { IfSome result (λ made. made.0.setup.globals ≡ globals.now) }
+    ensures threads { IfSome result (λ made. made.0.setup.threads ≡ threads) }
+    ensures tokens { IfSome result (λ made. (length made.1.items ≡ threads) × AreNew made.0 0 made.1.items) }
     ensures sweeper { IfSome result (λ made. IsSweeperOf made.0 made.2) }
 {
-    if size.globals > 2 {
+    if globals.len() > 2 {
         return None;
     }
-    let globals = &references[..size.globals];
-    let plan = plan_of(pools, layouts, globals, size.threads as usize, late);
+    let plan = plan_of(pools, layouts, globals, threads as usize, late);
     match Heap::new(alloc, plan) {
         Ok(opened) => Some(opened),
         Err(_) => None,
+    }
+}
+
+/// A new heap for one thread, which is not late, with its token and that of the collector.
+pub fn open_for_one<'a>(
+    alloc: Global,
+    layouts: &'a Layouts,
+    pools: &'a Pools,
+    globals: &'a [WordKind],
+) -> Option<(Heap<'a>, Mutator, Sweeper<'a>)>
+    requires { layouts.now ≡ [] ∷ [] }
+    ensures pools { IfSome result (λ made. made.0.setup.pools ≡ pools.now) }
+    ensures globals { IfSome result (λ made. made.0.setup.globals ≡ globals.now) }
+    ensures token { IfSome result (λ made. MayCall made.0 made.1) }
+    ensures log { IfSome result (λ made. made.1.log ≡ []) }
+    ensures sweeper { IfSome result (λ made. IsSweeperOf made.0 made.2) }
+{
+    let (heap, mut mutators, sweeper) = open(alloc, layouts, pools, globals, 1, &[])?;
+    let token = last_token(&heap, &mut mutators);
+    drop(mutators);
+    match token {
+        Some(me) => Some((heap, me, sweeper)),
+        None => {
+            drop(sweeper);
+            drop(heap);
+            None
+        }
     }
 }
 
@@ -135,8 +165,7 @@ pub fn last_token(heap: &Heap<'_>, mutators: &mut Vec<Mutator>) -> Option<Mutato
 pub fn two_tokens(heap: &Heap<'_>, mutators: &mut Vec<Mutator>) -> Option<(Mutator, Mutator)>
     requires present { heap.now.setup.late ≡ [] }
     requires tokens { AreNew heap.now 0 mutators.old.items }
-    ensures tokens { AreNew heap.now 0 mutators.new.items }
-    ensures two { IfSome result (λ tokens. MayCall heap.now tokens.0 × MayCall heap.now tokens.1) }
+    ensures { IfSome result (λ tokens. MayCall heap.now tokens.0 × MayCall heap.now tokens.1) }
 {
     let second = last_token(heap, mutators)?;
     let first = last_token(heap, mutators)?;
@@ -149,7 +178,6 @@ pub fn late_token(heap: &Heap<'_>, mutators: &mut Vec<Mutator>) -> Option<Mutato
     requires one { length mutators.old.items ≡ 1 }
     requires tokens { AreNew heap.now 0 mutators.old.items }
     ensures token { IfSome result (MayBegin heap.now) }
-    ensures rest { AreOf heap.now mutators.new.items }
 {
     mutators.pop()
 }
@@ -159,20 +187,9 @@ pub fn present_and_late(heap: &Heap<'_>, mutators: &mut Vec<Mutator>) -> Option<
     requires late { heap.now.setup.late ≡ false ∷ true ∷ [] }
     requires two { length mutators.old.items ≡ 2 }
     requires tokens { AreNew heap.now 0 mutators.old.items }
-    ensures tokens { IfSome result (λ tokens. MayCall heap.now tokens.0 × MayBegin heap.now tokens.1) }
-    ensures rest { AreOf heap.now mutators.new.items }
+    ensures { IfSome result (λ tokens. MayCall heap.now tokens.0 × MayBegin heap.now tokens.1) }
 {
     let late = mutators.pop()?;
     let first = mutators.pop()?;
     Some((first, late))
-}
-
-/// Puts a token back after the others, where there is memory for it.
-#[tactic(auto, using(crate::proofs::HeapTokens::are_of_more))]
-pub fn put_back(heap: &Heap<'_>, mutators: &mut Vec<Mutator>, me: Mutator)
-    requires others { AreOf heap.now mutators.old.items }
-    requires token { IsOf heap.now me }
-    ensures { AreOf heap.now mutators.new.items }
-{
-    if mutators.push(me).is_err() {}
 }

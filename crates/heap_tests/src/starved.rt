@@ -1,11 +1,13 @@
 //! A thread that finds no memory for a list of its roots, beside the collector.
-ghost use Rattle.std.specs.Prelude.{◌≡◌, []};
-ghost use Rattle.heap_table.specs.Holders.{IsOf, MayCall};
+ghost use Rattle.std.specs.Prelude.{◌≡◌, ◌<◌, [], ◌∷◌, length};
+ghost use Rattle.heap_table.specs.Holders.{MayCall};
 ghost use Rattle.heap_table.specs.Sweepers.{IsSweeperOf};
 
-use crate::steps::{Seen, turn_on};
+use crate::opening::{ground, no_globals, open_for_one};
+use crate::steps::turn_on;
 use heap_table::{Heap, Mutator, Sweeper};
 use moves::{Answer, Call, RootsAfter, Runner, WordValue};
+use pools::{Layouts, Pools};
 use runs::Machine;
 use serving::{ServingEnd, serve};
 use std::alloc::{AllocError, Global};
@@ -52,20 +54,47 @@ impl Runner for Starved {
     }
 }
 
-/// Whether such a thread ends without memory while a stage is posted, and whether the collector sweeps on after it: each 1, or
-/// otherwise 0.
-#[tactic(auto, using(crate::proofs::HeapTokens::still_of))]
-pub fn starve(alloc: Global, heap: &Heap<'_>, me: &mut Mutator, sweeper: &mut Sweeper<'_>) -> Seen
+/// Whether such a thread ends without memory while a stage is posted, and whether the collector sweeps on after it.
+fn starve(
+    alloc: Global,
+    heap: &Heap<'_>,
+    me: &mut Mutator,
+    sweeper: &mut Sweeper<'_>,
+) -> (bool, bool)
     requires token { MayCall heap.now me.old }
     requires first { me.old.log ≡ [] }
     requires sweeper { IsSweeperOf heap.now sweeper.old }
-    ensures token { IsOf heap.now me.new }
-    ensures sweeper { IsSweeperOf heap.now sweeper.new }
 {
     turn_on(heap, sweeper, 1);
     let end = serve(alloc, heap, me, &mut Starved {}, false, 10);
     turn_on(heap, sweeper, 100);
-    let has_ended = matches!(end, ServingEnd::Memory) as u64;
-    let has_swept = (sweeper.cycles() > 0) as u64;
-    [has_ended, has_swept, 0, 0, 0, 0, 0, 0, 0, 0, 0]
+    (matches!(end, ServingEnd::Memory), sweeper.cycles() > 0)
+}
+
+/// Does this on a new heap.
+fn starved_anew(alloc: Global, layouts: &Layouts, pools: &Pools) -> Option<(bool, bool)>
+    requires layouts { layouts.now ≡ [] ∷ [] }
+    requires pools { 0 < length pools.now }
+{
+    let globals = no_globals();
+    let (heap, mut me, mut sweeper) = open_for_one(alloc, layouts, pools, &globals)?;
+    let starved = starve(alloc, &heap, &mut me, &mut sweeper);
+    drop(me);
+    drop(sweeper);
+    drop(heap);
+    Some(starved)
+}
+
+/// On a pool of one cell.
+fn starved_of_one_cell(alloc: Global) -> Option<(bool, bool)> {
+    let (layouts, pools) = ground(alloc, 1)?;
+    let starved = starved_anew(alloc, &layouts, &pools);
+    drop(pools);
+    drop(layouts);
+    starved
+}
+
+#[test]
+fn a_thread_without_memory_holds_up_no_cycle(rt: HostRuntime) {
+    assert_eq!(rt; starved_of_one_cell(rt.alloc()), Some((true, true)));
 }

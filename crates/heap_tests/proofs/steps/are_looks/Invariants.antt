@@ -1,5 +1,5 @@
 use Rattle.heap_table.specs.Sweepers.{IsSweeperOf}
-use Rattle.heap_tests.proofs.cycles.are_looks.Given as goal
+use Rattle.heap_tests.proofs.steps.are_looks.Given as goal
 
 abbrev pub invariant-loop : goal.invariant-loop
 invariant-loop l = IsSweeperOf l.heap l.sweeper
