@@ -1,6 +1,6 @@
 //! One function of a module, read anew from a text of its own.
 use crate::faults::{Told, told_of_module};
-use crate::front_tests::{How, fronts_on};
+use crate::fronts::{Front, Fronts, NONE, Reader, cut_module, fronts_of};
 use crate::texts::joined;
 use ir_ast::{FuncId, Module};
 use ir_print::print;
@@ -25,14 +25,66 @@ const TWO_MIDDLES: &str =
 const ANOTHER_MIDDLE: &str =
     "define i64 @middle(i64 %a) {\nentry:\n  %s = alloca i16\n  store i16 7, i16* %s\n  %n = load %Node*, %Node** @g\n  call void @first()\n  call void @last()\n  call void @dg_safepoint()\n  %b = call i64 @middle(i64 %a)\n  ret i64 %b\n}\n";
 
-/// An edit of `@middle` with what comes of it, and the word with which the form begins that is left out, if one is.
-type Edit<'a> = (&'a str, Told, &'a str);
+/// What comes of reading an edit of `@middle`.
+#[derive(Drop)]
+enum Edited {
+    /// The whole module with it is printed so.
+    Printed(Vec<u8>),
+    Refused(ReadFault),
+    /// There is no module with a `@middle` that could be edited.
+    NoModule,
+}
 
-/// The whole module with the edit is printed as it was, but for the edit.
-const IN_PLACE: Told = ("in its place", 0, 0);
+/// What comes of an edit of the second function of a module.
+fn edited_second(alloc: Global, of_module: &Module, edit: &[u8]) -> Result<Edited, AllocError> {
+    if of_module.functions.len() < 2 {
+        return Ok(Edited::NoModule);
+    }
+    match replace(alloc, of_module, FuncId::new(1), edit) {
+        Ok(edited) => {
+            let printed = print(alloc, &edited);
+            drop(edited);
+            Ok(Edited::Printed(printed?))
+        }
+        Err(fault) => Ok(Edited::Refused(fault)),
+    }
+}
 
-/// Anything else.
-const OTHER: Told = ("other", 0, 0);
+/// What comes of an edit of `@middle`.
+fn after_edit(alloc: Global, edit: &[u8]) -> Result<Edited, AllocError> {
+    let text = joined(alloc, [ITEMS, FIRST, MIDDLE, LAST].as_slice())?;
+    match read(alloc, text.as_slice()) {
+        Ok(of_module) => {
+            let edited = edited_second(alloc, &of_module, edit);
+            drop(of_module);
+            edited
+        }
+        Err(_) => Ok(Edited::NoModule),
+    }
+}
+
+/// Whether the whole module with this edit of `@middle` is printed as it was, but for the edit.
+fn is_put_in_place(alloc: Global, edit: &str) -> Result<bool, AllocError> {
+    let wanted = joined(alloc, [ITEMS, FIRST, edit, LAST].as_slice())?;
+    match after_edit(alloc, edit.as_bytes())? {
+        Edited::Printed(printed) => Ok(printed.as_slice() == wanted.as_slice()),
+        Edited::Refused(_) | Edited::NoModule => Ok(false),
+    }
+}
+
+/// Whether both edits of `@middle` are put in its place.
+fn are_put_in_place(alloc: Global) -> Result<(bool, bool), AllocError> {
+    Ok((
+        is_put_in_place(alloc, MIDDLE)?,
+        is_put_in_place(alloc, ANOTHER_MIDDLE)?,
+    ))
+}
+
+#[test]
+fn puts_a_function_in_its_place(rt: HostRuntime) -> Result<(), AllocError> {
+    assert_eq!(rt; are_put_in_place(rt.alloc())?, (true, true));
+    Ok(())
+}
 
 /// Whether a form is left out that begins with this word; where there is none, whether the fault is another one.
 fn is_word(fault: &ReadFault, wanted: &str) -> bool {
@@ -42,39 +94,25 @@ fn is_word(fault: &ReadFault, wanted: &str) -> bool {
     }
 }
 
-/// Whether a module is printed as these texts.
-fn is_printed(alloc: Global, of_module: &Module, texts: &[&str]) -> Result<bool, AllocError> {
-    let wanted = joined(alloc, texts)?;
-    let printed = print(alloc, of_module)?;
-    Ok(printed.as_slice() == wanted.as_slice())
-}
+/// An edit of `@middle` with its fault, and the word with which the form begins that is left out, if one is.
+type RefusedEdit<'a> = (&'a str, Told, &'a str);
 
-/// What comes of an edit of the second function of a module, where a form is left out that begins with this word.
-fn told_in(alloc: Global, of_module: &Module, edit: &str, word: &str) -> Result<Told, AllocError> {
-    if of_module.functions.len() < 2 {
-        return Ok(OTHER);
-    }
-    match replace(alloc, of_module, FuncId::new(1), edit.as_bytes()) {
-        Ok(edited) => {
-            let printed = is_printed(alloc, &edited, [ITEMS, FIRST, edit, LAST].as_slice());
-            drop(edited);
-            Ok(if printed? { IN_PLACE } else { OTHER })
-        }
-        Err(fault) => {
-            let told = told_of_module(&fault);
-            let is_alike = is_word(&fault, word);
+/// Whether an edit of `@middle` is refused so.
+fn is_refused(alloc: Global, refused: RefusedEdit<'_>) -> Result<bool, AllocError> {
+    let (edit, wanted, word) = refused;
+    match after_edit(alloc, edit.as_bytes())? {
+        Edited::Refused(fault) => {
+            let is_alike = told_of_module(&fault) == wanted && is_word(&fault, word);
             drop(fault);
-            Ok(if is_alike { told } else { OTHER })
+            Ok(is_alike)
         }
+        Edited::Printed(_) | Edited::NoModule => Ok(false),
     }
 }
 
-/// Two edits are put in the place of `@middle`. Refused are another name, before what is missing and before the same name defined
-/// twice; another item; an item after the function; nothing at all; functions before this one, this one and one after it as operands,
-/// which they are not; and an unknown name.
-const EDITS: [Edit<'static>; 11] = [
-    (MIDDLE, IN_PLACE, ""),
-    (ANOTHER_MIDDLE, IN_PLACE, ""),
+/// Another name, before what is missing and before the same name defined twice; another item; an item after the function; nothing at
+/// all; functions before this one, this one and one after it as operands, which they are not; and an unknown name.
+const REFUSED: [RefusedEdit<'static>; 9] = [
     ("define void @other() {\n", ("L3", 1, 13), ""),
     (LAST, ("L3", 1, 13), ""),
     ("@h = global i64 0\n", ("L3", 1, 1), ""),
@@ -102,41 +140,67 @@ const EDITS: [Edit<'static>; 11] = [
     ),
 ];
 
-/// Of how many of these edits of the second function of a module comes what the table says.
-fn alike_in(alloc: Global, of_module: &Module, edits: &[Edit<'_>]) -> Result<u32, AllocError> {
-    let mut alike = 0u32;
-    for (edit, wanted, word) in edits {
-        if told_in(alloc, of_module, edit, word)? == *wanted {
-            alike = alike.saturating_add(1);
+/// How many of these edits are refused as the table says.
+fn refused(alloc: Global) -> Result<u32, AllocError> {
+    let mut refused = 0u32;
+    for edit in REFUSED {
+        if is_refused(alloc, edit)? {
+            refused = refused.saturating_add(1);
         }
     }
-    Ok(alike)
-}
-
-/// Of how many of these edits of `@middle` comes what the table says.
-fn alike(alloc: Global, edits: &[Edit<'_>]) -> Result<u32, AllocError> {
-    let text = joined(alloc, [ITEMS, FIRST, MIDDLE, LAST].as_slice())?;
-    match read(alloc, text.as_slice()) {
-        Ok(of_module) => {
-            let alike = alike_in(alloc, &of_module, edits);
-            drop(of_module);
-            alike
-        }
-        Err(_) => Ok(0),
-    }
+    Ok(refused)
 }
 
 #[test]
-fn only_one_function_of_the_name_is_put_in_its_place(rt: HostRuntime) {
-    assert_eq!(rt; alike(rt.alloc(), EDITS.as_slice()).ok(), Some(11));
+fn refuses_what_is_not_one_function_of_the_name(rt: HostRuntime) -> Result<(), AllocError> {
+    assert_eq!(rt; refused(rt.alloc())?, 9);
+    Ok(())
+}
+
+/// Reads edits of the second function of a module. Their parts are the functions of the module after the edit.
+#[derive(Drop)]
+struct Edits<'a> {
+    alloc: Global,
+    of_module: &'a Module,
+}
+
+impl<'a> Reader for Edits<'a> {
+    fn front(&self, text: &[u8]) -> Front {
+        if self.of_module.functions.len() < 2 {
+            return Front::Other;
+        }
+        match replace(self.alloc, self.of_module, FuncId::new(1), text) {
+            Ok(edited) => {
+                let functions = edited.functions.len();
+                drop(edited);
+                Front::Read(functions)
+            }
+            Err(fault) => cut_module(&fault, text),
+        }
+    }
+}
+
+/// The fronts of an edit of `@middle`.
+fn edit_fronts(alloc: Global, edit: &str) -> Result<Fronts, AllocError> {
+    let text = joined(alloc, [ITEMS, FIRST, MIDDLE, LAST].as_slice())?;
+    match read(alloc, text.as_slice()) {
+        Ok(of_module) => {
+            let reader = Edits {
+                alloc,
+                of_module: &of_module,
+            };
+            let fronts = fronts_of(&reader, edit.as_bytes());
+            drop(of_module);
+            Ok(fronts)
+        }
+        Err(_) => Ok(NONE),
+    }
 }
 
 // Without its last line end it is whole.
 #[test]
-fn refuses_each_front_of_a_function(rt: HostRuntime) {
-    let texts = [ITEMS, FIRST, MIDDLE, LAST];
-    assert_eq!(rt;
-        fronts_on(rt.alloc(), texts.as_slice(), How::Edit, ANOTHER_MIDDLE).ok(),
-        Some(([0, 0, 0, 1, 0, 0, 0, 0, 0], 223, 0))
-    );
+fn refuses_each_front_of_a_function(rt: HostRuntime) -> Result<(), AllocError> {
+    let fronts = edit_fronts(rt.alloc(), ANOTHER_MIDDLE)?;
+    assert_eq!(rt; fronts, ([0, 0, 0, 1, 0, 0, 0, 0, 0], 223, 0));
+    Ok(())
 }

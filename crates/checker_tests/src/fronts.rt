@@ -1,18 +1,14 @@
 //! The fronts of a text: what comes of it where it is cut at each of its bytes.
-use certificate::{CertFault, Certs, read_cert, replace_section};
-use ir_ast::{FuncId, Module};
-use ir_text::{ReadFault, read, replace};
+use certificate::CertFault;
+use ir_text::ReadFault;
 use ir_tokens::Position;
-use layout::Program;
-use std::alloc::Global;
-use trace_text::{TraceFault, read_trace};
 
 /// A front is told apart by up to this number of parts.
 const PARTS: usize = 8;
 
 /// What comes of one front of a text.
 #[derive(Clone, Copy)]
-enum Front {
+pub(crate) enum Front {
     /// It is read, and has this number of parts.
     Read(usize),
     /// It is refused as the front of such a text may be, at this place.
@@ -24,103 +20,13 @@ enum Front {
 }
 
 /// How a text is read.
-#[derive(Clone, Copy)]
-pub(crate) enum Source<'a> {
-    /// As a module. Its parts are what it defines and declares.
-    Module,
-    /// As an edit of the second function of this module. Its parts are the functions after it.
-    Edit(&'a Module),
-    /// As certificates of this module. Their parts are their sections.
-    Certificates(&'a Module),
-    /// As a section of the second function, among these certificates of this module. Its parts are all sections after it.
-    Section(&'a Certs, &'a Module),
-    /// As a trace of this program. Its parts are its threads.
-    Trace(&'a Program),
-}
-
-/// How many structs, globals and functions a module defines and declares.
-fn items_of(of_module: &Module) -> usize {
-    let (structs, globals) = (of_module.structs.len(), of_module.globals.len());
-    let (declares, functions) = (of_module.declares.len(), of_module.functions.len());
-    structs
-        .saturating_add(globals)
-        .saturating_add(declares)
-        .saturating_add(functions)
-}
-
-/// What comes of the front of a module.
-fn module_front(alloc: Global, text: &[u8]) -> Front {
-    match read(alloc, text) {
-        Ok(of_module) => {
-            let items = items_of(&of_module);
-            drop(of_module);
-            Front::Read(items)
-        }
-        Err(fault) => cut_module(&fault, text),
-    }
-}
-
-/// What comes of the front of an edit.
-fn edit_front(alloc: Global, of_module: &Module, text: &[u8]) -> Front {
-    if of_module.functions.len() < 2 {
-        return Front::Other;
-    }
-    match replace(alloc, of_module, FuncId::new(1), text) {
-        Ok(edited) => {
-            let functions = edited.functions.len();
-            drop(edited);
-            Front::Read(functions)
-        }
-        Err(fault) => cut_module(&fault, text),
-    }
-}
-
-/// What comes of certificates, or of those with a section replaced, that are read from a front.
-fn certificates_front(read: Result<Certs, CertFault>) -> Front {
-    match read {
-        Ok(certs) => {
-            let sections = certs.sections.as_slice().len();
-            drop(certs);
-            Front::Read(sections)
-        }
-        Err(fault) => cut_certificates(fault),
-    }
-}
-
-/// What comes of the front of a section.
-fn section_front(alloc: Global, certs: &Certs, of_module: &Module, text: &[u8]) -> Front {
-    if certs.sections.as_slice().len() != 2 {
-        return Front::Other;
-    }
-    certificates_front(replace_section(alloc, certs, of_module, FuncId::new(1), text))
-}
-
-/// What comes of the front of a trace.
-fn trace_front(alloc: Global, program: &Program, text: &[u8]) -> Front {
-    match read_trace(alloc, text, program) {
-        Ok(trace) => {
-            let threads = trace.setup.starts.len();
-            drop(trace);
-            Front::Read(threads)
-        }
-        Err(TraceFault::Syntax(place)) => Front::Refused(place),
-        Err(_) => Front::Other,
-    }
-}
-
-/// What comes of this front.
-fn front_of(alloc: Global, source: Source<'_>, text: &[u8]) -> Front {
-    match source {
-        Source::Module => module_front(alloc, text),
-        Source::Edit(of_module) => edit_front(alloc, of_module, text),
-        Source::Certificates(of_module) => certificates_front(read_cert(alloc, text, of_module)),
-        Source::Section(certs, of_module) => section_front(alloc, certs, of_module, text),
-        Source::Trace(program) => trace_front(alloc, program, text),
-    }
+pub(crate) trait Reader {
+    /// What comes of this front.
+    fn front(&self, text: &[u8]) -> Front;
 }
 
 /// The fault of a front of a module: a token of it is cut, it ends too early, or it ends in the front of an intrinsic's name.
-fn cut_module(fault: &ReadFault, text: &[u8]) -> Front {
+pub(crate) fn cut_module(fault: &ReadFault, text: &[u8]) -> Front {
     match fault {
         ReadFault::BadByte(place) | ReadFault::Unfinished(place) | ReadFault::Unexpected(place) => {
             Front::Refused(*place)
@@ -137,7 +43,7 @@ fn cut_module(fault: &ReadFault, text: &[u8]) -> Front {
 }
 
 /// The fault of a front of certificates: it ends too early, or in the front of a name, or sections are not there.
-fn cut_certificates(fault: CertFault) -> Front {
+pub(crate) fn cut_certificates(fault: CertFault) -> Front {
     match fault {
         CertFault::Syntax(place) | CertFault::UnknownName(place) => Front::Refused(place),
         CertFault::Missing(_) => Front::Missing,
@@ -189,11 +95,11 @@ fn count(fronts: &mut Fronts, text: &[u8], front: Front) {
 }
 
 /// What comes of the fronts of a text, the text itself not among them.
-pub(crate) fn fronts_of(alloc: Global, source: Source<'_>, text: &[u8]) -> Fronts {
+pub(crate) fn fronts_of<R: Reader>(reader: &R, text: &[u8]) -> Fronts {
     let mut fronts = NONE;
     for end in 0..text.len() {
         let front = &text[..end];
-        count(&mut fronts, front, front_of(alloc, source, front));
+        count(&mut fronts, front, reader.front(front));
     }
     fronts
 }
