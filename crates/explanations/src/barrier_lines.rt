@@ -1,29 +1,23 @@
 //! The lines of llvm.gcwrite in place of a store, in a text with typed pointers: the casts that it takes, and the call.
-use crate::nulls::is_value;
-use crate::told::{Told, type_of, value_in};
-use ir_ast::{Constant, MemoryOp, Op, Operand, TypeId, ValueId};
-use messages::{CODE_MARGIN, Message, put_new_name, put_type};
-use scenes::{Scene, There, put_operand};
-use std::alloc::AllocError;
+use crate::nulls::is_same;
+use crate::told::{Told, op_of, put_type_or, type_of, value_in};
+use ir_ast::{Constant, IrType, MemoryOp, Module, Op, Operand, TypeId, ValueId};
+use messages::{CODE_MARGIN, Message, put_new_name};
+use scenes::{Scene, put_operand};
+use types::pointee;
 
-/// An operand of the call.
+/// An operand of the call: a reference, or the place.
 #[derive(Clone, Copy)]
 struct Given {
     operand: Operand,
     /// The type that it has.
     has: Option<TypeId>,
-    /// The type that it is to have.
-    wanted: &'static str,
-    /// How the name of its cast begins.
-    words: &'static str,
+    is_place: bool,
 }
 
-/// The operands of the call.
-#[derive(Clone, Copy)]
-struct Barrier {
-    value: Given,
-    object: Given,
-    at: Given,
+/// The type that an operand is to have.
+fn wanted(given: &Given) -> &'static str {
+    if given.is_place { "i8**" } else { "i8*" }
 }
 
 fn object_of(told: &Told) -> Operand {
@@ -33,65 +27,32 @@ fn object_of(told: &Told) -> Operand {
     }
 }
 
-fn reference(operand: Operand, has: Option<TypeId>) -> Given {
-    Given {
-        operand,
-        has,
-        wanted: "i8*",
-        words: "ref.",
+/// Whether a type is `i8*`.
+fn is_bytes(module: &Module, written: TypeId) -> bool {
+    match pointee(module, written) {
+        Some(part) => matches!(module.types.get(part), Some(IrType::Integer(8))),
+        None => false,
     }
 }
 
-fn place(operand: Operand, has: Option<TypeId>) -> Given {
-    Given {
-        operand,
-        has,
-        wanted: "i8**",
-        words: "place.",
+/// Whether an operand of this type is given as it is.
+fn is_wanted(module: &Module, has: TypeId, is_place: bool) -> bool {
+    if !is_place {
+        return is_bytes(module, has);
     }
-}
-
-/// The barrier that does what the refused store does.
-fn barrier_for(told: &Told) -> Option<Barrier> {
-    let There::Body(instr) = told.scene.there() else {
-        return None;
-    };
-    match &instr.op {
-        Op::Memory(
-            MemoryOp::Store {
-                stored,
-                value,
-                place_type,
-                place: at,
-            },
-        ) => Some(Barrier {
-            value: reference(*value, Some(*stored)),
-            object: reference(object_of(told), type_of(told.scene, told.base)),
-            at: place(*at, Some(*place_type)),
-        }),
-        _ => None,
+    match pointee(module, has) {
+        Some(part) => is_bytes(module, part),
+        None => false,
     }
 }
 
 /// The value that has to be cast.
-fn uncast(scene: &Scene, given: &Given) -> Result<Option<ValueId>, AllocError> {
-    let (Some(value), Some(has)) = (value_in(Some(given.operand)), given.has) else {
-        return Ok(None);
-    };
-    let mut written = Message::new(scene.pen.alloc);
-    put_type(scene.pen.alloc, &mut written, scene.context.module(), has);
-    let written = written.finish()?;
-    if written.as_slice() == given.wanted.as_bytes() {
-        Ok(None)
+fn uncast(scene: &Scene, given: &Given) -> Option<ValueId> {
+    let value = value_in(Some(given.operand))?;
+    if is_wanted(scene.context.module(), given.has?, given.is_place) {
+        None
     } else {
-        Ok(Some(value))
-    }
-}
-
-fn put_has(out: &mut Message, scene: &Scene, given: &Given) {
-    match given.has {
-        Some(has) => put_type(scene.pen.alloc, out, scene.context.module(), has),
-        None => out.put("T"),
+        Some(value)
     }
 }
 
@@ -100,7 +61,7 @@ fn put_new(out: &mut Message, scene: &Scene, given: &Given, value: ValueId) {
         scene.pen.alloc,
         out,
         scene.context.function,
-        given.words,
+        if given.is_place { "place." } else { "ref." },
         value,
     )
 }
@@ -109,34 +70,30 @@ fn put_cast_of(out: &mut Message, scene: &Scene, given: &Given, value: ValueId) 
     out.put(CODE_MARGIN);
     put_new(out, scene, given, value);
     out.put(" = bitcast ");
-    put_has(out, scene, given);
+    put_cast_parts(out, scene, given, given.has);
+    out.put("\n")
+}
+
+/// An operand under its type, and the type that is wanted.
+fn put_cast_parts(out: &mut Message, scene: &Scene, given: &Given, from: Option<TypeId>) {
+    put_type_or(out, scene, from);
     out.put(" ");
     put_operand(out, scene, given.operand);
     out.put(" to ");
-    out.put(given.wanted);
-    out.put("\n")
+    out.put(wanted(given))
 }
 
 /// The line of a cast, where one is needed.
 fn put_cast(out: &mut Message, scene: &Scene, given: &Given) {
-    match uncast(scene, given) {
-        Ok(Some(value)) => put_cast_of(out, scene, given, value),
-        Ok(None) => {}
-        Err(_) => out.refuse(),
+    if let Some(value) = uncast(scene, given) {
+        put_cast_of(out, scene, given, value);
     }
 }
 
 /// A global under the type that is wanted.
 fn put_cast_global(out: &mut Message, scene: &Scene, given: &Given, from: Option<TypeId>) {
     out.put("bitcast (");
-    match from {
-        Some(from) => put_type(scene.pen.alloc, out, scene.context.module(), from),
-        None => out.put("T"),
-    }
-    out.put(" ");
-    put_operand(out, scene, given.operand);
-    out.put(" to ");
-    out.put(given.wanted);
+    put_cast_parts(out, scene, given, from);
     out.put(")")
 }
 
@@ -152,59 +109,86 @@ fn put_uncast(out: &mut Message, scene: &Scene, given: &Given) {
 /// An operand of the call under the name of its cast.
 fn put_named(out: &mut Message, scene: &Scene, given: &Given) {
     match uncast(scene, given) {
-        Ok(Some(value)) => put_new(out, scene, given, value),
-        Ok(None) => put_uncast(out, scene, given),
-        Err(_) => out.refuse(),
+        Some(value) => put_new(out, scene, given, value),
+        None => put_uncast(out, scene, given),
     }
 }
 
 /// An operand of the call with its type.
 fn put_given(out: &mut Message, scene: &Scene, given: &Given) {
-    out.put(given.wanted);
+    out.put(wanted(given));
     out.put(" ");
     put_named(out, scene, given)
 }
 
-fn put_call(out: &mut Message, scene: &Scene, barrier: &Barrier) {
+fn put_call(out: &mut Message, scene: &Scene, value: &Given, object: &Given, at: &Given) {
     out.put(CODE_MARGIN);
     out.put("call void @llvm.gcwrite(");
-    put_given(out, scene, &barrier.value);
+    put_given(out, scene, value);
     out.put(", ");
-    put_given(out, scene, &barrier.object);
+    put_given(out, scene, object);
     out.put(", ");
-    put_given(out, scene, &barrier.at);
+    put_given(out, scene, at);
     out.put(")\n")
 }
 
-/// Whether two operands are the same value.
-fn is_same_value(one: &Given, other: &Given) -> bool {
-    match value_in(Some(one.operand)) {
-        Some(value) => is_value(value, Some(other.operand)),
-        None => false,
+/// The casts and the call. An operand that is given twice is cast once.
+fn put_lines(out: &mut Message, scene: &Scene, value: &Given, object: &Given, at: &Given) {
+    put_cast(out, scene, value);
+    if !is_same(Some(value.operand), Some(object.operand)) {
+        put_cast(out, scene, object);
+    }
+    put_cast(out, scene, at);
+    put_call(out, scene, value, object, at)
+}
+
+/// The object of a place.
+fn given_object(told: &Told) -> Given {
+    Given {
+        operand: object_of(told),
+        has: type_of(told.scene, told.base),
+        is_place: false,
     }
 }
 
 /// The casts and the call that do what the refused store does, with a barrier.
 pub fn put_barrier_lines(out: &mut Message, told: &Told) {
-    let scene = told.scene;
-    let Some(barrier) = barrier_for(told) else {
+    let Some(
+        Op::Memory(
+            MemoryOp::Store {
+                stored,
+                value,
+                place_type,
+                place,
+            },
+        ),
+    ) = op_of(told.scene)
+    else {
         return;
     };
-    put_cast(out, scene, &barrier.value);
-    if !is_same_value(&barrier.value, &barrier.object) {
-        put_cast(out, scene, &barrier.object);
-    }
-    put_cast(out, scene, &barrier.at);
-    put_call(out, scene, &barrier)
+    let value = Given {
+        operand: *value,
+        has: Some(*stored),
+        is_place: false,
+    };
+    let at = Given {
+        operand: *place,
+        has: Some(*place_type),
+        is_place: true,
+    };
+    put_lines(out, told.scene, &value, &given_object(told), &at)
 }
 
 /// The cast of the object of a place, and how the call names it.
 pub fn put_object_lines(out: &mut Message, told: &Told) {
-    let scene = told.scene;
-    let object = reference(object_of(told), type_of(scene, told.base));
-    put_cast(out, scene, &object);
+    put_object_given(out, told.scene, &given_object(told))
+}
+
+/// The same of the object as it is given.
+fn put_object_given(out: &mut Message, scene: &Scene, object: &Given) {
+    put_cast(out, scene, object);
     out.put(CODE_MARGIN);
     out.put("and in the call ");
-    put_given(out, scene, &object);
+    put_given(out, scene, object);
     out.put("\n")
 }

@@ -1,24 +1,26 @@
 //! K2 and K5: the words of a layout, the elements of an array, and which operand is no value.
 use crate::notes::{MARGIN, put_line, put_mend, put_mend_word, put_or};
 use crate::nulls::{is_made_here, is_value};
-use crate::promised::call_of;
-use crate::told::{Told, put_text, value_in};
+use crate::told::{Told, call_of, op_of, put_text, value_in};
 use facts::Known;
 use ir_ast::{Argument, Constant, Element, IrType, Op, Operand, Runtime, TypeId, ValueId};
 use messages::{Ink, Message};
 use name_text::Blank;
 use pools::{LayoutId, WordKind};
-use scenes::{Definition, Scene, There, arguments_of, definition_of, is_runtime_call, slot_among};
+use scenes::{
+    Definition, Scene, arguments_of, definition_of, is_runtime_call, put_known, reference_of,
+    slot_among,
+};
 use types::{part_at, runtime_called};
 
 /// An index of an array that is not known to be small enough.
 #[derive(Clone, Copy)]
-pub struct LooseIndex {
-    pub index: Operand,
+struct LooseIndex {
+    index: Operand,
     /// How many bits it has.
-    pub bits: u32,
+    bits: u32,
     /// How many elements the array has.
-    pub length: u64,
+    length: u64,
 }
 
 /// How many bits an integer type has.
@@ -29,16 +31,22 @@ fn bits_of(scene: &Scene, written: TypeId) -> u32 {
     }
 }
 
-/// The array into which an index leads, if it leads into one and is no constant.
-fn loose(scene: &Scene, whole: TypeId, index: Argument) -> Option<LooseIndex> {
-    match (scene.context.module().types.get(whole), index.operand) {
-        (Some(IrType::Array { length, .. }), Operand::Local(_)) => Some(LooseIndex {
-            index: index.operand,
-            bits: bits_of(scene, index.written),
-            length,
-        }),
+/// How many elements an array has.
+fn length_of(scene: &Scene, whole: TypeId) -> Option<u64> {
+    match scene.context.module().types.get(whole) {
+        Some(IrType::Array { length, .. }) => Some(length),
         _ => None,
     }
+}
+
+/// An index that leads into an array and is no constant.
+fn loose(scene: &Scene, whole: TypeId, index: Argument) -> Option<LooseIndex> {
+    value_in(Some(index.operand))?;
+    Some(LooseIndex {
+        index: index.operand,
+        bits: bits_of(scene, index.written),
+        length: length_of(scene, whole)?,
+    })
 }
 
 /// The first index into an array that is no constant.
@@ -55,17 +63,14 @@ fn first_loose(scene: &Scene, source: TypeId, indices: &[Argument]) -> Option<Lo
 }
 
 pub fn element_of<'a>(scene: &Scene<'a>) -> Option<&'a Element> {
-    match scene.there() {
-        There::Body(instr) => match &instr.op {
-            Op::Element(element) => Some(element),
-            _ => None,
-        },
+    match op_of(scene)? {
+        Op::Element(element) => Some(element),
         _ => None,
     }
 }
 
 /// The index of the refused getelementptr that is not known to be small enough.
-pub fn loose_index(scene: &Scene) -> Option<LooseIndex> {
+fn loose_index(scene: &Scene) -> Option<LooseIndex> {
     let element = element_of(scene)?;
     match element.indices.as_slice() {
         [_, parts @ ..] => first_loose(scene, element.source, parts),
@@ -75,10 +80,9 @@ pub fn loose_index(scene: &Scene) -> Option<LooseIndex> {
 
 /// Whether an index leads outside an array, or to no field.
 fn is_outside(scene: &Scene, whole: TypeId, index: Argument) -> bool {
-    let module = scene.context.module();
-    match (module.types.get(whole), number_of(index.operand)) {
-        (Some(IrType::Array { length, .. }), Some(number)) => number >= length,
-        _ => part_at(module, whole, index).is_none(),
+    match (length_of(scene, whole), number_of(index.operand)) {
+        (Some(length), Some(number)) => number >= length,
+        _ => part_at(scene.context.module(), whole, index).is_none(),
     }
 }
 
@@ -130,27 +134,15 @@ pub fn element_base(scene: &Scene) -> Option<Operand> {
 }
 
 /// The layout in whose cell an operand leads.
-pub fn layout_of(scene: &Scene, operand: Option<Operand>) -> Option<LayoutId> {
-    let value = value_in(operand)?;
-    let known = scene.facts.known(value);
-    match base_in(&known) {
-        Some(base) => cell_layout(&scene.facts.known(base)),
-        None => cell_layout(&known),
-    }
+fn layout_of(scene: &Scene, operand: Option<Operand>) -> Option<LayoutId> {
+    let reference = reference_of(scene.facts, value_in(operand)?);
+    cell_layout(&scene.facts.known(reference))
 }
 
 /// The layout of the cell of a reference.
 pub fn cell_layout(known: &Known) -> Option<LayoutId> {
     match known {
         Known::Cell { layout, .. } => Some(*layout),
-        _ => None,
-    }
-}
-
-/// The base of an address.
-fn base_in(known: &Known) -> Option<ValueId> {
-    match known {
-        Known::Address { base, .. } => Some(*base),
         _ => None,
     }
 }
@@ -183,14 +175,16 @@ pub fn put_words(out: &mut Message, scene: &Scene, layout: LayoutId) {
 }
 
 /// The same, where an operand leads into a cell.
-pub fn put_words_of(out: &mut Message, scene: &Scene, operand: Option<Operand>) {
+fn put_words_of(out: &mut Message, scene: &Scene, operand: Option<Operand>) {
     if let Some(layout) = layout_of(scene, operand) {
         put_words(out, scene, layout);
     }
 }
 
-/// The numbers of the layouts: `0 Node, 1 Tree`.
-pub fn put_layouts(out: &mut Message, scene: &Scene) {
+/// A further line of what mends: these words, and the numbers of the layouts: `0 Node, 1 Tree`.
+fn put_layouts(out: &mut Message, scene: &Scene, words: &str) {
+    out.put(MARGIN);
+    out.put(words);
     let module = scene.context.module();
     for number in 0..module.structs.len() {
         if let Ok(number) = u32::try_from(number) {
@@ -200,108 +194,92 @@ pub fn put_layouts(out: &mut Message, scene: &Scene) {
             out.put_layout(module, LayoutId::new(number), Blank::Kept);
         }
     }
+    out.put("\n")
 }
 
 /// The numbers of the layouts, as a further line of what mends.
 pub fn put_numbers(out: &mut Message, scene: &Scene) {
-    out.put(MARGIN);
-    out.put("the numbers that dg_alloc takes: ");
-    put_layouts(out, scene);
-    out.put("\n")
-}
-
-/// K5 in one sentence.
-pub fn put_outside(out: &mut Message, told: &Told) {
-    match loose_index(told.scene) {
-        Some(loose) => {
-            let told = Told::of(told.scene, Some(loose.index)).with_number(loose.length);
-            put_text(out, &told, "{it} is not known to be below {number}")
-        }
-        None if counts_bytes(told.scene) => {
-            out.put("an offset in bytes leads to no word that is known")
-        }
-        None => put_text(out, told, "this leads outside the words of {it}"),
-    }
-}
-
-/// K5: the index, or the base.
-pub fn put_outside_line(out: &mut Message, told: &Told) {
-    match loose_index(told.scene) {
-        Some(loose) => {
-            let told = Told::of(told.scene, Some(loose.index)).with_number(loose.length);
-            put_line(
-                out,
-                &told,
-                told.it,
-                "an index into an array of {number} elements",
-            )
-        }
-        None => put_line(out, told, outside_index(told.scene).or(told.it), ""),
-    }
+    put_layouts(out, scene, "the numbers that dg_alloc takes: ")
 }
 
 /// The comparison that shows that an index is small enough.
 fn put_comparison(out: &mut Message, told: &Told, bits: u32) {
     put_mend_word(out, told.scene);
     out.put("compare and branch before: icmp ult i");
-    let scene = told.scene;
     out.put_number(bits as u64);
     put_text(out, told, " {it}, {number}; use it where that is true\n")
 }
 
-fn put_bound(out: &mut Message, told: &Told, bits: u32) {
-    put_comparison(out, told, bits);
-    let scene = told.scene;
-    if is_made_by_body(scene, told.it) {
-        return;
+/// Where the certificate may say of an index that it is small enough.
+fn bound_listed(scene: &Scene, index: ValueId) -> &'static str {
+    if is_made_here(scene, index) {
+        return "";
     }
     if scene.refusal.block.number() != 0 {
-        return put_or(
-            out,
-            told,
-            "or list {it} with `below {number}` under `block {here}`, where each edge into that implies it",
-        );
+        return "or list {it} with `below {number}` under `block {here}`, where each edge into that implies it";
     }
-    if is_parameter(scene, told.it) {
-        return put_or(
-            out,
-            told,
-            "or add `below {number}` to the `param {it}` line of the certificate; each call then has to keep it",
-        );
-    }
-}
-
-/// Whether the body of the refused instruction's block defines an operand.
-fn is_made_by_body(scene: &Scene, operand: Option<Operand>) -> bool {
-    match value_in(operand) {
-        Some(value) => is_made_here(scene, value),
-        None => false,
-    }
-}
-
-/// Whether an operand is a parameter of the function.
-fn is_parameter(scene: &Scene, operand: Option<Operand>) -> bool {
-    match value_in(operand) {
-        Some(value) => matches!(
-            definition_of(scene.context.function, value),
-            Definition::Parameter(_)
-        ),
-        None => false,
-    }
-}
-
-/// What mends K5.
-pub fn put_inside(out: &mut Message, told: &Told) {
-    match loose_index(told.scene) {
-        Some(loose) => {
-            let told = Told::of(told.scene, Some(loose.index)).with_number(loose.length);
-            put_bound(out, &told, loose.bits)
+    match definition_of(scene.context.function, index) {
+        Definition::Parameter(_) => {
+            "or add `below {number}` to the `param {it}` line of the certificate; each call then has to keep it"
         }
-        None => put_mend(
+        _ => "",
+    }
+}
+
+/// K5: an index that is not known to be small enough. The base is that of the getelementptr.
+fn put_loose(out: &mut Message, told: &Told, operands: &[Operand], bits: u32) {
+    put_text(out, told, "{it} is not known to be below {number}\n");
+    put_line(
+        out,
+        told,
+        told.it,
+        "an index into an array of {number} elements",
+    );
+    put_known(out, told.scene, operands);
+    put_words_of(out, told.scene, told.base);
+    put_comparison(out, told, bits);
+    if let Some(index) = value_in(told.it) {
+        put_or(out, told, bound_listed(told.scene, index));
+    }
+}
+
+/// What leads outside, in one sentence.
+fn outside_text(scene: &Scene) -> &'static str {
+    if counts_bytes(scene) {
+        "an offset in bytes leads to no word that is known\n"
+    } else {
+        "this leads outside the words of {it}\n"
+    }
+}
+
+/// K5: a constant index, or an offset in bytes.
+fn put_fixed(out: &mut Message, told: &Told, operands: &[Operand]) {
+    put_text(out, told, outside_text(told.scene));
+    put_line(out, told, outside_index(told.scene).or(told.it), "");
+    put_known(out, told.scene, operands);
+    put_words_of(out, told.scene, told.it);
+    put_mend(
+        out,
+        told,
+        "name a field by its index: getelementptr T, .., i32 0, i32 FIELD, with the struct type T of {it}",
+    )
+}
+
+/// K5, by the base of the getelementptr.
+pub fn put_outside(out: &mut Message, told: &Told, operands: &[Operand]) {
+    match loose_index(told.scene) {
+        Some(loose) => put_loose(
             out,
-            told,
-            "name a field by its index: getelementptr T, .., i32 0, i32 FIELD, with the struct type T of {it}",
+            &Told {
+                it: Some(loose.index),
+                base: told.it,
+                number: loose.length,
+                ..*told
+            },
+            operands,
+            loose.bits,
         ),
+        None => put_fixed(out, told, operands),
     }
 }
 
@@ -458,9 +436,7 @@ fn put_numbered(out: &mut Message, told: &Told) {
         told,
         "write the number of a layout, which are the named structs in the order of the text:",
     );
-    out.put(MARGIN);
-    put_layouts(out, told.scene);
-    out.put("\n")
+    put_layouts(out, told.scene, "")
 }
 
 /// The words of a cell, and a way that mends what is read there or stored.

@@ -4,17 +4,17 @@ use crate::missing::{
     Missing, mend_of, missing_of, missing_of_slot, other_of, sentence_of, word_of,
 };
 use crate::notes::{put_cert_note, put_line, put_mend, put_note, put_or};
-use crate::nulls::put_source_note;
-use crate::stale::{lost_before, put_reload, put_stale_since};
+use crate::nulls::UNCOMPARED;
+use crate::stale::put_lost;
 use crate::told::{Told, put_text, value_in};
-use crate::unknown::{is_stale_cause, put_cause, put_definition};
+use crate::unknown::{DEFINED, is_stale_cause, put_cause, put_definition};
 use block_rules::Detail;
 use certificate::print_line;
 use certs::{Claim, Fact};
 use facts::{Facts, SlotFact};
 use ir_ast::{Block, BlockId, End, Function, Incoming, Operand, Phi, ValueId};
 use messages::Message;
-use scenes::{Scene, Sought, Spot, cert_position, local, put_known};
+use scenes::{Scene, Sought, Spot, local, put_known};
 use std::alloc::AllocError;
 use types::target_of;
 
@@ -37,8 +37,12 @@ fn operand_from(function: &Function, incoming: &[Incoming], from: BlockId) -> Op
 
 /// The place of the phi that gives a value.
 fn phi_place(phis: &[Phi], value: ValueId) -> Option<usize> {
-    phis.iter()
-        .position(|phi| phi.value.number() == value.number())
+    for (place, phi) in phis.iter().enumerate() {
+        if phi.value.number() == value.number() {
+            return Some(place);
+        }
+    }
+    None
 }
 
 fn block_at(function: &Function, block: BlockId) -> Option<&Block> {
@@ -79,7 +83,7 @@ pub fn decided(function: &Function, end: &End, target: BlockId) -> Option<(Value
 }
 
 /// Adds what the branch at the end of a block shows on its edge to another one.
-pub fn learn_branch(
+fn learn_branch(
     facts: &mut Facts,
     function: &Function,
     block: BlockId,
@@ -94,6 +98,22 @@ pub fn learn_branch(
             facts.learn(test, on)
         }
         None => Ok(()),
+    }
+}
+
+/// What is known on an edge, by what is known at the end of its block.
+pub fn learned(
+    mut facts: Facts,
+    function: &Function,
+    block: BlockId,
+    target: BlockId,
+) -> Result<Facts, AllocError> {
+    match learn_branch(&mut facts, function, block, target) {
+        Ok(()) => Ok(facts),
+        Err(refused) => {
+            drop(facts);
+            Err(refused)
+        }
     }
 }
 
@@ -155,25 +175,12 @@ fn unshown_of(scene: &Scene, target: BlockId, claim: &Claim) -> Unshown {
     }
 }
 
-/// Whether nothing is known of a value since it would be stale.
-fn is_unlisted_stale(scene: &Scene, value: Option<ValueId>) -> Result<bool, AllocError> {
-    match value {
-        Some(value) => is_stale_cause(scene, value),
-        None => Ok(false),
+/// What is told to be missing. A value of which nothing is known since it would be stale is told as stale.
+fn missing_told(scene: &Scene, unshown: &Unshown) -> Result<Missing, AllocError> {
+    match (unshown.missing, local(unshown.operand)) {
+        (Missing::All, Some(value)) if is_stale_cause(scene, value)? => Ok(Missing::Stale),
+        (missing, _) => Ok(missing),
     }
-}
-
-/// A value of which nothing is known since it would be stale is told as stale.
-fn told_as_stale(scene: &Scene, unshown: Unshown) -> Result<Unshown, AllocError> {
-    let value = local(unshown.operand);
-    if matches!(unshown.missing, Missing::All) && is_unlisted_stale(scene, value)? {
-        return Ok(Unshown {
-            value: unshown.value,
-            operand: unshown.operand,
-            missing: Missing::Stale,
-        });
-    }
-    Ok(unshown)
 }
 
 fn label_of(scene: &Scene, block: BlockId) -> Option<Operand> {
@@ -209,22 +216,10 @@ fn phi_text(missing: Missing) -> &'static str {
 }
 
 /// Where what comes in for a phi is written.
-fn put_phi_note(out: &mut Message, told: &Told, target: BlockId, unshown: &Unshown) {
+fn put_phi_note(out: &mut Message, told: &Told, target: BlockId, value: ValueId, missing: Missing) {
     let scene = told.scene;
-    if let Some(spot) = phi_of(scene.context.function, target, unshown.value) {
-        put_note(out, told, &spot, told.it, phi_text(unshown.missing));
-    }
-}
-
-/// Where the claim is in the text of the certificate.
-fn put_claim_note(out: &mut Message, told: &Told, detail: &Detail, missing: Missing) {
-    let scene = told.scene;
-    let line = Sought::Claim(detail.target, detail.claim);
-    let function = scene.context.function;
-    match cert_position(scene, function.symbol, &line) {
-        Ok(Some(position)) => put_cert_note(out, told, position, word_of(missing)),
-        Ok(None) => {}
-        Err(_) => out.refuse(),
+    if let Some(spot) = phi_of(scene.context.function, target, value) {
+        put_note(out, told, &spot, told.it, phi_text(missing));
     }
 }
 
@@ -237,16 +232,8 @@ fn put_all(out: &mut Message, told: &Told) {
 }
 
 /// A stale reference comes in.
-fn put_stale(out: &mut Message, told: &Told) {
-    let value = value_in(told.it);
-    let scene = told.scene;
-    let spot = scene.spot();
-    let Ok(lost) = lost_before(scene, &spot, value) else {
-        return out.refuse();
-    };
-    put_stale_since(out, told, &lost);
-    put_known_of(out, told);
-    put_reload(out, told, &lost);
+fn put_stale(out: &mut Message, told: &Told, operand: Operand) {
+    put_lost(out, told, &[operand]);
     put_or(
         out,
         told,
@@ -254,65 +241,51 @@ fn put_stale(out: &mut Message, told: &Told) {
     )
 }
 
-fn put_known_of(out: &mut Message, told: &Told) {
-    if let Some(operand) = told.it {
-        put_known(out, told.scene, [operand].as_slice());
-    }
+/// Another layout comes in than the one that is claimed.
+fn put_layout(out: &mut Message, told: &Told, operand: Operand) {
+    put_definition(out, told, DEFINED);
+    put_word(out, told, operand, Missing::Layout);
+    put_numbers(out, told.scene)
 }
 
-fn put_other_way(out: &mut Message, told: &Told, missing: Missing) {
-    if other_of(missing).is_empty() {
-        return;
-    }
-    put_or(out, told, other_of(missing))
-}
-
-/// Where a value is defined, where that tells why the word is not shown.
-fn put_origin_of(out: &mut Message, told: &Told, value: ValueId, missing: Missing) {
-    match missing {
-        Missing::Nonnull => put_source_note(out, told, value),
-        Missing::Layout => put_definition(out, told, value),
-        _ => {}
-    }
-}
-
-/// Where what comes in is defined, where that tells why the word is not shown.
-fn put_origin(out: &mut Message, told: &Told, missing: Missing) {
-    if let Some(value) = value_in(told.it) {
-        put_origin_of(out, told, value, missing);
-    }
+/// What comes in may be null.
+fn put_nullable(out: &mut Message, told: &Told, operand: Operand) {
+    put_definition(out, told, UNCOMPARED);
+    put_word(out, told, operand, Missing::Nonnull)
 }
 
 /// A word of the claim is not shown.
-fn put_word(out: &mut Message, told: &Told, missing: Missing) {
-    put_origin(out, told, missing);
-    put_known_of(out, told);
+fn put_word(out: &mut Message, told: &Told, operand: Operand, missing: Missing) {
+    put_known(out, told.scene, &[operand]);
     put_mend(out, told, mend_of(missing));
-    put_other_way(out, told, missing);
-    match missing {
-        Missing::Layout => put_numbers(out, told.scene),
-        _ => {}
-    }
+    put_or(out, told, other_of(missing))
 }
 
-fn put_why(out: &mut Message, told: &Told, missing: Missing) {
+fn put_why(out: &mut Message, told: &Told, operand: Operand, missing: Missing) {
     match missing {
         Missing::All => put_all(out, told),
-        Missing::Stale => put_stale(out, told),
-        missing => put_word(out, told, missing),
+        Missing::Stale => put_stale(out, told, operand),
+        Missing::Nonnull => put_nullable(out, told, operand),
+        Missing::Layout => put_layout(out, told, operand),
+        missing => put_word(out, told, operand, missing),
     }
 }
 
 /// What is told of a claim that is not shown.
-fn put_unshown(out: &mut Message, told: &Told, detail: &Detail, unshown: &Unshown) {
-    let scene = told.scene;
-    let missing = unshown.missing;
+fn put_unshown(
+    out: &mut Message,
+    told: &Told,
+    detail: &Detail,
+    unshown: &Unshown,
+    missing: Missing,
+) {
     put_text(out, told, sentence_of(missing));
-    put_claimed(out, scene, detail);
-    put_line(out, told, label_of(scene, detail.target), "this edge");
-    put_phi_note(out, told, detail.target, unshown);
-    put_claim_note(out, told, detail, missing);
-    put_why(out, told, missing)
+    put_claimed(out, told.scene, detail);
+    put_line(out, told, label_of(told.scene, detail.target), "this edge");
+    put_phi_note(out, told, detail.target, unshown.value, missing);
+    let line = Sought::Claim(detail.target, detail.claim);
+    put_cert_note(out, told, &line, word_of(missing));
+    put_why(out, told, unshown.operand, missing)
 }
 
 /// The claim that an edge does not imply, why, and what mends it.
@@ -320,9 +293,10 @@ pub fn put_edge(out: &mut Message, scene: &Scene, detail: &Detail) {
     let Some(claim) = claim_at(scene, detail) else {
         return;
     };
-    let Ok(unshown) = told_as_stale(scene, unshown_of(scene, detail.target, &claim)) else {
+    let unshown = unshown_of(scene, detail.target, &claim);
+    let Ok(missing) = missing_told(scene, &unshown) else {
         return out.refuse();
     };
-    let told = Told::of(scene, Some(unshown.operand)).with_block(detail.target);
-    put_unshown(out, &told, detail, &unshown)
+    let told = Told::of(scene, Some(unshown.operand)).with_block(Some(detail.target));
+    put_unshown(out, &told, detail, &unshown, missing)
 }

@@ -1,13 +1,13 @@
 //! K5 and K19: a struct is written, and the reference refers to another one.
 use crate::cells::{cell_layout, element_of, put_numbers, put_words};
 use crate::notes::{put_line, put_mend};
-use crate::told::{Told, put_text, value_in};
-use crate::unknown::put_definition;
+use crate::told::{Told, op_of, put_text, value_in};
+use crate::unknown::{DEFINED, put_definition};
 use ir_ast::{IrType, Module, Op, Operand, StructNameId, TypeId};
 use messages::Message;
 use name_text::Blank;
 use pools::LayoutId;
-use scenes::{Scene, There, put_known};
+use scenes::{Scene, put_known};
 use types::pointee;
 
 /// The layout of a reference, and that of the struct that is written.
@@ -18,15 +18,15 @@ pub struct Mismatch {
 }
 
 fn layout_named(module: &Module, name: &StructNameId) -> Option<LayoutId> {
-    let place = module
-        .structs
-        .as_slice()
-        .iter()
-        .position(|named| named.name.number() == name.number())?;
-    match u32::try_from(place) {
-        Ok(number) => Some(LayoutId::new(number)),
-        Err(_) => None,
+    for (place, named) in module.structs.as_slice().iter().enumerate() {
+        if named.name.number() == name.number() {
+            return match u32::try_from(place) {
+                Ok(number) => Some(LayoutId::new(number)),
+                Err(_) => None,
+            };
+        }
     }
+    None
 }
 
 /// The layout of a named struct.
@@ -40,10 +40,7 @@ fn layout_of_struct(module: &Module, written: TypeId) -> Option<LayoutId> {
 
 /// The type to which a cast leads.
 fn cast_to(scene: &Scene) -> Option<TypeId> {
-    let There::Body(instr) = scene.there() else {
-        return None;
-    };
-    match &instr.op {
+    match op_of(scene)? {
         Op::Cast(cast) => pointee(scene.context.module(), cast.to),
         _ => None,
     }
@@ -77,17 +74,11 @@ fn put_both(out: &mut Message, told: &Told, mismatch: &Mismatch) {
     out.put(" is written here\n")
 }
 
-fn put_origin(out: &mut Message, told: &Told) {
-    if let Some(value) = value_in(told.it) {
-        put_definition(out, told, value);
-    }
-}
-
 /// What is told of a struct that is another one.
 pub fn put_mismatch(out: &mut Message, told: &Told, operands: &[Operand], mismatch: &Mismatch) {
     put_both(out, told, mismatch);
     put_line(out, told, told.it, "");
-    put_origin(out, told);
+    put_definition(out, told, DEFINED);
     let scene = told.scene;
     put_known(out, scene, operands);
     put_words(out, scene, mismatch.found);

@@ -1,8 +1,7 @@
 //! Which blocks have to list a value, and do not; and what each of them may list.
-use crate::edges::learn_branch;
+use crate::edges::learned;
 use crate::notes::{MARGIN, put_mend_word};
 use crate::null_tests::shows_nonnull;
-use crate::told::Told;
 use certs::{Age, Fact};
 use facts::{Class, Facts, Known};
 use ir_ast::{BlockId, Function, ValueId};
@@ -38,6 +37,26 @@ struct Group {
     fresh: bool,
 }
 
+/// Those of which most is shown come first.
+const GROUPS: [Group; 4] = [
+    Group {
+        nonnull: true,
+        fresh: true,
+    },
+    Group {
+        nonnull: true,
+        fresh: false,
+    },
+    Group {
+        nonnull: false,
+        fresh: true,
+    },
+    Group {
+        nonnull: false,
+        fresh: false,
+    },
+];
+
 fn is_in(group: &Group, unlisted: &Unlisted) -> bool {
     group.nonnull == unlisted.nonnull && group.fresh == unlisted.fresh
 }
@@ -72,48 +91,44 @@ fn missing(
 }
 
 fn is_among(blocks: &[BlockId], block: BlockId) -> bool {
-    blocks.iter().any(|other| other.number() == block.number())
+    for other in blocks {
+        if other.number() == block.number() {
+            return true;
+        }
+    }
+    false
 }
 
-/// The class of a reference on an edge, if it is not stale there.
+/// What is known of the class of a reference on an edge. Of one that is stale there nothing is.
 fn class_on_edge(
     scene: &Scene,
     value: ValueId,
     from: BlockId,
     to: BlockId,
-) -> Result<Option<Class>, AllocError> {
-    let mut facts = scene.facts_at(&Spot {
+) -> Result<Class, AllocError> {
+    let facts = scene.facts_at(&Spot {
         block: from,
         place: usize::MAX,
     })?;
-    learn_branch(&mut facts, scene.context.function, from, to)?;
-    Ok(current_class(&facts, value))
+    let facts = learned(facts, scene.context.function, from, to)?;
+    let class = current_class(&facts, value);
+    drop(facts);
+    Ok(class)
 }
 
-fn current_class(facts: &Facts, value: ValueId) -> Option<Class> {
+fn current_class(facts: &Facts, value: ValueId) -> Class {
     let known = facts.known(value);
     class_known(facts, &known)
 }
 
-/// The class of a reference of which this is known, if it is not stale.
-fn class_known(facts: &Facts, known: &Known) -> Option<Class> {
+/// The same by what is known of the reference.
+fn class_known(facts: &Facts, known: &Known) -> Class {
     match known {
-        Known::Cell { class, stale, .. } if !*stale => Some(facts.class(*class)),
-        _ => None,
-    }
-}
-
-fn is_nonnull(class: &Option<Class>) -> bool {
-    match class {
-        Some(class) => class.nonnull,
-        None => false,
-    }
-}
-
-fn is_fresh(class: &Option<Class>) -> bool {
-    match class {
-        Some(class) => class.fresh,
-        None => false,
+        Known::Cell { class, stale, .. } if !*stale => facts.class(*class),
+        _ => Class {
+            nonnull: false,
+            fresh: false,
+        },
     }
 }
 
@@ -128,8 +143,7 @@ fn is_nonnull_on_edge(
     if is_among(listed, from) || shows_nonnull(scene.context.function, value, from, to) {
         return Ok(true);
     }
-    let class = class_on_edge(scene, value, from, to)?;
-    Ok(is_nonnull(&class))
+    Ok(class_on_edge(scene, value, from, to)?.nonnull)
 }
 
 /// Whether each edge into a block shows that a value is not null, if these blocks may list it as such.
@@ -155,8 +169,7 @@ fn is_fresh_at(scene: &Scene, value: ValueId, to: BlockId) -> Result<bool, Alloc
     let function = scene.context.function;
     for (place, block) in function.blocks.as_slice().iter().enumerate() {
         if let (true, Some(from)) = (leads_to(function, &block.end, to), block_id(place)) {
-            let class = class_on_edge(scene, value, from, to)?;
-            if !is_fresh(&class) {
+            if !class_on_edge(scene, value, from, to)?.fresh {
                 return Ok(false);
             }
         }
@@ -227,17 +240,22 @@ fn shown_at(
     found
 }
 
+/// From how many blocks edges lead into a block.
+fn edges_into(function: &Function, to: BlockId) -> usize {
+    let mut edges: usize = 0;
+    for block in function.blocks.as_slice() {
+        if leads_to(function, &block.end, to) {
+            edges = edges.saturating_add(1);
+        }
+    }
+    edges
+}
+
 /// Whether few edges lead into some blocks.
 fn are_entered_by_few(function: &Function, blocks: &[BlockId]) -> bool {
     let mut edges: usize = 0;
     for to in blocks {
-        let into = function
-            .blocks
-            .as_slice()
-            .iter()
-            .filter(|block| leads_to(function, &block.end, *to))
-            .count();
-        edges = edges.saturating_add(into);
+        edges = edges.saturating_add(edges_into(function, *to));
     }
     edges <= EDGES
 }
@@ -268,10 +286,22 @@ fn unlisted_blocks(
     fact: &Fact,
 ) -> Result<Vec<Unlisted>, AllocError> {
     let blocks = missing(scene, definition, value)?;
-    if matches!(fact, Fact::Reference { .. }) && are_shown(scene, blocks.as_slice()) {
-        shown_at(scene, value, blocks.as_slice())
+    let each = with_shown(scene, blocks.as_slice(), value, fact);
+    drop(blocks);
+    each
+}
+
+/// These blocks, with what the edges into them show.
+fn with_shown(
+    scene: &Scene,
+    blocks: &[BlockId],
+    value: ValueId,
+    fact: &Fact,
+) -> Result<Vec<Unlisted>, AllocError> {
+    if matches!(fact, Fact::Reference { .. }) && are_shown(scene, blocks) {
+        shown_at(scene, value, blocks)
     } else {
-        not_shown(scene, blocks.as_slice())
+        not_shown(scene, blocks)
     }
 }
 
@@ -325,13 +355,12 @@ fn put_blocks(out: &mut Message, scene: &Scene, group: &Group, each: &[Unlisted]
 /// A line to add, and the blocks of its group.
 fn put_group(
     out: &mut Message,
-    told: &Told,
+    scene: &Scene,
     value: ValueId,
     fact: &Fact,
     group: &Group,
     each: &[Unlisted],
 ) {
-    let scene = told.scene;
     out.put("add `");
     put_claim(out, scene, value, fact_in(group, fact));
     out.put("` to the certificate under each of these blocks: ");
@@ -349,55 +378,39 @@ fn put_lead(out: &mut Message, scene: &Scene, groups: usize) {
 
 /// Whether a group has a block.
 fn has_block(group: &Group, each: &[Unlisted]) -> bool {
-    each.iter().any(|unlisted| is_in(group, unlisted))
-}
-
-/// A line to add for a group, and its blocks, if it has some. Returns how many groups are told then.
-fn put_group_after(
-    out: &mut Message,
-    told: &Told,
-    value: ValueId,
-    fact: &Fact,
-    group: &Group,
-    each: &[Unlisted],
-    groups: usize,
-) -> usize {
-    if !has_block(group, each) {
-        return groups;
+    for unlisted in each {
+        if is_in(group, unlisted) {
+            return true;
+        }
     }
-    put_lead(out, told.scene, groups);
-    put_group(out, told, value, fact, group, each);
-    groups.saturating_add(1)
+    false
 }
 
-fn group_of(nonnull: bool, fresh: bool) -> Group {
-    Group { nonnull, fresh }
-}
-
-/// A line to add for each group, and its blocks. The group of which most is shown is the first.
-fn put_groups(out: &mut Message, told: &Told, value: ValueId, fact: &Fact, each: &[Unlisted]) {
-    let group = group_of(true, true);
-    let groups = put_group_after(out, told, value, fact, &group, each, 0);
-    let group = group_of(true, false);
-    let groups = put_group_after(out, told, value, fact, &group, each, groups);
-    let group = group_of(false, true);
-    let groups = put_group_after(out, told, value, fact, &group, each, groups);
-    let group = group_of(false, false);
-    put_group_after(out, told, value, fact, &group, each, groups);
+/// A line to add for each group that has blocks, and these.
+fn put_groups(out: &mut Message, scene: &Scene, value: ValueId, fact: &Fact, each: &[Unlisted]) {
+    let mut groups: usize = 0;
+    for group in &GROUPS {
+        if has_block(group, each) {
+            put_lead(out, scene, groups);
+            put_group(out, scene, value, fact, group, each);
+            groups = groups.saturating_add(1);
+        }
+    }
 }
 
 /// The lines to add, and the blocks to which they are to be added.
 pub fn put_missing(
     out: &mut Message,
-    told: &Told,
+    scene: &Scene,
     definition: &Definition,
     value: ValueId,
     fact: &Fact,
 ) {
-    let Ok(each) = unlisted_blocks(told.scene, definition, value, fact) else {
-        return out.refuse();
-    };
-    let lines = put_groups(out, told, value, fact, each.as_slice());
-    drop(each);
-    lines
+    match unlisted_blocks(scene, definition, value, fact) {
+        Ok(each) => {
+            put_groups(out, scene, value, fact, each.as_slice());
+            drop(each)
+        }
+        Err(_) => out.refuse(),
+    }
 }

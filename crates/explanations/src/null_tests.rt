@@ -14,6 +14,15 @@ fn are_compared(value: ValueId, first: &Operand, second: &Operand) -> bool {
     }
 }
 
+/// Whether two operands differ where a comparison of them gives this.
+fn differ(kind: &Comparison, on: bool) -> bool {
+    match kind {
+        Comparison::Equal => !on,
+        Comparison::NotEqual => on,
+        _ => false,
+    }
+}
+
 /// Whether a value is not null where a comparison gives this.
 fn shows(instr: &Instr, value: ValueId, on: bool) -> bool {
     match &instr.op {
@@ -24,20 +33,13 @@ fn shows(instr: &Instr, value: ValueId, on: bool) -> bool {
                 second,
                 ..
             },
-        ) => {
-            let differs = match kind {
-                Comparison::Equal => !on,
-                Comparison::NotEqual => on,
-                _ => false,
-            };
-            differs && are_compared(value, first, second)
-        }
+        ) => differ(kind, on) && are_compared(value, first, second),
         _ => false,
     }
 }
 
 /// The instruction that defines a value.
-fn defining(function: &Function, value: ValueId) -> Option<&Instr> {
+pub fn defining(function: &Function, value: ValueId) -> Option<&Instr> {
     match definition_of(function, value) {
         Definition::At(spot) => instr_in(function, &spot),
         _ => None,

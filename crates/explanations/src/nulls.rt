@@ -1,5 +1,6 @@
 //! K4: a base that may be null, where it came in, and what would show that it is not.
 use crate::notes::{put_line, put_mend, put_note, put_or};
+use crate::null_tests::defining;
 use crate::told::{Told, value_in};
 use crate::unknown::instr_in;
 use crate::write_barrier::spot_of;
@@ -29,7 +30,8 @@ pub fn is_value(value: ValueId, operand: Option<Operand>) -> bool {
     }
 }
 
-fn is_same(one: Option<Operand>, other: Option<Operand>) -> bool {
+/// Whether two operands name the same value.
+pub fn is_same(one: Option<Operand>, other: Option<Operand>) -> bool {
     match value_in(one) {
         Some(one) => is_value(one, other),
         None => false,
@@ -90,45 +92,17 @@ pub fn put_base_note(out: &mut Message, told: &Told) {
     }
 }
 
+/// What is said of where a value is defined that may be null.
+pub const UNCOMPARED: &str = "{it} is defined here, and not compared with null on the way";
+
 /// The slot from which a value is loaded.
 pub fn slot_loaded(scene: &Scene, value: ValueId) -> Option<Operand> {
-    let spot = spot_of(scene, value)?;
-    let instr = instr_in(scene.context.function, &spot)?;
-    match &instr.op {
-        Op::Memory(MemoryOp::Load { place, .. }) => match place {
-            Operand::Local(slot) => {
-                scene.context.slots.slot_of(*slot)?;
-                Some(*place)
-            }
-            _ => None,
-        },
-        _ => None,
-    }
-}
-
-/// Where the value that may be null comes from.
-pub fn put_source_note(out: &mut Message, told: &Told, value: ValueId) {
-    let scene = told.scene;
-    let definition = definition_of(scene.context.function, value);
-    match &definition {
-        Definition::At(spot) => put_note(
-            out,
-            told,
-            spot,
-            None,
-            "{it} is defined here, and not compared with null on the way",
-        ),
-        _ => {}
-    }
-}
-
-/// The comparison that shows that it is not null.
-fn put_test(out: &mut Message, told: &Told) {
-    put_mend(
-        out,
-        told,
-        "compare and branch before: icmp eq {type} {it}, null; use it where that is false",
-    )
+    let instr = defining(scene.context.function, value)?;
+    let Op::Memory(MemoryOp::Load { place, .. }) = &instr.op else {
+        return None;
+    };
+    scene.context.slots.slot_of(local(*place)?)?;
+    Some(*place)
 }
 
 /// What may be listed of the slot from which the value is loaded.
@@ -142,7 +116,7 @@ fn put_slot_listed(out: &mut Message, told: &Told, value: ValueId) {
     match definition_of(scene.context.function, value).block() {
         Some(block) if block.number() != 0 => put_or(
             out,
-            &told.with_block(block),
+            &told.with_block(Some(block)),
             "or list `slot {place} nonnull` under `block {to}`, and {it} with `nonnull` under each block from there to {here}",
         ),
         _ => {}
@@ -180,9 +154,12 @@ fn put_claimed(out: &mut Message, told: &Told, value: ValueId) {
 
 /// What shows that it is not null.
 pub fn put_shown(out: &mut Message, told: &Told) {
-    put_test(out, told);
-    match told.it {
-        Some(Operand::Local(value)) => put_claimed(out, told, value),
-        _ => {}
+    put_mend(
+        out,
+        told,
+        "compare and branch before: icmp eq {type} {it}, null; use it where that is false",
+    );
+    if let Some(value) = value_in(told.it) {
+        put_claimed(out, told, value);
     }
 }

@@ -1,5 +1,4 @@
 //! K16: an entry of a phi that is missing, or one too many.
-use crate::told::Told;
 use ir_ast::{BlockId, Function, Incoming};
 use number_tables::{put, row_or};
 use scenes::{Scene, There, block_id, leads_to};
@@ -63,11 +62,11 @@ fn entries_in(scene: &Scene, incoming: &[Incoming]) -> Result<Entries, AllocErro
     Ok(first_wrong(function, entered.as_slice(), scene.refusal.block))
 }
 
-/// The same text with the block.
-pub fn told_of<'a>(told: &Told<'a>, entries: &Entries) -> Told<'a> {
+/// The block of the entry that is wrong.
+pub fn block_of(entries: &Entries) -> Option<BlockId> {
     match entries {
-        Entries::Missing(block) | Entries::Extra(block) => told.with_block(*block),
-        Entries::Other => told.with_number(0),
+        Entries::Missing(block) | Entries::Extra(block) => Some(*block),
+        Entries::Other => None,
     }
 }
 

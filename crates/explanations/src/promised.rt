@@ -1,13 +1,14 @@
 //! K13, K14 and K17: what is promised of a parameter, of a result, or of a function, and where the certificate says so.
-use crate::notes::{put_cert_note, put_mend, put_or};
-use crate::told::Told;
+use crate::cells::cell_layout;
+use crate::notes::{put_cert_note, put_cert_note_of, put_line, put_mend, put_or};
+use crate::told::{Told, call_of};
 use block_rules::known_of;
 use certs::{Promise, Section};
 use facts::{Facts, Known};
-use ir_ast::{Call, Constant, End, FuncId, Function, Op, Operand, SymbolSort, ValueId};
+use ir_ast::{Constant, End, FuncId, Function, Operand, SymbolSort, ValueId};
 use messages::Message;
 use pools::LayoutId;
-use scenes::{Scene, Sought, There, cert_position};
+use scenes::{Scene, Sought, There};
 
 /// Which word of a promise is not kept.
 #[derive(Clone, Copy)]
@@ -34,13 +35,6 @@ fn is_nonnull(facts: &Facts, known: &Known) -> bool {
     }
 }
 
-fn layout_of(known: &Known) -> Option<LayoutId> {
-    match known {
-        Known::Cell { layout, .. } => Some(*layout),
-        _ => None,
-    }
-}
-
 fn is_other(promised: Option<LayoutId>, layout: Option<LayoutId>) -> bool {
     match (promised, layout) {
         (Some(promised), Some(layout)) => promised.number() != layout.number(),
@@ -59,7 +53,7 @@ fn not_nonnull(operand: &Operand, known: &Known) -> Unkept {
 /// Which word of a promise an operand is not known to keep, if one of the first two.
 fn unkept_word(facts: &Facts, promise: Promise, operand: &Operand) -> Option<Unkept> {
     let known = known_of(facts, operand);
-    if is_other(promise.layout, layout_of(&known)) {
+    if is_other(promise.layout, cell_layout(&known)) {
         return Some(Unkept::Layout);
     }
     if promise.nonnull && !is_nonnull(facts, &known) {
@@ -84,17 +78,6 @@ fn is_small(promised: Option<u64>, known: &Known) -> bool {
             },
         ) => *below <= wanted,
         _ => false,
-    }
-}
-
-/// The refused call.
-pub fn call_of<'a>(scene: &Scene<'a>) -> Option<&'a Call> {
-    match scene.there() {
-        There::Body(instr) => match &instr.op {
-            Op::Call(call) => Some(call),
-            _ => None,
-        },
-        _ => None,
     }
 }
 
@@ -195,22 +178,7 @@ pub fn put_promise(out: &mut Message, told: &Told, parameter: ValueId) {
 /// Where the certificate of a function says this.
 fn put_promise_of(out: &mut Message, told: &Told, called: &Function, line: &Sought) {
     let callee = told.scene.of_function(called);
-    match cert_position(&callee, called.symbol, line) {
-        Ok(Some(position)) => put_cert_note(out, told, position, "the promise"),
-        Ok(None) => {}
-        Err(_) => out.refuse(),
-    }
-}
-
-/// Where the certificate of the function says this.
-pub fn put_own_line(out: &mut Message, told: &Told, line: &Sought, text: &str) {
-    let scene = told.scene;
-    let function = scene.context.function;
-    match cert_position(scene, function.symbol, line) {
-        Ok(Some(position)) => put_cert_note(out, told, position, text),
-        Ok(None) => {}
-        Err(_) => out.refuse(),
-    }
+    put_cert_note_of(out, told, &callee, line, "the promise")
 }
 
 /// What mends a promise that is not kept.
@@ -225,7 +193,8 @@ pub fn put_kept(out: &mut Message, told: &Told, word: Option<Unkept>) {
 
 /// K17: where the marks are, and what mends it.
 pub fn put_mark(out: &mut Message, told: &Told) {
-    put_own_line(out, told, &Sought::Function, "the mark of {function}");
+    put_line(out, told, None, "");
+    put_cert_note(out, told, &Sought::Function, "the mark of {function}");
     put_mend(
         out,
         told,

@@ -1,21 +1,20 @@
 //! What is told of a refused instruction.
-use crate::cells::{
-    element_base, mistyped_in, operand_of, put_inside, put_outside, put_outside_line, put_types,
-    put_words_of,
-};
-use crate::edges::{learn_branch, put_edge};
+use crate::cells::{Mistyped, element_base, mistyped_in, operand_of, put_outside, put_types};
+use crate::edges::{learned, put_edge};
 use crate::mismatches::{mismatch_of, put_mismatch};
-use crate::notes::{put_line, put_mend, put_mend_word, put_or};
-use crate::nulls::{put_base_note, put_place_line, put_shown, put_source_note};
+use crate::notes::{put_cert_note, put_line, put_mend, put_mend_word, put_or};
+use crate::nulls::{UNCOMPARED, put_base_note, put_place_line, put_shown};
+use crate::phis::Entries;
 use crate::promised::{
-    broken_promise, call_of, put_kept, put_mark, put_own_line, put_promise, returned, unkept_result,
+    Broken, Unkept, broken_promise, put_kept, put_mark, put_promise, returned, unkept_result,
 };
 use crate::rules::{Page, page_of};
-use crate::stale::{lost_before, put_reload, put_stale_since};
-use crate::told::{Told, put_text, value_in};
+use crate::stale::put_lost;
+use crate::told::{Told, call_of, put_text, value_in};
 use crate::unfresh::put_unfresh;
+use crate::unknown::put_definition;
 use crate::unrooted::put_unrooted;
-use crate::write_barrier::{base_of, put_barrier, put_object, put_stored_line};
+use crate::write_barrier::{base_of, label_of, put_barrier, put_object};
 use crate::{cells, phis, promised, unknown};
 use block_rules::{Refusal, Rule, RuleContext};
 use certs::Certs;
@@ -25,7 +24,7 @@ use ir_ast::{Function, Operand, Runtime};
 use layout::Program;
 use messages::{Ink, Message, NamedText, Pen, Pointers, declare_of};
 use scenes::{
-    Scene, Sought, Source, arguments_of, is_runtime_call, local, operands_of, place_of, put_known,
+    Scene, Sought, Source, arguments_of, is_runtime_call, operands_of, place_of, put_known,
     put_spot, subject_of,
 };
 use shadow_stack::slots_of;
@@ -70,21 +69,21 @@ fn put_head(out: &mut Message, scene: &Scene) {
 
 /// The place of the refused instruction: of a load or a store, or the last argument of a barrier.
 fn place_in(scene: &Scene) -> Option<Operand> {
-    match (scene.refusal.rule, arguments_of(scene)) {
-        (Rule::K2 | Rule::K4 | Rule::K7, [_, .., place]) if is_runtime_call(scene) => {
-            Some(place.operand)
-        }
+    match arguments_of(scene) {
+        [_, .., place] if may_be_barrier(scene) => Some(place.operand),
         _ => place_of(scene),
     }
+}
+
+/// Whether the refused instruction may be a barrier whose place the text speaks of.
+fn may_be_barrier(scene: &Scene) -> bool {
+    matches!(scene.refusal.rule, Rule::K2 | Rule::K4 | Rule::K7) && is_runtime_call(scene)
 }
 
 /// What a text of the refused instruction speaks of.
 fn told_of<'a>(scene: &'a Scene<'a>, operands: &[Operand]) -> Told<'a> {
     let place = place_in(scene);
-    let base = match base_of(scene, &place) {
-        Some(base) => Some(Operand::Local(base)),
-        None => None,
-    };
+    let base = base_of(scene, &place);
     Told {
         scene,
         it: subject_of(scene, operands),
@@ -107,37 +106,29 @@ fn put_unavailable(out: &mut Message, told: &Told) {
 fn put_mistyped(out: &mut Message, told: &Told, operands: &[Operand]) {
     let mistyped = mistyped_in(told.scene, operands, told.place);
     let told = told.with_it(operand_of(&mistyped));
-    put_text(out, &told, cells::sentence_of(&mistyped));
+    put_mistyped_as(out, &told, operands, &mistyped)
+}
+
+/// K2, by which operand is wrong.
+fn put_mistyped_as(out: &mut Message, told: &Told, operands: &[Operand], mistyped: &Mistyped) {
+    put_text(out, told, cells::sentence_of(mistyped));
     out.put("\n");
-    put_line(out, &told, told.it, "");
+    put_line(out, told, told.it, "");
     put_known(out, told.scene, operands);
-    put_types(out, &told, &mistyped)
+    put_types(out, told, mistyped)
 }
 
 /// K3.
 fn put_stale(out: &mut Message, told: &Told, operands: &[Operand]) {
     put_line(out, told, told.it, "");
-    let value = match told.it {
-        Some(operand) => local(operand),
-        None => None,
-    };
-    let scene = told.scene;
-    let spot = scene.spot();
-    let Ok(lost) = lost_before(scene, &spot, value) else {
-        return out.refuse();
-    };
-    put_stale_since(out, told, &lost);
-    put_known(out, scene, operands);
-    put_reload(out, told, &lost)
+    put_lost(out, told, operands)
 }
 
 /// K4.
 fn put_nullable(out: &mut Message, told: &Told, operands: &[Operand]) {
     put_place_line(out, told);
     put_base_note(out, told);
-    if let Some(Operand::Local(value)) = told.it {
-        put_source_note(out, told, value);
-    }
+    put_definition(out, told, UNCOMPARED);
     put_known(out, told.scene, operands);
     put_shown(out, told)
 }
@@ -145,15 +136,10 @@ fn put_nullable(out: &mut Message, told: &Told, operands: &[Operand]) {
 /// K5.
 fn put_out_of_cell(out: &mut Message, told: &Told, operands: &[Operand]) {
     let told = Told::of(told.scene, element_base(told.scene));
-    if let Some(mismatch) = mismatch_of(told.scene, told.it) {
-        return put_mismatch(out, &told, operands, &mismatch);
+    match mismatch_of(told.scene, told.it) {
+        Some(mismatch) => put_mismatch(out, &told, operands, &mismatch),
+        None => put_outside(out, &told, operands),
     }
-    put_outside(out, &told);
-    out.put("\n");
-    put_outside_line(out, &told);
-    put_known(out, told.scene, operands);
-    put_words_of(out, told.scene, told.it);
-    put_inside(out, &told)
 }
 
 /// K19.
@@ -166,7 +152,7 @@ fn put_led(out: &mut Message, told: &Told, operands: &[Operand]) {
 
 /// K6.
 fn put_unbarred(out: &mut Message, told: &Told, operands: &[Operand]) {
-    put_stored_line(out, told);
+    put_line(out, told, told.place, label_of(told));
     put_unfresh(out, told);
     put_known(out, told.scene, operands);
     put_barrier(out, told)
@@ -189,34 +175,35 @@ fn put_argument(out: &mut Message, told: &Told) {
     let Some(broken) = broken_promise(told.scene) else {
         return put_by_page(out, told, page_of(Rule::K18));
     };
-    let told = Told::of(told.scene, Some(broken.operand));
+    put_broken(out, &Told::of(told.scene, Some(broken.operand)), &broken)
+}
+
+/// An argument that does not keep what is promised of its parameter.
+fn put_broken(out: &mut Message, told: &Told, broken: &Broken) {
     let word = Some(broken.word);
-    put_text(out, &told, promised::sentence_of(word));
-    out.put(" of this parameter of ");
-    put_text(out, &told, "{callee}\n");
-    put_line(out, &told, told.it, "");
-    put_promise(out, &told, broken.parameter);
-    put_known(out, told.scene, [broken.operand].as_slice());
-    put_kept(out, &told, word)
+    put_text(out, told, promised::sentence_of(word));
+    put_text(out, told, " of this parameter of {callee}\n");
+    put_line(out, told, told.it, "");
+    put_promise(out, told, broken.parameter);
+    put_known(out, told.scene, &[broken.operand]);
+    put_kept(out, told, word)
 }
 
 /// K14.
-fn put_result(out: &mut Message, told: &Told) {
-    let told = Told::of(told.scene, returned(told.scene));
-    let word = unkept_result(told.scene);
-    put_text(out, &told, promised::sentence_of(word));
-    out.put(" of the result\n");
-    put_line(out, &told, told.it, "");
-    put_own_line(out, &told, &Sought::Result, "the promise");
-    put_known(out, told.scene, operands_of_result(told.it).as_slice());
-    put_kept(out, &told, word)
+fn put_result(out: &mut Message, told: &Told, operands: &[Operand]) {
+    let scene = told.scene;
+    let word = unkept_result(scene);
+    put_unkept(out, &Told::of(scene, returned(scene)), operands, word)
 }
 
-fn operands_of_result(operand: Option<Operand>) -> [Operand; 1] {
-    match operand {
-        Some(operand) => [operand],
-        None => [Operand::Constant(ir_ast::Constant::Null)],
-    }
+/// A result that does not keep this word of what is promised of it.
+fn put_unkept(out: &mut Message, told: &Told, operands: &[Operand], word: Option<Unkept>) {
+    put_text(out, told, promised::sentence_of(word));
+    out.put(" of the result\n");
+    put_line(out, told, told.it, "");
+    put_cert_note(out, told, &Sought::Result, "the promise");
+    put_known(out, told.scene, operands);
+    put_kept(out, told, word)
 }
 
 /// K16.
@@ -224,17 +211,15 @@ fn put_entries(out: &mut Message, told: &Told) {
     let Ok(entries) = phis::entries_of(told.scene) else {
         return out.refuse();
     };
-    let told = phis::told_of(told, &entries);
-    put_text(out, &told, phis::sentence_of(&entries));
-    out.put("\n");
-    put_line(out, &told, None, "");
-    put_mend(out, &told, phis::mend_of(&entries))
+    put_wrong(out, &told.with_block(phis::block_of(&entries)), &entries)
 }
 
-fn put_other_way(out: &mut Message, told: &Told, text: &str) {
-    if !text.is_empty() {
-        put_or(out, told, text)
-    }
+/// A phi whose entries are wrong. The other block is that of the entry.
+fn put_wrong(out: &mut Message, told: &Told, entries: &Entries) {
+    put_text(out, told, phis::sentence_of(entries));
+    out.put("\n");
+    put_line(out, told, None, "");
+    put_mend(out, told, phis::mend_of(entries))
 }
 
 /// What a page says of an instruction.
@@ -243,7 +228,7 @@ fn put_by_page(out: &mut Message, told: &Told, page: Page) {
     out.put("\n");
     put_line(out, told, told.it, page.label);
     put_mend(out, told, page.mend);
-    put_other_way(out, told, page.other)
+    put_or(out, told, page.other)
 }
 
 /// The function of the runtime whose name is called.
@@ -276,12 +261,6 @@ fn put_unknown_callee(out: &mut Message, told: &Told) {
     put_declared(out, told.scene, &runtime)
 }
 
-/// K17.
-fn put_unmarked(out: &mut Message, told: &Told) {
-    put_line(out, told, None, "");
-    put_mark(out, told)
-}
-
 /// The sentence of a page, and the end of its line.
 fn put_sentence(out: &mut Message, told: &Told) {
     let scene = told.scene;
@@ -298,7 +277,7 @@ fn put_by_facts(out: &mut Message, told: &Told, operands: &[Operand]) {
         Rule::K4 => put_nullable(out, told, operands),
         Rule::K6 => put_unbarred(out, told, operands),
         Rule::K7 => put_other_object(out, told, operands),
-        _ => put_unmarked(out, told),
+        _ => put_mark(out, told),
     }
 }
 
@@ -310,7 +289,7 @@ fn put_instruction(out: &mut Message, told: &Told, operands: &[Operand]) {
         Rule::K2 => put_mistyped(out, told, operands),
         Rule::K5 => put_out_of_cell(out, told, operands),
         Rule::K13 => put_argument(out, told),
-        Rule::K14 => put_result(out, told),
+        Rule::K14 => put_result(out, told, operands),
         Rule::K16 => put_entries(out, told),
         Rule::K19 => put_led(out, told, operands),
         Rule::K3 | Rule::K4 | Rule::K6 | Rule::K7 | Rule::K17 => put_by_facts(out, told, operands),
@@ -340,12 +319,36 @@ pub struct Texts<'a> {
     pub certificate: NamedText<'a>,
 }
 
-/// What is known on the edge of a refusal, if it is of one.
-fn learn_edge(facts: &mut Facts, function: &Function, refusal: &Refusal) -> Result<(), AllocError> {
+/// What is known where the refusal is: before the instruction, and on the edge, if it is of one.
+fn facts_at(
+    facts: Result<Facts, AllocError>,
+    function: &Function,
+    refusal: &Refusal,
+) -> Result<Facts, AllocError> {
     match &refusal.detail {
-        Some(detail) => learn_branch(facts, function, refusal.block, detail.target),
-        None => Ok(()),
+        Some(detail) => learned(facts?, function, refusal.block, detail.target),
+        None => facts,
     }
+}
+
+/// What is told of an instruction in this context, before which this is known.
+fn put_refusal_by(
+    pen: Pen,
+    out: &mut Message,
+    texts: Texts,
+    context: RuleContext,
+    facts: &Facts,
+    refusal: Refusal,
+) {
+    let scene = Scene {
+        pen,
+        source: texts.source,
+        certificate: texts.certificate,
+        context,
+        facts,
+        refusal,
+    };
+    put_scene(out, &scene)
 }
 
 /// What is told of an instruction of this function.
@@ -367,27 +370,21 @@ fn put_refusal_in(
         function,
         slots: &slots,
     };
-    let Ok(mut facts) = facts_before(
+    let facts = facts_before(
         pen.alloc,
         &context,
         refusal.func,
         refusal.block,
         refusal.instr,
-    ) else {
-        return out.refuse();
-    };
-    if learn_edge(&mut facts, function, &refusal).is_err() {
-        return out.refuse();
+    );
+    match facts_at(facts, function, &refusal) {
+        Ok(facts) => {
+            put_refusal_by(pen, out, texts, context, &facts, refusal);
+            drop(facts)
+        }
+        Err(_) => out.refuse(),
     }
-    let scene = Scene {
-        pen,
-        source: texts.source,
-        certificate: texts.certificate,
-        context,
-        facts: &facts,
-        refusal,
-    };
-    put_scene(out, &scene)
+    drop(slots)
 }
 
 /// What is told of a refusal besides its line, by the texts of the module and of the certificate.

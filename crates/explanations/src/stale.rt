@@ -1,17 +1,18 @@
 //! A reference that is stale: since which call, and how it is loaded again.
 use crate::cells::cell_layout;
 use crate::notes::{put_mend, put_note, put_or};
-use crate::told::Told;
+use crate::told::{Told, value_in};
 use crate::unrooted::{put_shape_layout, put_shape_words};
 use certs::is_opaque_text;
 use facts::{ClassId, Facts, Known};
 use ir_ast::{Instr, MemoryOp, Op, Operand, Runtime, ValueId};
 use messages::{Message, Unheld, put_new_root_lines, put_slot_name, put_wanted_declare};
 use pools::LayoutId;
-use scenes::{Lost, Scene, Spot, safepoint_before};
+use scenes::{Lost, Scene, Spot, put_known, safepoint_before};
 use std::alloc::AllocError;
 
-fn class_of(facts: &Facts, value: ValueId) -> Option<ClassId> {
+/// The class of a reference.
+pub fn class_of(facts: &Facts, value: ValueId) -> Option<ClassId> {
     match facts.known(value) {
         Known::Cell { class, .. } => Some(class),
         _ => None,
@@ -33,8 +34,9 @@ fn slot_with(scene: &Scene, facts: &Facts, instr: &Instr, class: ClassId) -> Opt
     }
 }
 
-/// The root slot that holds what is of this class.
-fn slot_among(scene: &Scene, facts: &Facts, class: ClassId) -> Option<ValueId> {
+/// The root slot that holds a reference.
+fn slot_among(scene: &Scene, facts: &Facts, value: ValueId) -> Option<ValueId> {
+    let class = class_of(facts, value)?;
     let entry = scene.context.function.blocks.get(0)?;
     for instr in entry.body.as_slice() {
         let name = slot_with(scene, facts, instr, class);
@@ -48,10 +50,9 @@ fn slot_among(scene: &Scene, facts: &Facts, class: ClassId) -> Option<ValueId> {
 /// The root slot that holds a reference when a call may reach a safepoint.
 fn slot_at(scene: &Scene, lost: &Lost) -> Result<Option<ValueId>, AllocError> {
     let facts = scene.facts_at(&lost.spot)?;
-    match class_of(&facts, lost.value) {
-        Some(class) => Ok(slot_among(scene, &facts, class)),
-        None => Ok(None),
-    }
+    let slot = slot_among(scene, &facts, lost.value);
+    drop(facts);
+    Ok(slot)
 }
 
 /// The call since which a value is stale at an instruction.
@@ -66,24 +67,12 @@ pub fn lost_before(
     }
 }
 
-/// The call after which a reference is stale.
-pub fn put_stale_at(out: &mut Message, told: &Told, lost: &Lost) {
-    let told = told.with_it(Some(Operand::Local(lost.value)));
-    let text = "this call may reach a safepoint: {it} is stale from here on";
-    put_note(out, &told, &lost.spot, None, text)
-}
-
-/// The same, if there is one.
-pub fn put_stale_since(out: &mut Message, told: &Told, lost: &Option<Lost>) {
-    if let Some(lost) = lost {
-        put_stale_at(out, told, lost);
-    }
-}
-
 /// The layout of a reference before the call at which it is lost.
 fn layout_at(scene: &Scene, lost: &Lost) -> Result<Option<LayoutId>, AllocError> {
     let facts = scene.facts_at(&lost.spot)?;
-    Ok(cell_layout(&facts.known(lost.value)))
+    let layout = cell_layout(&facts.known(lost.value));
+    drop(facts);
+    Ok(layout)
 }
 
 /// The line of the shapes that says to which layout a new slot refers.
@@ -128,31 +117,46 @@ fn put_unheld(out: &mut Message, told: &Told, lost: &Lost) {
     put_new_slot(out, told, lost)
 }
 
-/// How a stale reference is loaded again, where it was lost at a call.
-pub fn put_reload_after(out: &mut Message, told: &Told, lost: &Lost) {
-    let told = told.with_it(Some(Operand::Local(lost.value)));
+/// How the reference that is lost at a call is loaded again.
+fn put_reload(out: &mut Message, told: &Told, lost: &Lost) {
     match slot_at(told.scene, lost) {
-        Ok(Some(slot)) => {
-            let told = told.with_place(Operand::Local(slot));
-            put_mend(
-                out,
-                &told,
-                "load {it} again from its root slot {place} after that call, and use what is loaded",
-            )
-        }
-        Ok(None) => put_unheld(out, &told, lost),
+        Ok(Some(slot)) => put_mend(
+            out,
+            &told.with_place(Operand::Local(slot)),
+            "load {it} again from its root slot {place} after that call, and use what is loaded",
+        ),
+        Ok(None) => put_unheld(out, told, lost),
         Err(_) => out.refuse(),
     }
 }
 
-/// How a stale reference is loaded again.
-pub fn put_reload(out: &mut Message, told: &Told, lost: &Option<Lost>) {
-    match lost {
-        Some(lost) => put_reload_after(out, told, lost),
-        None => put_mend(
-            out,
-            told,
-            "load {it} again from a root slot after the last safepoint, and use what is loaded",
-        ),
+/// The call at which the reference is lost, what is known of these operands, and how it is loaded again.
+fn put_lost_at(out: &mut Message, told: &Told, lost: &Lost, operands: &[Operand]) {
+    let text = "this call may reach a safepoint: {it} is stale from here on";
+    put_note(out, told, &lost.spot, None, text);
+    put_known(out, told.scene, operands);
+    put_reload(out, told, lost)
+}
+
+/// The same, where that call is not found.
+fn put_lost_somewhere(out: &mut Message, told: &Told, operands: &[Operand]) {
+    put_known(out, told.scene, operands);
+    put_mend(
+        out,
+        told,
+        "load {it} again from a root slot after the last safepoint, and use what is loaded",
+    )
+}
+
+/// Since which call it is stale, what is known of these operands, and how it is loaded again.
+pub fn put_lost(out: &mut Message, told: &Told, operands: &[Operand]) {
+    let scene = told.scene;
+    match lost_before(scene, &scene.spot(), value_in(told.it)) {
+        Ok(Some(lost)) => {
+            let told = told.with_it(Some(Operand::Local(lost.value)));
+            put_lost_at(out, &told, &lost, operands)
+        }
+        Ok(None) => put_lost_somewhere(out, told, operands),
+        Err(_) => out.refuse(),
     }
 }

@@ -1,5 +1,5 @@
 //! Texts with holes, which names of the refused instruction fill: `{it} is stored into {place}`.
-use ir_ast::{BlockId, LocalSort, Op, Operand, TypeId, ValueId};
+use ir_ast::{BlockId, Call, LocalSort, Op, Operand, TypeId, ValueId};
 use messages::{Message, put_type};
 use scenes::{Scene, There, local, put_block, put_function, put_operand, put_symbol};
 
@@ -41,50 +41,36 @@ impl<'a> Told<'a> {
 
     /// The same of another operand.
     pub fn with_it(&self, it: Option<Operand>) -> Told<'a> {
-        Told {
-            scene: self.scene,
-            it,
-            place: self.place,
-            base: self.base,
-            other: self.other,
-            number: self.number,
-        }
+        Told { it, ..*self }
     }
 
     /// The same with a place.
     pub fn with_place(&self, place: Operand) -> Told<'a> {
         Told {
-            scene: self.scene,
-            it: self.it,
             place: Some(place),
-            base: self.base,
-            other: self.other,
-            number: self.number,
+            ..*self
         }
     }
 
     /// The same with another block.
-    pub fn with_block(&self, block: BlockId) -> Told<'a> {
-        Told {
-            scene: self.scene,
-            it: self.it,
-            place: self.place,
-            base: self.base,
-            other: Some(block),
-            number: self.number,
-        }
+    pub fn with_block(&self, other: Option<BlockId>) -> Told<'a> {
+        Told { other, ..*self }
     }
+}
 
-    /// The same with a number.
-    pub fn with_number(&self, number: u64) -> Told<'a> {
-        Told {
-            scene: self.scene,
-            it: self.it,
-            place: self.place,
-            base: self.base,
-            other: self.other,
-            number,
-        }
+/// The operation of the refused instruction, if it has one.
+pub fn op_of<'a>(scene: &Scene<'a>) -> Option<&'a Op> {
+    match scene.there() {
+        There::Body(instr) => Some(&instr.op),
+        _ => None,
+    }
+}
+
+/// The refused call.
+pub fn call_of<'a>(scene: &Scene<'a>) -> Option<&'a Call> {
+    match op_of(scene)? {
+        Op::Call(call) => Some(call),
+        _ => None,
     }
 }
 
@@ -97,12 +83,9 @@ fn put_named(out: &mut Message, scene: &Scene, operand: Option<Operand>, otherwi
 
 /// The function that is called.
 fn put_callee(out: &mut Message, scene: &Scene) {
-    match scene.there() {
-        There::Body(instr) => match &instr.op {
-            Op::Call(call) => put_symbol(out, scene, call.callee),
-            _ => out.put("the function"),
-        },
-        _ => out.put("the function"),
+    match call_of(scene) {
+        Some(call) => put_symbol(out, scene, call.callee),
+        None => out.put("the function"),
     }
 }
 
@@ -111,15 +94,6 @@ fn put_other(out: &mut Message, told: &Told) {
         Some(block) => put_block(out, told.scene, block),
         None => out.put("the block"),
     }
-}
-
-/// The block of the refused instruction.
-fn put_here(out: &mut Message, scene: &Scene) {
-    put_block(out, scene, scene.refusal.block)
-}
-
-fn put_count(out: &mut Message, scene: &Scene, number: u64) {
-    out.put_number(number)
 }
 
 /// The type of the value that an operand names.
@@ -131,8 +105,9 @@ pub fn type_of(scene: &Scene, operand: Option<Operand>) -> Option<TypeId> {
     }
 }
 
-fn put_type_of(out: &mut Message, scene: &Scene, operand: Option<Operand>) {
-    match type_of(scene, operand) {
+/// A type, or `T` where it is not known.
+pub fn put_type_or(out: &mut Message, scene: &Scene, written: Option<TypeId>) {
+    match written {
         Some(written) => put_type(scene.pen.alloc, out, scene.context.module(), written),
         None => out.put("T"),
     }
@@ -142,15 +117,15 @@ fn put_type_of(out: &mut Message, scene: &Scene, operand: Option<Operand>) {
 fn put_hole(out: &mut Message, told: &Told, hole: &str) {
     match hole {
         "it" => put_named(out, told.scene, told.it, "it"),
-        "type" => put_type_of(out, told.scene, told.it),
+        "type" => put_type_or(out, told.scene, type_of(told.scene, told.it)),
         "place" => put_named(out, told.scene, told.place, "the place"),
         "base" => put_named(out, told.scene, told.base, "the object"),
         "object" => put_named(out, told.scene, told.base, "null"),
-        "here" => put_here(out, told.scene),
+        "here" => put_block(out, told.scene, told.scene.refusal.block),
         "to" => put_other(out, told),
         "function" => put_function(out, told.scene),
         "callee" => put_callee(out, told.scene),
-        "number" => put_count(out, told.scene, told.number),
+        "number" => out.put_number(told.number),
         _ => out.put("?"),
     }
 }

@@ -1,10 +1,11 @@
 //! K6: where the cell in which a reference is stored lost `fresh`.
 use crate::notes::put_note;
 use crate::nulls::slot_loaded;
+use crate::stale::class_of;
 use crate::told::{Told, value_in};
 use crate::write_barrier::spot_of;
 use diagnosis::{Change, last_change};
-use facts::{ClassId, Facts, Known};
+use facts::{ClassId, Facts};
 use ir_ast::{Operand, ValueId};
 use messages::Message;
 use scenes::{Scene, Spot, safepoint_before};
@@ -37,13 +38,6 @@ fn unfresh_at(scene: &Scene, value: ValueId) -> Result<Option<Spot>, AllocError>
 struct Unfresh {
     name: ValueId,
     spot: Spot,
-}
-
-fn class_of(facts: &Facts, value: ValueId) -> Option<ClassId> {
-    match facts.known(value) {
-        Known::Cell { class, .. } => Some(class),
-        _ => None,
-    }
 }
 
 fn is_of_class(facts: &Facts, value: ValueId, class: &Option<ClassId>) -> bool {
@@ -94,7 +88,9 @@ fn holds_fresh(scene: &Scene, spot: &Spot, slot: ValueId) -> Result<bool, AllocE
         return Ok(false);
     };
     let facts = scene.facts_at(spot)?;
-    Ok(is_fresh_in(&facts, number))
+    let fresh = is_fresh_in(&facts, number);
+    drop(facts);
+    Ok(fresh)
 }
 
 /// The call up to which a slot held a fresh cell, going back from an instruction.
@@ -135,19 +131,25 @@ fn unfresh_of(scene: &Scene, value: ValueId) -> Result<Option<Unfresh>, AllocErr
     }
 }
 
-fn put_lost(out: &mut Message, told: &Told, value: ValueId, unfresh: &Unfresh) {
-    if unfresh.name.number() == value.number() {
-        let text = "{base} is fresh up to here, and not after it";
-        return put_note(out, told, &unfresh.spot, None, text);
-    }
-    let scene = told.scene;
-    let told = told.with_it(Some(Operand::Local(unfresh.name)));
-    let text = if scene.context.slots.slot_of(unfresh.name).is_some() {
+/// What is said of where the cell lost `fresh` under a name. The base is this value.
+fn text_of(scene: &Scene, value: ValueId, name: ValueId) -> &'static str {
+    if name.number() == value.number() {
+        "{base} is fresh up to here, and not after it"
+    } else if scene.context.slots.slot_of(name).is_some() {
         "what {it} holds is fresh up to here, and not after it; {base} is loaded from there"
     } else {
         "{it} is fresh up to here, and not after it; {base} is the same cell"
-    };
-    put_note(out, &told, &unfresh.spot, None, text)
+    }
+}
+
+fn put_lost(out: &mut Message, told: &Told, value: ValueId, unfresh: &Unfresh) {
+    put_note(
+        out,
+        &told.with_it(Some(Operand::Local(unfresh.name))),
+        &unfresh.spot,
+        None,
+        text_of(told.scene, value, unfresh.name),
+    )
 }
 
 /// Where the base of the place lost `fresh`.

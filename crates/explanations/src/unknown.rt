@@ -1,19 +1,18 @@
 //! K1: why nothing is known of a value, and what makes it known.
 use crate::missing_blocks::put_missing;
 use crate::notes::{put_cert_note, put_line, put_mend, put_note};
-use crate::stale::{lost_before, put_reload, put_stale_since};
-use crate::told::{Told, put_text};
+use crate::stale::{lost_before, put_lost};
+use crate::told::{Told, put_text, value_in};
+use crate::write_barrier::spot_of;
 use certs::{Claim, Fact};
 use ir_ast::{BlockId, Function, Instr, Op, ValueId};
 use messages::Message;
-use scenes::{
-    Definition, Scene, Sought, Spot, cert_position, claim_after, definition_of, is_bypassed,
-};
+use scenes::{Definition, Scene, Sought, Spot, claim_after, definition_of, is_bypassed};
 use std::alloc::AllocError;
 
 /// Why nothing is known of a value.
 #[derive(Clone, Copy)]
-pub enum Cause {
+enum Cause {
     /// A parameter of which the certificate does not say to what it refers.
     Parameter,
     /// The result of a call of which the certificate of the callee does not say that.
@@ -36,19 +35,11 @@ pub fn instr_in<'a>(function: &'a Function, spot: &Spot) -> Option<&'a Instr> {
     block.body.get(spot.place.checked_sub(block.phis.len())?)
 }
 
-fn is_call(scene: &Scene, spot: &Spot) -> bool {
-    match instr_in(scene.context.function, spot) {
-        Some(instr) => matches!(instr.op, Op::Call(_)),
-        None => false,
-    }
-}
-
 /// The cause of a value of which nothing is known after the instruction that defines it.
 fn unknown_at(scene: &Scene, spot: &Spot) -> Cause {
-    if is_call(scene, spot) {
-        Cause::Result
-    } else {
-        Cause::FromNothing
+    match instr_in(scene.context.function, spot) {
+        Some(instr) if matches!(instr.op, Op::Call(_)) => Cause::Result,
+        _ => Cause::FromNothing,
     }
 }
 
@@ -98,7 +89,7 @@ fn one_way(scene: &Scene, definition: &Definition) -> Result<Option<BlockId>, Al
 }
 
 /// Why nothing is known of a value at the refused instruction.
-pub fn cause_of(scene: &Scene, value: ValueId) -> Result<Cause, AllocError> {
+fn cause_of(scene: &Scene, value: ValueId) -> Result<Cause, AllocError> {
     let definition = definition_of(scene.context.function, value);
     if is_below(scene, &definition) {
         return Ok(Cause::NotYet);
@@ -113,16 +104,16 @@ pub fn cause_of(scene: &Scene, value: ValueId) -> Result<Cause, AllocError> {
     }
 }
 
-/// The same text with the block that defines the value.
-fn told_of<'a>(told: &Told<'a>, cause: &Cause) -> Told<'a> {
+/// The block that defines the value, where another way does not lead through it.
+fn block_of(cause: &Cause) -> Option<BlockId> {
     match cause {
-        Cause::OneWay(block) => told.with_block(*block),
-        _ => told.with_it(told.it),
+        Cause::OneWay(block) => Some(*block),
+        _ => None,
     }
 }
 
 /// Why nothing is known of it, in one sentence.
-pub fn sentence_of(cause: &Cause) -> &'static str {
+fn sentence_of(cause: &Cause) -> &'static str {
     match cause {
         Cause::Parameter => {
             "{it} is not known here: the certificate does not say to which layout this parameter refers"
@@ -141,52 +132,26 @@ pub fn sentence_of(cause: &Cause) -> &'static str {
     }
 }
 
-/// Where a value is defined, if an instruction does that, as this text says it.
-fn put_definition_as(out: &mut Message, told: &Told, value: ValueId, text: &str) {
-    let scene = told.scene;
-    let definition = definition_of(scene.context.function, value);
-    match &definition {
-        Definition::At(spot) => put_note(out, told, spot, None, text),
-        _ => {}
-    }
-}
+/// What is said of where it is defined, where nothing more is to be said.
+pub const DEFINED: &str = "{it} is defined here";
 
-/// Where a value is defined, if an instruction does that.
-pub fn put_definition(out: &mut Message, told: &Told, value: ValueId) {
-    put_definition_as(out, told, value, "{it} is defined here")
-}
-
-/// Where the certificate has the claims of the block.
-pub fn put_block_note(out: &mut Message, told: &Told, text: &str) {
-    let scene = told.scene;
-    let line = Sought::Block(scene.refusal.block);
-    let function = scene.context.function;
-    match cert_position(scene, function.symbol, &line) {
-        Ok(Some(position)) => put_cert_note(out, told, position, text),
-        Ok(None) => {}
-        Err(_) => out.refuse(),
-    }
-}
-
-/// The line to add, and the blocks to which it is to be added.
-pub fn put_listing(out: &mut Message, told: &Told, value: ValueId, fact: Fact) {
-    let scene = told.scene;
-    let definition = definition_of(scene.context.function, value);
-    put_missing(out, told, &definition, value, &fact)
-}
-
-fn put_function_note(out: &mut Message, told: &Told, text: &str) {
-    let scene = told.scene;
-    let function = scene.context.function;
-    match cert_position(scene, function.symbol, &Sought::Function) {
-        Ok(Some(position)) => put_cert_note(out, told, position, text),
-        Ok(None) => {}
-        Err(_) => out.refuse(),
+/// What is said of where it is defined, if an instruction does that.
+pub fn put_definition(out: &mut Message, told: &Told, text: &str) {
+    let Some(value) = value_in(told.it) else {
+        return;
+    };
+    if let Some(spot) = spot_of(told.scene, value) {
+        put_note(out, told, &spot, None, text);
     }
 }
 
 fn put_parameter(out: &mut Message, told: &Told) {
-    put_function_note(out, told, "the certificate of {function}");
+    put_cert_note(
+        out,
+        told,
+        &Sought::Function,
+        "the certificate of {function}",
+    );
     put_mend(
         out,
         told,
@@ -194,8 +159,8 @@ fn put_parameter(out: &mut Message, told: &Told) {
     )
 }
 
-fn put_result(out: &mut Message, told: &Told, value: ValueId) {
-    put_definition_as(out, told, value, "{it} is the result of this call");
+fn put_result(out: &mut Message, told: &Told) {
+    put_definition(out, told, "{it} is the result of this call");
     put_mend(
         out,
         told,
@@ -204,8 +169,8 @@ fn put_result(out: &mut Message, told: &Told, value: ValueId) {
 }
 
 /// It is defined on one way to the instruction, and not on another.
-fn put_one_way(out: &mut Message, told: &Told, value: ValueId) {
-    put_definition_as(out, told, value, "{it} is defined here, in {to}");
+fn put_one_way(out: &mut Message, told: &Told) {
+    put_definition(out, told, "{it} is defined here, in {to}");
     put_mend(
         out,
         told,
@@ -215,45 +180,38 @@ fn put_one_way(out: &mut Message, told: &Told, value: ValueId) {
 
 /// A block on the way does not list it.
 fn put_unlisted(out: &mut Message, told: &Told, value: ValueId) {
-    put_definition(out, told, value);
-    put_block_note(out, told, "what {here} lists comes after this line");
     let scene = told.scene;
+    put_definition(out, told, DEFINED);
+    let line = Sought::Block(scene.refusal.block);
+    put_cert_note(out, told, &line, "what {here} lists comes after this line");
     let definition = definition_of(scene.context.function, value);
     match claim_after(scene, &definition, value) {
-        Ok(Some(Claim::Value { fact, .. })) => put_listing(out, told, value, fact),
+        Ok(Some(Claim::Value { fact, .. })) => put_missing(out, scene, &definition, value, &fact),
         Ok(_) => {}
         Err(_) => out.refuse(),
     }
 }
 
-/// It would be stale.
-fn put_stale(out: &mut Message, told: &Told, value: ValueId) {
-    let scene = told.scene;
-    let spot = scene.spot();
-    let Ok(lost) = lost_before(scene, &spot, Some(value)) else {
-        return out.refuse();
-    };
-    put_stale_since(out, told, &lost);
-    put_reload(out, told, &lost)
+/// It is defined here from what is not known.
+fn put_from_nothing(out: &mut Message, told: &Told) {
+    put_definition(out, told, DEFINED);
+    put_mend(
+        out,
+        told,
+        "take it from a reference that is known where it is defined",
+    )
 }
 
-/// Why nothing is known of it, and what mends it.
-pub fn put_unknown(out: &mut Message, told: &Told, value: ValueId, cause: &Cause) {
+/// Why nothing is known of it, and what mends it. The other block is the one that defines it.
+fn put_unknown(out: &mut Message, told: &Told, value: ValueId, cause: &Cause) {
     match cause {
         Cause::Parameter => put_parameter(out, told),
-        Cause::Result => put_result(out, told, value),
+        Cause::Result => put_result(out, told),
         Cause::NotYet => put_mend(out, told, "define {it} on each way to this instruction"),
-        Cause::OneWay(block) => put_one_way(out, &told.with_block(*block), value),
-        Cause::FromNothing => {
-            put_definition(out, told, value);
-            put_mend(
-                out,
-                told,
-                "take it from a reference that is known where it is defined",
-            )
-        }
+        Cause::OneWay(_) => put_one_way(out, told),
+        Cause::FromNothing => put_from_nothing(out, told),
         Cause::Unlisted => put_unlisted(out, told, value),
-        Cause::Stale => put_stale(out, told, value),
+        Cause::Stale => put_lost(out, told, &[]),
     }
 }
 
@@ -262,7 +220,7 @@ pub fn put_cause(out: &mut Message, told: &Told, value: ValueId) {
     let Ok(cause) = cause_of(told.scene, value) else {
         return out.refuse();
     };
-    put_unknown(out, told, value, &cause)
+    put_unknown(out, &told.with_block(block_of(&cause)), value, &cause)
 }
 
 /// Whether nothing is known of a value since it would be stale.
@@ -276,8 +234,13 @@ pub fn put_unavailable(out: &mut Message, told: &Told, value: ValueId) {
     let Ok(cause) = cause_of(told.scene, value) else {
         return out.refuse();
     };
-    put_text(out, &told_of(told, &cause), sentence_of(&cause));
+    put_sentence(out, &told.with_block(block_of(&cause)), value, &cause)
+}
+
+/// The same by the cause. The other block is the one that defines the value.
+fn put_sentence(out: &mut Message, told: &Told, value: ValueId, cause: &Cause) {
+    put_text(out, told, sentence_of(cause));
     out.put("\n");
     put_line(out, told, told.it, "");
-    put_unknown(out, told, value, &cause)
+    put_unknown(out, told, value, cause)
 }

@@ -68,7 +68,9 @@ fn layout_stored(
     match value {
         Some(value) => {
             let facts = scene.facts_at(&scene.spot_in(block, index))?;
-            Ok(cell_layout(&facts.known(value)))
+            let layout = cell_layout(&facts.known(value));
+            drop(facts);
+            Ok(layout)
         }
         None => Ok(None),
     }

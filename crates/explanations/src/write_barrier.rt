@@ -1,36 +1,30 @@
 //! K6 and K7: the write barrier, and the object that it names.
 use crate::barrier_lines::{put_barrier_lines, put_object_lines};
-use crate::notes::{put_line, put_mend};
-use crate::told::Told;
+use crate::notes::put_mend;
+use crate::told::{Told, value_in};
 use certs::is_opaque_text;
 use facts::Known;
 use ir_ast::{Operand, Runtime, ValueId};
 use messages::{Message, put_wanted_declare};
-use scenes::{Definition, Scene, Spot, definition_of, reference_of};
+use scenes::{Definition, Scene, Spot, definition_of};
 
 /// The reference in whose cell an operand is a place.
-pub fn base_of(scene: &Scene, operand: &Option<Operand>) -> Option<ValueId> {
-    let Some(Operand::Local(value)) = operand else {
-        return None;
-    };
-    match scene.facts.known(*value) {
-        Known::Address { .. } | Known::Cell { .. } => Some(reference_of(scene.facts, *value)),
+pub fn base_of(scene: &Scene, operand: &Option<Operand>) -> Option<Operand> {
+    let value = value_in(*operand)?;
+    match scene.facts.known(value) {
+        Known::Address { base, .. } => Some(Operand::Local(base)),
+        Known::Cell { .. } => Some(Operand::Local(value)),
         _ => None,
     }
 }
 
 /// What is said of the place of a store without a barrier.
-fn label_of(told: &Told) -> &'static str {
+pub fn label_of(told: &Told) -> &'static str {
     match (told.place, told.base) {
         (Some(Operand::Global(_) | Operand::CastGlobal { .. }), _) => "a global is never fresh",
         (_, Some(_)) => "a word of {base}, which is not fresh",
         _ => "neither a slot nor a word of a fresh cell",
     }
-}
-
-/// K6: the place of the store.
-pub fn put_stored_line(out: &mut Message, told: &Told) {
-    put_line(out, told, told.place, label_of(told))
 }
 
 /// The call in place of the store.
