@@ -8,11 +8,11 @@ ghost use Rattle.reports.specs.Said.{Says};
 ghost use Rattle.reports.specs.Files as spec;
 ghost use Rattle.trace_text.specs.Traces.{IsTraceOf};
 
-use crate::outcomes::{no_threads, replayed};
 use crate::steps_told::{save_steps, words_of_steps};
 use command_line::ReplayLine;
 use replay::{Outcome, replay};
 use reports::{Traced, read_traced, unread};
+use run_commands::{no_threads, replayed};
 use std::alloc::{AllocError, Global};
 use std::io;
 use std::io::Write;

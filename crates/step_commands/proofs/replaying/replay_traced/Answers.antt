@@ -2,7 +2,7 @@ use Rattle.std.proofs.Common.{refl}
 use Rattle.std.proofs.lemmas.Result.{IfOk-weaker}
 use Rattle.reports.specs.Said.{OnOutput, OnError}
 use Rattle.run_commands.specs.TraceRuns.{came, not_begun}
-use Rattle.run_commands.proofs.replaying.replay_traced.Goals as goal
+use Rattle.step_commands.proofs.replaying.replay_traced.Goals as goal
 
 pub returns-in_ok-make_steps-in-Ok-clause-said : goal.returns-in_ok-make_steps-in-Ok-clause-said
 returns-in_ok-make_steps-in-Ok-clause-said g c =

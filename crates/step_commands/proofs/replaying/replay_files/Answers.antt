@@ -2,7 +2,7 @@ use Rattle.std.proofs.Common.{refl}
 use Rattle.std.proofs.lemmas.Result.{IfOk-weaker}
 use Rattle.reports.specs.Said.{OnError}
 use Rattle.run_commands.specs.TraceRuns.{not_traced, of_traced}
-use Rattle.run_commands.proofs.replaying.replay_files.Goals as goal
+use Rattle.step_commands.proofs.replaying.replay_files.Goals as goal
 
 pub returns-in-Ok-clause-said : goal.returns-in-Ok-clause-said
 returns-in-Ok-clause-said g c =
