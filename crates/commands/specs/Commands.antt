@@ -7,7 +7,7 @@ use Rattle.check_commands.specs.Checks.{OfCerts, OfMake}
 use Rattle.check_commands.specs.Explained.{OfExplain}
 use Rattle.check_commands.specs.Migrating.{OfMigrate}
 use Rattle.check_commands.specs.EditedFiles.{OfEditsFile}
-use Rattle.run_commands.specs.TraceRuns.{OfRun, OfRunCerts, OfTrace}
+use Rattle.reports.specs.TraceRuns.{OfRun, OfRunCerts, OfTrace}
 use Rattle.search_commands.specs.Searches.{OfHuntFiles, OfSeeds}
 
 -- what a command says of its files, each at its place in the line's order; before and after it these bytes are saved

@@ -6,6 +6,8 @@ ghost use Rattle.command_line.specs.declared.asked.Line.TheVariants.{Check, Make
 ghost use Rattle.reports.specs.Said.{Said, Says};
 ghost use Rattle.reports.specs.Files as spec;
 
+use crate::replaying::{replay_files, tell_steps};
+use crate::running::run_files;
 use check_commands::{check_files, explain_code, make_file, migrate_files, recheck_files};
 use command_line::{
     CheckLine, Line, MakeLine, RecheckLine, Refusals, ReplayLine, RunLine, SoakLine,
@@ -15,14 +17,12 @@ use explained_checks::{
     explain_traced,
 };
 use reports::{STATUS_NO, STATUS_UNREADABLE, STATUS_YES};
-use run_commands::run_files;
 use search_commands::{Onlooker, hunt_files, soak_files, tell_happened};
 use std::alloc::{AllocError, Global};
 use std::io;
 use std::io::Write;
 use std::thread::Threads;
 use std::time::Clock;
-use step_commands::{replay_files, tell_steps};
 
 /// Does the command of a line, without explanations. What it asks to write to a file of its own is appended to `saved`, and the steps of a
 /// replay that are to be told replace `words`.

@@ -2,6 +2,9 @@
 #![tactic(auto)]
 
 mod command;
+mod replaying;
+mod running;
+mod steps_told;
 
 pub use command::work;
 pub use command_line::{
@@ -11,7 +14,6 @@ pub use command_line::{
 pub use explained_checks::Look;
 pub use reports::{
     STATUS_MEMORY, STATUS_NO, STATUS_UNREADABLE, STATUS_USAGE, STATUS_YES, memory, no_layouts,
-    status_of,
+    replayed, status_of,
 };
-pub use run_commands::replayed;
 pub use search_commands::{Nobody, Onlooker, SoFar};

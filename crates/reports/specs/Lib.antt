@@ -1,3 +1,6 @@
 pub mod Report
 pub mod Files
 pub mod Said
+pub mod Outcomes
+pub mod RunReport
+pub mod TraceRuns

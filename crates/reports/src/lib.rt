@@ -1,10 +1,13 @@
-//! What the files of a command are read as, and the lines that are printed of faults in them and of verdicts.
+//! What the files of a command are read as, and the lines that are printed of faults in them, of verdicts, of the outcomes of traces and
+//! of runs on real threads.
 #![tactic(auto)]
 
 mod faults;
 mod files;
 mod found;
 mod name;
+mod outcomes;
+mod run_report;
 mod status;
 mod unreadable;
 mod verdicts;
@@ -14,6 +17,8 @@ pub use files::{
     Certified, Traced, Unread, edits_in, file_at, module_in, read_certified, read_traced,
     shaped_in, trace_in,
 };
+pub use outcomes::{no_threads, replayed, write_break};
+pub use run_report::ran;
 pub use status::{
     STATUS_MEMORY, STATUS_NO, STATUS_UNREADABLE, STATUS_USAGE, STATUS_YES, status_of,
 };

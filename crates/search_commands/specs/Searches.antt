@@ -26,7 +26,7 @@ use Rattle.reports.specs.Files.{HasProgram, IsNoProgram, of_unread}
 use Rattle.reports.specs.Report.{Answer, of_layout_reason, no_memory}
 use Rattle.reports.specs.Said.{Said, OnOutput, OnError, OnBoth, OfCertified}
 use Rattle.reports.specs.declared.files.Unread.{Unread}
-use Rattle.run_commands.specs.Runs.{of_setup_fault, break_text}
+use Rattle.reports.specs.Outcomes.{of_setup_fault, break_text}
 use Rattle.search_commands.specs.declared.chunks.Soaked.{Soaked}
 use Rattle.search_commands.specs.declared.chunks.Soaked.TheVariants.{SoundBelow, BrokenAt}
 use Rattle.search_commands.specs.declared.few_switches.BiasedSoaked.{BiasedSoaked}

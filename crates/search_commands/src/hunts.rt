@@ -20,9 +20,8 @@ use layout::Program;
 use module_check::UnderCheck;
 use reports::{
     Certified, STATUS_NO, STATUS_YES, Unread, memory, not_laid_out, read_certified, shaped_in,
-    unread,
+    unread, write_break,
 };
-use run_commands::write_break;
 use std::alloc::{AllocError, Global};
 use std::io;
 use std::io::Write;

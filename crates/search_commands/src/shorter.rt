@@ -8,7 +8,7 @@ ghost use Rattle.search_commands.specs.Searches.{IsAdded, IsShorter, shorter_tex
 use hunting::{BrokenTrace, ShorterTrace, shortened};
 use layout::Program;
 use replay::Break;
-use run_commands::write_break;
+use reports::write_break;
 use std::alloc::{AllocError, Global};
 use std::io;
 use std::io::Write;

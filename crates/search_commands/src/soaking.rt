@@ -10,7 +10,7 @@ ghost use Rattle.hunting.specs.Shorter.{kind_of};
 ghost use Rattle.reports.specs.Files as spec;
 ghost use Rattle.reports.specs.Report.{IsTold};
 ghost use Rattle.reports.specs.Said.{Says, Tells};
-ghost use Rattle.run_commands.specs.TraceRuns.{OfRun};
+ghost use Rattle.reports.specs.TraceRuns.{OfRun};
 ghost use Rattle.search_commands.specs.Searches.{OfSeeds, OfUniform, IsDrawn, IsShorter, IsSoaked, of_seed, of_shorter, of_sound, of_too_long, seed_text};
 ghost use Rattle.search_commands.specs.declared.chunks.Soaked.TheVariants as of;
 
@@ -22,8 +22,7 @@ use command_line::{Draws, Search, Shrink, SoakLine};
 use hunting::{BrokenTrace, broken_trace};
 use layout::Program;
 use replay::{ReplayFault, SeedBreak};
-use reports::{STATUS_NO, STATUS_YES, Traced, read_traced, unread};
-use run_commands::{no_threads, write_break};
+use reports::{STATUS_NO, STATUS_YES, Traced, no_threads, read_traced, unread, write_break};
 use std::alloc::{AllocError, Global};
 use std::io;
 use std::io::Write;

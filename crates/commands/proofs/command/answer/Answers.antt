@@ -3,7 +3,7 @@ use Rattle.std.specs.Prelude.{is_some}
 use Rattle.std.proofs.lemmas.Result.{IfOk-weaker}
 use Rattle.command_line.specs.Asked.{asked_by, save_of}
 use Rattle.reports.specs.Files.{file_at}
-use Rattle.run_commands.specs.TraceRuns.{OfRun}
+use Rattle.reports.specs.TraceRuns.{OfRun}
 use Rattle.search_commands.specs.Searches.{OfHuntFiles, OfSeeds}
 use Rattle.commands.proofs.command.answer.Goals as goal
 

@@ -1,7 +1,7 @@
 use Rattle.std.proofs.Common.{refl}
 use Rattle.std.proofs.lemmas.Result.{IfOk-weaker}
 use Rattle.reports.specs.Said.{OnError}
-use Rattle.run_commands.specs.TraceRuns.{not_traced, of_traced}
+use Rattle.reports.specs.TraceRuns.{not_traced, of_traced}
 use Rattle.search_commands.proofs.soaking.soak_files.Goals as goal
 
 pub returns-in-Ok-clause-said : goal.returns-in-Ok-clause-said

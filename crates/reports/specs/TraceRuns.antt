@@ -1,0 +1,55 @@
+-- What `replay` and `run` say of their files.
+use Rattle.std.specs.Prelude.{◌≡◌, ◌≢◌, ℕ, List, Option}
+use Rattle.ir_ast.specs.declared.module.Module.{Module}
+use Rattle.layout.specs.Layouts.{LaidOut}
+use Rattle.certs.specs.declared.certs.Certs.{Certs}
+use Rattle.certs.specs.declared.section.Section.{Section}
+use Rattle.module_check.specs.Accepted.{IsProgramCertified, shaped}
+use Rattle.trace_text.specs.declared.trace.Trace.{Trace}
+use Rattle.program_runner.specs.Setups.{HasNoFault, IsSetupFault}
+use Rattle.program_runner.specs.declared.setup_fault.SetupFault.{SetupFault}
+use Rattle.program_runner.specs.declared.setup_fault.SetupFault.TheVariants as setup
+use Rattle.replay.specs.Outcomes.{IsOutcome}
+use Rattle.replay.specs.declared.outcome.Outcome.{Outcome}
+use Rattle.serving.specs.declared.beside.Limits.{Limits}
+use Rattle.mutators.specs.Faults.{HasNoRunFault, IsRunFault}
+use Rattle.mutators.specs.Reports.{IsReport}
+use Rattle.mutators.specs.declared.report.RunReport.{RunReport}
+use Rattle.reports.specs.Files.{HasProgram, HasTrace, IsNoTrace, IsUntraced, of_unread}
+use Rattle.reports.specs.Said.{Said, OnOutput, OnError, OfVerdict}
+use Rattle.reports.specs.declared.files.Unread.{Unread}
+use Rattle.reports.specs.Outcomes.{of_outcome, of_setup_fault}
+use Rattle.reports.specs.RunReport.{of_report}
+
+-- ---- replay
+
+-- what `replay` says of a program and its trace: the outcome of the trace, the first thread that may not begin, or out of memory
+pub data OfTrace (p : LaidOut) (t : Trace) : Said → Type 0 where
+  came : (outcome : Outcome) → HasNoFault p t.setup → IsOutcome p t outcome → OfTrace p t (OnOutput (of_outcome outcome))
+  not_begun : (fault : SetupFault) → (fault ≢ setup.Memory → IsSetupFault p t.setup fault) → OfTrace p t (OnError (of_setup_fault fault))
+
+-- what is said of the files of a program, its trace and its shapes, which have these paths, where this is said of program and trace once
+-- they are read; of the files the second is the trace's and the third the shapes'
+pub data OfRun (Run : LaidOut → Trace → Said → Type 0) (module_path trace_path : List ℕ) (shapes_path : Option (List ℕ)) (file : ℕ → Option (List ℕ)) : Said → Type 0 where
+  not_traced : (unread : Unread) → IsUntraced module_path trace_path shapes_path file unread → OfRun Run module_path trace_path shapes_path file (OnError (of_unread unread))
+  of_traced : (p : LaidOut) (t : Trace) (said : Said) → HasProgram (file 0) shapes_path (file 2) p → HasTrace (file 1) p t → Run p t said
+      → OfRun Run module_path trace_path shapes_path file said
+
+-- ---- run
+
+-- what `run` says of an accepted program with its certificates and of the threads with which a trace begins: how far they and the
+-- collector came in a run within the limits, the first thread that may not begin, or that memory was refused
+pub data OfThreads (limits : Limits) (p : LaidOut) (certs : List Section) (t : Trace) : Said → Type 0 where
+  ran : (report : RunReport) → HasNoRunFault p certs t.setup → IsReport p t.setup limits report → OfThreads limits p certs t (OnOutput (of_report report))
+  not_run : (fault : SetupFault) → (fault ≢ setup.Memory → IsRunFault p certs t.setup fault) → OfThreads limits p certs t (OnError (of_setup_fault fault))
+
+-- what it says of them and the file of the trace, which has this path
+pub data OfTraceFile (limits : Limits) (p : LaidOut) (certs : List Section) (path : List ℕ) (file : Option (List ℕ)) : Said → Type 0 where
+  no_trace : (unread : Unread) → IsNoTrace path file p unread → OfTraceFile limits p certs path file (OnError (of_unread unread))
+  of_trace : (t : Trace) (said : Said) → HasTrace file p t → OfThreads limits p certs t said → OfTraceFile limits p certs path file said
+
+-- what it says of a module, its certificates and the file of the trace: why they are not accepted, or what is said of the program
+pub data OfRunCerts (limits : Limits) (path : List ℕ) (file : Option (List ℕ)) (m : Module) (certs : Certs) : Said → Type 0 where
+  no_program : (said : Said) → OfVerdict m certs said → OfRunCerts limits path file m certs said
+  of_program : (p : LaidOut) (said : Said) → p.of_module ≡ shaped m certs → IsProgramCertified p certs.sections → OfTraceFile limits p certs.sections path file said
+      → OfRunCerts limits path file m certs said
