@@ -1,9 +1,7 @@
 //! Commands on a long text, which is made here, and on outputs that take nothing.
-use crate::accepted::CHECK;
 use crate::done::{printed_of, status_with};
 use crate::output::Output;
-use crate::printed::Printed;
-use crate::row_failure::RowFailure;
+use rows::{CHECK, Printed, RowFailure};
 use std::alloc::AllocError;
 use std::io::Write;
 use std::rt::Runtime;
