@@ -18,7 +18,7 @@ from building import TOP, build
 from refused import Refuser
 
 SOURCE = os.path.join(TOP, "bench", "sessions", "session_trial")
-USES = "ir_ast ir_text certs certificate edit_text recheck"
+USES = "ir_ast ir_text certs certificate recheck"
 WITHOUT = (1, b"memory\n", b"", None)
 
 

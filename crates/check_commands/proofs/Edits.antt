@@ -3,7 +3,7 @@ use Rattle.std.proofs.Common.{◌≡◌, ◌∙◌, ℕ, zero, suc, ◌+◌, Lis
 use Rattle.ir_ast.specs.declared.module.Module.{Module}
 use Rattle.certs.specs.declared.certs.Certs.{Certs}
 use Rattle.module_check.specs.Accepted.{IsLayoutReason, shaped}
-use Rattle.edit_text.specs.declared.edit.Edit.{Edit}
+use Rattle.recheck.specs.declared.edit.Edit.{Edit}
 use Rattle.module_check.specs.declared.verdict.Reason.{Reason}
 use Rattle.module_check.specs.declared.verdict.Reason.TheVariants as verdict
 use Rattle.recheck.specs.Session.{State}

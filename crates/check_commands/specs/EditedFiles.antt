@@ -5,7 +5,7 @@ use Rattle.layout.specs.Layouts.{IsLayoutFault}
 use Rattle.layout.specs.declared.fault.LayoutFault.{LayoutFault}
 use Rattle.certs.specs.declared.certs.Certs.{Certs}
 use Rattle.module_check.specs.Accepted.{shaped}
-use Rattle.edit_text.specs.declared.edit.Edit.{Edit}
+use Rattle.recheck.specs.declared.edit.Edit.{Edit}
 use Rattle.recheck.specs.Session.{State}
 use Rattle.reports.specs.Report.{Answer, no_memory, of_layout_fault}
 use Rattle.reports.specs.Files.{HasEdits, IsNoEdits, of_unread}

@@ -7,7 +7,7 @@ use Rattle.ir_text.specs.declared.read_fault.ReadFault.TheVariants as read
 use Rattle.certificate.specs.declared.fault.CertFault.{CertFault}
 use Rattle.certificate.specs.declared.fault.CertFault.TheVariants as cert
 use Rattle.certs.specs.declared.certs.Certs.{Certs}
-use Rattle.edit_text.specs.declared.edit.Edit.{Edit}
+use Rattle.recheck.specs.declared.edit.Edit.{Edit}
 use Rattle.block_rules.specs.declared.block_fault.Refusal.{Refusal}
 use Rattle.module_check.specs.Accepted.{IsAccepted, IsFirstRefusal, shaped}
 use Rattle.recheck.specs.Edits.{IsEdited, IsEditFault, module_in}

@@ -8,7 +8,7 @@ use Rattle.certs.specs.Fits.{fits}
 use Rattle.certs.specs.ShapesFit.{shapes_fit}
 use Rattle.certs.specs.declared.section.Section.{Section}
 use Rattle.certificate.specs.Laws.{StayFitting}
-use Rattle.edit_text.specs.declared.edit.Edit.TheVariants as edit
+use Rattle.recheck.specs.declared.edit.Edit.TheVariants as edit
 use Rattle.recheck.specs.Edits.{kept_text, module_in, IsCode, IsPut, IsShapedSection}
 use Rattle.recheck.specs.Fitting.{EditsKeepFitting, IsFitting}
 use Rattle.recheck.specs.Session.{State}

@@ -1,5 +1,5 @@
 -- Certificates that fit the module of a session, after an edit.
-use Rattle.edit_text.specs.declared.edit.Edit.{Edit}
+use Rattle.recheck.specs.declared.edit.Edit.{Edit}
 use Rattle.recheck.specs.Edits.{module_in, IsEdited}
 use Rattle.recheck.specs.Fitting.{IsFitting}
 use Rattle.recheck.specs.Session.{State}

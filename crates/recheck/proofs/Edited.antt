@@ -18,8 +18,8 @@ use Rattle.layout.specs.Layouts.{LaidOut, AreLayouts, AreSizes, wants_shapes}
 use Rattle.block_rules.specs.declared.block_fault.Refusal.{Refusal}
 use Rattle.answers.specs.Answers.{AreAnswers}
 use Rattle.answers.specs.KeptRows.{AreKept}
-use Rattle.edit_text.specs.declared.edit.Edit.{Edit}
-use Rattle.edit_text.specs.declared.edit.Edit.TheVariants as edit
+use Rattle.recheck.specs.declared.edit.Edit.{Edit}
+use Rattle.recheck.specs.declared.edit.Edit.TheVariants as edit
 use Rattle.recheck.specs.Edits.{AreRead, IsShapedSection, IsCode, HasTextFault, IsReadAt, IsRead, IsEditedAt, IsEdited, HasSectionFault, HasCodeFault, IsFaultAt, IsEditFault, IsEditAccepted, IsRefusedBy, code_fault, name_in, no_function, text_with}
 use Rattle.recheck.specs.Named.{function_named}
 use Rattle.recheck.specs.Put.{state, with_function, IsTextPut, IsBothPut, AreReady, IsKept}

@@ -16,8 +16,8 @@ use Rattle.certs.specs.declared.section.Section.{Section}
 use Rattle.certificate.specs.Anew.{IsSection}
 use Rattle.certificate.specs.Laws.{StayFitting}
 use Rattle.certificate.specs.Replaced.{FitOthers}
-use Rattle.edit_text.specs.declared.edit.Edit.{Edit}
-use Rattle.edit_text.specs.declared.edit.Edit.TheVariants as edit
+use Rattle.recheck.specs.declared.edit.Edit.{Edit}
+use Rattle.recheck.specs.declared.edit.Edit.TheVariants as edit
 use Rattle.ir_text.specs.Replaced.{IsReplaced, put_function}
 use Rattle.layout.specs.Functions.{with_functions}
 use Rattle.answers.specs.Laws.{FitAlone, RootsFitAlone}

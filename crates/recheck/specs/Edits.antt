@@ -12,8 +12,8 @@ use Rattle.certificate.specs.Print.{section_text}
 use Rattle.certificate.specs.declared.fault.CertFault.{CertFault}
 use Rattle.certificate.specs.declared.fault.CertFault.TheVariants as cert
 use Rattle.layout.specs.Layouts.{AreLayouts, AreSizes, wants_shapes}
-use Rattle.edit_text.specs.declared.edit.Edit.{Edit}
-use Rattle.edit_text.specs.declared.edit.Edit.TheVariants as edit
+use Rattle.recheck.specs.declared.edit.Edit.{Edit}
+use Rattle.recheck.specs.declared.edit.Edit.TheVariants as edit
 use Rattle.recheck.specs.Named.{function_named}
 use Rattle.recheck.specs.RootShapes.{missing_root}
 use Rattle.recheck.specs.Session.{State}

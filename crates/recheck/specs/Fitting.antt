@@ -2,7 +2,7 @@
 use Rattle.std.specs.Prelude.{◌≡◌, true}
 use Rattle.certs.specs.Fits.{fits}
 use Rattle.certs.specs.ShapesFit.{shapes_fit}
-use Rattle.edit_text.specs.declared.edit.Edit.{Edit}
+use Rattle.recheck.specs.declared.edit.Edit.{Edit}
 use Rattle.layout.specs.Functions.{with_functions}
 use Rattle.recheck.specs.Edits.{module_in, IsEdited}
 use Rattle.recheck.specs.Session.{State}

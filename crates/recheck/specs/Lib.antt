@@ -1,3 +1,6 @@
+pub mod Lines
+pub mod Forms
+pub mod Text
 pub mod Named
 pub mod Interface
 pub mod Session

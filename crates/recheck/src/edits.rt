@@ -9,13 +9,13 @@ ghost use Rattle.recheck.specs.declared.edit_fault.EditFault.{EditFault as AFaul
 ghost use Rattle.recheck.specs.declared.edit_fault.EditFault.TheVariants.{Memory};
 
 use crate::code::put_code;
+use crate::edit::Edit;
 use crate::edit_fault::EditFault;
 use crate::kept::KeptWork;
 use crate::named::function_named;
 use crate::put::{function_at, put_section_of};
 use certificate::print_section;
 use certs::{Certs, Section};
-use edit_text::Edit;
 use ir_ast::FuncId;
 use layout::Program;
 use std::alloc::{AllocError, Global};

@@ -10,6 +10,7 @@ ghost use Rattle.recheck.specs.Fitting.{HaveSameTables, IsFitting};
 ghost use Rattle.recheck.specs.declared.edit_fault.EditFault.{EditFault as AFault};
 ghost use Rattle.recheck.specs.declared.edit_fault.EditFault.TheVariants as fault;
 
+use crate::edit::Edit;
 use crate::edit_fault::EditFault;
 use crate::edits::put_edit;
 use crate::kept::KeptWork;
@@ -17,7 +18,6 @@ use crate::laws::fitting_law;
 use answers::{KeptFunctions, KeptRows, answers_to, first_refusal};
 use block_rules::Refusal;
 use certs::Certs;
-use edit_text::Edit;
 use ir_ast::Module;
 use layout::Program;
 use module_check::{NotAccepted, Reason, UnderCheck};

@@ -13,8 +13,8 @@ use Rattle.certs.specs.declared.certs.Certs.{Certs}
 use Rattle.certificate.specs.Text as certificate
 use Rattle.certificate.specs.ShapeText as shape_text
 use Rattle.certificate.specs.declared.fault.CertFault.TheVariants as cert
-use Rattle.edit_text.specs.Text as edit_text
-use Rattle.edit_text.specs.declared.edit.Edit.{Edit}
+use Rattle.recheck.specs.Text as edit_text
+use Rattle.recheck.specs.declared.edit.Edit.{Edit}
 use Rattle.trace_text.specs.Text as trace_text
 use Rattle.trace_text.specs.declared.fault.TraceFault.TheVariants as trace
 use Rattle.trace_text.specs.declared.trace.Trace.{Trace}

@@ -8,7 +8,7 @@ ghost use Rattle.reports.specs.Files.{file_at, HasModule, HasCerts, HasEdits, Ha
 
 use certificate::{CertFault, read_cert, read_shapes};
 use certs::Certs;
-use edit_text::{Edit, read_edits};
+use recheck::{Edit, read_edits};
 use ir_ast::{Module, Shapes};
 use ir_text::{ReadFault, read};
 use items::Items;

@@ -1,6 +1,6 @@
 use Rattle.std.proofs.Common.{List, refl, subst}
 use Rattle.std.proofs.lemmas.Result.{IfOk-weaker}
-use Rattle.edit_text.specs.declared.edit.Edit.{Edit}
+use Rattle.recheck.specs.declared.edit.Edit.{Edit}
 use Rattle.check_commands.specs.EditedFiles.{OfRechecked, no_edits, of_edits}
 use Rattle.reports.specs.Said.{OnError}
 use Rattle.check_commands.proofs.rechecking.recheck_edits.Goals as goal

@@ -1,5 +1,5 @@
 use Rattle.std.proofs.Common.{ℕ, List, inl, inr, refl, ap, sym, ◌∙◌}
-use Rattle.edit_text.specs.declared.edit.Edit.TheVariants as edit
+use Rattle.recheck.specs.declared.edit.Edit.TheVariants as edit
 use Rattle.recheck.proofs.Edited.{section_edited, section_kept, section_fault_at, section_accepted_at, section_refused_at, code_edited, code_kept, code_fault_at, code_accepted_at, code_refused_at}
 use Rattle.recheck.proofs.edits.put_at.Goals as goal
 

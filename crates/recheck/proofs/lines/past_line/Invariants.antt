@@ -1,6 +1,6 @@
 use Rattle.std.proofs.Common.{◌≡◌, length}
-use Rattle.edit_text.specs.Lines.{past_line}
-use Rattle.edit_text.proofs.lines.past_line.Given as goal
+use Rattle.recheck.specs.Lines.{past_line}
+use Rattle.recheck.proofs.lines.past_line.Given as goal
 
 abbrev pub invariant-loop-rest : goal.invariant-loop-rest
 invariant-loop-rest l = past_line l.bytes ≡ past_line l.rest

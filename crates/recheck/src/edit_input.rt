@@ -3,9 +3,9 @@ ghost use Rattle.std.specs.Prelude.{◌≡◌, ◌<◌, ◌^◌, false};
 ghost use Rattle.name_text.specs.Falls as falls;
 ghost use Rattle.name_text.specs.Numbers.{is_nil};
 ghost use Rattle.name_text.specs.Words as words;
-ghost use Rattle.edit_text.specs.Lines as lines;
-ghost use Rattle.edit_text.specs.Forms as form;
-ghost use Rattle.edit_text.specs.Forms.{Reads};
+ghost use Rattle.recheck.specs.Lines as lines;
+ghost use Rattle.recheck.specs.Forms as form;
+ghost use Rattle.recheck.specs.Forms.{Reads};
 
 use crate::frame_fault::FrameFault;
 use crate::lines::{is_dot, line_ends, past_line};

@@ -1,7 +1,7 @@
 use Rattle.grammar.specs.Whole.{found, only, no_fault, no_value, has_fault, only_fault}
-use Rattle.edit_text.specs.Text.{file, placed}
-use Rattle.edit_text.specs.declared.frame_fault.FrameFault.TheVariants.{Memory}
-use Rattle.edit_text.proofs.reader.read_edits.Goals as goal
+use Rattle.recheck.specs.Text.{file, placed}
+use Rattle.recheck.specs.declared.frame_fault.FrameFault.TheVariants.{Memory}
+use Rattle.recheck.proofs.reader.read_edits.Goals as goal
 
 pub returns-in-Ok-clause-found : goal.returns-in-Ok-clause-found
 returns-in-Ok-clause-found c =

@@ -1,9 +1,9 @@
 use Rattle.std.proofs.Common.{◌∙◌, sym, rules, arith}
 use Rattle.std.proofs.lemmas.Grind.{common_steps}
 use Rattle.grammar.specs.Turns.{loop_ends, loop_goes, loop_breaks, loop_done}
-use Rattle.edit_text.specs.Lines.{is_dot}
-use Rattle.edit_text.specs.Forms.{line, lines}
-use Rattle.edit_text.proofs.reader.lines.Goals as goal
+use Rattle.recheck.specs.Lines.{is_dot}
+use Rattle.recheck.specs.Forms.{line, lines}
+use Rattle.recheck.proofs.reader.lines.Goals as goal
 
 pub returns-then-is_dot : goal.returns-then-is_dot
 unfolding lines

@@ -1,6 +1,6 @@
 //! The lines of a text.
 ghost use Rattle.std.specs.Prelude.{◌≡◌};
-ghost use Rattle.edit_text.specs.Lines as spec;
+ghost use Rattle.recheck.specs.Lines as spec;
 
 use name_text::{ends_line, past_blanks};
 

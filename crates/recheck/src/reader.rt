@@ -2,12 +2,12 @@
 ghost use Rattle.std.specs.Prelude.{◌≡◌, ◌≢◌, List, IfOk, IfErr, Ok, Err};
 ghost use Rattle.grammar.specs.Outcome.{Gives};
 ghost use Rattle.grammar.specs.Whole.{value_of};
-ghost use Rattle.edit_text.specs.Forms as form;
-ghost use Rattle.edit_text.specs.Forms.{Reads};
-ghost use Rattle.edit_text.specs.Text as text;
-ghost use Rattle.edit_text.specs.Text.{IsEdits, IsFault};
-ghost use Rattle.edit_text.specs.declared.edit.Edit.{Edit as AnEdit};
-ghost use Rattle.edit_text.specs.declared.frame_fault.FrameFault.TheVariants.{Memory};
+ghost use Rattle.recheck.specs.Forms as form;
+ghost use Rattle.recheck.specs.Forms.{Reads};
+ghost use Rattle.recheck.specs.Text as text;
+ghost use Rattle.recheck.specs.Text.{IsEdits, IsFault};
+ghost use Rattle.recheck.specs.declared.edit.Edit.{Edit as AnEdit};
+ghost use Rattle.recheck.specs.declared.frame_fault.FrameFault.TheVariants.{Memory};
 ghost use Rattle.certificate.specs.declared.fault.CertFault.{CertFault as AFault};
 ghost use Rattle.certificate.specs.declared.fault.CertFault.TheVariants as fault;
 

@@ -3,11 +3,11 @@ use Rattle.std.proofs.lemmas.Grind.{common_steps}
 use Rattle.grammar.specs.Many.{many_from}
 use Rattle.grammar.specs.Turns.{one_more, no_more}
 use Rattle.name_text.specs.Numbers.{is_nil}
-use Rattle.edit_text.specs.Text.{edit, edits}
-use Rattle.edit_text.specs.declared.edit.Edit.{Edit}
-use Rattle.edit_text.specs.declared.frame_fault.FrameFault.{FrameFault}
+use Rattle.recheck.specs.Text.{edit, edits}
+use Rattle.recheck.specs.declared.edit.Edit.{Edit}
+use Rattle.recheck.specs.declared.frame_fault.FrameFault.{FrameFault}
 use Rattle.grammar.specs.Collected.{list_ends, list_goes, list_breaks, no_list}
-use Rattle.edit_text.proofs.reader.edits.Goals as goal
+use Rattle.recheck.proofs.reader.edits.Goals as goal
 
 pub returns-then-ended : goal.returns-then-ended
 unfolding edits

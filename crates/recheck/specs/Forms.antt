@@ -12,11 +12,11 @@ use Rattle.name_text.specs.Naming.{name_in}
 use Rattle.name_text.specs.Numbers.{is_nil}
 use Rattle.name_text.specs.Words.{word_at, past_lines}
 use Rattle.name_text.specs.declared.naming.Sigil.TheVariants as sigil
-use Rattle.edit_text.specs.Lines.{line_ends, is_dot, past_line, past_line_falls, past_line_takes}
-use Rattle.edit_text.specs.declared.frame_fault.FrameFault.{FrameFault}
-use Rattle.edit_text.specs.declared.frame_fault.FrameFault.TheVariants.{Syntax, Memory}
-use Rattle.edit_text.specs.declared.part.Part.{Part}
-use Rattle.edit_text.specs.declared.part.Part.TheVariants.{Code, Cert, Both}
+use Rattle.recheck.specs.Lines.{line_ends, is_dot, past_line, past_line_falls, past_line_takes}
+use Rattle.recheck.specs.declared.frame_fault.FrameFault.{FrameFault}
+use Rattle.recheck.specs.declared.frame_fault.FrameFault.TheVariants.{Syntax, Memory}
+use Rattle.recheck.specs.declared.part.Part.{Part}
+use Rattle.recheck.specs.declared.part.Part.TheVariants.{Code, Cert, Both}
 
 -- how many bytes are left
 abbrev pub left : Text → ℕ

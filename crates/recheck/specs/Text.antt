@@ -7,13 +7,13 @@ use Rattle.grammar.specs.Takes.{Takes, first_takes}
 use Rattle.ir_tokens.specs.Bytes.{Text}
 use Rattle.name_text.specs.Numbers.{is_nil}
 use Rattle.name_text.specs.Places.{place}
-use Rattle.edit_text.specs.Forms.{Form, expect, expect_takes, part, name, line_end, gap, text}
-use Rattle.edit_text.specs.declared.edit.Edit.{Edit}
-use Rattle.edit_text.specs.declared.edit.Edit.TheVariants as kinds
-use Rattle.edit_text.specs.declared.frame_fault.FrameFault.{FrameFault}
-use Rattle.edit_text.specs.declared.frame_fault.FrameFault.TheVariants.{Syntax, Memory}
-use Rattle.edit_text.specs.declared.part.Part.{Part}
-use Rattle.edit_text.specs.declared.part.Part.TheVariants.{Code, Cert, Both}
+use Rattle.recheck.specs.Forms.{Form, expect, expect_takes, part, name, line_end, gap, text}
+use Rattle.recheck.specs.declared.edit.Edit.{Edit}
+use Rattle.recheck.specs.declared.edit.Edit.TheVariants as kinds
+use Rattle.recheck.specs.declared.frame_fault.FrameFault.{FrameFault}
+use Rattle.recheck.specs.declared.frame_fault.FrameFault.TheVariants.{Syntax, Memory}
+use Rattle.recheck.specs.declared.part.Part.{Part}
+use Rattle.recheck.specs.declared.part.Part.TheVariants.{Code, Cert, Both}
 use Rattle.certificate.specs.declared.fault.CertFault.{CertFault}
 use Rattle.certificate.specs.declared.fault.CertFault.TheVariants as fault
 

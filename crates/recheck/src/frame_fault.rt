@@ -10,7 +10,7 @@ pub enum FrameFault {
 
 impl From<AllocError> for FrameFault {
     ghost use Rattle.std.specs.Prelude.{◌≡◌};
-    ghost use Rattle.edit_text.specs.declared.frame_fault.FrameFault.TheVariants.{Memory};
+    ghost use Rattle.recheck.specs.declared.frame_fault.FrameFault.TheVariants.{Memory};
 
     ghost from_gives = { λ _ e. e ≡ Memory };
 

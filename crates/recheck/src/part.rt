@@ -1,6 +1,6 @@
 //! What an edit replaces.
 ghost use Rattle.std.specs.Prelude.{◌≡◌};
-ghost use Rattle.edit_text.specs.Forms as form;
+ghost use Rattle.recheck.specs.Forms as form;
 
 /// What an edit replaces.
 #[derive(Clone, Copy)]
