@@ -1,4 +1,5 @@
-//! The commands, from a line and the bytes of its files to the printed lines and the status.
+//! The commands, from a line and the bytes of its files to the printed lines and the status: `replay` and `run`, and those of the crates
+//! below.
 #![tactic(auto)]
 
 mod command;
