@@ -65,11 +65,11 @@ fn push_frame(
     ensures running { running.new ≡ (if is_ok result then frame else running.old) }
     ensures below { below.new.items ≡ (if is_ok result then below.old.items ++ go_on running.old ∷ [] else below.old.items) }
 {
-    let many = many_registers(alloc, running.registers.as_slice())?;
     below.reserve(1)?;
+    let many = many_registers(alloc, running.registers.as_slice())?;
     let mut caller = mem::replace(running, frame);
     caller.place += 1;
-    below.push(WaitingFrame::new(alloc, caller, many))?;
+    below.push_reserved(WaitingFrame::new(alloc, caller, many));
     Ok(())
 }
 

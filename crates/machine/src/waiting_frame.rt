@@ -40,7 +40,7 @@ impl SparseRegisters {
     fn of(alloc: Global, registers: &[Value]) -> Result<Self, AllocError>
         ensures { IfOk result (λ kept. kept ≡ registers.now) }
     {
-        let mut set = Vec::with_capacity(alloc, KEPT_WHOLE)?;
+        let mut set = Items::from_vec(Vec::with_capacity(alloc, KEPT_WHOLE)?);
         for register in 0..registers.len() {
             let value = registers[register];
             if is_set(&value) {
@@ -49,7 +49,7 @@ impl SparseRegisters {
         }
         Ok(SparseRegisters {
             count: registers.len(),
-            set: Items::from_vec(set),
+            set,
         })
     }
 

@@ -16,14 +16,14 @@ loop-register-preserved c =
     let within = c.loop-register-test.true in
     elim c.if-is_set.branch [
       | then-is_set+in_ok-push w ↦
-          ap (λ set. registers_with n set.items) w.set-is
-          ∙ ap (registers_with n) w.in_ok-push.ensures.items
-          ∙ set_more c.loop-register.set.items record { register = i; value = v } (replicate n value.Unset)
+          ap (registers_with n) w.set-is
+          ∙ ap (registers_with n) w.in_ok-push.ensures.ok
+          ∙ set_more c.loop-register.set record { register = i; value = v } (replicate n value.Unset)
           ∙ ap (λ l. slice_set l i v) c.loop-register.invariant
           ∙ ap (λ x. slice_set (front_of registers i) i x) c.index-registers-register.is
           ∙ one_set registers i v within
       | else-is_set w ↦
-          ap (λ set. registers_with n set.items) w.set-is
+          ap (registers_with n) w.set-is
           ∙ c.loop-register.invariant
           ∙ one_unset registers i v within (subst (λ x. is_set x ≡ false) c.index-registers-register.is (sym w.if-is_set.ensures))
     ]
