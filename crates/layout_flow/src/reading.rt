@@ -172,14 +172,13 @@ impl<'a> Reading<'a> {
     }
 
     fn slot(&mut self, function: &Function, held: TypeId, slot: ValueId) {
-        let at = slot.number() as usize;
         let place = if self.kinds.is_any(held) {
-            let name = function.locals.name_at(at);
+            let name = function.locals.name_at(slot.number() as usize);
             place_holding(self.module_read().root_shape(function.symbol, name))
         } else {
             Place::Integers
         };
-        put(&mut self.places, at, place);
+        self.set_place(slot, place);
     }
 
     /// An integer is read or written at a place: where that is a reference, its cell begins with such an integer.
@@ -195,8 +194,7 @@ impl<'a> Reading<'a> {
         if !self.kinds.is_any(place_type) {
             return Ok(());
         }
-        let at = row_or(&self.places, base.number() as usize, Place::Unknown);
-        match (at, self.module_read().types.get(written)) {
+        match (self.place(*base), self.module_read().types.get(written)) {
             (Place::Unknown, Some(IrType::Integer(bits))) => {
                 let base = self.number(*base);
                 self.evidence.add_integer(base, bits)
@@ -314,26 +312,34 @@ impl<'a> Reading<'a> {
         if !self.kinds.is_any(element.base_type) {
             return Ok(());
         }
-        let place = row_or(&self.places, base.number() as usize, Place::Unknown);
-        if let (Place::Unknown, Some(layout)) = (
-            place,
-            layout_of_struct(self.module_read(), element.source),
-        ) {
-            let base = self.number(*base);
-            self.evidence.add_wanted(base, layout)?;
-        }
-        if let (Place::Word { base, word }, Some(words)) = (
-            self.place_of(&element.base),
-            self.words_over(element),
-        ) {
-            let word = word.saturating_add(words);
-            put(
-                &mut self.places,
-                value.number() as usize,
-                Place::Word { base, word },
-            );
-        }
+        self.want_struct(*base, element.source)?;
+        self.place_element(element, value);
         Ok(())
+    }
+
+    /// An element of a struct asks the layout of the struct of its base, unless that leads elsewhere.
+    fn want_struct(&mut self, base: ValueId, source: TypeId) -> Result<(), AllocError> {
+        let Some(layout) = layout_of_struct(self.module_read(), source) else {
+            return Ok(());
+        };
+        match self.place(base) {
+            Place::Unknown => {
+                let number = self.number(base);
+                self.evidence.add_wanted(number, layout)
+            }
+            _ => Ok(()),
+        }
+    }
+
+    /// The value of an element leads to the word to which its indices lead.
+    fn place_element(&mut self, element: &Element, value: ValueId) {
+        let Place::Word { base, word } = self.place_of(&element.base) else {
+            return;
+        };
+        if let Some(words) = self.words_over(element) {
+            let word = word.saturating_add(words);
+            self.set_place(value, Place::Word { base, word });
+        }
     }
 
     /// How many words the indices lead over; where one is not known, it is taken to be 0.
@@ -367,11 +373,7 @@ impl<'a> Reading<'a> {
             }
             PointerKind::AnyReference => self.cast_of_any(cast, value),
             PointerKind::Place(layout) => {
-                put(
-                    &mut self.places,
-                    value.number() as usize,
-                    Place::Holds(layout),
-                );
+                self.set_place(value, Place::Holds(layout));
                 Ok(())
             }
             PointerKind::Other => Ok(()),
@@ -405,8 +407,7 @@ impl<'a> Reading<'a> {
     /// Another name leads where this operand does.
     fn rename(&mut self, operand: &Operand, name: ValueId) {
         if let Operand::Local(value) = operand {
-            let place = row_or(&self.places, value.number() as usize, Place::Unknown);
-            put(&mut self.places, name.number() as usize, place);
+            self.set_place(name, self.place(*value));
         }
     }
 
@@ -433,7 +434,7 @@ impl<'a> Reading<'a> {
     fn place_of(&self, operand: &Operand) -> Place {
         match operand {
             Operand::Local(value) => {
-                match row_or(&self.places, value.number() as usize, Place::Unknown) {
+                match self.place(*value) {
                     Place::Unknown => Place::Word {
                         base: self.number(*value),
                         word: 0,
@@ -448,6 +449,16 @@ impl<'a> Reading<'a> {
             },
             Operand::Constant(_) => Place::Unknown,
         }
+    }
+
+    /// Where a value leads.
+    fn place(&self, value: ValueId) -> Place {
+        row_or(&self.places, value.number() as usize, Place::Unknown)
+    }
+
+    /// A value leads there from now on.
+    fn set_place(&mut self, value: ValueId, place: Place) {
+        put(&mut self.places, value.number() as usize, place);
     }
 
     fn number(&self, value: ValueId) -> u32 {
