@@ -1,5 +1,5 @@
 //! What the claims of a block give where it begins.
-ghost use Rattle.std.specs.Prelude.{◌≡◌, ◌==◌, true, length, OnOk, OnErr};
+ghost use Rattle.std.specs.Prelude.{◌≡◌, ◌==◌, ℕ, true, length, OnOk, OnErr};
 ghost use Rattle.facts.specs.Contents.{set_of};
 ghost use Rattle.facts.specs.Facts.{nothing_known};
 ghost use Rattle.facts.specs.Claims.{is_stale, is_fresh, list_value, list_slot, list_claim, list_claims, join, join_known, join_values, tie_value, tie_fact, tie_claim, tie_claims, hold_known, hold_value, hold_claim, hold_claims, facts_of_claims, promised_below, promised_nonnull, promised_layout, receive_reference, receive};
@@ -164,12 +164,22 @@ impl Contents {
         ensures ok { OnOk result (set_of self.new ≡ tie_claims claims.now (set_of self.old)) }
     {
         let mut ties = Ties::new(alloc);
-        for claim in claims {
-            self.tie_claim(&mut ties, *claim)?;
-        }
-        let settled = self.settle(&ties);
+        let tied = self.tie_by(&mut ties, claims);
         drop(ties);
-        settled
+        tied
+    }
+
+    /// What the claims say of equal values, by ties in which each value is alone.
+    fn tie_by(&mut self, ties: &mut Ties, claims: &[Claim]) -> Result<(), AllocError>
+        requires own { AreOwn self.old.values.values }
+        requires ties { AreTies ties.old }
+        requires alone { (c : ℕ) → class_now ties.old c ≡ c }
+        ensures ok { OnOk result (set_of self.new ≡ tie_claims claims.now (set_of self.old)) }
+    {
+        for claim in claims {
+            self.tie_claim(ties, *claim)?;
+        }
+        self.settle(ties)
     }
 
     fn tie_claim(&mut self, ties: &mut Ties, claim: Claim) -> Result<(), AllocError>

@@ -6,11 +6,11 @@ ghost use Rattle.fact_tables.specs.declared.known.Known.TheVariants.{Cell};
 ghost use Rattle.fact_tables.specs.Rows.{known_at, slot_at, values_without, held_nonnull};
 ghost use Rattle.facts.specs.Facts.{nothing_known, forget, define, define_test, add_class, set_known, set_class, set_slot, end_slot, load_slot, make_stale, slots_of_class, slots_without};
 ghost use Rattle.facts.specs.Contents.{set_of};
-ghost use Rattle.fact_tables.specs.SlotRows.{let_go_last};
+ghost use Rattle.fact_tables.specs.SlotRows.{OnlyFilled, OnlyHolding, OnlyKeepers, let_go_last};
 ghost use Rattle.facts.specs.TakenBack.{EndsAlone};
 
 use crate::kept::KeptFacts;
-use fact_tables::{Class, ClassId, Known, SlotFact, SlotRows, Test, Values, rows};
+use fact_tables::{Chains, Class, ClassId, Known, SlotFact, SlotRows, Test, Values, rows};
 use ir_ast::ValueId;
 use pools::LayoutId;
 use shadow_stack::SlotId;
@@ -22,6 +22,35 @@ use std::rc::Rc;
 pub(crate) struct Contents {
     pub values: Values,
     pub slots: SlotRows,
+}
+
+/// Lists of slots.
+#[derive(Drop)]
+struct SlotLists {
+    /// The slots of which something may be known.
+    filled: Vec<usize>,
+    /// The slots that may hold a class.
+    holding: Vec<usize>,
+    /// The slots that hold each class.
+    keepers: Chains,
+}
+
+impl SlotLists {
+    /// The lists of these slots.
+    fn of(alloc: Global, slots: &SlotRows) -> Result<SlotLists, AllocError>
+        ensures filled { IfOk result (λ lists. OnlyFilled lists.filled.items slots.now) }
+        ensures holding { IfOk result (λ lists. OnlyHolding lists.holding.items slots.now) }
+        ensures keepers { IfOk result (λ lists. OnlyKeepers lists.keepers slots.now) }
+    {
+        let filled = slots.filled(alloc)?;
+        let holding = slots.holding(alloc)?;
+        let keepers = slots.keepers(alloc, &holding)?;
+        Ok(SlotLists {
+            filled,
+            holding,
+            keepers,
+        })
+    }
 }
 
 impl Clone for Contents {
@@ -111,11 +140,10 @@ impl Contents {
         ensures ok { OnOk result (set_of self.new ≡ set_of other.now) }
         ensures err { OnErr result (set_of self.new ≡ set_of self.old) }
     {
-        let filled = other.slots.filled(alloc)?;
-        let holding = other.slots.holding(alloc)?;
-        let keepers = other.slots.keepers(alloc, &holding)?;
+        let lists = SlotLists::of(alloc, &other.slots)?;
         self.values.set_from(&other.values)?;
-        self.slots.set_from(filled, holding, keepers, &other.slots);
+        self.slots
+            .set_from(lists.filled, lists.holding, lists.keepers, &other.slots);
         Ok(())
     }
 
@@ -135,11 +163,10 @@ impl Contents {
         ensures ok { OnOk result (set_of self.new ≡ kept.now) }
         ensures err { OnErr result (set_of self.new ≡ set_of self.old) }
     {
-        let filled = kept.slots.filled(alloc)?;
-        let holding = kept.slots.holding(alloc)?;
-        let keepers = kept.slots.keepers(alloc, &holding)?;
+        let lists = SlotLists::of(alloc, &kept.slots)?;
         self.values.open(alloc, &kept.values)?;
-        self.slots.set_from(filled, holding, keepers, &kept.slots);
+        self.slots
+            .set_from(lists.filled, lists.holding, lists.keepers, &kept.slots);
         Ok(())
     }
 

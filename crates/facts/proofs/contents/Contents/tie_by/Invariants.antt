@@ -3,7 +3,7 @@ use Rattle.facts.specs.Contents.{set_of}
 use Rattle.facts.specs.Claims.{tie_claims}
 use Rattle.fact_tables.specs.Ties.{AreTies}
 use Rattle.facts.specs.Tied.{facts_now}
-use Rattle.facts.proofs.contents.Contents.tie_claims.Given as goal
+use Rattle.facts.proofs.contents.Contents.tie_by.Given as goal
 
 abbrev pub invariant-loop-claim : goal.invariant-loop-claim
 invariant-loop-claim l = record {
