@@ -8,11 +8,11 @@ ghost use Rattle.reports.specs.Files.{file_at, HasModule, HasCerts, HasEdits, Ha
 
 use certificate::{CertFault, read_cert, read_shapes};
 use certs::Certs;
-use recheck::{Edit, read_edits};
 use ir_ast::{Module, Shapes};
 use ir_text::{ReadFault, read};
 use items::Items;
 use layout::{NotAProgram, Program, wants_shapes};
+use recheck::{Edit, read_edits};
 use std::alloc::Global;
 use trace_text::{Trace, TraceFault, read_trace};
 
