@@ -1,8 +1,8 @@
 //! The lines of all cases.
 use crate::command_cases::write_outputs;
 use crate::meetings::write_meetings;
+use crate::row_failure::RowFailure;
 use crate::stops::write_stops;
-use rows::RowFailure;
 use std::rt::Runtime;
 use std::thread::Threads;
 

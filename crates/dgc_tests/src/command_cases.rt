@@ -1,7 +1,9 @@
 //! Commands on a long text, which is made here, and on outputs that take nothing.
+use crate::accepted::CHECK;
 use crate::done::{printed_of, status_with};
 use crate::output::Output;
-use rows::{CHECK, Printed, RowFailure};
+use crate::printed::Printed;
+use crate::row_failure::RowFailure;
 use std::alloc::AllocError;
 use std::io::Write;
 use std::rt::Runtime;

@@ -2,24 +2,38 @@
 //! in code: a text that is too long, outputs that take nothing, replays of traces in which an actor stops for good, and workers and
 //! threads that meet. A line is written of each case.
 //!
-//! `rows.txt` names the rows; crates/rows/src/lib.rt says what a row is.
+//! Each check is run by one worker and by three. Of each module that is accepted a certificate is made, with which it is accepted too.
+//! It is also migrated with its own certificate, and checked again.
+//!
+//! `rows.txt` names the rows, one a line. The folder `rows/NAME` of a row has these files:
+//! - `args`: the command line after `dgc`, one word a line.
+//! - `status`, `stdout`, `stderr`: the wanted exit status and the wanted bytes of both outputs. Where wanted bytes end within a line,
+//!   more may follow them.
+//! - `saved`: the wanted bytes of the file that the command writes. Without it they do not matter.
+//! - `migrated`: a folder with such files for the check of the opaque text, where they are other ones.
+//! - The files that `args` names. A file that is not there cannot be read by the command either.
 //!
 //! Before the rows it writes the lines of the cases, each with its name and what comes of it. The file `stdout` has what must be
 //! written.
 #![tactic(auto)]
 
+mod accepted;
 mod cases;
 mod command_cases;
 mod done;
 mod meeting;
 mod meetings;
 mod output;
+mod printed;
+mod row;
+mod row_failure;
 mod stops;
+mod tally;
 mod texts;
 
 use crate::cases::write_cases;
-use crate::done::Dgc;
-use rows::{RowFailure, Tally, run_rows};
+use crate::row_failure::RowFailure;
+use crate::tally::{Tally, run_rows};
 use std::io::Write;
 use std::process::ExitCode;
 use std::rt::Runtime;
@@ -34,7 +48,7 @@ fn run(
     lines: &mut Vec<u8>,
 ) -> Result<bool, RowFailure> {
     write_cases(rt, lines)?;
-    let Tally { alike, different } = run_rows(rt, &Dgc { rt }, ROWS, lines)?;
+    let Tally { alike, different } = run_rows(rt, ROWS, lines)?;
     writeln!(lines, "{alike} rows as wanted, {different} not")?;
     Ok(different == 0)
 }

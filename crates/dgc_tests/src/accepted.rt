@@ -1,13 +1,13 @@
 //! A module and its certificate, of which further commands are made.
-use crate::done::{Commands, done};
+use crate::done::{done, printed_of};
 use crate::printed::{Printed, bytes_of};
 use crate::row_failure::RowFailure;
-use command_line::{CheckLine, Explained, Line, MakeLine, MigrateLine, Refusals, Why};
+use commands::{CheckLine, Explained, Line, MakeLine, MigrateLine, Refusals, STATUS_YES, Why};
 use ir_print::print;
 use ir_text::read;
-use reports::STATUS_YES;
 use std::alloc::{AllocError, Global};
 use std::rt::Runtime;
+use std::thread::Threads;
 
 /// A check of texts that are made.
 pub const CHECK: Line<'static> = Line::Check(CheckLine {
@@ -28,8 +28,7 @@ pub struct Certified<'a> {
 
 /// What a check by three workers prints.
 pub fn checked_by_three(
-    rt: &(impl Runtime + AllocGlobal),
-    commands: &impl Commands,
+    rt: &(impl Runtime + AllocGlobal + Threads + Sync),
     row: Certified<'_>,
 ) -> Result<Printed, RowFailure> {
     let line = Line::Check(CheckLine {
@@ -39,7 +38,7 @@ pub fn checked_by_three(
         explained: Explained::Never,
         refusals: Refusals::First,
     });
-    done(rt, commands, row.folder, &line)
+    done(rt, row.folder, &line)
 }
 
 /// A text of the shapes of a certificate, if it has some: its lines between the first one and the first section.
@@ -92,8 +91,7 @@ fn beside(
 
 /// What `make` prints of the module, with the shapes of its certificate, if that has some.
 fn made(
-    rt: &(impl Runtime + AllocGlobal),
-    commands: &impl Commands,
+    rt: &(impl Runtime + AllocGlobal + Threads + Sync),
     row: Certified<'_>,
 ) -> Result<Printed, RowFailure> {
     let shapes = shapes(rt, row)?;
@@ -109,32 +107,30 @@ fn made(
         why: Why::NotWanted,
         explained: Explained::Never,
     });
-    let printed = commands.printed(&line, files.as_slice());
+    let printed = printed_of(rt, &line, files.as_slice());
     drop(files);
     Ok(printed)
 }
 
 /// What a check prints of the module and this certificate.
 fn checked_with(
-    rt: &(impl Runtime + AllocGlobal),
-    commands: &impl Commands,
+    rt: &(impl Runtime + AllocGlobal + Threads + Sync),
     row: Certified<'_>,
     certificate: Vec<u8>,
 ) -> Result<Printed, RowFailure> {
     let files = beside(rt, row, Some(certificate))?;
-    let printed = commands.printed(&CHECK, files.as_slice());
+    let printed = printed_of(rt, &CHECK, files.as_slice());
     drop(files);
     Ok(printed)
 }
 
 /// What a check prints of the module and the certificate that is made of it. What is printed in place of the certificate, if there is none.
 pub fn checked_as_made(
-    rt: &(impl Runtime + AllocGlobal),
-    commands: &impl Commands,
+    rt: &(impl Runtime + AllocGlobal + Threads + Sync),
     row: Certified<'_>,
 ) -> Result<Printed, RowFailure> {
-    match text_in(made(rt, commands, row)?) {
-        Ok(certificate) => checked_with(rt, commands, row, certificate),
+    match text_in(made(rt, row)?) {
+        Ok(certificate) => checked_with(rt, row, certificate),
         Err(printed) => Ok(printed),
     }
 }
@@ -150,50 +146,51 @@ fn text_in(printed: Printed) -> Result<Vec<u8>, Printed> {
 
 /// What `migrate` prints of the module.
 pub fn migrated_module(
-    rt: &(impl Runtime + AllocGlobal),
-    commands: &impl Commands,
+    rt: &(impl Runtime + AllocGlobal + Threads + Sync),
     row: Certified<'_>,
 ) -> Result<Printed, RowFailure> {
     let line = Line::Migrate(MigrateLine {
         module_path: row.module_path,
         certificate_path: None,
     });
-    done(rt, commands, row.folder, &line)
+    done(rt, row.folder, &line)
 }
 
 /// What `migrate` prints of the certificate.
 fn migrated_certificate(
-    rt: &(impl Runtime + AllocGlobal),
-    commands: &impl Commands,
+    rt: &(impl Runtime + AllocGlobal + Threads + Sync),
     row: Certified<'_>,
 ) -> Result<Printed, RowFailure> {
     let line = Line::Migrate(MigrateLine {
         module_path: row.module_path,
         certificate_path: Some(row.certificate_path),
     });
-    done(rt, commands, row.folder, &line)
+    done(rt, row.folder, &line)
 }
 
 /// What a check prints of these two texts.
-fn checked(commands: &impl Commands, of_module: Vec<u8>, certificate: Vec<u8>) -> Printed {
+fn checked(
+    rt: &(impl Runtime + AllocGlobal + Threads + Sync),
+    of_module: Vec<u8>,
+    certificate: Vec<u8>,
+) -> Printed {
     let files = [Some(of_module), Some(certificate)];
-    let printed = commands.printed(&CHECK, files.as_slice());
+    let printed = printed_of(rt, &CHECK, files.as_slice());
     drop(files);
     printed
 }
 
 /// What a check prints of this opaque text of the module and the migrated certificate. What is printed in place of one of them, if it is not there.
 pub fn checked_as_migrated(
-    rt: &(impl Runtime + AllocGlobal),
-    commands: &impl Commands,
+    rt: &(impl Runtime + AllocGlobal + Threads + Sync),
     row: Certified<'_>,
     migrated: Printed,
 ) -> Result<Printed, RowFailure> {
     if migrated.status != STATUS_YES {
         return Ok(migrated);
     }
-    match text_in(migrated_certificate(rt, commands, row)?) {
-        Ok(certificate) => Ok(checked(commands, migrated.out, certificate)),
+    match text_in(migrated_certificate(rt, row)?) {
+        Ok(certificate) => Ok(checked(rt, migrated.out, certificate)),
         Err(printed) => Ok(printed),
     }
 }

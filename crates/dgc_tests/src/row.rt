@@ -3,13 +3,14 @@ use crate::accepted::{
     Certified, checked_as_made, checked_as_migrated, checked_by_three, is_opaque_text,
     migrated_module,
 };
-use crate::done::{Commands, done_by};
+use crate::done::done_by;
 use crate::printed::{Printed, needed};
 use crate::row_failure::RowFailure;
-use reports::STATUS_YES;
+use commands::STATUS_YES;
 use std::alloc::{AllocError, Global};
 use std::io::Write;
 use std::rt::Runtime;
+use std::thread::Threads;
 
 /// The name of a row, and its folder.
 #[derive(Clone, Copy)]
@@ -51,17 +52,16 @@ fn compare_text(
 
 /// Compares the opaque text of a module, and what a check prints of it and its certificate, and writes what differs.
 fn compare_migrated(
-    rt: &(impl Runtime + AllocGlobal),
-    commands: &impl Commands,
+    rt: &(impl Runtime + AllocGlobal + Threads + Sync),
     row: Row<'_>,
     certified: Certified<'_>,
     wanted: &Printed,
     lines: &mut Vec<u8>,
 ) -> Result<(), RowFailure> {
-    let migrated = migrated_module(rt, commands, certified)?;
+    let migrated = migrated_module(rt, certified)?;
     let compared = compare_text(rt, row, certified, migrated.out.as_slice(), lines);
     compare(
-        checked_as_migrated(rt, commands, certified, migrated)?,
+        checked_as_migrated(rt, certified, migrated)?,
         wanted,
         row,
         lines,
@@ -86,8 +86,7 @@ fn wanted_as_migrated(
 
 /// Compares what a check prints of the opaque text, and writes what differs.
 fn compare_opaque(
-    rt: &(impl Runtime + AllocGlobal),
-    commands: &impl Commands,
+    rt: &(impl Runtime + AllocGlobal + Threads + Sync),
     row: Row<'_>,
     certified: Certified<'_>,
     wanted: &Printed,
@@ -95,57 +94,40 @@ fn compare_opaque(
 ) -> Result<(), RowFailure> {
     match wanted_as_migrated(rt, row)? {
         Some(wanted) => {
-            let compared = compare_migrated(rt, commands, row, certified, &wanted, lines);
+            let compared = compare_migrated(rt, row, certified, &wanted, lines);
             drop(wanted);
             compared
         }
-        None => compare_migrated(rt, commands, row, certified, wanted, lines),
+        None => compare_migrated(rt, row, certified, wanted, lines),
     }
 }
 
 /// Compares what a check prints by three workers. If the module is accepted, it is checked once more with a certificate that is made, and
 /// once more as opaque text. Writes what differs.
 fn compare_check(
-    rt: &(impl Runtime + AllocGlobal),
-    commands: &impl Commands,
+    rt: &(impl Runtime + AllocGlobal + Threads + Sync),
     row: Row<'_>,
     certified: Certified<'_>,
     wanted: &Printed,
     lines: &mut Vec<u8>,
 ) -> Result<(), RowFailure> {
-    compare(
-        checked_by_three(rt, commands, certified)?,
-        wanted,
-        row,
-        lines,
-    )?;
+    compare(checked_by_three(rt, certified)?, wanted, row, lines)?;
     if wanted.status != STATUS_YES {
         return Ok(());
     }
-    compare(
-        checked_as_made(rt, commands, certified)?,
-        wanted,
-        row,
-        lines,
-    )?;
-    compare_opaque(rt, commands, row, certified, wanted, lines)
+    compare(checked_as_made(rt, certified)?, wanted, row, lines)?;
+    compare_opaque(rt, row, certified, wanted, lines)
 }
 
 /// Compares what these words print, and further checks where they ask for one with no options. Writes what differs.
 fn compare_words(
-    rt: &(impl Runtime + AllocGlobal),
-    commands: &impl Commands,
+    rt: &(impl Runtime + AllocGlobal + Threads + Sync),
     row: Row<'_>,
     words: &[&str],
     wanted: &Printed,
     lines: &mut Vec<u8>,
 ) -> Result<(), RowFailure> {
-    compare(
-        done_by(rt, commands, row.folder, words)?,
-        wanted,
-        row,
-        lines,
-    )?;
+    compare(done_by(rt, row.folder, words)?, wanted, row, lines)?;
     let [_, command, module_path, certificate_path] = words else {
         return Ok(());
     };
@@ -157,7 +139,7 @@ fn compare_words(
         module_path,
         certificate_path,
     };
-    compare_check(rt, commands, row, certified, wanted, lines)
+    compare_check(rt, row, certified, wanted, lines)
 }
 
 /// The words that stand one a line in a text, the program's name before them.
@@ -171,23 +153,21 @@ fn words_in(alloc: Global, args: &str) -> Result<Vec<&str>, AllocError> {
 
 /// Compares what the command of a row prints, whose line is this text, and writes what differs.
 fn compare_args(
-    rt: &(impl Runtime + AllocGlobal),
-    commands: &impl Commands,
+    rt: &(impl Runtime + AllocGlobal + Threads + Sync),
     row: Row<'_>,
     args: &str,
     wanted: &Printed,
     lines: &mut Vec<u8>,
 ) -> Result<(), RowFailure> {
     let words = words_in(rt.alloc(), args)?;
-    let compared = compare_words(rt, commands, row, words.as_slice(), wanted, lines);
+    let compared = compare_words(rt, row, words.as_slice(), wanted, lines);
     drop(words);
     compared
 }
 
 /// Does this with what is wanted.
 fn compare_line(
-    rt: &(impl Runtime + AllocGlobal),
-    commands: &impl Commands,
+    rt: &(impl Runtime + AllocGlobal + Threads + Sync),
     row: Row<'_>,
     args: &[u8],
     lines: &mut Vec<u8>,
@@ -196,28 +176,26 @@ fn compare_line(
         return Err(RowFailure::Outside);
     };
     let wanted = Printed::read(rt, row.folder)?;
-    let compared = compare_args(rt, commands, row, args, &wanted, lines);
+    let compared = compare_args(rt, row, args, &wanted, lines);
     drop(wanted);
     compared
 }
 
 /// Does this with the row in a folder.
 fn compare_in(
-    rt: &(impl Runtime + AllocGlobal),
-    commands: &impl Commands,
+    rt: &(impl Runtime + AllocGlobal + Threads + Sync),
     row: Row<'_>,
     lines: &mut Vec<u8>,
 ) -> Result<(), RowFailure> {
     let args = needed(rt, row.folder, "args")?;
-    let compared = compare_line(rt, commands, row, args.as_slice(), lines);
+    let compared = compare_line(rt, row, args.as_slice(), lines);
     drop(args);
     compared
 }
 
 /// Compares what the command of the row of this name prints, and writes what differs.
 pub fn compare_row(
-    rt: &(impl Runtime + AllocGlobal),
-    commands: &impl Commands,
+    rt: &(impl Runtime + AllocGlobal + Threads + Sync),
     name: &str,
     lines: &mut Vec<u8>,
 ) -> Result<(), RowFailure> {
@@ -226,7 +204,7 @@ pub fn compare_row(
         name,
         folder: folder.as_str(),
     };
-    let compared = compare_in(rt, commands, row, lines);
+    let compared = compare_in(rt, row, lines);
     drop(folder);
     compared
 }
