@@ -30,10 +30,11 @@ ONE_OPERAND = ["fneg", "freeze"]
 TUPLES = "extractvalue insertvalue extractelement insertelement shufflevector".split()
 OPEN, CLOSE = "([{<", ")]}>"
 
-Token = collections.namedtuple("Token", "kind text line")
+Token = collections.namedtuple("Token", "kind text line start end", defaults=(0, 0))
 Operand = collections.namedtuple("Operand", "type value")
-Global = collections.namedtuple("Global", "name words type value line")
+Global = collections.namedtuple("Global", "name words type value text line")
 Declared = collections.namedtuple("Declared", "name result parameters text is_twice line")
+Head = collections.namedtuple("Head", "words result name parameters decorations gc is_twice")
 
 
 class Fault(Exception):
@@ -60,12 +61,12 @@ class Function:
 
     def __init__(self, name, result, parameters, head):
         self.name, self.result, self.parameters, self.blocks = name, result, parameters, []
-        self.gc, self.linkage, self.line, self.head = head["gc"], head["linkage"], head["line"], head["text"]
+        self.gc, self.linkage, self.line, self.words = head["gc"], head["linkage"], head["line"], head["words"]
 
 
 class Module:
     def __init__(self):
-        self.types, self.globals, self.declared, self.functions, self.targets = {}, {}, {}, {}, []
+        self.types, self.globals, self.declared, self.functions, self.targets, self.twice = {}, {}, {}, {}, [], set()
 
 
 def tokens_of(text):
@@ -79,7 +80,7 @@ def tokens_of(text):
             at = (text + "\n").index("\n", at)
             continue
         if token.lastgroup != "space":
-            found.append(Token(token.lastgroup, token[0], line))
+            found.append(Token(token.lastgroup, token[0], line, at, token.end()))
         line += token[0].count("\n")
         at = token.end()
     return found
@@ -312,8 +313,8 @@ def plain_name(text):
     return text[0] + inner if re.match(r"[-a-zA-Z$._][-a-zA-Z$._0-9]*$", inner) else text
 
 
-def instruction(tokens):
-    """The instruction of a statement."""
+def instruction(tokens, text):
+    """The instruction of a statement, whose tokens stand in this text."""
     reader = Reader(tokens)
     name = None
     if reader.peek().kind == "name" and reader.peek(1).text == "=":
@@ -331,13 +332,13 @@ def instruction(tokens):
         found = None
     if found is None:
         found = Instruction("other", reader.line, word=kind)
-    found.name, found.text = name, text_of(tokens)
+    found.name, found.text = name, text_of(tokens, text)
     return found
 
 
-def text_of(tokens):
-    """The text of a statement, with one blank where there may be one."""
-    return re.sub(r"(?<=[(\[{<]) | (?=[)\]}>,*(])", "", " ".join(token.text for token in tokens)).replace(" x", " x")
+def text_of(tokens, text):
+    """The part of a text from the first to the last of these tokens."""
+    return text[tokens[0].start : tokens[-1].end]
 
 
 def read_binary(reader, kind):
@@ -373,7 +374,9 @@ def read_compare(reader, kind):
     reader.want(",")
     second = Operand(first.type, reader.value())
     reader.end()
-    return Instruction(kind, reader.line, None, "i1", [first, second], condition=words[-1])
+    vector = re.match(r"<((?:vscale x )?\d+) x ", first.type)
+    result = f"<{vector[1]} x i1>" if vector else "i1"
+    return Instruction(kind, reader.line, None, result, [first, second], condition=words[-1])
 
 
 def read_select(reader, kind):
@@ -463,14 +466,26 @@ def read_call(reader, kind):
         if operands:
             reader.want(",")
         if reader.has("metadata"):
-            return None
+            metadata(reader)
+            operands.append(Operand("metadata", ""))
+            words.append([])
+            continue
         argument = reader.type()
-        words += reader.decorations()
+        words.append(reader.decorations())
         operands.append(Operand(argument, reader.value()))
     after = reader.decorations()
     reader.end()
     result = of_type[: of_type.index(" (")] if " (" in of_type else of_type
     return Instruction(kind, reader.line, None, result, operands, callee=callee, words=words, after=after)
+
+
+def metadata(reader):
+    """Goes over an argument of metadata."""
+    while reader.peek().text not in (",", ")") or reader.peek().kind == "end":
+        if reader.peek().text in ("(", "{"):
+            reader.balanced()
+        elif reader.next().kind == "end":
+            reader.fail("metadata that does not end")
 
 
 def read_br(reader, kind):
@@ -567,42 +582,38 @@ READERS.update({word: read_one for word in ONE_OPERAND} | {word: read_tuple for 
 
 
 def parameters_of(reader):
-    """The parameters after the name of a function: types and names, and whether more may follow."""
+    """The parameters after the name of a function, types and names, and the words of each."""
     reader.want("(")
-    found = []
+    found, decorations = [], []
     while not reader.has(")"):
         if found:
             reader.want(",")
         if reader.has("..."):
             found.append(Operand("...", None))
+            decorations.append([])
             continue
         of_type = reader.type()
-        reader.decorations()
-        name = reader.name("%") if reader.peek().kind == "name" else None
-        found.append(Operand(of_type, name))
-    return found
+        decorations.append(reader.decorations())
+        found.append(Operand(of_type, reader.name("%") if reader.peek().kind == "name" else None))
+    return found, decorations
 
 
-def read_head(tokens, groups):
-    """A line that declares or defines a function."""
+def read_head(tokens, twice):
+    """A line that declares or defines a function. Those of some groups of attributes return twice."""
     reader = Reader(tokens)
     reader.next()
     words = []
     while not reader.begins_type():
-        if reader.peek().kind == "meta":
-            reader.next()
-        else:
-            words += reader.decorations() or [reader.next().text]
+        words += reader.decorations() or [reader.next().text]
         if reader.peek().kind == "end":
             reader.fail("no head of a function")
     result = reader.type()
     name = reader.name("@")
-    parameters = parameters_of(reader)
+    parameters, decorations = parameters_of(reader)
     rest = tokens[reader.at :]
     gc = next((rest[at + 1].text for at, token in enumerate(rest[:-1]) if token.text == "gc" and rest[at + 1].kind == "string"), None)
-    texts = {token.text for token in rest} | set(words)
-    twice = "returns_twice" in texts or any("returns_twice" in groups.get(text, ()) for text in texts)
-    return words, result, name, parameters, gc, twice, rest
+    is_twice = any(token.text == "returns_twice" or token.text in twice for token in rest)
+    return Head(words, result, name, parameters, decorations, gc, is_twice)
 
 
 def read_type(reader, module):
@@ -612,7 +623,7 @@ def read_type(reader, module):
     module.types[name] = reader.type()
 
 
-def read_global(reader, module):
+def read_global(reader, module, text):
     name = reader.name("@")
     reader.want("=")
     words = []
@@ -625,39 +636,47 @@ def read_global(reader, module):
     words.append(reader.next().text)
     of_type = reader.type()
     value = reader.value() if reader.is_operand() or reader.peek().kind == "string" else None
-    module.globals[name] = Global(name, words, of_type, value, reader.line)
+    module.globals[name] = Global(name, words, of_type, value, text, reader.line)
 
 
 def read(text):
     """The module of a text."""
     module, function = Module(), None
     lines = statements(tokens_of(text))
-    groups = {tokens[1].text: {token.text for token in tokens} for tokens in lines if tokens[0].text == "attributes"}
     for tokens in lines:
-        first = tokens[0]
+        if tokens[0].text == "attributes" and any(token.text == "returns_twice" for token in tokens):
+            module.twice.add(tokens[1].text)
+    for tokens in lines:
         if function is not None:
-            function = in_body(module, function, tokens)
-        elif first.text == "define":
-            words, result, name, parameters, gc, _, rest = read_head(tokens, groups)
-            linkage = next((word for word in words if word in ("internal", "private")), None)
-            function = Function(name, result, parameters, {"gc": gc, "linkage": linkage, "line": first.line, "text": [token.text for token in rest]})
-            module.functions[name] = function
-        elif first.text == "declare":
-            _, result, name, parameters, _, twice, _ = read_head(tokens, groups)
-            module.declared[name] = Declared(name, result, parameters, text_of(tokens), twice, first.line)
-        elif first.kind == "name" and first.text[0] == "%" and len(tokens) > 2 and tokens[2].text == "type":
-            read_type(Reader(tokens), module)
-        elif first.kind == "name" and first.text[0] == "@":
-            read_global(Reader(tokens), module)
-        elif first.text == "target":
-            module.targets.append(text_of(tokens))
-        elif first.text not in ("source_filename", "attributes") and not first.text.startswith("$"):
-            raise Fault(first.line, f"`{first.text}` begins no item that is known")
+            function = in_body(function, tokens, text)
+        elif tokens[0].text == "define":
+            head = read_head(tokens, module.twice)
+            linkage = next((word for word in head.words if word in ("internal", "private")), None)
+            more = {"gc": head.gc, "linkage": linkage, "line": tokens[0].line, "words": head.decorations}
+            function = module.functions[head.name] = Function(head.name, head.result, head.parameters, more)
+        else:
+            item(module, tokens, text)
     if function is not None:
         raise Fault(lines[-1][0].line, f"{function.name} does not end")
     for it in module.functions.values():
         number_all(it)
     return module
+
+
+def item(module, tokens, text):
+    """Reads an item of a module that is no defined function."""
+    first = tokens[0]
+    if first.text == "declare":
+        head = read_head(tokens, module.twice)
+        module.declared[head.name] = Declared(head.name, head.result, head.parameters, text_of(tokens, text), head.is_twice, first.line)
+    elif first.kind == "name" and first.text[0] == "%":
+        read_type(Reader(tokens), module)
+    elif first.kind == "name":
+        read_global(Reader(tokens), module, text_of(tokens, text))
+    elif first.text == "target":
+        module.targets.append(text_of(tokens, text))
+    elif first.text not in ("source_filename", "attributes") and not first.text.startswith("$"):
+        raise Fault(first.line, f"`{first.text}` begins no item that is known")
 
 
 def number_all(function):
@@ -676,7 +695,7 @@ def number_all(function):
             it.name = named(it.name, it.name is not None or it.kind == "call" and it.type != "void")
 
 
-def in_body(module, function, tokens):
+def in_body(function, tokens, text):
     """Reads a statement of a function; gives the function, or None where it ends."""
     if tokens[0].text == "}" and len(tokens) == 1:
         return None
@@ -686,7 +705,7 @@ def in_body(module, function, tokens):
     elif not function.blocks or function.blocks[-1][1] and function.blocks[-1][1][-1].kind in ("br", "switch", "ret", "unreachable"):
         function.blocks.append((None, []))
     if tokens and tokens[0].kind != "group":
-        function.blocks[-1][1].append(instruction(tokens))
+        function.blocks[-1][1].append(instruction(tokens, text))
     return function
 
 

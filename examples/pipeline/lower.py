@@ -17,6 +17,7 @@ import sys
 import ir
 
 RUNTIME = {"@dg_alloc", "@dg_safepoint", "@llvm.gcroot", "@llvm.gcread", "@llvm.gcwrite"}
+IN_MEMORY = {"byval", "sret", "inalloca", "preallocated", "swifterror"}
 OWN = ["@dg_write", "@dg_end", "@dg_layouts", "@dg_layout_count", "@dg_globals", "@dg_global_count", "@llvm_gc_root_chain"]
 ARITHMETIC = ("add", "sub", "mul", "and", "or", "xor")
 LAST = """declare ptr @dg_alloc(i32) nounwind
@@ -181,6 +182,8 @@ class Lowering:
         if it.callee not in self.m.functions:
             raise ir.Fault(it.line, f"{it.callee} is called, and the text does not define it")
         result = it.type if it.type == "void" else scalar(it.type, it.line)
+        if any(IN_MEMORY & set(words) for words in it.words):
+            raise ir.Fault(it.line, "an argument that is passed in memory is no form of docs/TEXT.md")
         given = ", ".join(self.typed(operand, it.line) for operand in it.operands)
         self.put(f"{self.local(it.name) + ' = ' if it.name else ''}call {result} {it.callee}({given})")
 
@@ -262,6 +265,8 @@ class Lowering:
         (getattr(self, it.kind) if it.kind in known else self.simple)(it)
 
     def text(self):
+        if any(IN_MEMORY & set(words) for words in self.f.words):
+            raise ir.Fault(self.f.line, "a parameter that is passed in memory is no form of docs/TEXT.md")
         given = ", ".join(f"{scalar(of_type, self.f.line)} {self.local(name)}" for of_type, name in self.f.parameters)
         result = self.f.result if self.f.result == "void" else scalar(self.f.result, self.f.line)
         linkage = f"{self.f.linkage} " if self.f.linkage else ""
