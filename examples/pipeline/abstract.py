@@ -181,10 +181,10 @@ class Body:
             return self.local(text)
         if text in ("null", "undef", "zeroinitializer") or text in self.m.globals:
             return text
-        cast = re.match(r"bitcast \( (\S+) (@\S+) to (\S+) \)$", text)
-        if not cast or ir.plain_name(cast[2]) not in self.m.globals:
+        cast = ir.cast_of_global(text)
+        if not cast or cast[1] not in self.m.globals:
             raise Left
-        return f"bitcast ({number_type(cast[1])} {cast[2]} to {number_type(cast[3])})"
+        return f"bitcast ({number_type(cast[0])} {cast[1]} to {number_type(cast[2])})"
 
     def typed(self, operand):
         if ir.is_pointer(operand.type):
@@ -392,24 +392,10 @@ class Body:
     def tuple(self, it):
         """A number out of a bundle."""
         base = it.operands[0]
-        found = self.made_of(it)
+        found = number(self.data.made(it))
         if it.kind not in ("extractvalue", "extractelement") or not found or (self.f.name, base.value) not in self.data.bundles:
             raise Left
         self.any(self.local(it.name), found)
-
-    def made_of(self, it):
-        """The type of a part of a bundle, as a number."""
-        of_type = it.operands[0].type
-        for index in it.indices:
-            of_type = self.m.types.get(of_type, of_type)
-            array = ir.element(of_type)
-            if not array and not of_type.startswith("{"):
-                return None
-            of_type = array[1] if array else ir.parts(of_type[1:-1])[index]
-        if it.kind == "extractelement":
-            found = re.match(r"<(?:vscale x )?\d+ x (.*)>$", of_type)
-            of_type = found[1] if found else ""
-        return number(of_type)
 
     def br(self, it):
         if it.operands and not self.is_plain(it.operands[0]):

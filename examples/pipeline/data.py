@@ -237,8 +237,22 @@ class Data:
         return any(self.is_data(function, text) for text in found) and all(text in NEUTRAL or self.is_data(function, text) for text in found)
 
     # Bundles.
+    def made(self, it):
+        """The type of what an instruction makes."""
+        of_type = it.type or ""
+        if it.kind == "extractelement":
+            found = re.match(r"<(?:vscale x )?\d+ x (.*)>$", of_type)
+            return found[1] if found else ""
+        for index in it.indices if it.kind == "extractvalue" else ():
+            of_type = self.m.types.get(of_type, of_type)
+            array = ir.element(of_type)
+            if not array and not of_type.startswith("{"):
+                return ""
+            of_type = array[1] if array else ir.parts(of_type[1:-1])[index]
+        return of_type
+
     def find_bundles(self):
-        items = {(name, it.name): it for name, body in self.body.items() for it in body if it.name and it.type and self.has_numbers_only(it.type)}
+        items = {(name, it.name): it for name, body in self.body.items() for it in body if it.name and self.has_numbers_only(self.made(it))}
 
         def stays(key):
             name, it = key[0], items[key]

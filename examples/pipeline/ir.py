@@ -709,6 +709,21 @@ def in_body(function, tokens, text):
     return function
 
 
+def cast_of_global(text):
+    """Of a constant that is the bitcast of a global: the type before, the name, the type after. Otherwise None."""
+    if not text.startswith("bitcast"):
+        return None
+    reader = Reader(tokens_of(text))
+    try:
+        reader.next()
+        reader.want("(")
+        found = reader.type(), reader.name("@")
+        reader.want("to")
+        return (*found, reader.type())
+    except Fault:
+        return None
+
+
 # Kinds of types.
 def mapped(of_type, change):
     """A type in which each scalar was changed."""

@@ -112,8 +112,8 @@ class Lowering:
             return self.local(text)
         if of_type != "ptr":
             return number(text, ir.width(of_type), line)
-        cast = re.match(r"bitcast \( ptr (@.*) to ptr \)$", text)
-        text = cast[1] if cast else text
+        cast = ir.cast_of_global(text)
+        text = cast[1] if cast and cast[0] == cast[2] == "ptr" else text
         if text in self.m.globals:
             return text
         if text in ("null", "undef", "zeroinitializer"):
