@@ -85,9 +85,9 @@ TRAPS = {
 }
 MORE = {
     "a function is passed": "define void @helper(i64 %n) {\n  ret void\n}\n",
-    "a cell is passed in memory": "- define void @by_value(ptr byval(%Node) %p) {\n+ define void @by_value(ptr %p) {\n  ret void\n}\n",
+    "a cell is passed in memory": "- define void @by_value(ptr byval(%Node) %p) gc \"shadow-stack\" {\n+ define void @by_value(ptr %p) gc \"shadow-stack\" {\n  ret void\n}\n",
     "data holds the place of a reference": "- @places = global [1 x ptr] [ptr @top]\n",
-    "a parameter is data in one call only": "define void @takes(ptr %p) {\n  %v = load i64, ptr %p\n  ret void\n}\n",
+    "a parameter is data in one call only": "define void @takes(ptr %p) gc \"shadow-stack\" {\n  %v = load i64, ptr %p\n  ret void\n}\n",
     "a reference for each thread": "- @mine = thread_local global ptr null\n",
 }
 ROW = """  %place = getelementptr %Row, ptr %big, i64 0, i32 1, i64 %i
