@@ -6,6 +6,7 @@
 # Without arguments it takes trees.c, replay.trace and run.trace. Without a trace, replay and run are left out.
 # LLVM is the version of clang, opt and llc: 14 where it is not set. Version 14 prints typed pointers, and later ones opaque pointers.
 # LEVEL, such as -O2, takes what clang makes at that level in place of the text after mem2reg and jump-threading.
+# ABSTRACT, where it is set, puts abstract.py before gcroot.py, for programs with forms that dgc does not read; then nothing is compiled.
 # DGC, CLANG, OPT, LLC and OBJDUMP name the programs. They are crates/dgc/out/dgc, clang-LLVM, opt-LLVM, llc-LLVM and llvm-objdump-LLVM
 # where they are not set.
 # OUT names a folder to keep what is made. Ends with 0 where each step succeeds, and otherwise with 1.
@@ -92,6 +93,13 @@ if [ -n "$LEVEL" ] && grep -qw ptr "$out/2.ll"; then
     show "$out/3.txt"
 fi
 
+if [ -n "$ABSTRACT" ]; then
+    echo "   abstract.py: any number in place of each that is not computed"
+    mv "$out/2.ll" "$out/2.forms.ll"
+    python3 "$here/abstract.py" "$out/2.forms.ll" >"$out/2.ll" 2>"$out/3.txt" || stop "$(cat "$out/3.txt")"
+    show "$out/3.txt"
+fi
+
 echo "3. gcroot.py: claims, safepoints, roots, barriers"
 python3 "$here/gcroot.py" "$out/2.ll" >"$out/3.ll" 2>"$out/3.txt" || stop "$(cat "$out/3.txt")"
 show "$out/3.txt"
@@ -123,6 +131,11 @@ if [ -n "$run" ]; then
     echo "7. dgc run: real threads, as in $(basename "$run")"
     "$dgc" run "$out/3.ll" "$out/3.cert" "$run" --steps 4294967295 --turns 4294967295 >"$out/7.txt" 2>&1 || refused run "$(cat "$out/7.txt")"
     show "$out/7.txt"
+fi
+
+if [ -n "$ABSTRACT" ]; then
+    [ -z "$OUT" ] || echo "What was made is in $out."
+    exit 0
 fi
 
 echo "8. lower.py: what LLVM compiles"
