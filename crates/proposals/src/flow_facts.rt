@@ -20,12 +20,11 @@ enum EdgeFacts {
     Changed,
 }
 
-/// An edge from a block to another: the value that decides it, if one does, and what that is.
+/// An edge from a block to another.
 #[derive(Clone, Copy)]
 pub struct Edge {
     pub from: BlockId,
     pub to: BlockId,
-    pub decided: Option<(ValueId, bool)>,
 }
 
 /// What is known at a place of a block, on an edge out of it, and where the block to which the edge leads begins.
@@ -190,21 +189,23 @@ impl FlowFacts {
         }
     }
 
-    /// Goes on an edge to a block, past its phis.
+    /// Goes on an edge to a block, past its phis; `decided` is the value that decides the edge, and what it is.
     pub fn enter(
         &mut self,
         alloc: Global,
         rule_context: &RuleContext,
         summary: &FunctionSummary,
         edge: Edge,
+        decided: Option<(ValueId, bool)>,
     ) -> Result<(), AllocError> {
-        if edge.decided.is_none() && !has_phis(rule_context, edge.to) {
+        let enters_phis = has_phis(rule_context, edge.to);
+        if decided.is_none() && !enters_phis {
             self.edge_facts = EdgeFacts::Unchanged;
             return Ok(());
         }
         self.edge_facts = EdgeFacts::Changed;
         self.changed.set_from(alloc, &self.here)?;
-        if let Some((value, taken)) = edge.decided {
+        if let Some((value, taken)) = decided {
             let test = self.changed.test(value);
             self.changed.learn(test, taken)?;
         }
@@ -228,7 +229,7 @@ impl FlowFacts {
         edge: Edge,
     ) -> Result<(), AllocError> {
         self.entries.clear();
-        let Edge { from, to, .. } = edge;
+        let Edge { from, to } = edge;
         let Some(block) = rule_context.function.blocks.get(to.number() as usize) else {
             return Ok(());
         };

@@ -32,9 +32,9 @@ pub struct FlowAnalysis {
     pub names: Vec<ValueId>,
 }
 
-/// A way out of a block: the label to which it leads, the value that decides it, if one does, and what that is.
+/// An edge out of a block, to a label: the value that decides it, if one does, and what that is.
 #[derive(Clone, Copy)]
-struct Exit {
+struct LabelledEdge {
     from: BlockId,
     label: ValueId,
     decided: Option<(ValueId, bool)>,
@@ -209,13 +209,13 @@ impl FlowAnalysis {
                 other,
                 ..
             } => {
-                let on = Exit {
+                let on = LabelledEdge {
                     from,
                     label: *taken,
                     decided: decided_by(condition, true),
                 };
                 self.edge(alloc, context, draft, on)?;
-                let off = Exit {
+                let off = LabelledEdge {
                     from,
                     label: *other,
                     decided: decided_by(condition, false),
@@ -261,12 +261,12 @@ impl FlowAnalysis {
         from: BlockId,
         label: ValueId,
     ) -> Result<(), AllocError> {
-        let exit = Exit {
+        let edge = LabelledEdge {
             from,
             label,
             decided: None,
         };
-        self.edge(alloc, context, draft, exit)
+        self.edge(alloc, context, draft, edge)
     }
 
     fn edge(
@@ -274,21 +274,25 @@ impl FlowAnalysis {
         alloc: Global,
         context: &FunctionContext,
         draft: &mut DraftClaims,
-        exit: Exit,
+        labelled: LabelledEdge,
     ) -> Result<(), AllocError> {
-        let Some(to) = target_of(context.rule_context.function, exit.label) else {
+        let Some(to) = target_of(context.rule_context.function, labelled.label) else {
             return Ok(());
         };
         if to.number() == 0 {
             return Ok(());
         }
         let edge = Edge {
-            from: exit.from,
+            from: labelled.from,
             to,
-            decided: exit.decided,
         };
-        self.flow
-            .enter(alloc, &context.rule_context, context.summary, edge)?;
+        self.flow.enter(
+            alloc,
+            &context.rule_context,
+            context.summary,
+            edge,
+            labelled.decided,
+        )?;
         match self.claims_after(alloc, context, draft, to)? {
             Some(listed) => change(context, draft, to, listed),
             None => Ok(()),
