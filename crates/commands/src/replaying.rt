@@ -38,51 +38,49 @@ fn make_steps(
 }
 
 /// Makes the steps of a trace.
-fn replay_traced<O: Write, E: Write>(
+fn replay_traced(
     alloc: Global,
     asked: ReplayLine<'_>,
     traced: &Traced,
     saved: &mut Vec<u8>,
     words: &mut Vec<u8>,
-    out: &mut O,
-    err: &mut E,
+    outputs: &mut Outputs,
 ) -> io::Result<u8>
     requires { IsTraceOf traced.now.program traced.now.trace }
-    ensures said { IfOk result (Says (OfTrace traced.now.program traced.now.trace) (O.contents out.old) (O.contents out.new) (E.contents err.old) (E.contents err.new)) }
+    ensures said { IfOk result (Says (OfTrace traced.now.program traced.now.trace) outputs.old outputs.new) }
     ensures kept { is_some (save_of (asked_by (Replay asked.entry))) ≡ false → saved.new.items ≡ saved.old.items }
 {
     match replay(alloc, &traced.program, &traced.trace) {
         Ok(outcome) => {
             make_steps(alloc, asked, traced, &outcome, saved, words)?;
-            replayed(out, &outcome)
+            replayed(&mut outputs.out, &outcome)
         }
-        Err(fault) => no_threads(err, fault),
+        Err(fault) => no_threads(&mut outputs.err, fault),
     }
 }
 
 /// Replays the trace of a line in its module, which has the shapes of the line where it writes `ptr`. After the faults of the files, the
 /// first thread counts that does not begin. The steps that the line asks for are made before the answer is written: in words they replace
 /// `words`, and as JSON they are appended to `saved`. Where they find no memory, nothing is answered.
-pub fn replay_files<O: Write, E: Write>(
+pub fn replay_files(
     alloc: Global,
     asked: ReplayLine<'_>,
     files: &[Option<Vec<u8>>],
     saved: &mut Vec<u8>,
     words: &mut Vec<u8>,
-    out: &mut O,
-    err: &mut E,
+    outputs: &mut Outputs,
 ) -> io::Result<u8>
-    ensures said { IfOk result (Says (OfRun OfTrace asked.entry.module_path.now asked.entry.trace_path.now (option_map (λ path. path.now) asked.entry.shapes_path) (spec.file_at files.now)) (O.contents out.old) (O.contents out.new) (E.contents err.old) (E.contents err.new)) }
+    ensures said { IfOk result (Says (OfRun OfTrace asked.entry.module_path.now asked.entry.trace_path.now (option_map (λ path. path.now) asked.entry.shapes_path) (spec.file_at files.now)) outputs.old outputs.new) }
     ensures kept { is_some (save_of (asked_by (Replay asked.entry))) ≡ false → saved.new.items ≡ saved.old.items }
 {
     let paths = (asked.module_path, asked.trace_path, asked.shapes_path);
     match read_traced(alloc, paths, files) {
         Ok(traced) => {
-            let status = replay_traced(alloc, asked, &traced, saved, words, out, err);
+            let status = replay_traced(alloc, asked, &traced, saved, words, outputs);
             drop(traced);
             status
         }
-        Err(fault) => unread(err, fault),
+        Err(fault) => unread(&mut outputs.err, fault),
     }
 }
 
