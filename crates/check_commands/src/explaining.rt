@@ -4,7 +4,7 @@ ghost use Rattle.check_commands.specs.Explained.{explained, no_code, OfExplain};
 ghost use Rattle.reports.specs.Report.{IsTold};
 ghost use Rattle.reports.specs.Said.{Says};
 
-use command_line::ExplainLine;
+use command_line::ExplainOptions;
 use explain::{Code, LIST};
 use reports::{Outputs, STATUS_USAGE, STATUS_YES};
 use std::io;
@@ -26,14 +26,14 @@ fn print_no_code<E: Write>(err: &mut E, name: &str) -> io::Result<u8>
     Ok(STATUS_USAGE)
 }
 
-/// Tells of the code of a line; without one, lists all codes.
+/// Tells of a code; without one, lists all codes.
 pub fn explain_code(
-    asked: ExplainLine<'_>,
+    options: ExplainOptions<'_>,
     outputs: &mut Outputs,
 ) -> io::Result<u8>
-    ensures { IfOk result (Says (OfExplain (option_map (λ name. name.now) asked.entry.code)) outputs.old outputs.new) }
+    ensures { IfOk result (Says (OfExplain (option_map (λ name. name.now) options.entry.code)) outputs.old outputs.new) }
 {
-    let Some(name) = asked.code else {
+    let Some(name) = options.code else {
         return print_told(&mut outputs.out, LIST);
     };
     match Code::named(name) {

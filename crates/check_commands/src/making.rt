@@ -1,5 +1,5 @@
 //! The command `make`.
-ghost use Rattle.std.specs.Prelude.{◌≡◌, IfOk, IfSome, true, option_map};
+ghost use Rattle.std.specs.Prelude.{◌≡◌, IfOk, IfSome, true};
 ghost use Rattle.certs.specs.Fits.{fits};
 ghost use Rattle.module_check.specs.Accepted.{IsAccepted};
 ghost use Rattle.layout.specs.Layouts.{IsLayoutFault};
@@ -8,17 +8,16 @@ ghost use Rattle.certs.specs.Plain.{plain};
 ghost use Rattle.cert_maker.specs.declared.made.MakeFault.TheVariants as fault;
 ghost use Rattle.check_commands.specs.Checks.{OfMade, OfMake};
 ghost use Rattle.reports.specs.Said.{Says};
-ghost use Rattle.reports.specs.Files as spec;
-ghost use Rattle.command_line.specs.declared.asked.Why.TheVariants.{Wanted};
+ghost use Rattle.command_line.specs.declared.command.Why.TheVariants.{Wanted};
 ghost use Rattle.reports.specs.Report.{IsTold, made_text, no_answer};
 
 use cert_maker::{MakeFault, NotMade, Refused, make};
 use certificate::print_cert;
-use command_line::{MakeLine, Why};
+use command_line::{MakeOptions, Why};
 use ir_ast::Module;
 use module_check::Accepted;
 use reports::{
-    Outputs, STATUS_NO, STATUS_YES, line_of_refusal, memory, no_layouts, refused, shaped_in, unread,
+    Files, Outputs, STATUS_NO, STATUS_YES, line_of_refusal, memory, no_layouts, refused, shaped_in, unread,
 };
 use std::alloc::Global;
 use std::io;
@@ -142,18 +141,18 @@ fn make_of(
     }
 }
 
-/// Makes certificates of the module of a line, with the shapes of the line where it writes `ptr`. The first fault counts: of the module, its
-/// path and then its text, then of the shapes, their path and then their text, then of the layouts.
+/// Makes certificates of the module, with the shapes where it writes `ptr`. The first fault counts: of the module, its path and then its
+/// text, then of the shapes, their path and then their text, then of the layouts.
 pub fn make_file(
     alloc: Global,
-    asked: MakeLine<'_>,
-    files: &[Option<Vec<u8>>],
+    options: MakeOptions,
+    files: &Files<'_>,
     outputs: &mut Outputs,
 ) -> io::Result<u8>
-    ensures { IfOk result (Says (OfMake asked.entry.why asked.entry.module_path.now (option_map (λ path. path.now) asked.entry.shapes_path) (spec.file_at files.now 0) (spec.file_at files.now 1)) outputs.old outputs.new) }
+    ensures { IfOk result (Says (OfMake options.why files.now.module files.now.shapes) outputs.old outputs.new) }
 {
-    match shaped_in(alloc, (asked.module_path, asked.shapes_path), files, 1) {
-        Ok(of_module) => make_of(alloc, of_module, asked.why, outputs),
+    match shaped_in(alloc, files) {
+        Ok(of_module) => make_of(alloc, of_module, options.why, outputs),
         Err(fault) => unread(&mut outputs.err, fault),
     }
 }

@@ -1,30 +1,28 @@
 //! The command `migrate`.
-ghost use Rattle.std.specs.Prelude.{◌≡◌, Ok, IfOk, option_map};
+ghost use Rattle.std.specs.Prelude.{◌≡◌, Ok, IfOk};
 ghost use Rattle.certificate.specs.Migrated.{IsMigration};
-ghost use Rattle.check_commands.specs.Migrating.{bytes_at, migrated_text, OfCerts, OfMigrate, OfMigrated, OfModule, OfText};
+ghost use Rattle.check_commands.specs.Migrating.{known_bytes, migrated_text, OfCerts, OfMigrate, OfMigrated, OfModule, OfText};
 ghost use Rattle.copies.specs.Opaque.{opaque_module};
-ghost use Rattle.reports.specs.Files as spec;
 ghost use Rattle.reports.specs.Report.{IsTold, made_text};
 ghost use Rattle.reports.specs.Said.{OfCertified, Says};
 
 use certificate::{is_typed_text, migrate, print_cert};
 use certs::Certs;
-use command_line::MigrateLine;
 use copies::opaque;
 use ir_ast::Module;
 use ir_print::print;
 use reports::{
-    Certified, Outputs, STATUS_YES, file_at, memory, module_in, no_certificate, read_certified, unread,
+    Certified, File, Files, Outputs, STATUS_YES, bytes_of, memory, module_in, no_certificate, read_certified, unread,
 };
 use std::alloc::{AllocError, Global};
 use std::io;
 use std::io::Write;
 
-/// The bytes of the file at this place of the line, none where it cannot be read.
-fn bytes_at(files: &[Option<Vec<u8>>], place: usize) -> &[u8]
-    ensures { result.now ≡ bytes_at files.now place }
+/// The bytes of a file, none where it is not given or cannot be read.
+fn known_bytes(file: Option<File<'_>>) -> &[u8]
+    ensures { result.now ≡ known_bytes file.entry }
 {
-    match file_at(files, place) {
+    match bytes_of(file) {
         Some(bytes) => bytes,
         None => &[],
     }
@@ -88,18 +86,13 @@ fn print_module(
     }
 }
 
-/// Prints the opaque text of the module of this path.
-fn migrate_module(
-    alloc: Global,
-    path: &str,
-    files: &[Option<Vec<u8>>],
-    outputs: &mut Outputs,
-) -> io::Result<u8>
-    ensures { IfOk result (Says (OfModule path.now (spec.file_at files.now 0)) outputs.old outputs.new) }
+/// Prints the opaque text of the module.
+fn migrate_module(alloc: Global, files: &Files<'_>, outputs: &mut Outputs) -> io::Result<u8>
+    ensures { IfOk result (Says (OfModule files.now.module) outputs.old outputs.new) }
 {
-    match module_in(alloc, path, files) {
+    match module_in(alloc, files) {
         Ok(of_module) => {
-            let status = print_module(alloc, &of_module, bytes_at(files, 0), outputs);
+            let status = print_module(alloc, &of_module, known_bytes(files.module), outputs);
             drop(of_module);
             status
         }
@@ -180,19 +173,14 @@ fn migrate_certified(
     }
 }
 
-/// Migrates the certificates of these paths.
-fn migrate_certs(
-    alloc: Global,
-    module_path: &str,
-    certificate_path: &str,
-    files: &[Option<Vec<u8>>],
-    outputs: &mut Outputs,
-) -> io::Result<u8>
-    ensures { IfOk result (Says (OfCertified (OfMigrated (bytes_at files.now 1)) module_path.now certificate_path.now (spec.file_at files.now 0) (spec.file_at files.now 1)) outputs.old outputs.new) }
+/// Migrates the certificates of the module.
+fn migrate_certs(alloc: Global, files: &Files<'_>, outputs: &mut Outputs) -> io::Result<u8>
+    ensures { IfOk result (Says (OfCertified (OfMigrated (known_bytes files.now.certificate)) files.now.module files.now.certificate) outputs.old outputs.new) }
 {
-    match read_certified(alloc, (module_path, certificate_path), files) {
+    match read_certified(alloc, files) {
         Ok(certified) => {
-            let status = migrate_certified(alloc, &certified, bytes_at(files, 1), outputs);
+            let bytes = known_bytes(files.certificate);
+            let status = migrate_certified(alloc, &certified, bytes, outputs);
             drop(certified);
             status
         }
@@ -200,18 +188,13 @@ fn migrate_certs(
     }
 }
 
-/// Prints the opaque text of the module of a line, or the certificates of that text where the line has a certificate. The first fault
-/// counts: of each file in the line's order, its path and then its text, then of the shapes.
-pub fn migrate_files(
-    alloc: Global,
-    asked: MigrateLine<'_>,
-    files: &[Option<Vec<u8>>],
-    outputs: &mut Outputs,
-) -> io::Result<u8>
-    ensures { IfOk result (Says (OfMigrate asked.entry.module_path.now (option_map (λ path. path.now) asked.entry.certificate_path) (spec.file_at files.now 0) (spec.file_at files.now 1)) outputs.old outputs.new) }
+/// Prints the opaque text of the module, or the certificates of that text where a certificate is given. The first fault counts: of each
+/// of the two files, its path and then its text, then of the shapes.
+pub fn migrate_files(alloc: Global, files: &Files<'_>, outputs: &mut Outputs) -> io::Result<u8>
+    ensures { IfOk result (Says (OfMigrate files.now.module files.now.certificate) outputs.old outputs.new) }
 {
-    match asked.certificate_path {
-        Some(path) => migrate_certs(alloc, asked.module_path, path, files, outputs),
-        None => migrate_module(alloc, asked.module_path, files, outputs),
+    match files.certificate {
+        Some(_) => migrate_certs(alloc, files, outputs),
+        None => migrate_module(alloc, files, outputs),
     }
 }

@@ -4,17 +4,15 @@ ghost use Rattle.std.specs.Io.KnownBytes.{Appends};
 ghost use Rattle.certs.specs.Fits.{fits};
 ghost use Rattle.reports.specs.Said.{OfCertified, Says};
 ghost use Rattle.check_commands.specs.EditedFiles.{OfEdited, OfEditsFile, OfRechecked};
-ghost use Rattle.reports.specs.Files.{file_at};
 ghost use Rattle.check_commands.specs.Rechecks as spec;
 ghost use Rattle.check_commands.specs.Rechecks.{OfEdit, OfEdits, OfSession};
 ghost use Rattle.reports.specs.Report.{Answer, IsTold};
 ghost use Rattle.recheck.specs.declared.edit_fault.EditFault.TheVariants as edit_fault;
 
 use crate::codes::code_of_edit;
-use command_line::RecheckLine;
 use recheck::{Edit, EditFault, Session};
 use reports::{
-    Certified, Outputs, STATUS_NO, STATUS_YES, accepted, edits_in, line_of_refusal, memory, not_laid_out,
+    Certified, Files, Outputs, STATUS_NO, STATUS_YES, accepted, edits_in, line_of_refusal, memory, not_laid_out,
     read_certified, refused, unread,
 };
 use std::alloc::{AllocError, Global};
@@ -157,18 +155,17 @@ fn recheck_certified(
     }
 }
 
-/// Reads the edits of this path, the third file, and applies them to a module with its certificates.
+/// Reads the edits, and applies them to a module with its certificates.
 fn recheck_edits(
     alloc: Global,
     certified: Certified,
-    path: &str,
-    files: &[Option<Vec<u8>>],
+    files: &Files<'_>,
     outputs: &mut Outputs,
 ) -> io::Result<u8>
     requires { fits certified.of_module certified.certs.sections ≡ true }
-    ensures { IfOk result (Says (OfEditsFile path.now (file_at files.now 2) certified.of_module certified.certs) outputs.old outputs.new) }
+    ensures { IfOk result (Says (OfEditsFile files.now.edits certified.of_module certified.certs) outputs.old outputs.new) }
 {
-    match edits_in(alloc, path, files, 2) {
+    match edits_in(alloc, files) {
         Ok(edits) => {
             let status = recheck_certified(alloc, certified, edits.as_slice(), outputs);
             drop(edits);
@@ -181,18 +178,13 @@ fn recheck_edits(
     }
 }
 
-/// Checks the module of a line against its certificate, and again after each of its edits. The first fault counts: of each file in
-/// the line's order, its path and then its text, of the edits their frame; then of the layouts.
-pub fn recheck_files(
-    alloc: Global,
-    asked: RecheckLine<'_>,
-    files: &[Option<Vec<u8>>],
-    outputs: &mut Outputs,
-) -> io::Result<u8>
-    ensures { IfOk result (Says (OfCertified (OfEditsFile asked.entry.edits_path.now (file_at files.now 2)) asked.entry.module_path.now asked.entry.certificate_path.now (file_at files.now 0) (file_at files.now 1)) outputs.old outputs.new) }
+/// Checks the module against the certificate, and again after each of the edits. The first fault counts: of each of the three files, its
+/// path and then its text, of the edits their frame; then of the layouts.
+pub fn recheck_files(alloc: Global, files: &Files<'_>, outputs: &mut Outputs) -> io::Result<u8>
+    ensures { IfOk result (Says (OfCertified (OfEditsFile files.now.edits) files.now.module files.now.certificate) outputs.old outputs.new) }
 {
-    match read_certified(alloc, (asked.module_path, asked.certificate_path), files) {
-        Ok(certified) => recheck_edits(alloc, certified, asked.edits_path, files, outputs),
+    match read_certified(alloc, files) {
+        Ok(certified) => recheck_edits(alloc, certified, files, outputs),
         Err(fault) => unread(&mut outputs.err, fault),
     }
 }

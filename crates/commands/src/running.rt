@@ -2,14 +2,13 @@
 ghost use Rattle.std.specs.Prelude.{IfOk};
 ghost use Rattle.reports.specs.Said.{OfCertified, Says};
 ghost use Rattle.reports.specs.TraceRuns.{OfRunCerts, OfThreads, OfTraceFile};
-ghost use Rattle.reports.specs.Files as spec;
 ghost use Rattle.trace_text.specs.Traces.{IsTraceOf};
 
-use command_line::RunLine;
+use command_line::RunOptions;
 use gate::OpenGate;
 use module_check::{Accepted, check};
 use mutators::{Limits, run};
-use reports::{Certified, Outputs, no_threads, ran, read_certified, report_verdict, trace_in, unread};
+use reports::{Certified, Files, Outputs, no_threads, ran, read_certified, report_verdict, trace_in, unread};
 use std::alloc::Global;
 use std::io;
 use std::thread::Threads;
@@ -33,19 +32,18 @@ fn run_threads(
     }
 }
 
-/// Runs an accepted module from the beginning of the trace of this path, the third file.
+/// Runs an accepted module from the beginning of the trace.
 fn run_accepted(
     rt: &(impl Threads + Sync),
     alloc: Global,
     accepted: &Accepted,
-    path: &str,
     limits: Limits,
-    files: &[Option<Vec<u8>>],
+    files: &Files<'_>,
     outputs: &mut Outputs,
 ) -> io::Result<u8>
-    ensures { IfOk result (Says (OfTraceFile limits accepted.now.program accepted.now.certs.sections path.now (spec.file_at files.now 2)) outputs.old outputs.new) }
+    ensures { IfOk result (Says (OfTraceFile limits accepted.now.program accepted.now.certs.sections files.now.trace) outputs.old outputs.new) }
 {
-    match trace_in(alloc, path, files, 2, accepted.program()) {
+    match trace_in(alloc, files, accepted.program()) {
         Ok(trace) => {
             let status = run_threads(rt, alloc, accepted, &trace, limits, outputs);
             drop(trace);
@@ -60,16 +58,15 @@ fn run_certified(
     rt: &(impl Threads + Sync),
     alloc: Global,
     certified: Certified,
-    path: &str,
     limits: Limits,
-    files: &[Option<Vec<u8>>],
+    files: &Files<'_>,
     outputs: &mut Outputs,
 ) -> io::Result<u8>
-    ensures { IfOk result (Says (OfRunCerts limits path.now (spec.file_at files.now 2) certified.of_module certified.certs) outputs.old outputs.new) }
+    ensures { IfOk result (Says (OfRunCerts limits files.now.trace certified.of_module certified.certs) outputs.old outputs.new) }
 {
     match check(alloc, certified.of_module, certified.certs) {
         Ok(accepted) => {
-            let status = run_accepted(rt, alloc, &accepted, path, limits, files, outputs);
+            let status = run_accepted(rt, alloc, &accepted, limits, files, outputs);
             drop(accepted);
             status
         }
@@ -81,31 +78,24 @@ fn run_certified(
     }
 }
 
-/// Checks the module of a line against its certificate, and runs it from the beginning of its trace. The first fault counts: of the module and the certificate, each its path and then its text; then what the check
-/// says; then of the trace, its path and then its text; then of its threads.
+/// Checks the module against the certificate, and runs it from the beginning of the trace. The first fault counts: of the module and the
+/// certificate, each its path and then its text; then what the check says; then of the trace, its path and then its text; then of its
+/// threads.
 pub fn run_files(
     rt: &(impl Threads + Sync),
     alloc: Global,
-    asked: RunLine<'_>,
-    files: &[Option<Vec<u8>>],
+    options: RunOptions,
+    files: &Files<'_>,
     outputs: &mut Outputs,
 ) -> io::Result<u8>
-    ensures { IfOk result (Says (OfCertified (OfRunCerts (record { turns = asked.entry.turns; steps = asked.entry.steps }) asked.entry.trace_path.now (spec.file_at files.now 2)) asked.entry.module_path.now asked.entry.certificate_path.now (spec.file_at files.now 0) (spec.file_at files.now 1)) outputs.old outputs.new) }
+    ensures { IfOk result (Says (OfCertified (OfRunCerts (record { turns = options.turns; steps = options.steps }) files.now.trace) files.now.module files.now.certificate) outputs.old outputs.new) }
 {
     let limits = Limits {
-        turns: asked.turns,
-        steps: asked.steps,
+        turns: options.turns,
+        steps: options.steps,
     };
-    match read_certified(alloc, (asked.module_path, asked.certificate_path), files) {
-        Ok(certified) => run_certified(
-            rt,
-            alloc,
-            certified,
-            asked.trace_path,
-            limits,
-            files,
-            outputs,
-        ),
+    match read_certified(alloc, files) {
+        Ok(certified) => run_certified(rt, alloc, certified, limits, files, outputs),
         Err(fault) => unread(&mut outputs.err, fault),
     }
 }

@@ -18,7 +18,7 @@ pub returns-in-Err : goal.returns-in-Err
 returns-in-Err g c =
     let answer = c.in-Err.answer in
     let back = c.in-Err.ensures.given_back in
-    let refusals = c.args.refusals in
+    let refusals = c.args.options.refusals in
     IfOk-weaker c.print_unaccepted.result _ _
     (λ status told. (told.0, not_accepted told.0 (subst (λ (m : Module). OfUnaccepted refusals m c.args.certified.certs told.0) back.0 (subst (λ (certs : Certs). OfUnaccepted refusals answer.of_module certs told.0) back.1 told.1)), told.2))
     c.print_unaccepted.ensures

@@ -8,7 +8,7 @@ pub returns-in-Ok : goal.returns-in-Ok
 returns-in-Ok c =
     let certified = c.in-Ok.certified in
     IfOk-weaker c.migrate_certified-status.result _ _
-    (λ status told. (told.0, of_certified certified.of_module certified.certs told.0 c.in-Ok.ensures.of_module c.in-Ok.ensures.certs (subst (λ (bytes : List ℕ). OfMigrated bytes certified.of_module certified.certs told.0) c.bytes_at.ensures told.1), told.2))
+    (λ status told. (told.0, of_certified certified.of_module certified.certs told.0 c.in-Ok.ensures.of_module c.in-Ok.ensures.certs (subst (λ (bytes : List ℕ). OfMigrated bytes certified.of_module certified.certs told.0) c.known_bytes-bytes.ensures told.1), told.2))
     c.migrate_certified-status.ensures
 
 pub returns-in-Err : goal.returns-in-Err
