@@ -7,7 +7,7 @@ use crate::options::What;
 /// The paths of a command's files, by what each file is. None is a file that the line does not give.
 #[derive(Clone, Copy)]
 pub struct Paths<'a> {
-    pub module: Option<&'a str>,
+    pub of_module: Option<&'a str>,
     pub certificate: Option<&'a str>,
     /// None beside a certificate too, which then has the shapes.
     pub shapes: Option<&'a str>,
@@ -56,7 +56,7 @@ impl Explained {
 impl Paths<'_> {
     /// No file is given.
     pub const NONE: Paths<'static> = Paths {
-        module: None,
+        of_module: None,
         certificate: None,
         shapes: None,
         trace: None,

@@ -150,9 +150,10 @@ pub(crate) fn dgc_command<'a>(alloc: Global) -> Result<Command<'a>, AllocError>
     ensures own { IfOk result (λ command. (out-Command command).has_globals ≡ false) }
 {
     let rows = commands();
+    let rows = commands();
     let mut dgc = bare_command(alloc);
-    for row in rows {
-        let command = match command_of(alloc, row) {
+    for row in &rows {
+        let command = match command_of(alloc, *row) {
             Ok(command) => command,
             Err(refused) => {
                 drop(dgc);

@@ -2,7 +2,7 @@
 ghost use Rattle.std.specs.Prelude.{◌≡◌, IfOk, IfErr, IfSome, IsOk, [], map, option_map};
 ghost use Rattle.clap.specs.Words.{fault_of, found_of, rows_of};
 ghost use Rattle.command_line.specs.Asked.{HasWorkers, texts_of};
-ghost use Rattle.command_line.specs.Grammar.{command_by, command_in, command_of, dgc_app, explained_by, explained_of, IsRefusalOf, paths_of, shapes_beside};
+ghost use Rattle.command_line.specs.Grammar.{dgc_app, explained_by, explained_of, IsRefusalOf, line_by, line_in, line_of, paths_of, shapes_beside};
 
 use crate::command::{Command, Explained, Paths};
 use crate::fault::LineFault;
@@ -28,7 +28,7 @@ fn paths_given<'a>(given: &ArgMatches<'a>) -> Paths<'a>
 {
     let certificate = either_given(given, "CERT", "cert");
     Paths {
-        module: text_given(given, "MODULE"),
+        of_module: text_given(given, "MODULE"),
         certificate,
         shapes: shapes_given(given, certificate),
         trace: text_given(given, "TRACE"),
@@ -61,7 +61,7 @@ fn explained_given(given: &ArgMatches<'_>) -> Option<Explained>
 
 /// The command of this name, from what was given to it.
 fn command_given<'a>(name: &str, given: &ArgMatches<'a>) -> Option<Command<'a>>
-    ensures asked { option_map command_by result ≡ command_of name.now (rows_of (found_of given.now)) }
+    ensures asked { option_map line_by result ≡ line_of name.now (rows_of (found_of given.now)) }
     ensures workers { IfSome result (λ command. HasWorkers command.what) }
 {
     let explained = explained_given(given)?;
@@ -80,7 +80,7 @@ fn hint_of(name: &str, given: &ArgMatches<'_>) -> &'static str {
 
 /// Reads the command line, the program's own name first.
 pub fn read_command<'a>(alloc: Global, words: &'a [&'a str]) -> Result<Command<'a>, LineFault>
-    ensures found { IfOk result (λ command. command_in (map (λ word. word.now) words.now) ≡ Some (command_by command)) }
+    ensures found { IfOk result (λ command. line_in (map (λ word. word.now) words.now) ≡ Some (line_by command)) }
     ensures workers { IfOk result (λ command. HasWorkers command.what) }
     ensures taken { IsOk result → fault_of dgc_app (map (λ word. word.now) words.now) ≡ [] }
     ensures refused { IfErr result (IsRefusalOf (map (λ word. word.now) words.now)) }

@@ -78,20 +78,18 @@ Exit status:
   3  memory was refused
   4  the command line is refused, a file cannot be read, or a write failed";
 
-/// All commands, in the order of the help.
-const COMMANDS: &[CommandRow] = &[
-    CommandRow {
-        name: "check",
-        about: "Checks a module against a certificate",
-        arguments: &[
-            MODULE,
-            CERT,
-            Argument::Workers("How many threads check functions, from 1 to 64; the answer is the same"),
-            EXPLAIN,
-            Argument::Flag("all", "Also print the first refusal of each other block"),
-            Argument::Optional("limit", "N", "With --all: how many refusals are printed at most [default: 20]"),
-        ],
-        after: "\
+const CHECK: CommandRow = CommandRow {
+    name: "check",
+    about: "Checks a module against a certificate",
+    arguments: &[
+        MODULE,
+        CERT,
+        Argument::Workers("How many threads check functions, from 1 to 64; the answer is the same"),
+        EXPLAIN,
+        Argument::Flag("all", "Also print the first refusal of each other block"),
+        Argument::Optional("limit", "N", "With --all: how many refusals are printed at most [default: 20]"),
+    ],
+    after: "\
 Prints `yes F`, where F is the number of defined functions. Or prints `no @f %b I Kn`:
 the function, the block, the place of the instruction in its block (from 0), and the rule
 that it breaks (docs/RULES.md). After K15 come the target block and the line of the
@@ -107,17 +105,18 @@ Exit status:
   2  a text is not read, or the module has no layouts
   3  memory was refused
   4  the command line is refused, a file cannot be read, or a write failed",
-    },
-    CommandRow {
-        name: "make",
-        about: "Makes a certificate of a module",
-        arguments: &[
-            MODULE,
-            SHAPES,
-            Argument::Flag("why", "Where there is no answer, also prints what is refused"),
-            EXPLAIN,
-        ],
-        after: "\
+};
+
+const MAKE: CommandRow = CommandRow {
+    name: "make",
+    about: "Makes a certificate of a module",
+    arguments: &[
+        MODULE,
+        SHAPES,
+        Argument::Flag("why", "Where there is no answer, also prints what is refused"),
+        EXPLAIN,
+    ],
+    after: "\
 Prints a certificate with which `dgc check` says yes. Or prints `no answer`: none of those
 that were tried is accepted. With --why the line that `dgc check` prints for the boldest of
 them goes to standard error, as `no @f %b I Kn`.
@@ -132,17 +131,18 @@ Exit status:
   2  the text is not read, or the module has no layouts
   3  memory was refused
   4  the command line is refused, a file cannot be read, or a write failed",
-    },
-    CommandRow {
-        name: "recheck",
-        about: "Checks a module against a certificate, and again after each of some edits",
-        arguments: &[
-            MODULE,
-            CERT,
-            Argument::File("EDITS", "Edits: functions and sections in the place of others (docs/EDITS.md)"),
-            EXPLAIN,
-        ],
-        after: "\
+};
+
+const RECHECK: CommandRow = CommandRow {
+    name: "recheck",
+    about: "Checks a module against a certificate, and again after each of some edits",
+    arguments: &[
+        MODULE,
+        CERT,
+        Argument::File("EDITS", "Edits: functions and sections in the place of others (docs/EDITS.md)"),
+        EXPLAIN,
+    ],
+    after: "\
 Prints what `dgc check` does. Then puts the texts of each edit in the place of what is there,
 and prints a line for it, as `2 rechecked 3 yes 4`: the edit's number from 1, how many
 functions it concerns, and what `dgc check` prints of the module and the certificate as
@@ -159,21 +159,22 @@ Exit status:
   2  a text is not read, or the module has no layouts
   3  memory was refused
   4  the command line is refused, a file cannot be read, or a write failed",
-    },
-    CommandRow {
-        name: "replay",
-        about: "Makes the steps of a trace, and says which one breaks the run",
-        arguments: &[
-            MODULE,
-            Argument::File("TRACE", "A trace: how a run begins, and who makes its steps (docs/TRACES.md)"),
-            SHAPES,
-            Argument::Flag("steps", "Also tell the steps: the last 40, and those that matter for the break (docs/STEPS.md)"),
-            Argument::Optional("from", "N", "With --steps or --json: the first step that is told, from 1"),
-            Argument::Optional("to", "M", "With --steps or --json: the last step that is told"),
-            Argument::Path("json", "The file to which the steps are written as JSON, a line for each: the last 100000, or those that --from and --to say"),
-            EXPLAIN,
-        ],
-        after: "\
+};
+
+const REPLAY: CommandRow = CommandRow {
+    name: "replay",
+    about: "Makes the steps of a trace, and says which one breaks the run",
+    arguments: &[
+        MODULE,
+        Argument::File("TRACE", "A trace: how a run begins, and who makes its steps (docs/TRACES.md)"),
+        SHAPES,
+        Argument::Flag("steps", "Also tell the steps: the last 40, and those that matter for the break (docs/STEPS.md)"),
+        Argument::Optional("from", "N", "With --steps or --json: the first step that is told, from 1"),
+        Argument::Optional("to", "M", "With --steps or --json: the last step that is told"),
+        Argument::Path("json", "The file to which the steps are written as JSON, a line for each: the last 100000, or those that --from and --to say"),
+        EXPLAIN,
+    ],
+    after: "\
 Each step is one atomic step of a thread or of the collector. Prints the first step after
 which the run is broken, who made it, and why, as `broken 32 t 0 touch-blue 1`. Or prints
 `sound 35`, a line for each thread, and a line with the counts. docs/TRACES.md has each line.
@@ -190,25 +191,26 @@ Exit status:
   2  a text is not read, the module has no layouts, or a thread may not begin
   3  memory was refused
   4  the command line is refused, a file cannot be read, or a write failed",
-    },
-    CommandRow {
-        name: "soak",
-        about: "Makes S steps for each of N seeds, and says which one breaks the run",
-        arguments: &[
-            MODULE,
-            Argument::File("TRACE", "A trace: how each run begins; its steps are ignored (docs/TRACES.md)"),
-            SHAPES,
-            Argument::Number("seeds", "N", "How many seeds; without --first they are 0 to N-1"),
-            Argument::Number("steps", "S", STEPS),
-            Argument::NumberOr("first", "0", "F", "The first seed"),
-            Argument::Path("save", "The file to which the broken seed's steps up to its break are written, as a trace"),
-            Argument::Flag("bias", "Draw schedules with few switches between threads and the collector"),
-            SECONDS,
-            Argument::Flag("shrink", "Make the broken seed's steps fewer, by replaying shorter traces"),
-            Argument::Optional("tries", "N", "With --shrink: how many traces are replayed for that at most [default: 10000]"),
-            EXPLAIN,
-        ],
-        after: "\
+};
+
+const SOAK: CommandRow = CommandRow {
+    name: "soak",
+    about: "Makes S steps for each of N seeds, and says which one breaks the run",
+    arguments: &[
+        MODULE,
+        Argument::File("TRACE", "A trace: how each run begins; its steps are ignored (docs/TRACES.md)"),
+        SHAPES,
+        Argument::Number("seeds", "N", "How many seeds; without --first they are 0 to N-1"),
+        Argument::Number("steps", "S", STEPS),
+        Argument::NumberOr("first", "0", "F", "The first seed"),
+        Argument::Path("save", "The file to which the broken seed's steps up to its break are written, as a trace"),
+        Argument::Flag("bias", "Draw schedules with few switches between threads and the collector"),
+        SECONDS,
+        Argument::Flag("shrink", "Make the broken seed's steps fewer, by replaying shorter traces"),
+        Argument::Optional("tries", "N", "With --shrink: how many traces are replayed for that at most [default: 10000]"),
+        EXPLAIN,
+    ],
+    after: "\
 Each seed draws who makes the next step: a thread or the collector. Prints `sound N seeds`.
 Or prints the least seed whose run is broken, the first step after which it is broken, who
 made that step, and why, as `broken seed 103 221 c reach-blue 3`. N, S and F are decimal
@@ -233,21 +235,22 @@ Exit status:
   2  a text is not read, the module has no layouts, or a thread may not begin
   3  memory was refused
   4  the command line is refused, a file cannot be read, or a write failed",
-    },
-    CommandRow {
-        name: "hunt",
-        about: "Searches for a short schedule that breaks a run of a module",
-        arguments: &[
-            MODULE,
-            SHAPES,
-            Argument::Path("cert", "A certificate, which then has the shapes; arguments keep what it promises of parameters"),
-            Argument::NumberOr("seeds", "10000", "N", "How many seeds"),
-            Argument::NumberOr("steps", "1000", "S", STEPS),
-            Argument::NumberOr("tries", "10000", "N", "How many traces are replayed at most to make a broken one shorter"),
-            SECONDS,
-            Argument::Path("save", "The file to which a broken trace is written"),
-        ],
-        after: "\
+};
+
+const HUNT: CommandRow = CommandRow {
+    name: "hunt",
+    about: "Searches for a short schedule that breaks a run of a module",
+    arguments: &[
+        MODULE,
+        SHAPES,
+        Argument::Path("cert", "A certificate, which then has the shapes; arguments keep what it promises of parameters"),
+        Argument::NumberOr("seeds", "10000", "N", "How many seeds"),
+        Argument::NumberOr("steps", "1000", "S", STEPS),
+        Argument::NumberOr("tries", "10000", "N", "How many traces are replayed at most to make a broken one shorter"),
+        SECONDS,
+        Argument::Path("save", "The file to which a broken trace is written"),
+    ],
+    after: "\
 Needs no trace. Every 64 seeds the next one draws a start: one to three threads at functions
 that take no reference, with integers of their types, and pools of one to four cells. Each
 seed draws S steps, many of them with few switches between threads and the collector. The
@@ -267,19 +270,20 @@ Exit status:
   2  a text is not read, or the module has no layouts
   3  memory was refused
   4  the command line is refused, a file cannot be read, or a write failed",
-    },
-    CommandRow {
-        name: "run",
-        about: "Runs a checked module on real threads, beside the collector",
-        arguments: &[
-            MODULE,
-            CERT,
-            Argument::File("TRACE", "A trace: how the run begins; its steps are ignored (docs/TRACES.md)"),
-            Argument::NumberOr("turns", "1000000", "N", "How many steps the collector makes at most"),
-            Argument::NumberOr("steps", "1000000", "S", "After how many of its steps a thread is stopped"),
-            EXPLAIN,
-        ],
-        after: "\
+};
+
+const RUN: CommandRow = CommandRow {
+    name: "run",
+    about: "Runs a checked module on real threads, beside the collector",
+    arguments: &[
+        MODULE,
+        CERT,
+        Argument::File("TRACE", "A trace: how the run begins; its steps are ignored (docs/TRACES.md)"),
+        Argument::NumberOr("turns", "1000000", "N", "How many steps the collector makes at most"),
+        Argument::NumberOr("steps", "1000000", "S", "After how many of its steps a thread is stopped"),
+        EXPLAIN,
+    ],
+    after: "\
 Checks the module against the certificate. Where that says no, prints what `dgc check` does.
 Otherwise each thread of the trace runs on a thread of the machine, and the collector on one
 more. They share one heap. Prints a line for each thread, as `t 0 returned`, and then
@@ -295,29 +299,31 @@ Exit status:
   2  a text is not read, the module has no layouts, or a thread may not begin
   3  memory was refused
   4  the command line is refused, a file cannot be read, or a write failed",
-    },
-    CommandRow {
-        name: "explain",
-        about: "Tells of a code that is printed of a refusal or a fault",
-        arguments: &[
-            Argument::MayBeGiven("CODE", "A code, as K6; in lower case too. Without it all codes are listed"),
-        ],
-        after: "\
+};
+
+const EXPLAIN_CODE: CommandRow = CommandRow {
+    name: "explain",
+    about: "Tells of a code that is printed of a refusal or a fault",
+    arguments: &[
+        Argument::MayBeGiven("CODE", "A code, as K6; in lower case too. Without it all codes are listed"),
+    ],
+    after: "\
 Prints the rule, why the collector or the check needs it, a refused example and an accepted
 one (docs/RULES.md). Or, without a code, prints a line for each code.
 
 Exit status:
   0  the code was explained, or the codes were listed
   4  no code is named so, the command line is refused, or a write failed",
-    },
-    CommandRow {
-        name: "migrate",
-        about: "Turns a module with typed pointers, or its certificate, into opaque text",
-        arguments: &[
-            MODULE,
-            Argument::MayBeGiven("CERT", "A certificate of the module; without it the module is printed"),
-        ],
-        after: "\
+};
+
+const MIGRATE: CommandRow = CommandRow {
+    name: "migrate",
+    about: "Turns a module with typed pointers, or its certificate, into opaque text",
+    arguments: &[
+        MODULE,
+        Argument::MayBeGiven("CERT", "A certificate of the module; without it the module is printed"),
+    ],
+    after: "\
 Without CERT prints the module with `ptr` for each typed pointer, and with the global for each
 bitcast of one. With CERT prints the certificate of that text: what the types said stands in
 it as shapes and as `ref L` of parameters and results. Files without a typed pointer are
@@ -332,12 +338,21 @@ Exit status:
   2  a text is not read, or a pointer has no shape
   3  memory was refused
   4  the command line is refused, a file cannot be read, or a write failed",
-    },
-];
+};
 
 /// All commands, in the order of the help.
-pub(crate) fn commands() -> &'static [CommandRow]
-    ensures { map app_of_row result.now ≡ command_apps }
+pub(crate) fn commands() -> [&'static CommandRow; 9]
+    ensures { map (λ row. app_of_row row.now) result ≡ command_apps }
 {
-    COMMANDS
+    [
+        &CHECK,
+        &MAKE,
+        &RECHECK,
+        &REPLAY,
+        &SOAK,
+        &HUNT,
+        &RUN,
+        &EXPLAIN_CODE,
+        &MIGRATE,
+    ]
 }
