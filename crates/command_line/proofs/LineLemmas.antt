@@ -7,7 +7,7 @@ use Rattle.std.specs.Str.Parse.{ParsesUnsigned, digits_value, without_leading_pl
 use Rattle.std.proofs.Common.{inl, inr, subst, true≢false}
 use Rattle.std.proofs.lemmas.Str.Parse.{IsNumeralModel, numerals_by_value, tells_all_ascii_digits}
 use Rattle.std.specs.Box.{box_value}
-use Rattle.clap.specs.Words.{App, HasKind, ReadsOne, Row, Text, fault_of, found_of, is_simple, is_simple_and_free, kind_of, one_text, rows_of, subcommand_name_of, subcommand_of, subcommand_rows_of, with_subcommand}
+use Rattle.clap.specs.Words.{App, HasKind, ReadsOne, Row, Text, fault_of, found_of, is_simple, is_simple_and_free, kind_of, one_text, rows_of, subcommand_name_of, subcommand_rows_of, with_subcommand}
 use Rattle.clap.specs.declared.parser.matches.ArgMatches.{ArgMatches}
 use Rattle.clap.specs.declared.parser.matches.ArgMatches.TheViews.{out-ArgMatches, out-SubCommand}
 use Rattle.clap.specs.declared.parser.matches.Found.{Found}
@@ -18,7 +18,7 @@ use Rattle.command_line.specs.Asked.{fault_of_error, is_memory_kind}
 use Rattle.command_line.specs.declared.command.Command.{Command}
 use Rattle.command_line.specs.declared.fault.LineFault.{LineFault}
 use Rattle.command_line.specs.declared.fault.LineFault.TheVariants.{Memory, Words}
-use Rattle.command_line.specs.Grammar.{AskedLine, IsRefusalOf, dgc_app, line_found, line_in, line_of, number_in, number_of, with_commands}
+use Rattle.command_line.specs.Grammar.{AskedLine, IsRefusalOf, dgc_app, line_found, line_of, number_in, number_of, with_commands}
 
 -- whether the digits write a number below 2 to the 32
 abbrev is_number : Text → Bool
@@ -98,14 +98,14 @@ name_and_rows name_in rows_in (Some x) name rows named given =
     let rows_are : rows ≡ rows_in x = ap (λ o. unwrap_or o rows) given in
     ap₂ (λ n r. Some (n, r)) (sym name_is) (sym rows_are)
 
--- the words ask for what the subcommand with its rows asks for
-pub line_from : (words : List Text) (m : ArgMatches) (name : Text) (rows : List Row) (line : Option AskedLine)
-    → subcommand_rows_of m ≡ subcommand_of dgc_app words → Some name ≡ subcommand_name_of m → Some rows ≡ option_map (λ (p : Text × List Row). p.1) (subcommand_rows_of m)
-    → line ≡ line_of name rows → line_in words ≡ line
-line_from words m name rows line of_words named given gives =
+-- what was found asks for what the name with its rows asks for
+pub line_from : (m : ArgMatches) (name : Text) (rows : List Row) (line : Option AskedLine)
+    → Some name ≡ subcommand_name_of m → Some rows ≡ option_map (λ (p : Text × List Row). p.1) (subcommand_rows_of m)
+    → line ≡ line_of name rows → line_found (subcommand_rows_of m) ≡ line
+line_from m name rows line named given gives =
     let entered : subcommand_rows_of m ≡ Some (name, rows) =
     name_and_rows (λ b. (out-SubCommand (box_value b)).name.now) (λ b. rows_of (found_of (out-SubCommand (box_value b)).matches)) (out-ArgMatches m).subcommand name rows named given in
-    sym (ap line_found of_words) ∙ ap line_found entered ∙ sym gives
+    ap line_found entered ∙ sym gives
 
 -- ---- the table of commands
 

@@ -2,6 +2,7 @@
 ghost use Rattle.std.specs.Prelude.{◌≡◌, IfOk, false, codes, map};
 ghost use Rattle.clap.specs.Words.{app_of, new_app, new_rule, rule_of};
 ghost use Rattle.clap.specs.declared.builder.command.Command.TheViews.{out-Command};
+ghost use Rattle.command_line.specs.Grammar as spec;
 ghost use Rattle.command_line.specs.Grammar.{app_of_row, bare_app, default_rule, dgc_app, explain_rule, file_rule, flag_rule, number_rule, optional_rule, rule_of_argument, valued_rule, workers_rule};
 
 use crate::table::{ABOUT, Argument, CommandRow, STATUSES, commands};
@@ -144,23 +145,34 @@ fn bare_command<'a>(alloc: Global) -> Command<'a>
         .subcommand_required(true)
 }
 
+/// A program with further commands, those of these rows.
+fn with_commands<'a>(
+    alloc: Global,
+    program: Command<'a>,
+    rows: &[&'static CommandRow],
+) -> Result<Command<'a>, AllocError>
+    requires { (out-Command program).has_globals ≡ false }
+    ensures app { IfOk result (λ whole. app_of whole ≡ spec.with_commands (app_of program.entry) (map (λ row. app_of_row row.now) rows.now)) }
+    ensures own { IfOk result (λ whole. (out-Command whole).has_globals ≡ false) }
+{
+    let mut whole = program;
+    for row in rows {
+        let command = match command_of(alloc, *row) {
+            Ok(command) => command,
+            Err(refused) => {
+                drop(whole);
+                return Err(refused);
+            }
+        };
+        whole = whole.subcommand(command)?;
+    }
+    Ok(whole)
+}
+
 /// The whole grammar.
 pub(crate) fn dgc_command<'a>(alloc: Global) -> Result<Command<'a>, AllocError>
     ensures app { IfOk result (λ command. app_of command ≡ dgc_app) }
     ensures own { IfOk result (λ command. (out-Command command).has_globals ≡ false) }
 {
-    let rows = commands();
-    let rows = commands();
-    let mut dgc = bare_command(alloc);
-    for row in &rows {
-        let command = match command_of(alloc, *row) {
-            Ok(command) => command,
-            Err(refused) => {
-                drop(dgc);
-                return Err(refused);
-            }
-        };
-        dgc = dgc.subcommand(command)?;
-    }
-    Ok(dgc)
+    with_commands(alloc, bare_command(alloc), commands().as_slice())
 }

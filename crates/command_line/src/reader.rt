@@ -1,8 +1,8 @@
 //! How a command line is read.
 ghost use Rattle.std.specs.Prelude.{◌≡◌, IfOk, IfErr, IfSome, IsOk, [], map, option_map};
-ghost use Rattle.clap.specs.Words.{fault_of, found_of, rows_of};
+ghost use Rattle.clap.specs.Words.{fault_of, found_of, rows_of, subcommand_rows_of};
 ghost use Rattle.command_line.specs.Asked.{HasWorkers, texts_of};
-ghost use Rattle.command_line.specs.Grammar.{dgc_app, explained_by, explained_of, IsRefusalOf, line_by, line_in, line_of, paths_of, shapes_beside};
+ghost use Rattle.command_line.specs.Grammar.{dgc_app, explained_by, explained_of, IsRefusalOf, line_by, line_found, line_in, line_of, paths_of, shapes_beside};
 
 use crate::command::{Command, Explained, Paths};
 use crate::fault::LineFault;
@@ -78,6 +78,21 @@ fn hint_of(name: &str, given: &ArgMatches<'_>) -> &'static str {
     lack_of(name, given).unwrap_or("--explain takes always, auto or never")
 }
 
+/// The command that was found, or what is lacking.
+fn command_found<'a>(matches: &ArgMatches<'a>) -> Result<Command<'a>, &'static str>
+    ensures found { IfOk result (λ command. line_found (subcommand_rows_of matches.now) ≡ Some (line_by command)) }
+    ensures workers { IfOk result (λ command. HasWorkers command.what) }
+    ensures lacks { IfErr result (λ _. line_found (subcommand_rows_of matches.now) ≡ None) }
+{
+    let Some((name, given)) = matches.subcommand() else {
+        return Err("no command is given");
+    };
+    match command_given(name, given) {
+        Some(command) => Ok(command),
+        None => Err(hint_of(name, given)),
+    }
+}
+
 /// Reads the command line, the program's own name first.
 pub fn read_command<'a>(alloc: Global, words: &'a [&'a str]) -> Result<Command<'a>, LineFault>
     ensures found { IfOk result (λ command. line_in (map (λ word. word.now) words.now) ≡ Some (line_by command)) }
@@ -86,15 +101,10 @@ pub fn read_command<'a>(alloc: Global, words: &'a [&'a str]) -> Result<Command<'
     ensures refused { IfErr result (IsRefusalOf (map (λ word. word.now) words.now)) }
 {
     let matches = dgc_command(alloc)?.try_get_matches_from(words)?;
-    let Some((name, given)) = matches.subcommand() else {
-        drop(matches);
-        return Err(LineFault::NoCommand("no command is given"));
-    };
-    let command = command_given(name, given);
-    let hint = hint_of(name, given);
+    let found = command_found(&matches);
     drop(matches);
-    match command {
-        Some(command) => Ok(command),
-        None => Err(LineFault::NoCommand(hint)),
+    match found {
+        Ok(command) => Ok(command),
+        Err(lack) => Err(LineFault::NoCommand(lack)),
     }
 }
