@@ -11,8 +11,8 @@ use ir_tokens::{TEXT_LIMIT, read_tokens};
 use layout::Program;
 use messages::{Look, Message, NamedText, Pen};
 use module_check::{Reason, UnderCheck, fault_in_module, first_refusals};
-use reports::{Certified, Unread, read_certified};
-use std::alloc::{AllocError, Global};
+use reports::{Certified, File, Files, Unread, bytes_of, path_of, read_certified};
+use std::alloc::Global;
 use std::io;
 use std::io::Write;
 
@@ -34,17 +34,16 @@ enum Asked<'a> {
     Run(NamedText<'a>),
 }
 
-/// A file of the line, with its path.
-pub(crate) fn named<'a>(
-    path: &'a str,
-    files: &'a [Option<Vec<u8>>],
-    place: usize,
-) -> NamedText<'a> {
-    let text: &[u8] = match files.get(place) {
-        Some(Some(bytes)) => bytes.as_slice(),
-        _ => &[],
+/// A file's path and text, empty where it is not given.
+pub(crate) fn named<'a>(file: Option<File<'a>>) -> NamedText<'a> {
+    let text: &[u8] = match bytes_of(file) {
+        Some(bytes) => bytes,
+        None => &[],
     };
-    NamedText { path, text }
+    NamedText {
+        path: path_of(file),
+        text,
+    }
 }
 
 /// Explains each of some refusals in a program, with a blank line between.
@@ -197,19 +196,13 @@ pub(crate) fn put_unread(pen: Pen, out: &mut Message, texts: CheckedTexts, unrea
     }
 }
 
-/// What is told of the files of these paths, a module and a certificate, and of a trace.
-fn put_files(
-    pen: Pen,
-    out: &mut Message,
-    paths: (&str, &str),
-    asked: Asked,
-    files: &[Option<Vec<u8>>],
-) {
+/// What is told of the files: a module and a certificate, and a trace where that is asked for.
+fn put_files(pen: Pen, out: &mut Message, asked: Asked, files: &Files<'_>) {
     let checked = CheckedTexts {
-        of_module: named(paths.0, files, 0),
-        of_certs: named(paths.1, files, 1),
+        of_module: named(files.module),
+        of_certs: named(files.certificate),
     };
-    match read_certified(pen.alloc, paths, files) {
+    match read_certified(pen.alloc, files) {
         Ok(certified) => put_checked(pen, out, AskedTexts { checked, asked }, certified),
         Err(unread) => {
             put_unread(pen, out, checked, &unread);
@@ -218,65 +211,65 @@ fn put_files(
     }
 }
 
-/// The text of what is told of the files of these paths, a module and a certificate, and of a trace.
-fn text_of_check(
-    pen: Pen,
-    paths: (&str, &str),
+/// Writes what is told of the files, or that there is no memory for it.
+fn explain_asked<E: Write>(
+    alloc: Global,
+    look: Look,
     asked: Asked,
-    files: &[Option<Vec<u8>>],
-) -> Result<Vec<u8>, AllocError> {
-    let mut out = Message::new(pen.alloc);
-    put_files(pen, &mut out, paths, asked, files);
-    out.finish()
+    files: &Files<'_>,
+    err: &mut E,
+) -> io::Result<()>
+    ensures { OnOk result (GivesText (E.contents err.old) (E.contents err.new)) }
+{
+    let mut out = Message::new(alloc);
+    put_files(Pen { alloc, look }, &mut out, asked, files);
+    write_told(out, err)
 }
 
-/// Explains why the module of the first path is not accepted with the certificate of the second. Nothing is told where it is.
+/// Writes a text, or that there is no memory for it.
+pub(crate) fn write_told<E: Write>(out: Message, err: &mut E) -> io::Result<()>
+    ensures { OnOk result (GivesText (E.contents err.old) (E.contents err.new)) }
+{
+    match out.finish() {
+        Ok(text) => err.write_all(text.as_slice()),
+        Err(_) => writeln!(err, "no memory to explain it"),
+    }
+}
+
+/// Explains why the module is not accepted with the certificate. Nothing is told where it is.
 pub fn explain_check<E: Write>(
     alloc: Global,
     look: Look,
-    paths: (&str, &str),
-    files: &[Option<Vec<u8>>],
+    files: &Files<'_>,
     err: &mut E,
 ) -> io::Result<()>
     ensures { OnOk result (GivesText (E.contents err.old) (E.contents err.new)) }
 {
-    match text_of_check(Pen { alloc, look }, paths, Asked::First, files) {
-        Ok(text) => err.write_all(text.as_slice()),
-        Err(_) => writeln!(err, "no memory to explain it"),
-    }
+    explain_asked(alloc, look, Asked::First, files, err)
 }
 
-/// Explains the first refusal of each block of the module of the first path with the certificate of the second, at most this many, with a
-/// blank line between. Nothing is told where it is accepted.
+/// Explains the first refusal of each block of the module with the certificate, at most this many, with a blank line between. Nothing is
+/// told where it is accepted.
 pub fn explain_check_of_blocks<E: Write>(
     alloc: Global,
     look: Look,
-    paths: (&str, &str),
     limit: u32,
-    files: &[Option<Vec<u8>>],
+    files: &Files<'_>,
     err: &mut E,
 ) -> io::Result<()>
     ensures { OnOk result (GivesText (E.contents err.old) (E.contents err.new)) }
 {
-    match text_of_check(Pen { alloc, look }, paths, Asked::OfBlocks(limit), files) {
-        Ok(text) => err.write_all(text.as_slice()),
-        Err(_) => writeln!(err, "no memory to explain it"),
-    }
+    explain_asked(alloc, look, Asked::OfBlocks(limit), files, err)
 }
 
-/// Explains why the module of the first path is not accepted with the certificate of the second, or why the third is no trace of it.
+/// Explains why the module is not accepted with the certificate, or why the trace is none of it.
 pub fn explain_run<E: Write>(
     alloc: Global,
     look: Look,
-    paths: (&str, &str, &str),
-    files: &[Option<Vec<u8>>],
+    files: &Files<'_>,
     err: &mut E,
 ) -> io::Result<()>
     ensures { OnOk result (GivesText (E.contents err.old) (E.contents err.new)) }
 {
-    let asked = Asked::Run(named(paths.2, files, 2));
-    match text_of_check(Pen { alloc, look }, (paths.0, paths.1), asked, files) {
-        Ok(text) => err.write_all(text.as_slice()),
-        Err(_) => writeln!(err, "no memory to explain it"),
-    }
+    explain_asked(alloc, look, Asked::Run(named(files.trace)), files, err)
 }
