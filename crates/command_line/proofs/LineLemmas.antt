@@ -65,11 +65,11 @@ number_from {E} G held name r only none value = go (one_text held name) refl ∙
 
 -- the grammar is one whose meaning `clap` states whole
 pub is_simple_and_free_dgc : is_simple_and_free dgc_app ≡ true
-unfolding clap_on_literals
+unfolding clap_on_literals with_commands
 is_simple_and_free_dgc = refl
 
 pub is_simple_dgc : is_simple dgc_app ≡ true
-unfolding clap_on_literals
+unfolding clap_on_literals with_commands
 is_simple_dgc = refl
 
 -- an error of one of these kinds is a refusal of the words
@@ -112,5 +112,11 @@ line_from m name rows line named given gives =
 -- one more command after others
 pub with_commands_more : (app : App) (commands : List App) (command : App)
     → with_commands app (commands ++ command ∷ []) ≡ with_subcommand (with_commands app commands) command.top
+unfolding with_commands
 with_commands_more app [] command = refl
 with_commands_more app (first ∷ commands) command = with_commands_more (with_subcommand app first.top) commands command
+
+-- none after a program
+pub with_commands_none : (app : App) → with_commands app [] ≡ app
+unfolding with_commands
+with_commands_none app = refl

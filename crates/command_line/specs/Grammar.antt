@@ -110,23 +110,23 @@ command_apps =
     ∷
     -- replay MODULE TRACE [--shapes FILE] [--steps] [--from N] [--to M] [--json FILE] [--explain WHEN]
     command_app (codes "replay")
-        (file_rule (codes "MODULE") ∷ file_rule (codes "TRACE") ∷ valued_rule (codes "shapes") ∷ flag_rule (codes "steps")
-        ∷ optional_rule (codes "from") ∷ optional_rule (codes "to") ∷ valued_rule (codes "json") ∷ explain_rule ∷ [])
+    (file_rule (codes "MODULE") ∷ file_rule (codes "TRACE") ∷ valued_rule (codes "shapes") ∷ flag_rule (codes "steps")
+    ∷ optional_rule (codes "from") ∷ optional_rule (codes "to") ∷ valued_rule (codes "json") ∷ explain_rule ∷ [])
     ∷
     -- soak MODULE TRACE [--shapes FILE] --seeds N --steps S [--first F] [--save FILE] [--bias] [--seconds N] [--shrink] [--tries N] [--explain WHEN]
     command_app (codes "soak")
-        (file_rule (codes "MODULE") ∷ file_rule (codes "TRACE") ∷ valued_rule (codes "shapes") ∷ number_rule (codes "seeds") ∷ number_rule (codes "steps") ∷ default_rule (codes "first") (codes "0")
-        ∷ valued_rule (codes "save") ∷ flag_rule (codes "bias") ∷ optional_rule (codes "seconds") ∷ flag_rule (codes "shrink") ∷ optional_rule (codes "tries") ∷ explain_rule ∷ [])
+    (file_rule (codes "MODULE") ∷ file_rule (codes "TRACE") ∷ valued_rule (codes "shapes") ∷ number_rule (codes "seeds") ∷ number_rule (codes "steps") ∷ default_rule (codes "first") (codes "0")
+    ∷ valued_rule (codes "save") ∷ flag_rule (codes "bias") ∷ optional_rule (codes "seconds") ∷ flag_rule (codes "shrink") ∷ optional_rule (codes "tries") ∷ explain_rule ∷ [])
     ∷
     -- hunt MODULE [--shapes FILE] [--cert FILE] [--seeds N] [--steps S] [--tries N] [--seconds N] [--save FILE]
     command_app (codes "hunt")
-        (file_rule (codes "MODULE") ∷ valued_rule (codes "shapes") ∷ valued_rule (codes "cert") ∷ default_rule (codes "seeds") (codes "10000")
-        ∷ default_rule (codes "steps") (codes "1000") ∷ default_rule (codes "tries") (codes "10000") ∷ optional_rule (codes "seconds") ∷ valued_rule (codes "save") ∷ [])
+    (file_rule (codes "MODULE") ∷ valued_rule (codes "shapes") ∷ valued_rule (codes "cert") ∷ default_rule (codes "seeds") (codes "10000")
+    ∷ default_rule (codes "steps") (codes "1000") ∷ default_rule (codes "tries") (codes "10000") ∷ optional_rule (codes "seconds") ∷ valued_rule (codes "save") ∷ [])
     ∷
     -- run MODULE CERT TRACE [--turns N] [--steps S] [--explain WHEN]
     command_app (codes "run")
-        (file_rule (codes "MODULE") ∷ file_rule (codes "CERT") ∷ file_rule (codes "TRACE")
-        ∷ default_rule (codes "turns") (codes "1000000") ∷ default_rule (codes "steps") (codes "1000000") ∷ explain_rule ∷ [])
+    (file_rule (codes "MODULE") ∷ file_rule (codes "CERT") ∷ file_rule (codes "TRACE")
+    ∷ default_rule (codes "turns") (codes "1000000") ∷ default_rule (codes "steps") (codes "1000000") ∷ explain_rule ∷ [])
     ∷
     -- explain [CODE]
     command_app (codes "explain") (new_rule (codes "CODE") ∷ [])
@@ -140,7 +140,7 @@ abbrev pub bare_app : App
 bare_app = record { top = record (new_app (codes "dgc")).top { has_version = true; subcommand_required = true }; subs = [] }
 
 -- a command that has these ones too
-pub with_commands : App → List App → App
+unfoldable pub with_commands : App → List App → App
 with_commands app [] = app
 with_commands app (command ∷ commands) = with_commands (with_subcommand app command.top) commands
 

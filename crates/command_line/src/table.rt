@@ -87,7 +87,11 @@ const CHECK: CommandRow = CommandRow {
         Argument::Workers("How many threads check functions, from 1 to 64; the answer is the same"),
         EXPLAIN,
         Argument::Flag("all", "Also print the first refusal of each other block"),
-        Argument::Optional("limit", "N", "With --all: how many refusals are printed at most [default: 20]"),
+        Argument::Optional(
+            "limit",
+            "N",
+            "With --all: how many refusals are printed at most [default: 20]",
+        ),
     ],
     after: "\
 Prints `yes F`, where F is the number of defined functions. Or prints `no @f %b I Kn`:
@@ -113,7 +117,10 @@ const MAKE: CommandRow = CommandRow {
     arguments: &[
         MODULE,
         SHAPES,
-        Argument::Flag("why", "Where there is no answer, also prints what is refused"),
+        Argument::Flag(
+            "why",
+            "Where there is no answer, also prints what is refused",
+        ),
         EXPLAIN,
     ],
     after: "\
@@ -139,7 +146,10 @@ const RECHECK: CommandRow = CommandRow {
     arguments: &[
         MODULE,
         CERT,
-        Argument::File("EDITS", "Edits: functions and sections in the place of others (docs/EDITS.md)"),
+        Argument::File(
+            "EDITS",
+            "Edits: functions and sections in the place of others (docs/EDITS.md)",
+        ),
         EXPLAIN,
     ],
     after: "\
@@ -166,12 +176,29 @@ const REPLAY: CommandRow = CommandRow {
     about: "Makes the steps of a trace, and says which one breaks the run",
     arguments: &[
         MODULE,
-        Argument::File("TRACE", "A trace: how a run begins, and who makes its steps (docs/TRACES.md)"),
+        Argument::File(
+            "TRACE",
+            "A trace: how a run begins, and who makes its steps (docs/TRACES.md)",
+        ),
         SHAPES,
-        Argument::Flag("steps", "Also tell the steps: the last 40, and those that matter for the break (docs/STEPS.md)"),
-        Argument::Optional("from", "N", "With --steps or --json: the first step that is told, from 1"),
-        Argument::Optional("to", "M", "With --steps or --json: the last step that is told"),
-        Argument::Path("json", "The file to which the steps are written as JSON, a line for each: the last 100000, or those that --from and --to say"),
+        Argument::Flag(
+            "steps",
+            "Also tell the steps: the last 40, and those that matter for the break (docs/STEPS.md)",
+        ),
+        Argument::Optional(
+            "from",
+            "N",
+            "With --steps or --json: the first step that is told, from 1",
+        ),
+        Argument::Optional(
+            "to",
+            "M",
+            "With --steps or --json: the last step that is told",
+        ),
+        Argument::Path(
+            "json",
+            "The file to which the steps are written as JSON, a line for each: the last 100000, or those that --from and --to say",
+        ),
         EXPLAIN,
     ],
     after: "\
@@ -198,16 +225,36 @@ const SOAK: CommandRow = CommandRow {
     about: "Makes S steps for each of N seeds, and says which one breaks the run",
     arguments: &[
         MODULE,
-        Argument::File("TRACE", "A trace: how each run begins; its steps are ignored (docs/TRACES.md)"),
+        Argument::File(
+            "TRACE",
+            "A trace: how each run begins; its steps are ignored (docs/TRACES.md)",
+        ),
         SHAPES,
-        Argument::Number("seeds", "N", "How many seeds; without --first they are 0 to N-1"),
+        Argument::Number(
+            "seeds",
+            "N",
+            "How many seeds; without --first they are 0 to N-1",
+        ),
         Argument::Number("steps", "S", STEPS),
         Argument::NumberOr("first", "0", "F", "The first seed"),
-        Argument::Path("save", "The file to which the broken seed's steps up to its break are written, as a trace"),
-        Argument::Flag("bias", "Draw schedules with few switches between threads and the collector"),
+        Argument::Path(
+            "save",
+            "The file to which the broken seed's steps up to its break are written, as a trace",
+        ),
+        Argument::Flag(
+            "bias",
+            "Draw schedules with few switches between threads and the collector",
+        ),
         SECONDS,
-        Argument::Flag("shrink", "Make the broken seed's steps fewer, by replaying shorter traces"),
-        Argument::Optional("tries", "N", "With --shrink: how many traces are replayed for that at most [default: 10000]"),
+        Argument::Flag(
+            "shrink",
+            "Make the broken seed's steps fewer, by replaying shorter traces",
+        ),
+        Argument::Optional(
+            "tries",
+            "N",
+            "With --shrink: how many traces are replayed for that at most [default: 10000]",
+        ),
         EXPLAIN,
     ],
     after: "\
@@ -243,10 +290,18 @@ const HUNT: CommandRow = CommandRow {
     arguments: &[
         MODULE,
         SHAPES,
-        Argument::Path("cert", "A certificate, which then has the shapes; arguments keep what it promises of parameters"),
+        Argument::Path(
+            "cert",
+            "A certificate, which then has the shapes; arguments keep what it promises of parameters",
+        ),
         Argument::NumberOr("seeds", "10000", "N", "How many seeds"),
         Argument::NumberOr("steps", "1000", "S", STEPS),
-        Argument::NumberOr("tries", "10000", "N", "How many traces are replayed at most to make a broken one shorter"),
+        Argument::NumberOr(
+            "tries",
+            "10000",
+            "N",
+            "How many traces are replayed at most to make a broken one shorter",
+        ),
         SECONDS,
         Argument::Path("save", "The file to which a broken trace is written"),
     ],
@@ -278,9 +333,22 @@ const RUN: CommandRow = CommandRow {
     arguments: &[
         MODULE,
         CERT,
-        Argument::File("TRACE", "A trace: how the run begins; its steps are ignored (docs/TRACES.md)"),
-        Argument::NumberOr("turns", "1000000", "N", "How many steps the collector makes at most"),
-        Argument::NumberOr("steps", "1000000", "S", "After how many of its steps a thread is stopped"),
+        Argument::File(
+            "TRACE",
+            "A trace: how the run begins; its steps are ignored (docs/TRACES.md)",
+        ),
+        Argument::NumberOr(
+            "turns",
+            "1000000",
+            "N",
+            "How many steps the collector makes at most",
+        ),
+        Argument::NumberOr(
+            "steps",
+            "1000000",
+            "S",
+            "After how many of its steps a thread is stopped",
+        ),
         EXPLAIN,
     ],
     after: "\
@@ -304,9 +372,10 @@ Exit status:
 const EXPLAIN_CODE: CommandRow = CommandRow {
     name: "explain",
     about: "Tells of a code that is printed of a refusal or a fault",
-    arguments: &[
-        Argument::MayBeGiven("CODE", "A code, as K6; in lower case too. Without it all codes are listed"),
-    ],
+    arguments: &[Argument::MayBeGiven(
+        "CODE",
+        "A code, as K6; in lower case too. Without it all codes are listed",
+    )],
     after: "\
 Prints the rule, why the collector or the check needs it, a refused example and an accepted
 one (docs/RULES.md). Or, without a code, prints a line for each code.
@@ -321,7 +390,10 @@ const MIGRATE: CommandRow = CommandRow {
     about: "Turns a module with typed pointers, or its certificate, into opaque text",
     arguments: &[
         MODULE,
-        Argument::MayBeGiven("CERT", "A certificate of the module; without it the module is printed"),
+        Argument::MayBeGiven(
+            "CERT",
+            "A certificate of the module; without it the module is printed",
+        ),
     ],
     after: "\
 Without CERT prints the module with `ptr` for each typed pointer, and with the global for each

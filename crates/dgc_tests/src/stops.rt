@@ -80,10 +80,7 @@ fn stopped(alloc: Global, case: Case, last: usize, stops: u8) -> Result<Vec<u8>,
 }
 
 /// Whether no step breaks the run of the trace in these files.
-fn is_replayed(
-    rt: &(impl Runtime + AllocGlobal + Threads + Sync),
-    contents: &Contents,
-) -> bool {
+fn is_replayed(rt: &(impl Runtime + AllocGlobal + Threads + Sync), contents: &Contents) -> bool {
     let printed = printed_of(rt, &REPLAY, contents);
     let is_replayed = printed.status == STATUS_YES;
     drop(printed);

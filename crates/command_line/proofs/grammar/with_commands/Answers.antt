@@ -2,7 +2,7 @@ use Rattle.std.proofs.Common.{◌∙◌, ap, ap₂, map, refl, sym, take}
 use Rattle.std.proofs.lemmas.List.{map_more}
 use Rattle.clap.specs.Words.{App, app_of, with_subcommand}
 use Rattle.command_line.specs.Grammar.{app_of_row, with_commands}
-use Rattle.command_line.proofs.LineLemmas.{with_commands_more}
+use Rattle.command_line.proofs.LineLemmas.{with_commands_more, with_commands_none}
 use Rattle.command_line.proofs.grammar.with_commands.Goals as goal
 
 pub loop-row-preserved : goal.loop-row-preserved
@@ -16,3 +16,6 @@ loop-row-preserved c =
           ∙ ap (with_commands program) (sym (map_more (λ row. app_of_row row.now) c.args.rows.now c.loop-row.row-index _ c.loop-row-test.true));
       own = added.globals ∙ rw (was.own, c.in-Ok.ensures.own) refl;
     }
+
+pub loop-row-init : goal.loop-row-init
+loop-row-init c = record { app = sym (with_commands_none (app_of c.args.program)); own = c.requires }
