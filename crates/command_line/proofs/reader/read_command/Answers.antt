@@ -1,7 +1,8 @@
 use Rattle.std.proofs.Common.{◌∙◌, ap, map, subst, sym}
-use Rattle.clap.specs.Words.{HasKind, fault_of, found_of, is_simple, is_simple_and_free, rows_of, subcommand_of}
-use Rattle.command_line.proofs.LineLemmas.{asked_from, is_simple_and_free_dgc, is_simple_dgc, refuses}
-use Rattle.command_line.proofs.reader.line.Goals as goal
+use Rattle.clap.specs.Words.{HasKind, fault_of, is_simple, is_simple_and_free, subcommand_of}
+use Rattle.command_line.specs.Grammar.{line_found}
+use Rattle.command_line.proofs.LineLemmas.{is_simple_and_free_dgc, is_simple_dgc, refuses}
+use Rattle.command_line.proofs.reader.read_command.Goals as goal
 
 pub returns-in_err-matches-clause-refused : goal.returns-in_err-matches-clause-refused
 returns-in_err-matches-clause-refused c =
@@ -12,25 +13,23 @@ returns-in_err-matches-clause-refused c =
     refuses words error c.from_residual-in_err-matches.result (subst (λ a. HasKind (fault_of a words) error) app kind)
     c.from_residual-in_err-matches.ensures.1
 
-pub returns-in-Some-line-clause-taken : goal.returns-in-Some-line-clause-taken
-returns-in-Some-line-clause-taken c ok =
+pub returns-in-Ok-clause-taken : goal.returns-in-Ok-clause-taken
+returns-in-Ok-clause-taken c ok =
     let words = map (λ word. word.now) c.args.words.now in
     let app = c.in_ok-dgc_command.ensures.app in
     let none = c.in_ok-matches.ensures.kinds (ap is_simple_and_free app ∙ is_simple_and_free_dgc) in
     sym (ap (λ a. fault_of a words) app) ∙ none
 
-pub returns-in-Some-line-clause-found : goal.returns-in-Some-line-clause-found
-returns-in-Some-line-clause-found c =
+pub returns-in-Ok-clause-found : goal.returns-in-Ok-clause-found
+returns-in-Ok-clause-found c =
     let words = map (λ word. word.now) c.args.words.now in
     let app = c.in_ok-dgc_command.ensures.app in
     let parse = c.in_ok-matches.ensures.matches (ap is_simple app ∙ is_simple_dgc) in
-    asked_from words c.in_ok-matches.matches c.in-Some.name.now (rows_of (found_of c.in-Some.given.now)) _
-    (parse.1 ∙ ap (λ a. subcommand_of a words) app) c.in-Some.ensures.name c.in-Some.ensures.rows c.in-Some-line.ensures.asked
+    sym (ap line_found (parse.1 ∙ ap (λ a. subcommand_of a words) app)) ∙ c.in-Ok.ensures.found
 
-pub returns-in-None-clause-refused : goal.returns-in-None-clause-refused
-returns-in-None-clause-refused c =
+pub returns-in-Err-clause-refused : goal.returns-in-Err-clause-refused
+returns-in-Err-clause-refused c =
     let words = map (λ word. word.now) c.args.words.now in
     let app = c.in_ok-dgc_command.ensures.app in
     let parse = c.in_ok-matches.ensures.matches (ap is_simple app ∙ is_simple_dgc) in
-    asked_from words c.in_ok-matches.matches c.in-Some.name.now (rows_of (found_of c.in-Some.given.now)) _
-    (parse.1 ∙ ap (λ a. subcommand_of a words) app) c.in-Some.ensures.name c.in-Some.ensures.rows c.in-None.ensures.asked
+    sym (ap line_found (parse.1 ∙ ap (λ a. subcommand_of a words) app)) ∙ c.in-Err.ensures.lacks

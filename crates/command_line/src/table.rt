@@ -1,89 +1,98 @@
-//! What the help of the command line says.
+//! The commands: of each its name, its files and options, and what the help says of them.
+ghost use Rattle.std.specs.Prelude.{◌≡◌, map};
+ghost use Rattle.command_line.specs.Grammar.{app_of_row, command_apps};
 
-/// What the help says of a command.
+/// A file or an option of a command: its name, what the help calls its value, and what it says of it.
 #[derive(Clone, Copy)]
-pub(crate) struct CommandHelp {
+pub(crate) enum Argument {
+    /// A file's path, which has to be given.
+    File(&'static str, &'static str),
+    /// A word that may be given.
+    MayBeGiven(&'static str, &'static str),
+    /// A number that has to be given.
+    Number(&'static str, &'static str, &'static str),
+    /// A number of workers, which may be given; otherwise it is 1.
+    Workers(&'static str),
+    /// When a refusal is explained, which may be given; otherwise it is `auto`.
+    ExplainWhen(&'static str),
+    /// A number that may be given.
+    Optional(&'static str, &'static str, &'static str),
+    /// A number that may be given. Before what the help calls the value comes the number that it is otherwise.
+    NumberOr(&'static str, &'static str, &'static str, &'static str),
+    /// An option without a value, which may be given.
+    Flag(&'static str, &'static str),
+    /// A file's path, which may be given as an option.
+    Path(&'static str, &'static str),
+}
+
+/// A command.
+#[derive(Clone, Copy)]
+pub(crate) struct CommandRow {
+    pub(crate) name: &'static str,
     /// What the command does, in one line.
     pub(crate) about: &'static str,
+    pub(crate) arguments: &'static [Argument],
     /// What is printed, and the exit statuses.
     pub(crate) after: &'static str,
 }
 
-pub(crate) const MODULE: &str =
-    "A module: textual LLVM IR with gcroot and the shadow stack (docs/TEXT.md)";
+const MODULE: Argument = Argument::File(
+    "MODULE",
+    "A module: textual LLVM IR with gcroot and the shadow stack (docs/TEXT.md)",
+);
 
-pub(crate) const CERT: &str =
-    "A certificate: what its author claims to hold at each block (docs/CERTIFICATES.md)";
+const CERT: Argument = Argument::File(
+    "CERT",
+    "A certificate: what its author claims to hold at each block (docs/CERTIFICATES.md)",
+);
 
-pub(crate) const SHAPES: &str =
-    "The shapes of a module that writes `ptr`: what its pointers refer to (docs/CERTIFICATES.md)";
+const SHAPES: Argument = Argument::Path(
+    "shapes",
+    "The shapes of a module that writes `ptr`: what its pointers refer to (docs/CERTIFICATES.md)",
+);
 
-pub(crate) const EXPLAIN_WHEN: &str =
-    "Explain a refusal on standard error: always, never, or auto, where that is a terminal";
+const EXPLAIN: Argument = Argument::ExplainWhen(
+    "Explain a refusal on standard error: always, never, or auto, where that is a terminal",
+);
 
-pub(crate) const ALL: &str = "Also print the first refusal of each other block";
+const SECONDS: Argument = Argument::Optional(
+    "seconds",
+    "N",
+    "After how many seconds no further seeds are tried",
+);
 
-pub(crate) const LIMIT: &str = "With --all: how many refusals are printed at most [default: 20]";
+const STEPS: &str = "How many steps each seed makes";
 
-pub(crate) const WORKERS: &str =
-    "How many threads check functions, from 1 to 64; the answer is the same";
+/// What the help says of the program.
+pub(crate) const ABOUT: &str = "\
+Checks code that compilers emit against a concurrent mark-and-sweep garbage collector.
+Also runs that code beside the collector, one atomic step at a time or on real threads.";
 
-pub(crate) const SEEDS: &str = "How many seeds; without --first they are 0 to N-1";
+/// The exit statuses of the program.
+pub(crate) const STATUSES: &str = "\
+Exit status:
+  0  yes or sound, a certificate was made, the threads were run, a code was explained, a text
+     was migrated, or help or the version was asked for
+  1  no, no answer, or broken
+  2  a text is not read, the module has no layouts, or a thread may not begin
+  3  memory was refused
+  4  the command line is refused, a file cannot be read, or a write failed";
 
-pub(crate) const STEPS: &str = "How many steps each seed makes";
-
-pub(crate) const REPLAY_TRACE: &str =
-    "A trace: how a run begins, and who makes its steps (docs/TRACES.md)";
-
-pub(crate) const REPLAY_STEPS: &str =
-    "Also tell the steps: the last 40, and those that matter for the break (docs/STEPS.md)";
-
-pub(crate) const FROM: &str = "With --steps or --json: the first step that is told, from 1";
-
-pub(crate) const TO: &str = "With --steps or --json: the last step that is told";
-
-pub(crate) const JSON: &str =
-    "The file to which the steps are written as JSON, a line for each: the last 100000, or those that --from and --to say";
-
-pub(crate) const SOAK_TRACE: &str =
-    "A trace: how each run begins; its steps are ignored (docs/TRACES.md)";
-
-pub(crate) const FIRST: &str = "The first seed";
-
-pub(crate) const SAVE: &str =
-    "The file to which the broken seed's steps up to its break are written, as a trace";
-
-pub(crate) const BIAS: &str = "Draw schedules with few switches between threads and the collector";
-
-pub(crate) const SECONDS: &str = "After how many seconds no further seeds are tried";
-
-pub(crate) const SHRINK: &str = "Make the broken seed's steps fewer, by replaying shorter traces";
-
-pub(crate) const SHRINK_TRIES: &str =
-    "With --shrink: how many traces are replayed for that at most [default: 10000]";
-
-pub(crate) const HUNT_CERT: &str =
-    "A certificate, which then has the shapes; arguments keep what it promises of parameters";
-
-pub(crate) const HUNT_SEEDS: &str = "How many seeds";
-
-pub(crate) const HUNT_TRIES: &str =
-    "How many traces are replayed at most to make a broken one shorter";
-
-pub(crate) const HUNT_SAVE: &str = "The file to which a broken trace is written";
-
-pub(crate) const RUN_TRACE: &str =
-    "A trace: how the run begins; its steps are ignored (docs/TRACES.md)";
-
-pub(crate) const EDITS: &str =
-    "Edits: functions and sections in the place of others (docs/EDITS.md)";
-
-pub(crate) const TURNS: &str = "How many steps the collector makes at most";
-
-pub(crate) const RUN_STEPS: &str = "After how many of its steps a thread is stopped";
-
-pub(crate) const CHECK: CommandHelp = CommandHelp {
+const CHECK: CommandRow = CommandRow {
+    name: "check",
     about: "Checks a module against a certificate",
+    arguments: &[
+        MODULE,
+        CERT,
+        Argument::Workers("How many threads check functions, from 1 to 64; the answer is the same"),
+        EXPLAIN,
+        Argument::Flag("all", "Also print the first refusal of each other block"),
+        Argument::Optional(
+            "limit",
+            "N",
+            "With --all: how many refusals are printed at most [default: 20]",
+        ),
+    ],
     after: "\
 Prints `yes F`, where F is the number of defined functions. Or prints `no @f %b I Kn`:
 the function, the block, the place of the instruction in its block (from 0), and the rule
@@ -102,10 +111,18 @@ Exit status:
   4  the command line is refused, a file cannot be read, or a write failed",
 };
 
-pub(crate) const WHY: &str = "Where there is no answer, also prints what is refused";
-
-pub(crate) const MAKE: CommandHelp = CommandHelp {
+const MAKE: CommandRow = CommandRow {
+    name: "make",
     about: "Makes a certificate of a module",
+    arguments: &[
+        MODULE,
+        SHAPES,
+        Argument::Flag(
+            "why",
+            "Where there is no answer, also prints what is refused",
+        ),
+        EXPLAIN,
+    ],
     after: "\
 Prints a certificate with which `dgc check` says yes. Or prints `no answer`: none of those
 that were tried is accepted. With --why the line that `dgc check` prints for the boldest of
@@ -123,8 +140,18 @@ Exit status:
   4  the command line is refused, a file cannot be read, or a write failed",
 };
 
-pub(crate) const RECHECK: CommandHelp = CommandHelp {
+const RECHECK: CommandRow = CommandRow {
+    name: "recheck",
     about: "Checks a module against a certificate, and again after each of some edits",
+    arguments: &[
+        MODULE,
+        CERT,
+        Argument::File(
+            "EDITS",
+            "Edits: functions and sections in the place of others (docs/EDITS.md)",
+        ),
+        EXPLAIN,
+    ],
     after: "\
 Prints what `dgc check` does. Then puts the texts of each edit in the place of what is there,
 and prints a line for it, as `2 rechecked 3 yes 4`: the edit's number from 1, how many
@@ -144,8 +171,36 @@ Exit status:
   4  the command line is refused, a file cannot be read, or a write failed",
 };
 
-pub(crate) const REPLAY: CommandHelp = CommandHelp {
+const REPLAY: CommandRow = CommandRow {
+    name: "replay",
     about: "Makes the steps of a trace, and says which one breaks the run",
+    arguments: &[
+        MODULE,
+        Argument::File(
+            "TRACE",
+            "A trace: how a run begins, and who makes its steps (docs/TRACES.md)",
+        ),
+        SHAPES,
+        Argument::Flag(
+            "steps",
+            "Also tell the steps: the last 40, and those that matter for the break (docs/STEPS.md)",
+        ),
+        Argument::Optional(
+            "from",
+            "N",
+            "With --steps or --json: the first step that is told, from 1",
+        ),
+        Argument::Optional(
+            "to",
+            "M",
+            "With --steps or --json: the last step that is told",
+        ),
+        Argument::Path(
+            "json",
+            "The file to which the steps are written as JSON, a line for each: the last 100000, or those that --from and --to say",
+        ),
+        EXPLAIN,
+    ],
     after: "\
 Each step is one atomic step of a thread or of the collector. Prints the first step after
 which the run is broken, who made it, and why, as `broken 32 t 0 touch-blue 1`. Or prints
@@ -165,8 +220,43 @@ Exit status:
   4  the command line is refused, a file cannot be read, or a write failed",
 };
 
-pub(crate) const SOAK: CommandHelp = CommandHelp {
+const SOAK: CommandRow = CommandRow {
+    name: "soak",
     about: "Makes S steps for each of N seeds, and says which one breaks the run",
+    arguments: &[
+        MODULE,
+        Argument::File(
+            "TRACE",
+            "A trace: how each run begins; its steps are ignored (docs/TRACES.md)",
+        ),
+        SHAPES,
+        Argument::Number(
+            "seeds",
+            "N",
+            "How many seeds; without --first they are 0 to N-1",
+        ),
+        Argument::Number("steps", "S", STEPS),
+        Argument::NumberOr("first", "0", "F", "The first seed"),
+        Argument::Path(
+            "save",
+            "The file to which the broken seed's steps up to its break are written, as a trace",
+        ),
+        Argument::Flag(
+            "bias",
+            "Draw schedules with few switches between threads and the collector",
+        ),
+        SECONDS,
+        Argument::Flag(
+            "shrink",
+            "Make the broken seed's steps fewer, by replaying shorter traces",
+        ),
+        Argument::Optional(
+            "tries",
+            "N",
+            "With --shrink: how many traces are replayed for that at most [default: 10000]",
+        ),
+        EXPLAIN,
+    ],
     after: "\
 Each seed draws who makes the next step: a thread or the collector. Prints `sound N seeds`.
 Or prints the least seed whose run is broken, the first step after which it is broken, who
@@ -194,8 +284,27 @@ Exit status:
   4  the command line is refused, a file cannot be read, or a write failed",
 };
 
-pub(crate) const HUNT: CommandHelp = CommandHelp {
+const HUNT: CommandRow = CommandRow {
+    name: "hunt",
     about: "Searches for a short schedule that breaks a run of a module",
+    arguments: &[
+        MODULE,
+        SHAPES,
+        Argument::Path(
+            "cert",
+            "A certificate, which then has the shapes; arguments keep what it promises of parameters",
+        ),
+        Argument::NumberOr("seeds", "10000", "N", "How many seeds"),
+        Argument::NumberOr("steps", "1000", "S", STEPS),
+        Argument::NumberOr(
+            "tries",
+            "10000",
+            "N",
+            "How many traces are replayed at most to make a broken one shorter",
+        ),
+        SECONDS,
+        Argument::Path("save", "The file to which a broken trace is written"),
+    ],
     after: "\
 Needs no trace. Every 64 seeds the next one draws a start: one to three threads at functions
 that take no reference, with integers of their types, and pools of one to four cells. Each
@@ -218,8 +327,30 @@ Exit status:
   4  the command line is refused, a file cannot be read, or a write failed",
 };
 
-pub(crate) const RUN: CommandHelp = CommandHelp {
+const RUN: CommandRow = CommandRow {
+    name: "run",
     about: "Runs a checked module on real threads, beside the collector",
+    arguments: &[
+        MODULE,
+        CERT,
+        Argument::File(
+            "TRACE",
+            "A trace: how the run begins; its steps are ignored (docs/TRACES.md)",
+        ),
+        Argument::NumberOr(
+            "turns",
+            "1000000",
+            "N",
+            "How many steps the collector makes at most",
+        ),
+        Argument::NumberOr(
+            "steps",
+            "1000000",
+            "S",
+            "After how many of its steps a thread is stopped",
+        ),
+        EXPLAIN,
+    ],
     after: "\
 Checks the module against the certificate. Where that says no, prints what `dgc check` does.
 Otherwise each thread of the trace runs on a thread of the machine, and the collector on one
@@ -238,10 +369,13 @@ Exit status:
   4  the command line is refused, a file cannot be read, or a write failed",
 };
 
-pub(crate) const CODE: &str = "A code, as K6; in lower case too. Without it all codes are listed";
-
-pub(crate) const EXPLAIN: CommandHelp = CommandHelp {
+const EXPLAIN_CODE: CommandRow = CommandRow {
+    name: "explain",
     about: "Tells of a code that is printed of a refusal or a fault",
+    arguments: &[Argument::MayBeGiven(
+        "CODE",
+        "A code, as K6; in lower case too. Without it all codes are listed",
+    )],
     after: "\
 Prints the rule, why the collector or the check needs it, a refused example and an accepted
 one (docs/RULES.md). Or, without a code, prints a line for each code.
@@ -251,10 +385,16 @@ Exit status:
   4  no code is named so, the command line is refused, or a write failed",
 };
 
-pub(crate) const MIGRATED: &str = "A certificate of the module; without it the module is printed";
-
-pub(crate) const MIGRATE: CommandHelp = CommandHelp {
+const MIGRATE: CommandRow = CommandRow {
+    name: "migrate",
     about: "Turns a module with typed pointers, or its certificate, into opaque text",
+    arguments: &[
+        MODULE,
+        Argument::MayBeGiven(
+            "CERT",
+            "A certificate of the module; without it the module is printed",
+        ),
+    ],
     after: "\
 Without CERT prints the module with `ptr` for each typed pointer, and with the global for each
 bitcast of one. With CERT prints the certificate of that text: what the types said stands in
@@ -272,16 +412,19 @@ Exit status:
   4  the command line is refused, a file cannot be read, or a write failed",
 };
 
-pub(crate) const DGC: CommandHelp = CommandHelp {
-    about: "\
-Checks code that compilers emit against a concurrent mark-and-sweep garbage collector.
-Also runs that code beside the collector, one atomic step at a time or on real threads.",
-    after: "\
-Exit status:
-  0  yes or sound, a certificate was made, the threads were run, a code was explained, a text
-     was migrated, or help or the version was asked for
-  1  no, no answer, or broken
-  2  a text is not read, the module has no layouts, or a thread may not begin
-  3  memory was refused
-  4  the command line is refused, a file cannot be read, or a write failed",
-};
+/// All commands, in the order of the help.
+pub(crate) fn commands() -> [&'static CommandRow; 9]
+    ensures { map (λ row. app_of_row row.now) result ≡ command_apps }
+{
+    [
+        &CHECK,
+        &MAKE,
+        &RECHECK,
+        &REPLAY,
+        &SOAK,
+        &HUNT,
+        &RUN,
+        &EXPLAIN_CODE,
+        &MIGRATE,
+    ]
+}

@@ -1,7 +1,7 @@
 use Rattle.std.proofs.Common.{◌∙◌, ap, codes, false, option_map, sym}
 use Rattle.std.specs.Option.{option_map_or}
 use Rattle.std.specs.Str.{bytes_eq}
-use Rattle.command_line.proofs.reader.flag_given.Goals as goal
+use Rattle.command_line.proofs.given.flag_given.Goals as goal
 
 pub returns-in-Some : goal.returns-in-Some
 returns-in-Some c =

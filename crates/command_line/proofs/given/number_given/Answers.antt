@@ -1,7 +1,7 @@
 use Rattle.std.specs.Str.Parse.{ExplainsUnsignedError, HasUnsignedDigitsIfOk, ParsesUnsigned}
 use Rattle.clap.specs.Words.{found_of}
 use Rattle.command_line.proofs.LineLemmas.{number_from}
-use Rattle.command_line.proofs.reader.number_given.Goals as goal
+use Rattle.command_line.proofs.given.number_given.Goals as goal
 
 pub returns : goal.returns
 returns c =
