@@ -1,7 +1,8 @@
 //! The search that also draws how runs begin.
 ghost use Rattle.std.specs.Prelude.{◌≤◌, IfOk, IfSome};
 ghost use Rattle.trace_text.specs.Traces.{IsTraceOf};
-ghost use Rattle.hunting.specs.Hunts.{IsHunted, IsBrokenBelow};
+ghost use Rattle.hunting.specs.Hunts.{IsHunted};
+ghost use Rattle.hunting.specs.Shorter.{IsBreaking};
 
 use crate::biased_searching::{BiasedOutcome, BrokenSeed, first_broken};
 use crate::starts::drawn_start;
@@ -34,7 +35,7 @@ fn broken_from(
     schedules: Schedules,
 ) -> Result<Option<BrokenSeed>, AllocError>
     requires { IsTraceOf program.now start.now }
-    ensures { IfOk result (λ found. IfSome found (IsBrokenBelow program.now schedules.past)) }
+    ensures { IfOk result (λ found. IfSome found (λ b. IsBreaking program.now b.found.trace b.found.broken)) }
 {
     match first_broken(alloc, program, start, schedules) {
         Ok(BiasedOutcome::Broken(broken)) => Ok(Some(broken)),
@@ -52,7 +53,7 @@ pub fn hunt(
     schedules: Schedules,
 ) -> Result<Hunted, AllocError>
     requires { schedules.first ≤ schedules.past }
-    ensures { IfOk result (IsHunted program.now schedules.past) }
+    ensures { IfOk result (IsHunted program.now) }
 {
     let Schedules { first, past, steps } = schedules;
     let mut next = first;

@@ -3,11 +3,12 @@ ghost use Rattle.std.specs.Prelude.{OnOk};
 ghost use Rattle.search_commands.specs.Searches.{MayTell};
 ghost use Rattle.trace_text.specs.Traces.{IsTraceOf};
 
-use crate::chunks::past_seed;
-use command_line::{Draws, Search, SoakLine};
-use hunting::{Happened, counted, counted_biased};
+use crate::searching::past_seed;
+use command_line::{Draws, Search};
+use hunting::{Happened, Sample, counted};
 use layout::Program;
-use reports::{Traced, read_traced};
+use replay::Schedules;
+use reports::{Files, Traced, read_traced};
 use std::alloc::Global;
 use std::io;
 use std::io::Write;
@@ -67,10 +68,15 @@ fn tell_counts<E: Write>(
     Ok(())
 }
 
-/// How many steps of biased seeds are looked at: one in twenty, since they are drawn and made anew.
-fn biased_budget(search: Search) -> u64 {
-    let all = u64::from(search.seeds).saturating_mul(u64::from(search.steps));
-    (all / 20).max(1).min(STEPS)
+/// How many steps are looked at: of biased seeds one in twenty, since they are drawn and made anew.
+fn budget_of(search: Search) -> u64 {
+    match search.draws {
+        Draws::Uniform => STEPS,
+        Draws::Biased => {
+            let all = u64::from(search.seeds).saturating_mul(u64::from(search.steps));
+            (all / 20).max(1).min(STEPS)
+        }
+    }
 }
 
 /// What happens in the runs of the first seeds of a search, if memory is ample and the threads may begin.
@@ -78,15 +84,17 @@ fn counts_of(alloc: Global, program: &Program, start: &Trace, search: Search) ->
     requires { IsTraceOf program.now start.now }
 {
     let first = search.first;
-    let past = past_seed(search).min(first.saturating_add(SEEDS));
-    let counts = match &search.draws {
-        Draws::Uniform => counted(alloc, program, start, first, past, search.steps, STEPS),
-        Draws::Biased => {
-            let budget = biased_budget(search);
-            counted_biased(alloc, program, start, first, past, search.steps, budget)
-        }
+    let schedules = Schedules {
+        first,
+        past: past_seed(search).min(first.saturating_add(SEEDS)),
+        steps: search.steps,
     };
-    match counts {
+    let sample = Sample {
+        schedules,
+        biased: matches!(search.draws, Draws::Biased),
+        budget: budget_of(search),
+    };
+    match counted(alloc, program, start, sample) {
         Ok(happened) => Some(happened),
         Err(_) => None,
     }
@@ -114,20 +122,19 @@ fn tell_traced<E: Write>(
     tell_counts(err, search.first, threads, happened)
 }
 
-/// Says how much happens in the runs of the first seeds of a line.
+/// Says how much happens in the runs of the first seeds of a search.
 pub fn tell_happened<E: Write>(
     alloc: Global,
-    asked: SoakLine<'_>,
-    files: &[Option<Vec<u8>>],
+    search: Search,
+    files: &Files<'_>,
     err: &mut E,
 ) -> io::Result<()>
     ensures { OnOk result (MayTell (E.contents err.old) (E.contents err.new)) }
 {
-    let paths = (asked.module_path, asked.trace_path, asked.shapes_path);
-    match read_traced(alloc, paths, files) {
+    match read_traced(alloc, files) {
         Ok(traced) => {
             let Traced { program, trace } = traced;
-            let told = tell_traced(alloc, &program, &trace, asked.search, err);
+            let told = tell_traced(alloc, &program, &trace, search, err);
             drop(trace);
             drop(program);
             told
