@@ -67,7 +67,7 @@ pub fn check_files(
 ) -> io::Result<u8>
     requires some { 1 ≤ options.workers }
     requires few { options.workers ≤ 64 }
-    ensures { IfOk result (Says (OfCertified (OfCerts options.refusals) files.now.module files.now.certificate) outputs.old outputs.new) }
+    ensures { IfOk result (Says (OfCertified (OfCerts options.refusals) files.now.of_module files.now.certificate) outputs.old outputs.new) }
 {
     match read_certified(alloc, files) {
         Ok(certified) => check_certified(rt, alloc, certified, options, outputs),

@@ -149,7 +149,7 @@ pub fn make_file(
     files: &Files<'_>,
     outputs: &mut Outputs,
 ) -> io::Result<u8>
-    ensures { IfOk result (Says (OfMake options.why files.now.module files.now.shapes) outputs.old outputs.new) }
+    ensures { IfOk result (Says (OfMake options.why files.now.of_module files.now.shapes) outputs.old outputs.new) }
 {
     match shaped_in(alloc, files) {
         Ok(of_module) => make_of(alloc, of_module, options.why, outputs),

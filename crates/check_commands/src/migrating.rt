@@ -88,11 +88,11 @@ fn print_module(
 
 /// Prints the opaque text of the module.
 fn migrate_module(alloc: Global, files: &Files<'_>, outputs: &mut Outputs) -> io::Result<u8>
-    ensures { IfOk result (Says (OfModule files.now.module) outputs.old outputs.new) }
+    ensures { IfOk result (Says (OfModule files.now.of_module) outputs.old outputs.new) }
 {
     match module_in(alloc, files) {
         Ok(of_module) => {
-            let status = print_module(alloc, &of_module, known_bytes(files.module), outputs);
+            let status = print_module(alloc, &of_module, known_bytes(files.of_module), outputs);
             drop(of_module);
             status
         }
@@ -175,7 +175,7 @@ fn migrate_certified(
 
 /// Migrates the certificates of the module.
 fn migrate_certs(alloc: Global, files: &Files<'_>, outputs: &mut Outputs) -> io::Result<u8>
-    ensures { IfOk result (Says (OfCertified (OfMigrated (known_bytes files.now.certificate)) files.now.module files.now.certificate) outputs.old outputs.new) }
+    ensures { IfOk result (Says (OfCertified (OfMigrated (known_bytes files.now.certificate)) files.now.of_module files.now.certificate) outputs.old outputs.new) }
 {
     match read_certified(alloc, files) {
         Ok(certified) => {
@@ -191,7 +191,7 @@ fn migrate_certs(alloc: Global, files: &Files<'_>, outputs: &mut Outputs) -> io:
 /// Prints the opaque text of the module, or the certificates of that text where a certificate is given. The first fault counts: of each
 /// of the two files, its path and then its text, then of the shapes.
 pub fn migrate_files(alloc: Global, files: &Files<'_>, outputs: &mut Outputs) -> io::Result<u8>
-    ensures { IfOk result (Says (OfMigrate files.now.module files.now.certificate) outputs.old outputs.new) }
+    ensures { IfOk result (Says (OfMigrate files.now.of_module files.now.certificate) outputs.old outputs.new) }
 {
     match files.certificate {
         Some(_) => migrate_certs(alloc, files, outputs),

@@ -181,7 +181,7 @@ fn recheck_edits(
 /// Checks the module against the certificate, and again after each of the edits. The first fault counts: of each of the three files, its
 /// path and then its text, of the edits their frame; then of the layouts.
 pub fn recheck_files(alloc: Global, files: &Files<'_>, outputs: &mut Outputs) -> io::Result<u8>
-    ensures { IfOk result (Says (OfCertified (OfEditsFile files.now.edits) files.now.module files.now.certificate) outputs.old outputs.new) }
+    ensures { IfOk result (Says (OfCertified (OfEditsFile files.now.edits) files.now.of_module files.now.certificate) outputs.old outputs.new) }
 {
     match read_certified(alloc, files) {
         Ok(certified) => recheck_edits(alloc, certified, files, outputs),

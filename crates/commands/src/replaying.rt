@@ -77,7 +77,7 @@ pub fn replay_files(
     files: &Files<'_>,
     results: &mut Results,
 ) -> io::Result<u8>
-    ensures said { IfOk result (SaysAndTells (are_told options.steps) false (OfRun OfTrace files.now.module files.now.trace files.now.shapes) results.old.outputs results.new.outputs) }
+    ensures said { IfOk result (SaysAndTells (are_told options.steps) false (OfRun OfTrace files.now.of_module files.now.trace files.now.shapes) results.old.outputs results.new.outputs) }
     ensures kept { files.now.saves ≡ false → results.new.saved.items ≡ results.old.saved.items }
 {
     match read_traced(alloc, files) {

@@ -88,7 +88,7 @@ pub fn run_files(
     files: &Files<'_>,
     outputs: &mut Outputs,
 ) -> io::Result<u8>
-    ensures { IfOk result (Says (OfCertified (OfRunCerts (record { turns = options.turns; steps = options.steps }) files.now.trace) files.now.module files.now.certificate) outputs.old outputs.new) }
+    ensures { IfOk result (Says (OfCertified (OfRunCerts (record { turns = options.turns; steps = options.steps }) files.now.trace) files.now.of_module files.now.certificate) outputs.old outputs.new) }
 {
     let limits = Limits {
         turns: options.turns,

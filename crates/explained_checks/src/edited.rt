@@ -290,7 +290,7 @@ fn put_with_edits(
 /// What is told of the files: a module, a certificate and edits.
 fn put_files(pen: Pen, out: &mut Message, files: &Files<'_>) {
     let texts = CheckedTexts {
-        of_module: named(files.module),
+        of_module: named(files.of_module),
         of_certs: named(files.certificate),
     };
     match read_certified(pen.alloc, files) {

@@ -199,7 +199,7 @@ pub(crate) fn put_unread(pen: Pen, out: &mut Message, texts: CheckedTexts, unrea
 /// What is told of the files: a module and a certificate, and a trace where that is asked for.
 fn put_files(pen: Pen, out: &mut Message, asked: Asked, files: &Files<'_>) {
     let checked = CheckedTexts {
-        of_module: named(files.module),
+        of_module: named(files.of_module),
         of_certs: named(files.certificate),
     };
     match read_certified(pen.alloc, files) {

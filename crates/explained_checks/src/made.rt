@@ -108,7 +108,7 @@ fn put_made(pen: Pen, out: &mut Message, of_file: NamedText, of_module: Module) 
 
 /// What is told of the files: a module and its shapes.
 fn put_files(pen: Pen, out: &mut Message, files: &Files<'_>) {
-    let of_file = named(files.module);
+    let of_file = named(files.of_module);
     match shaped_in(pen.alloc, files) {
         Ok(of_module) => put_made(pen, out, of_file, of_module),
         Err(unread) => {

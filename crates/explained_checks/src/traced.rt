@@ -39,7 +39,7 @@ fn put_untraced(
 
 /// What is told of the files: a module, a trace and shapes.
 fn put_files(pen: Pen, out: &mut Message, files: &Files<'_>) {
-    let of_module = named(files.module);
+    let of_module = named(files.of_module);
     let texts = TracedTexts {
         of_module,
         of_trace: named(files.trace),

@@ -28,7 +28,7 @@ pub struct File<'a> {
 /// with an empty path that cannot be read.
 #[derive(Clone, Copy)]
 pub struct Files<'a> {
-    pub module: Option<File<'a>>,
+    pub of_module: Option<File<'a>>,
     pub certificate: Option<File<'a>>,
     pub shapes: Option<File<'a>>,
     pub trace: Option<File<'a>>,
@@ -86,11 +86,11 @@ pub enum Unread<'a> {
 
 /// Reads the module.
 pub fn module_in<'a>(alloc: Global, files: &Files<'a>) -> Result<Module, Unread<'a>>
-    ensures ok { IfOk result (HasModule files.now.module) }
-    ensures err { IfErr result (IsNoModule files.now.module) }
+    ensures ok { IfOk result (HasModule files.now.of_module) }
+    ensures err { IfErr result (IsNoModule files.now.of_module) }
 {
-    let Some(text) = bytes_of(files.module) else {
-        return Err(Unread::NoFile(path_of(files.module)));
+    let Some(text) = bytes_of(files.of_module) else {
+        return Err(Unread::NoFile(path_of(files.of_module)));
     };
     match read(alloc, text) {
         Ok(of_module) => Ok(of_module),
@@ -121,10 +121,10 @@ fn certified_in<'a>(
 
 /// Reads the module and the certificates. The first fault counts: of each file, in this order, its path and then its text.
 pub fn read_certified<'a>(alloc: Global, files: &Files<'a>) -> Result<Certified, Unread<'a>>
-    ensures of_module { IfOk result (λ certified. HasModule files.now.module certified.of_module) }
+    ensures of_module { IfOk result (λ certified. HasModule files.now.of_module certified.of_module) }
     ensures certs { IfOk result (λ certified. HasCerts files.now.certificate certified.of_module certified.certs) }
     ensures fits { IfOk result (λ certified. fits certified.of_module certified.certs.sections ≡ true) }
-    ensures err { IfErr result (IsUncertified files.now.module files.now.certificate) }
+    ensures err { IfErr result (IsUncertified files.now.of_module files.now.certificate) }
 {
     let of_module = module_in(alloc, files)?;
     certified_in(alloc, files.certificate, of_module)
@@ -179,8 +179,8 @@ fn with_shapes_in<'a>(
 /// Reads the module, and its shapes if their file is given. The first fault counts: of the module, its path and then its text, then of
 /// the shapes, their path and then their text.
 pub fn shaped_in<'a>(alloc: Global, files: &Files<'a>) -> Result<Module, Unread<'a>>
-    ensures ok { IfOk result (HasShaped files.now.module files.now.shapes) }
-    ensures err { IfErr result (IsNoShaped files.now.module files.now.shapes) }
+    ensures ok { IfOk result (HasShaped files.now.of_module files.now.shapes) }
+    ensures err { IfErr result (IsNoShaped files.now.of_module files.now.shapes) }
 {
     let of_module = module_in(alloc, files)?;
     match files.shapes {
@@ -191,8 +191,8 @@ pub fn shaped_in<'a>(alloc: Global, files: &Files<'a>) -> Result<Module, Unread<
 
 /// Reads the module, its shapes if their file is given, and the layouts. The faults are those of `shaped_in`, and then that of the layouts.
 pub fn program_in<'a>(alloc: Global, files: &Files<'a>) -> Result<Program, Unread<'a>>
-    ensures ok { IfOk result (HasProgram files.now.module files.now.shapes) }
-    ensures err { IfErr result (IsNoProgram files.now.module files.now.shapes) }
+    ensures ok { IfOk result (HasProgram files.now.of_module files.now.shapes) }
+    ensures err { IfErr result (IsNoProgram files.now.of_module files.now.shapes) }
 {
     let of_module = shaped_in(alloc, files)?;
     match Program::new(alloc, of_module) {
@@ -224,9 +224,9 @@ pub fn trace_in<'a>(
 /// its text.
 pub fn read_traced<'a>(alloc: Global, files: &Files<'a>) -> Result<Traced, Unread<'a>>
     ensures of_program { IfOk result (λ traced. IsTraceOf traced.program traced.trace) }
-    ensures program { IfOk result (λ traced. HasProgram files.now.module files.now.shapes traced.program) }
+    ensures program { IfOk result (λ traced. HasProgram files.now.of_module files.now.shapes traced.program) }
     ensures trace { IfOk result (λ traced. HasTrace files.now.trace traced.program traced.trace) }
-    ensures err { IfErr result (IsUntraced files.now.module files.now.trace files.now.shapes) }
+    ensures err { IfErr result (IsUntraced files.now.of_module files.now.trace files.now.shapes) }
 {
     let program = program_in(alloc, files)?;
     match trace_in(alloc, files, &program) {

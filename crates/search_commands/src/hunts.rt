@@ -166,7 +166,7 @@ fn hunt_shaped(
     results: &mut Results,
     onlooker: &mut impl Onlooker,
 ) -> io::Result<u8>
-    ensures said { IfOk result (Saves (OfHuntShaped asked.saves files.now.module files.now.shapes) results.old results.new) }
+    ensures said { IfOk result (Saves (OfHuntShaped asked.saves files.now.of_module files.now.shapes) results.old results.new) }
     ensures kept { asked.saves ≡ false → results.new.saved.items ≡ results.old.saved.items }
 {
     match program_in(alloc, files) {
@@ -193,7 +193,7 @@ pub fn hunt_files(
     results: &mut Results,
     onlooker: &mut impl Onlooker,
 ) -> io::Result<u8>
-    ensures said { IfOk result (Saves (OfHuntFiles files.now.saves files.now.module files.now.certificate files.now.shapes) results.old results.new) }
+    ensures said { IfOk result (Saves (OfHuntFiles files.now.saves files.now.of_module files.now.certificate files.now.shapes) results.old results.new) }
     ensures kept { files.now.saves ≡ false → results.new.saved.items ≡ results.old.saved.items }
 {
     let asked = Asked {

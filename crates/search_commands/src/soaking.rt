@@ -174,7 +174,7 @@ pub fn soak_files(
     results: &mut Results,
     onlooker: &mut impl Onlooker,
 ) -> io::Result<u8>
-    ensures said { IfOk result (Saves (λ before after. OfRun (λ p t. OfSeeds options files.now.saves p t before after) files.now.module files.now.trace files.now.shapes) results.old results.new) }
+    ensures said { IfOk result (Saves (λ before after. OfRun (λ p t. OfSeeds options files.now.saves p t before after) files.now.of_module files.now.trace files.now.shapes) results.old results.new) }
     ensures kept { files.now.saves ≡ false → results.new.saved.items ≡ results.old.saved.items }
 {
     let soak = Soak {
