@@ -1,22 +1,19 @@
 //! Makes the edits of a recheck again, and explains the first verdict, each edit that is refused, and the last verdict.
-ghost use Rattle.std.specs.Prelude.{◌≡◌, true, OnOk};
+ghost use Rattle.std.specs.Prelude.{◌≡◌, true};
 ghost use Rattle.certs.specs.Fits.{fits};
-ghost use Rattle.explained_checks.specs.Explained.{GivesText};
 
-use crate::explained::{named, put_in_program, put_unread, write_told};
+use crate::explained::{named, put_in_program, put_unread};
 use certificate::{CertFault, print_cert};
 use explain::Code;
 use fault_texts::{
     CheckedTexts, put_cert_fault, put_edits_fault, put_fault_of, put_layout_fault, put_read_fault,
 };
 use ir_print::print;
-use messages::{Look, Message, NamedText, Pen};
+use messages::{Message, NamedText, Pen};
 use module_check::Reason;
 use recheck::{Edit, EditFault, Session};
 use reports::{Certified, Files, Unread, edits_in, read_certified};
 use std::alloc::{AllocError, Global};
-use std::io;
-use std::io::Write;
 
 /// How a module is named that stands in no file.
 const EDITED_MODULE: &str = "edited module";
@@ -288,7 +285,7 @@ fn put_with_edits(
 }
 
 /// What is told of the files: a module, a certificate and edits.
-fn put_files(pen: Pen, out: &mut Message, files: &Files<'_>) {
+pub(crate) fn put_recheck(pen: Pen, out: &mut Message, files: &Files<'_>) {
     let texts = CheckedTexts {
         of_module: named(files.of_module),
         of_certs: named(files.certificate),
@@ -300,18 +297,4 @@ fn put_files(pen: Pen, out: &mut Message, files: &Files<'_>) {
             drop(unread);
         }
     }
-}
-
-/// Explains why the module is not accepted with the certificate, before or after the edits, and why edits are refused.
-pub fn explain_recheck<E: Write>(
-    alloc: Global,
-    look: Look,
-    files: &Files<'_>,
-    err: &mut E,
-) -> io::Result<()>
-    ensures { OnOk result (GivesText (E.contents err.old) (E.contents err.new)) }
-{
-    let mut out = Message::new(alloc);
-    put_files(Pen { alloc, look }, &mut out, files);
-    write_told(out, err)
 }

@@ -1,7 +1,4 @@
 //! Reads and checks the files of a check again, and explains why they are not accepted.
-ghost use Rattle.std.specs.Prelude.{OnOk};
-ghost use Rattle.explained_checks.specs.Explained.{GivesText};
-
 use crate::traced::put_trace;
 use block_rules::{BlockFault, Refusal};
 use certs::Certs;
@@ -9,12 +6,9 @@ use explanations::{Source, Texts, put_refusal};
 use fault_texts::{CheckedTexts, TracedTexts, put_cert_fault, put_layout_fault, put_read_fault};
 use ir_tokens::{TEXT_LIMIT, read_tokens};
 use layout::Program;
-use messages::{Look, Message, NamedText, Pen};
+use messages::{Message, NamedText, Pen};
 use module_check::{Reason, UnderCheck, fault_in_module, first_refusals};
 use reports::{Certified, File, Files, Unread, bytes_of, path_of, read_certified};
-use std::alloc::Global;
-use std::io;
-use std::io::Write;
 
 /// The texts of a check, and what is done after it.
 #[derive(Clone, Copy)]
@@ -25,7 +19,7 @@ struct AskedTexts<'a> {
 
 /// What is asked of a check.
 #[derive(Clone, Copy)]
-enum Asked<'a> {
+pub(crate) enum Asked<'a> {
     /// The first refusal.
     First,
     /// The first refusal of each block, at most this many.
@@ -197,7 +191,7 @@ pub(crate) fn put_unread(pen: Pen, out: &mut Message, texts: CheckedTexts, unrea
 }
 
 /// What is told of the files: a module and a certificate, and a trace where that is asked for.
-fn put_files(pen: Pen, out: &mut Message, asked: Asked, files: &Files<'_>) {
+pub(crate) fn put_check(pen: Pen, out: &mut Message, asked: Asked, files: &Files<'_>) {
     let checked = CheckedTexts {
         of_module: named(files.of_module),
         of_certs: named(files.certificate),
@@ -209,67 +203,4 @@ fn put_files(pen: Pen, out: &mut Message, asked: Asked, files: &Files<'_>) {
             drop(unread);
         }
     }
-}
-
-/// Writes what is told of the files, or that there is no memory for it.
-fn explain_asked<E: Write>(
-    alloc: Global,
-    look: Look,
-    asked: Asked,
-    files: &Files<'_>,
-    err: &mut E,
-) -> io::Result<()>
-    ensures { OnOk result (GivesText (E.contents err.old) (E.contents err.new)) }
-{
-    let mut out = Message::new(alloc);
-    put_files(Pen { alloc, look }, &mut out, asked, files);
-    write_told(out, err)
-}
-
-/// Writes a text, or that there is no memory for it.
-pub(crate) fn write_told<E: Write>(out: Message, err: &mut E) -> io::Result<()>
-    ensures { OnOk result (GivesText (E.contents err.old) (E.contents err.new)) }
-{
-    match out.finish() {
-        Ok(text) => err.write_all(text.as_slice()),
-        Err(_) => writeln!(err, "no memory to explain it"),
-    }
-}
-
-/// Explains why the module is not accepted with the certificate. Nothing is told where it is.
-pub fn explain_check<E: Write>(
-    alloc: Global,
-    look: Look,
-    files: &Files<'_>,
-    err: &mut E,
-) -> io::Result<()>
-    ensures { OnOk result (GivesText (E.contents err.old) (E.contents err.new)) }
-{
-    explain_asked(alloc, look, Asked::First, files, err)
-}
-
-/// Explains the first refusal of each block of the module with the certificate, at most this many, with a blank line between. Nothing is
-/// told where it is accepted.
-pub fn explain_check_of_blocks<E: Write>(
-    alloc: Global,
-    look: Look,
-    limit: u32,
-    files: &Files<'_>,
-    err: &mut E,
-) -> io::Result<()>
-    ensures { OnOk result (GivesText (E.contents err.old) (E.contents err.new)) }
-{
-    explain_asked(alloc, look, Asked::OfBlocks(limit), files, err)
-}
-
-/// Explains why the module is not accepted with the certificate, or why the trace is none of it.
-pub fn explain_run<E: Write>(
-    alloc: Global,
-    look: Look,
-    files: &Files<'_>,
-    err: &mut E,
-) -> io::Result<()>
-    ensures { OnOk result (GivesText (E.contents err.old) (E.contents err.new)) }
-{
-    explain_asked(alloc, look, Asked::Run(named(files.trace)), files, err)
 }

@@ -1,19 +1,13 @@
 //! Makes certificates of a module again, and explains the first refusal with the boldest that were tried.
-ghost use Rattle.std.specs.Prelude.{OnOk};
-ghost use Rattle.explained_checks.specs.Explained.{GivesText};
-
-use crate::explained::{named, put_in_program, put_unread, write_told};
+use crate::explained::{named, put_in_program, put_unread};
 use cert_maker::{MakeFault, NotMade, Refused, make};
 use certificate::print_cert;
 use copies::copy_shapes;
 use fault_texts::{CheckedTexts, put_layout_fault};
 use ir_ast::{Module, Shapes};
-use messages::{Look, Message, NamedText, Pen};
+use messages::{Message, NamedText, Pen};
 use module_check::UnderCheck;
 use reports::{Files, shaped_in};
-use std::alloc::Global;
-use std::io;
-use std::io::Write;
 
 /// How the certificate is named that stands in no file.
 const TRIED: &str = "certificate";
@@ -107,7 +101,7 @@ fn put_made(pen: Pen, out: &mut Message, of_file: NamedText, of_module: Module) 
 }
 
 /// What is told of the files: a module and its shapes.
-fn put_files(pen: Pen, out: &mut Message, files: &Files<'_>) {
+pub(crate) fn put_make(pen: Pen, out: &mut Message, files: &Files<'_>) {
     let of_file = named(files.of_module);
     match shaped_in(pen.alloc, files) {
         Ok(of_module) => put_made(pen, out, of_file, of_module),
@@ -120,18 +114,4 @@ fn put_files(pen: Pen, out: &mut Message, files: &Files<'_>) {
             drop(unread);
         }
     }
-}
-
-/// Explains why no certificates of the module are made with the shapes.
-pub fn explain_make<E: Write>(
-    alloc: Global,
-    look: Look,
-    files: &Files<'_>,
-    err: &mut E,
-) -> io::Result<()>
-    ensures { OnOk result (GivesText (E.contents err.old) (E.contents err.new)) }
-{
-    let mut out = Message::new(alloc);
-    put_files(Pen { alloc, look }, &mut out, files);
-    write_told(out, err)
 }

@@ -1,15 +1,9 @@
 //! Reads the files of a replay or a soak again, and explains the first fault of their texts.
-ghost use Rattle.std.specs.Prelude.{OnOk};
-ghost use Rattle.explained_checks.specs.Explained.{GivesText};
-
-use crate::explained::{named, put_unread, write_told};
+use crate::explained::{named, put_unread};
 use fault_texts::{CheckedTexts, TracedTexts, put_layout_fault, put_trace_fault};
 use layout::Program;
-use messages::{Look, Message, Pen};
+use messages::{Message, Pen};
 use reports::{Files, Unread, read_traced};
-use std::alloc::Global;
-use std::io;
-use std::io::Write;
 use trace_text::read_trace;
 
 /// Reads a trace again, and explains its first fault.
@@ -38,7 +32,7 @@ fn put_untraced(
 }
 
 /// What is told of the files: a module, a trace and shapes.
-fn put_files(pen: Pen, out: &mut Message, files: &Files<'_>) {
+pub(crate) fn put_traced(pen: Pen, out: &mut Message, files: &Files<'_>) {
     let of_module = named(files.of_module);
     let texts = TracedTexts {
         of_module,
@@ -57,18 +51,4 @@ fn put_files(pen: Pen, out: &mut Message, files: &Files<'_>) {
             drop(unread);
         }
     }
-}
-
-/// Explains why the texts are not read: a module, a trace of it, and its shapes. Nothing is told where they are.
-pub fn explain_traced<E: Write>(
-    alloc: Global,
-    look: Look,
-    files: &Files<'_>,
-    err: &mut E,
-) -> io::Result<()>
-    ensures { OnOk result (GivesText (E.contents err.old) (E.contents err.new)) }
-{
-    let mut out = Message::new(alloc);
-    put_files(Pen { alloc, look }, &mut out, files);
-    write_told(out, err)
 }

@@ -37,9 +37,13 @@ Says Meant old new status = (said : Said) × Meant said × Tells old new status 
 abbrev pub Saves : ((before after : List ℕ) → Said → Type 0) → (old new : Results) → (status : ℕ) → Type 0
 Saves Meant old new status = Says (Meant old.saved.items new.saved.items) old.outputs new.outputs status
 
--- some text may follow, if that is wanted
+-- some text follows, which may be empty
+abbrev pub GivesText : (old new : List ℕ) → Type 0
+GivesText old new = (text : List ℕ) × (new ≡ old ++ text)
+
+-- so it is, if that is wanted
 abbrev pub GivesTextIf : (wanted : Bool) → (old new : List ℕ) → Type 0
-GivesTextIf true old new = (text : List ℕ) × (new ≡ old ++ text)
+GivesTextIf true old new = GivesText old new
 GivesTextIf false old new = new ≡ old
 
 -- something was said that is one of these; and then some text may follow on the standard output, if steps are to be told, and on the

@@ -1,7 +1,6 @@
 -- What `soak` and `hunt` say of their files, and what they save.
-use Rattle.std.specs.Prelude.{◌≡◌, ◌≢◌, ◌⊎◌, ◌<◌, ◌≤◌, ◌+◌, ◌-◌, ◌/◌, ℕ, Bool, true, false, List, [], ◌∷◌, ◌++◌, codes, Option, Some, None}
+use Rattle.std.specs.Prelude.{◌≡◌, ◌≢◌, ◌<◌, ◌≤◌, ◌+◌, ◌-◌, ◌/◌, ℕ, Bool, true, false, List, [], ◌∷◌, ◌++◌, codes, Option, Some, None}
 use Rattle.std.specs.Fmt.{decimal}
-use Rattle.std.specs.Io.KnownBytes.{Appends}
 use Rattle.ir_ast.specs.declared.module.Module.{Module}
 use Rattle.layout.specs.Layouts.{LaidOut, AreLayouts}
 use Rattle.certs.specs.declared.certs.Certs.{Certs}
@@ -115,10 +114,6 @@ pub data OfSeeds (options : SoakOptions) (wanted : Bool) (p : LaidOut) (t : Trac
   too_long : (at : SeedBreak) → options.search.draws ≡ Uniform → HasNoFault p t.setup → IsBroken options.search p t at → 10000000 < at.broken.step → after ≡ before
       → OfSeeds options wanted p t before after (of_too_long at)
   not_started : (fault : SetupFault) → (fault ≢ setup.Memory → IsSetupFault p t.setup fault) → after ≡ before → OfSeeds options wanted p t before after (OnError (of_setup_fault fault))
-
--- some text is told, or none
-abbrev pub MayTell : (old new : Option (List ℕ)) → Type 0
-MayTell old new = (new ≡ old) ⊎ ((text : List ℕ) × Appends old new text)
 
 -- ---- hunt
 

@@ -1,6 +1,6 @@
 //! How much happens in the runs of sound seeds.
 ghost use Rattle.std.specs.Prelude.{OnOk};
-ghost use Rattle.search_commands.specs.Searches.{MayTell};
+ghost use Rattle.reports.specs.Said.{GivesText};
 ghost use Rattle.trace_text.specs.Traces.{IsTraceOf};
 
 use crate::searching::past_seed;
@@ -20,14 +20,9 @@ const SEEDS: u32 = 16;
 /// After how many steps no further seeds are.
 const STEPS: u64 = 1_000_000;
 
-/// Writes what happened in the runs of some seeds from this one on.
-fn write_counts<E: Write>(
-    err: &mut E,
-    first: u32,
-    threads: u64,
-    happened: Happened,
-) -> io::Result<()>
-    ensures { OnOk result (MayTell (E.contents err.old) (E.contents err.new)) }
+/// Says what happened in the runs of some seeds from this one on, and where that shows little of the collector.
+fn tell_counts(err: &mut Vec<u8>, first: u32, threads: u64, happened: Happened) -> io::Result<()>
+    ensures { OnOk result (GivesText err.old.items err.new.items) }
 {
     let Happened {
         seeds,
@@ -36,36 +31,15 @@ fn write_counts<E: Write>(
         cycles,
         ends,
     } = happened;
-    writeln!(
+    let mend = if frees == 0 {
+        "  mend:  nothing was freed, so this shows nothing: make more steps\n"
+    } else {
+        ""
+    };
+    write!(
         err,
-        "the runs of {seeds} seeds from {first} on: {claims} cells claimed, {frees} freed, {cycles} cycles over, {ends} of {threads} threads ended"
+        "the runs of {seeds} seeds from {first} on: {claims} cells claimed, {frees} freed, {cycles} cycles over, {ends} of {threads} threads ended\n{mend}"
     )
-}
-
-/// Says that a search shows little of the collector.
-fn write_little<E: Write>(err: &mut E) -> io::Result<()>
-    ensures { OnOk result (MayTell (E.contents err.old) (E.contents err.new)) }
-{
-    writeln!(
-        err,
-        "  mend:  nothing was freed, so this shows nothing: make more steps"
-    )
-}
-
-/// Says what happened in the runs of some seeds from this one on.
-fn tell_counts<E: Write>(
-    err: &mut E,
-    first: u32,
-    threads: u64,
-    happened: Happened,
-) -> io::Result<()>
-    ensures { OnOk result (MayTell (E.contents err.old) (E.contents err.new)) }
-{
-    write_counts(err, first, threads, happened)?;
-    if happened.frees == 0 {
-        return write_little(err);
-    }
-    Ok(())
 }
 
 /// How many steps are looked at: of biased seeds one in twenty, since they are drawn and made anew.
@@ -101,15 +75,15 @@ fn counts_of(alloc: Global, program: &Program, start: &Trace, search: Search) ->
 }
 
 /// Says what happens in the runs of the first seeds of a search, from the start of a trace.
-fn tell_traced<E: Write>(
+fn tell_traced(
     alloc: Global,
     program: &Program,
     start: &Trace,
     search: Search,
-    err: &mut E,
+    err: &mut Vec<u8>,
 ) -> io::Result<()>
     requires { IsTraceOf program.now start.now }
-    ensures { OnOk result (MayTell (E.contents err.old) (E.contents err.new)) }
+    ensures { OnOk result (GivesText err.old.items err.new.items) }
 {
     let threads = start.setup.starts.len() as u64;
     let Some(happened) = counts_of(alloc, program, start, search) else {
@@ -123,13 +97,13 @@ fn tell_traced<E: Write>(
 }
 
 /// Says how much happens in the runs of the first seeds of a search.
-pub fn tell_happened<E: Write>(
+pub fn tell_happened(
     alloc: Global,
     search: Search,
     files: &Files<'_>,
-    err: &mut E,
+    err: &mut Vec<u8>,
 ) -> io::Result<()>
-    ensures { OnOk result (MayTell (E.contents err.old) (E.contents err.new)) }
+    ensures { OnOk result (GivesText err.old.items err.new.items) }
 {
     match read_traced(alloc, files) {
         Ok(traced) => {

@@ -74,9 +74,9 @@ fn tell_drawn(
     results: &mut Results,
     onlooker: &mut impl Onlooker,
 ) -> io::Result<u8>
+    requires uniform { soak.options.search.draws ≡ draws.Uniform }
     requires is_trace { IsTraceOf traced.program traced.trace }
     requires no_fault { HasNoFault traced.program traced.trace.setup }
-    requires uniform { soak.options.search.draws ≡ draws.Uniform }
     requires least { IsLeastBreak traced.program traced.trace.setup soak.options.search.first (past_seed soak.options.search) soak.options.search.steps at }
     ensures said { IfOk result (Saves (OfSeeds soak.options soak.saves traced.program traced.trace) results.old results.new) }
     ensures kept { soak.saves ≡ false → results.new.saved.items ≡ results.old.saved.items }
