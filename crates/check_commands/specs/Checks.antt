@@ -12,10 +12,10 @@ use Rattle.certificate.specs.Print.{cert_text}
 use Rattle.certs.specs.Plain.{plain}
 use Rattle.block_rules.specs.declared.block_fault.Refusal.{Refusal}
 use Rattle.module_check.specs.Accepted.{IsAccepted, IsFirstRefusal, shaped}
-use Rattle.command_line.specs.declared.command.Refusals.{Refusals}
-use Rattle.command_line.specs.declared.command.Refusals.TheVariants.{First, OfBlocks}
-use Rattle.command_line.specs.declared.command.Why.{Why}
-use Rattle.command_line.specs.declared.command.Why.TheVariants.{Wanted}
+use Rattle.command_line.specs.declared.options.Refusals.{Refusals}
+use Rattle.command_line.specs.declared.options.Refusals.TheVariants.{First, OfBlocks}
+use Rattle.command_line.specs.declared.options.Why.{Why}
+use Rattle.command_line.specs.declared.options.Why.TheVariants.{Wanted}
 use Rattle.module_check.specs.Refusals.{AreOfFunctions}
 use Rattle.reports.specs.Report.{Answer, line_of, made_text, no, no_answer, no_memory, of_layout_fault, yes}
 use Rattle.reports.specs.Files.{HasShaped, IsNoShaped, of_unread}

@@ -8,7 +8,7 @@ ghost use Rattle.certs.specs.Plain.{plain};
 ghost use Rattle.cert_maker.specs.declared.made.MakeFault.TheVariants as fault;
 ghost use Rattle.check_commands.specs.Checks.{OfMade, OfMake};
 ghost use Rattle.reports.specs.Said.{Says};
-ghost use Rattle.command_line.specs.declared.command.Why.TheVariants.{Wanted};
+ghost use Rattle.command_line.specs.declared.options.Why.TheVariants.{Wanted};
 ghost use Rattle.reports.specs.Report.{IsTold, made_text, no_answer};
 
 use cert_maker::{MakeFault, NotMade, Refused, make};

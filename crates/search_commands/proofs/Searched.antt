@@ -1,15 +1,24 @@
 -- What comes of some seeds, and then of more, comes of all of them.
-use Rattle.std.proofs.Common.{◌≡◌, ◌≤◌, ◌<◌, ℕ, Some, None, arith}
-use Rattle.command_line.specs.declared.command.Draws.{Draws}
-use Rattle.command_line.specs.declared.command.Draws.TheVariants.{Uniform, Biased}
-use Rattle.command_line.specs.declared.command.Search.{Search}
+use Rattle.std.proofs.Common.{◌≡◌, ◌≤◌, ◌<◌, ℕ, Bool, true, false, List, Some, None, refl, arith}
+use Rattle.command_line.specs.declared.options.Draws.{Draws}
+use Rattle.command_line.specs.declared.options.Draws.TheVariants.{Uniform, Biased}
+use Rattle.command_line.specs.declared.options.Search.{Search}
+use Rattle.layout.specs.Layouts.{LaidOut}
+use Rattle.trace_text.specs.Print.{trace_shown}
+use Rattle.trace_text.specs.declared.trace.Trace.{Trace}
+use Rattle.replay.specs.Soaks.{IsLeastBreak}
+use Rattle.replay.specs.declared.outcome.Break.{Break}
+use Rattle.replay.specs.declared.outcome.SeedBreak.{SeedBreak}
 use Rattle.replay.proofs.Chunks.{sound_on}
+use Rattle.hunting.specs.Shorter.{IsBreaking}
+use Rattle.hunting.specs.declared.biased_searching.BrokenSeed.{BrokenSeed}
 use Rattle.reports.specs.declared.files.Traced.{Traced}
 use Rattle.search_commands.specs.declared.sources.Searched.{Searched}
 use Rattle.search_commands.specs.declared.sources.Searched.TheVariants.{SoundBelow, BrokenAt, Found}
 use Rattle.search_commands.specs.declared.sources.Source.{Source}
 use Rattle.search_commands.specs.declared.sources.Source.TheVariants.{Soak, Hunt}
-use Rattle.search_commands.specs.Sources.{AreSound, AreSoundBy, AreTried, IsBreakBy, IsSearched, IsSoaked, IsTried, past_seed}
+use Rattle.search_commands.specs.Searches.{IsAdded, IsDrawnIf}
+use Rattle.search_commands.specs.Sources.{AreSound, AreSoundBy, AreTried, IsBreakBy, IsFound, IsSearched, IsSoaked, IsTried, past_seed, seed_break}
 
 -- the seeds before some, and those
 sound_by : (draws : Draws) (traced : Traced) (steps first next end : ℕ) → AreSoundBy draws traced steps first next → AreSoundBy draws traced steps next end → AreSoundBy draws traced steps first end
@@ -50,3 +59,26 @@ ends_with (Hunt of) search next end searched low within sound tried = tried
 pub finds_nothing : (source : Source) (search : Search) (past : ℕ) → AreTried search past → AreSound source search.steps search.first past → IsSearched source search (SoundBelow past)
 finds_nothing (Soak traced draws) search past tried sound = (tried, sound)
 finds_nothing (Hunt of) search past tried sound = tt
+
+-- a seed of which the steps are not at hand was drawn uniformly
+pub drawn_uniformly : (draws : Draws) (traced : Traced) (steps first past : ℕ) (at : SeedBreak) → IsBreakBy draws traced steps first past (BrokenAt at)
+    → (draws ≡ Uniform) × IsLeastBreak traced.program traced.trace.setup first past steps at
+drawn_uniformly Uniform traced steps first past at broken = (refl, broken)
+drawn_uniformly Biased traced steps first past at broken = absurd broken
+
+-- a seed of which the steps are at hand was drawn with few switches
+pub drawn_biased : (draws : Draws) (traced : Traced) (steps first past : ℕ) (b : BrokenSeed) → IsBreakBy draws traced steps first past (Found b)
+    → (draws ≡ Biased) × IsFound first past traced.program traced.trace (seed_break b) b.found.trace
+drawn_biased Uniform traced steps first past b broken = absurd broken
+drawn_biased Biased traced steps first past b broken = (refl, broken)
+
+-- the steps of a broken seed are saved, if that is wanted
+pub drawn_if : (wanted : Bool) (p : LaidOut) (t trace : Trace) (b : Break) (before after : List ℕ) → trace.setup ≡ t.setup → IsBreaking p trace b
+    → IsAdded wanted (trace_shown p trace) before after → IsDrawnIf wanted p t b before after
+drawn_if true p t trace b before after begins breaking added = record { trace = trace; begins = begins; breaking = breaking; added = added }
+drawn_if false p t trace b before after begins breaking added = added
+
+-- nothing is saved where that is not wanted
+pub not_drawn : (wanted : Bool) (p : LaidOut) (t : Trace) (b : Break) (before : List ℕ) → wanted ≡ false → IsDrawnIf wanted p t b before before
+not_drawn true p t b before none = absurd cc
+not_drawn false p t b before none = refl

@@ -6,11 +6,11 @@ use Rattle.layout.specs.Layouts.{LaidOut, AreLayouts}
 use Rattle.certs.specs.declared.certs.Certs.{Certs}
 use Rattle.module_check.specs.Accepted.{IsLayoutReason, shaped}
 use Rattle.module_check.specs.declared.verdict.Reason.{Reason}
-use Rattle.command_line.specs.declared.command.Draws.{Draws}
-use Rattle.command_line.specs.declared.command.Draws.TheVariants.{Uniform, Biased}
-use Rattle.command_line.specs.declared.command.Search.{Search}
-use Rattle.command_line.specs.declared.command.Shrink.TheVariants.{AsDrawn, WithTries}
-use Rattle.command_line.specs.declared.command.SoakOptions.{SoakOptions}
+use Rattle.command_line.specs.declared.options.Draws.{Draws}
+use Rattle.command_line.specs.declared.options.Draws.TheVariants.{Uniform, Biased}
+use Rattle.command_line.specs.declared.options.Search.{Search}
+use Rattle.command_line.specs.declared.options.Shrink.TheVariants.{AsDrawn, WithTries}
+use Rattle.command_line.specs.declared.options.SoakOptions.{SoakOptions}
 use Rattle.trace_text.specs.Print.{trace_shown}
 use Rattle.trace_text.specs.declared.trace.Trace.{Trace}
 use Rattle.program_runner.specs.Setups.{HasNoFault, IsSetupFault}

@@ -1,9 +1,9 @@
 -- What comes of the seeds of a search, by where their schedules come from.
 use Rattle.std.specs.Prelude.{◌≡◌, ◌<◌, ◌≤◌, ◌+◌, min, ℕ, Option, None, Some}
 use Rattle.layout.specs.Layouts.{LaidOut}
-use Rattle.command_line.specs.declared.command.Draws.{Draws}
-use Rattle.command_line.specs.declared.command.Draws.TheVariants.{Uniform, Biased}
-use Rattle.command_line.specs.declared.command.Search.{Search}
+use Rattle.command_line.specs.declared.options.Draws.{Draws}
+use Rattle.command_line.specs.declared.options.Draws.TheVariants.{Uniform, Biased}
+use Rattle.command_line.specs.declared.options.Search.{Search}
 use Rattle.trace_text.specs.Traces.{IsTraceOf}
 use Rattle.trace_text.specs.declared.trace.Trace.{Trace}
 use Rattle.program_runner.specs.Setups.{HasNoFault, IsSetupFault}

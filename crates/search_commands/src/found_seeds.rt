@@ -6,7 +6,7 @@ ghost use Rattle.program_runner.specs.Setups.{HasNoFault};
 ghost use Rattle.trace_text.specs.declared.trace.Trace.{Trace as AnyTrace};
 ghost use Rattle.reports.specs.Report.{IsTold};
 ghost use Rattle.reports.specs.Said.{Saves};
-ghost use Rattle.command_line.specs.declared.command.Shrink.TheVariants as shrink;
+ghost use Rattle.command_line.specs.declared.options.Shrink.TheVariants as shrink;
 ghost use Rattle.search_commands.specs.Searches.{IsBroken, OfSeeds, of_seed, of_shorter, seed_text, seed_words};
 ghost use Rattle.search_commands.specs.Sources.{seed_break};
 

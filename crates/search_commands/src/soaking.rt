@@ -1,7 +1,7 @@
 //! The command `soak`.
 ghost use Rattle.std.specs.Prelude.{◌≡◌, false, IfOk};
-ghost use Rattle.command_line.specs.declared.command.Draws.TheVariants as draws;
-ghost use Rattle.command_line.specs.declared.command.Shrink.TheVariants as shrink;
+ghost use Rattle.command_line.specs.declared.options.Draws.TheVariants as draws;
+ghost use Rattle.command_line.specs.declared.options.Shrink.TheVariants as shrink;
 ghost use Rattle.trace_text.specs.Traces.{IsTraceOf};
 ghost use Rattle.program_runner.specs.Setups.{HasNoFault};
 ghost use Rattle.replay.specs.Soaks.{IsLeastBreak};
@@ -50,7 +50,8 @@ fn sound<W: Write>(out: &mut W, draws: Draws, seeds: u32) -> io::Result<u8>
 fn too_long(outputs: &mut Outputs, at: SeedBreak) -> io::Result<u8>
     ensures { IfOk result (λ status. Tells outputs.old outputs.new status (of_too_long at)) }
 {
-    writeln!(&mut outputs.err, "error P3")?;
+    let err = &mut outputs.err;
+    writeln!(err, "error P3")?;
     broken_seed(&mut outputs.out, Draws::Uniform, at)
 }
 

@@ -1,6 +1,6 @@
 //! Where the schedules of a search come from, and what comes of some of its seeds.
 ghost use Rattle.std.specs.Prelude.{◌≡◌, ◌≢◌, ◌≤◌, IfOk, IfErr};
-ghost use Rattle.command_line.specs.declared.command.Draws.TheVariants as draws;
+ghost use Rattle.command_line.specs.declared.options.Draws.TheVariants as draws;
 ghost use Rattle.trace_text.specs.Traces.{IsTraceOf};
 ghost use Rattle.program_runner.specs.Setups.{HasNoFault, IsSetupFault};
 ghost use Rattle.program_runner.specs.declared.setup_fault.SetupFault.TheVariants as fault;
