@@ -27,10 +27,7 @@ fn print_no_code<E: Write>(err: &mut E, name: &str) -> io::Result<u8>
 }
 
 /// Tells of a code; without one, lists all codes.
-pub fn explain_code(
-    options: ExplainOptions<'_>,
-    outputs: &mut Outputs,
-) -> io::Result<u8>
+pub fn explain_code(options: ExplainOptions<'_>, outputs: &mut Outputs) -> io::Result<u8>
     ensures { IfOk result (Says (OfExplain (option_map (λ name. name.now) options.entry.code)) outputs.old outputs.new) }
 {
     let Some(name) = options.code else {

@@ -17,19 +17,15 @@ use command_line::{MakeOptions, Why};
 use ir_ast::Module;
 use module_check::Accepted;
 use reports::{
-    Files, Outputs, STATUS_NO, STATUS_YES, line_of_refusal, memory, no_layouts, refused, shaped_in, unread,
+    Files, Outputs, STATUS_NO, STATUS_YES, line_of_refusal, memory, no_layouts, refused, shaped_in,
+    unread,
 };
 use std::alloc::Global;
 use std::io;
 use std::io::Write;
 
 /// Prints the certificates with which a module is accepted.
-fn print_made(
-    alloc: Global,
-    accepted: &Accepted,
-    why: Why,
-    outputs: &mut Outputs,
-) -> io::Result<u8>
+fn print_made(alloc: Global, accepted: &Accepted, why: Why, outputs: &mut Outputs) -> io::Result<u8>
     requires fits { fits accepted.now.program.of_module accepted.now.certs.sections ≡ true }
     requires shapes { accepted.now.certs.shapes ≡ accepted.now.program.of_module.shapes }
     requires certified { IsAccepted accepted.now.program.of_module accepted.now.certs.sections }
@@ -97,12 +93,7 @@ fn print_tried(
 }
 
 /// Prints why no certificates are made.
-fn print_unmade(
-    alloc: Global,
-    unmade: &NotMade,
-    why: Why,
-    outputs: &mut Outputs,
-) -> io::Result<u8>
+fn print_unmade(alloc: Global, unmade: &NotMade, why: Why, outputs: &mut Outputs) -> io::Result<u8>
     requires none { unmade.now.fault ≡ fault.NoAnswer → IsAccepted unmade.now.of_module (plain unmade.now.of_module) → ⊥ }
     requires layout { IfLayout unmade.now.fault (IsLayoutFault unmade.now.of_module) }
     requires refused { IfSome unmade.now.refused (IsRefusedWith unmade.now.of_module) }
@@ -119,12 +110,7 @@ fn print_unmade(
 }
 
 /// Makes certificates of a module.
-fn make_of(
-    alloc: Global,
-    of_module: Module,
-    why: Why,
-    outputs: &mut Outputs,
-) -> io::Result<u8>
+fn make_of(alloc: Global, of_module: Module, why: Why, outputs: &mut Outputs) -> io::Result<u8>
     ensures { IfOk result (Says (OfMade why of_module) outputs.old outputs.new) }
 {
     match make(alloc, of_module) {

@@ -12,7 +12,8 @@ use copies::opaque;
 use ir_ast::Module;
 use ir_print::print;
 use reports::{
-    Certified, File, Files, Outputs, STATUS_YES, bytes_of, memory, module_in, no_certificate, read_certified, unread,
+    Certified, File, Files, Outputs, STATUS_YES, bytes_of, memory, module_in, no_certificate,
+    read_certified, unread,
 };
 use std::alloc::{AllocError, Global};
 use std::io;

@@ -12,8 +12,8 @@ ghost use Rattle.recheck.specs.declared.edit_fault.EditFault.TheVariants as edit
 use crate::codes::code_of_edit;
 use recheck::{Edit, EditFault, Session};
 use reports::{
-    Certified, Files, Outputs, STATUS_NO, STATUS_YES, accepted, edits_in, line_of_refusal, memory, not_laid_out,
-    read_certified, refused, unread,
+    Certified, Files, Outputs, STATUS_NO, STATUS_YES, accepted, edits_in, line_of_refusal, memory,
+    not_laid_out, read_certified, refused, unread,
 };
 use std::alloc::{AllocError, Global};
 use std::io;

@@ -1,5 +1,5 @@
 //! The command `replay`. The files are read once, and one run gives the answer. A run that is asked for its steps is made again for them.
-ghost use Rattle.std.specs.Prelude.{◌≡◌, ◌×◌, ◌++◌, [], Some, false, Vec, ℕ, IfOk};
+ghost use Rattle.std.specs.Prelude.{◌≡◌, ◌++◌, [], Some, false, Vec, ℕ, IfOk};
 ghost use Rattle.std.specs.Global.{Global as Heap};
 ghost use Rattle.command_line.specs.Asked.{are_told};
 ghost use Rattle.reports.specs.TraceRuns.{OfRun, OfTrace};

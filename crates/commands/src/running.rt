@@ -8,7 +8,9 @@ use command_line::RunOptions;
 use gate::OpenGate;
 use module_check::{Accepted, check};
 use mutators::{Limits, run};
-use reports::{Certified, Files, Outputs, no_threads, ran, read_certified, report_verdict, trace_in, unread};
+use reports::{
+    Certified, Files, Outputs, no_threads, ran, read_certified, report_verdict, trace_in, unread,
+};
 use std::alloc::Global;
 use std::io;
 use std::thread::Threads;

@@ -162,8 +162,7 @@ pub fn counted(
         if spent >= sample.budget {
             return Ok(happened);
         }
-        let Some(report) = report_of_seed(alloc, program, start, seed, steps, sample.biased)?
-        else {
+        let Some(report) = report_of_seed(alloc, program, start, seed, steps, sample.biased)? else {
             return Ok(happened);
         };
         let Some(more) = happened.with(&report) else {

@@ -8,8 +8,8 @@ ghost use Rattle.reports.specs.Said.{OfVerdict, Says};
 ghost use Rattle.module_check.specs.Accepted.{IsFirstRefusal, IsVerdictOf, shaped};
 
 use crate::faults::{memory, no_layouts};
-use crate::outputs::Outputs;
 use crate::found::{name_of_block, name_of_function, write_found_local, write_found_name};
+use crate::outputs::Outputs;
 use crate::status::{STATUS_NO, STATUS_YES};
 use block_rules::{Detail, Refusal, Rule};
 use certificate::print_line;
@@ -115,7 +115,12 @@ fn report_refusal(
     ensures { IfOk result (Says (OfVerdict answer.now.of_module answer.now.certs) outputs.old outputs.new) }
 {
     match line_of_refusal(alloc, &answer.of_module, &answer.certs, refusal) {
-        Ok(line) => refused(&mut outputs.out, &answer.of_module, refusal, line.as_slice()),
+        Ok(line) => refused(
+            &mut outputs.out,
+            &answer.of_module,
+            refusal,
+            line.as_slice(),
+        ),
         Err(_) => memory(&mut outputs.err),
     }
 }
@@ -131,11 +136,7 @@ pub fn not_laid_out<W: Write>(err: &mut W, answer: &NotAccepted) -> io::Result<u
 }
 
 /// Prints why a module is not accepted.
-pub fn report_verdict(
-    alloc: Global,
-    answer: &NotAccepted,
-    outputs: &mut Outputs,
-) -> io::Result<u8>
+pub fn report_verdict(alloc: Global, answer: &NotAccepted, outputs: &mut Outputs) -> io::Result<u8>
     requires { IsVerdictOf (shaped answer.now.of_module answer.now.certs) answer.now.certs.sections answer.now.verdict }
     ensures { IfOk result (Says (OfVerdict answer.now.of_module answer.now.certs) outputs.old outputs.new) }
 {

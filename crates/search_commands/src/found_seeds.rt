@@ -94,7 +94,13 @@ fn tell_as_drawn(
     ensures kept { soak.saves ≡ false → results.new.saved.items ≡ results.old.saved.items }
 {
     let at = seed_break(&broken);
-    let added = add_trace(alloc, program, &broken.found.trace, soak.saves, &mut results.saved);
+    let added = add_trace(
+        alloc,
+        program,
+        &broken.found.trace,
+        soak.saves,
+        &mut results.saved,
+    );
     drop(broken);
     match added {
         Ok(()) => broken_seed(&mut results.outputs.out, soak.options.search.draws, at),

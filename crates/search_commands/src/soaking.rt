@@ -1,5 +1,5 @@
 //! The command `soak`.
-ghost use Rattle.std.specs.Prelude.{◌≡◌, ◌×◌, false, IfOk};
+ghost use Rattle.std.specs.Prelude.{◌≡◌, false, IfOk};
 ghost use Rattle.command_line.specs.declared.command.Draws.TheVariants as draws;
 ghost use Rattle.command_line.specs.declared.command.Shrink.TheVariants as shrink;
 ghost use Rattle.trace_text.specs.Traces.{IsTraceOf};

@@ -79,11 +79,7 @@ fn try_biased(
 }
 
 /// Tries draws of starts and of steps. Where no start can be drawn, the search is over.
-fn try_hunt(
-    alloc: Global,
-    of: Hunt<'_>,
-    seeds: Schedules,
-) -> Result<Option<Searched>, ReplayFault>
+fn try_hunt(alloc: Global, of: Hunt<'_>, seeds: Schedules) -> Result<Option<Searched>, ReplayFault>
     requires { seeds.first ≤ seeds.past }
     ensures tried { IfOk result (IsHuntTried of.entry.program.now) }
     ensures fault { IfErr result (λ e. e ≡ fault.Memory) }
