@@ -17,8 +17,8 @@ OfCommand (Check options) files before after = OfCertified (OfCerts options.refu
 OfCommand (Make options) files before after = OfMake options.why files.of_module files.shapes
 OfCommand Recheck files before after = OfCertified (OfEditsFile files.edits) files.of_module files.certificate
 OfCommand (Replay options) files before after = OfRun OfTrace files.of_module files.trace files.shapes
-OfCommand (Soak options) files before after = OfRun (OfSeeds options.search options.shrink files.saves before after) files.of_module files.trace files.shapes
-OfCommand (Hunt options) files before after = OfHuntFiles files.saves before after files.of_module files.certificate files.shapes
+OfCommand (Soak options) files before after = OfRun (λ p t. OfSeeds options files.saves p t before after) files.of_module files.trace files.shapes
+OfCommand (Hunt options) files before after = OfHuntFiles files.saves files.of_module files.certificate files.shapes before after
 OfCommand (Run options) files before after =
     OfCertified (OfRunCerts (record { turns = options.turns; steps = options.steps }) files.trace) files.of_module files.certificate
 OfCommand (Explain options) files before after = OfExplain (option_map (λ code. code.now) options.code)

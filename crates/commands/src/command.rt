@@ -1,5 +1,5 @@
 //! The commands, from the bytes of their files to the printed lines and the status.
-ghost use Rattle.std.specs.Prelude.{◌≡◌, false, IfOk, OnOk};
+ghost use Rattle.std.specs.Prelude.{◌≡◌, false, true, IfOk, OnOk};
 ghost use Rattle.command_line.specs.Asked.{asks_for_steps, HasWorkers, is_wanted};
 ghost use Rattle.commands.specs.Commands.{OfCommand};
 ghost use Rattle.reports.specs.Said.{GivesTextIf, SaysAndTells};
@@ -54,7 +54,7 @@ fn explain_checked(
     files: &Files<'_>,
     err: &mut Vec<u8>,
 ) -> io::Result<()>
-    ensures { OnOk result (GivesText err.old.items err.new.items) }
+    ensures { OnOk result (GivesTextIf true err.old.items err.new.items) }
 {
     match refusals {
         Refusals::First => explain_check(alloc, look, files, err),
@@ -62,21 +62,18 @@ fn explain_checked(
     }
 }
 
-/// Explains what a command answered with this status, if the line asks for that.
+/// Explains what a command answered with this status, if there is something to explain.
 fn explain(
     alloc: Global,
     look: Look,
-    command: &Command<'_>,
+    what: What<'_>,
     files: &Files<'_>,
     status: u8,
     err: &mut Vec<u8>,
 ) -> io::Result<()>
-    ensures { OnOk result (GivesTextIf (is_wanted command.now.explained) err.old.items err.new.items) }
+    ensures { OnOk result (GivesTextIf true err.old.items err.new.items) }
 {
-    if !command.explained.is_wanted() {
-        return Ok(());
-    }
-    match (command.what, status) {
+    match (what, status) {
         (What::Soak(options), STATUS_YES) => tell_happened(alloc, options.search, files, err),
         (What::Replay(_) | What::Soak(_), STATUS_UNREADABLE) => {
             explain_traced(alloc, look, files, err)
@@ -108,7 +105,10 @@ pub fn work(
     ensures kept { files.now.saves ≡ false → results.new.saved.items ≡ results.old.saved.items }
 {
     let status = answer(rt, command, files, results, onlooker)?;
+    if !command.explained.is_wanted() {
+        return Ok(status);
+    }
     let err = &mut results.outputs.err;
-    explain(rt.alloc(), look, command, files, status, err)?;
+    explain(rt.alloc(), look, command.what, files, status, err)?;
     Ok(status)
 }

@@ -29,7 +29,7 @@ pub fn answer_on_terminal(
     requires { HasWorkers command.now.what }
 {
     let Terminal { stream, look } = terminal;
-    let Some(name) = command.timed_name() else {
+    let Some(name) = command.what.timed_name() else {
         let mut watcher = Watcher::Terminal(Progress::on(stream));
         return answer_of(rt, look, command, files, &mut watcher);
     };
