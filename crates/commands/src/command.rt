@@ -1,17 +1,14 @@
 //! The commands, from the bytes of their files to the printed lines and the status.
-ghost use Rattle.std.specs.Prelude.{◌≡◌, false, true, IfOk, OnOk};
+ghost use Rattle.std.specs.Prelude.{◌≡◌, false, IfOk, OnOk};
 ghost use Rattle.command_line.specs.Asked.{asks_for_steps, HasWorkers, is_wanted};
 ghost use Rattle.commands.specs.Commands.{OfCommand};
-ghost use Rattle.reports.specs.Said.{GivesTextIf, SaysAndTells};
+ghost use Rattle.reports.specs.Said.{GivesText, SaysAndTells};
 
 use crate::replaying::replay_files;
 use crate::running::run_files;
 use check_commands::{check_files, explain_code, make_file, migrate_files, recheck_files};
 use command_line::{Command, Refusals, What};
-use explained_checks::{
-    Look, explain_check, explain_check_of_blocks, explain_make, explain_recheck, explain_run,
-    explain_traced,
-};
+use explained_checks::{Look, Question, explain};
 use reports::{Files, Results, STATUS_NO, STATUS_UNREADABLE, STATUS_YES};
 use search_commands::{Onlooker, hunt_files, soak_files, tell_happened};
 use std::alloc::Global;
@@ -46,24 +43,30 @@ fn answer(
     }
 }
 
-/// Explains what a check answered.
-fn explain_checked(
-    alloc: Global,
-    look: Look,
-    refusals: Refusals,
-    files: &Files<'_>,
-    err: &mut Vec<u8>,
-) -> io::Result<()>
-    ensures { OnOk result (GivesTextIf true err.old.items err.new.items) }
-{
+/// What is to be explained of a check of which so many refusals are told.
+fn question_of_check(refusals: Refusals) -> Question {
     match refusals {
-        Refusals::First => explain_check(alloc, look, files, err),
-        Refusals::OfBlocks(limit) => explain_check_of_blocks(alloc, look, limit, files, err),
+        Refusals::First => Question::Check,
+        Refusals::OfBlocks(limit) => Question::Blocks(limit),
     }
 }
 
-/// Explains what a command answered with this status, if there is something to explain.
-fn explain(
+/// What is to be explained of a command that answered with this status, if something is.
+fn question_of(what: What<'_>, status: u8) -> Option<Question> {
+    match (what, status) {
+        (What::Check(options), STATUS_NO | STATUS_UNREADABLE) => {
+            Some(question_of_check(options.refusals))
+        }
+        (What::Make(_), STATUS_NO | STATUS_UNREADABLE) => Some(Question::Make),
+        (What::Recheck, STATUS_NO | STATUS_UNREADABLE) => Some(Question::Recheck),
+        (What::Run(_), STATUS_NO | STATUS_UNREADABLE) => Some(Question::Run),
+        (What::Replay(_) | What::Soak(_), STATUS_UNREADABLE) => Some(Question::Trace),
+        _ => None,
+    }
+}
+
+/// Explains what a command answered with this status, or says how much happens in the runs of sound seeds.
+fn explain_answer(
     alloc: Global,
     look: Look,
     what: What<'_>,
@@ -71,20 +74,14 @@ fn explain(
     status: u8,
     err: &mut Vec<u8>,
 ) -> io::Result<()>
-    ensures { OnOk result (GivesTextIf true err.old.items err.new.items) }
+    ensures { OnOk result (GivesText err.old.items err.new.items) }
 {
-    match (what, status) {
-        (What::Soak(options), STATUS_YES) => tell_happened(alloc, options.search, files, err),
-        (What::Replay(_) | What::Soak(_), STATUS_UNREADABLE) => {
-            explain_traced(alloc, look, files, err)
-        }
-        (What::Check(options), STATUS_NO | STATUS_UNREADABLE) => {
-            explain_checked(alloc, look, options.refusals, files, err)
-        }
-        (What::Make(_), STATUS_NO | STATUS_UNREADABLE) => explain_make(alloc, look, files, err),
-        (What::Recheck, STATUS_NO | STATUS_UNREADABLE) => explain_recheck(alloc, look, files, err),
-        (What::Run(_), STATUS_NO | STATUS_UNREADABLE) => explain_run(alloc, look, files, err),
-        _ => Ok(()),
+    if let (What::Soak(options), STATUS_YES) = (what, status) {
+        return tell_happened(alloc, options.search, files, err);
+    }
+    match question_of(what, status) {
+        Some(question) => explain(alloc, look, question, files, err),
+        None => Ok(()),
     }
 }
 
@@ -109,6 +106,6 @@ pub fn work(
         return Ok(status);
     }
     let err = &mut results.outputs.err;
-    explain(rt.alloc(), look, command.what, files, status, err)?;
+    explain_answer(rt.alloc(), look, command.what, files, status, err)?;
     Ok(status)
 }

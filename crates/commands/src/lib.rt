@@ -11,6 +11,7 @@ pub use command::work;
 pub use explained_checks::Look;
 pub use files::Contents;
 pub use reports::{
-    Files, Outputs, Results, STATUS_NO, STATUS_USAGE, STATUS_YES, memory, status_of,
+    File, Files, Outputs, Results, STATUS_MEMORY, STATUS_NO, STATUS_UNREADABLE, STATUS_USAGE,
+    STATUS_YES, memory, no_layouts, replayed, status_of,
 };
 pub use search_commands::{Nobody, Onlooker, SoFar};
