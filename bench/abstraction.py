@@ -13,6 +13,7 @@ that is not read: none may get a `yes`. Ends with 1 at the first difference.
 To install: `apt-get install clang-14 clang-22`.
 """
 import argparse
+import concurrent.futures
 import json
 import os
 import random
@@ -82,6 +83,10 @@ void ext_print(const char *form, ...) { (void)form; }
 const char *ext_name(uint32_t n) { return "name;of\\"it" + (n & 7); }
 void ext_fill(uint32_t *x) { *x = *x * 3 + 1; }
 """
+
+
+class Difference(Exception):
+    """What differs."""
 
 
 class Function(agree.Function):
@@ -339,7 +344,7 @@ def abstracted(base, text):
         out.write(text)
     done = subprocess.run([sys.executable, ABSTRACT, base + ".ll"], capture_output=True, text=True)
     if done.returncode:
-        sys.exit(done.stderr)
+        raise Difference(done.stderr)
     with open(base + ".any.ll", "w") as out:
         out.write(done.stdout)
     return done.stdout, done.stderr.splitlines()[1:]
@@ -410,7 +415,7 @@ def compare(dgc, llvm, base, module):
             out.write(shapes)
     abstract, left = abstracted(base, text)
     if left:
-        sys.exit(f"{base}: left: {left[0]}")
+        raise Difference(f"{base}: left: {left[0]}")
     run_of(llvm, base, text, starts)
     compared = numbers_set = 0
     for n, start in enumerate(starts):
@@ -420,7 +425,7 @@ def compare(dgc, llvm, base, module):
             continue
         said = Replay(dgc, base, abstract, start, numbers).returned()
         if said != f"t 0 {printed[-1]}":
-            sys.exit(f"{base}: @{start[0].name}: LLVM's code {printed[-1]}, dgc {said}")
+            raise Difference(f"{base}: @{start[0].name}: LLVM's code {printed[-1]}, dgc {said}")
         compared, numbers_set = compared + 1, numbers_set + len(numbers)
     return compared, numbers_set
 
@@ -477,6 +482,12 @@ def shapes_of(module):
     return "\n".join(lines) + "\n"
 
 
+def one(task):
+    """Compares one drawn module."""
+    dgc, llvms, folder, number = task
+    return compare(dgc, llvms[number // 4 % len(llvms)], os.path.join(folder, f"a{number}"), Module(random.Random(number), number % 4 == 3))
+
+
 def main():
     parser = argparse.ArgumentParser(description=__doc__.split("\n")[0])
     parser.add_argument("dgc", type=os.path.abspath)
@@ -488,17 +499,20 @@ def main():
     llvms = [version for version in ("14", newest) if version and shutil.which(f"clang-{version}")]
     if not llvms:
         sys.exit("no clang: apt-get install clang-14 clang-22")
-    compared = numbers = plain = 0
     with tempfile.TemporaryDirectory() as scratch:
         folder = options.keep or scratch
         os.makedirs(folder, exist_ok=True)
         traps = spring(options.dgc, folder)
         print(f"{traps} modules that break a rule: no yes; the same {traps} without the fault: yes")
-        for number in range(options.seed, options.seed + options.modules):
-            draw = random.Random(number)
-            is_plain = number % 4 == 3
-            some = compare(options.dgc, llvms[number // 4 % len(llvms)], os.path.join(folder, f"a{number}"), Module(draw, is_plain))
-            compared, numbers, plain = compared + some[0], numbers + some[1], plain + is_plain
+        tasks = [(options.dgc, llvms, folder, number) for number in range(options.seed, options.seed + options.modules)]
+        with concurrent.futures.ProcessPoolExecutor() as pool:
+            try:
+                found = list(pool.map(one, tasks))
+            except Difference as difference:
+                pool.shutdown(cancel_futures=True)
+                sys.exit(str(difference))
+    compared, numbers = sum(some for some, _ in found), sum(some for _, some in found)
+    plain = sum(number % 4 == 3 for *_, number in tasks)
     print(f"{options.modules} modules, {plain} of them without such forms, LLVM {' and '.join(llvms)}: {compared} functions, {numbers} numbers set, no difference")
 
 
