@@ -8,7 +8,7 @@ use crate::onlooker::{Onlooker, SoFar};
 use crate::pace::Pace;
 use command_line::Search;
 use layout::Program;
-use replay::{ReplayFault, SeedBreak, SoakOutcome, soak};
+use replay::{ReplayFault, Schedules, SeedBreak, SoakOutcome, soak};
 use std::alloc::Global;
 use std::thread::Threads;
 use std::time::Clock;
@@ -49,15 +49,12 @@ pub(crate) fn soak_for<P: Onlooker>(
 {
     let past = past_seed(search);
     // A soak of no seed says only whether each thread may begin. That is told also where no seed is tried.
-    let _none = soak(
-        rt,
-        alloc,
-        program,
-        setup,
-        search.first,
-        search.first,
-        search.steps,
-    )?;
+    let none = Schedules {
+        first: search.first,
+        past: search.first,
+        steps: search.steps,
+    };
+    let _none = soak(rt, alloc, program, setup, none)?;
     let mut pace = Pace::start(rt, FIRST);
     let mut next = search.first;
     while next < past {
@@ -65,7 +62,12 @@ pub(crate) fn soak_for<P: Onlooker>(
             return Ok(Soaked::SoundBelow(next));
         }
         let end = next + pace.size().min(past - next);
-        if let SoakOutcome::Broken(at) = soak(rt, alloc, program, setup, next, end, search.steps)? {
+        let chunk = Schedules {
+            first: next,
+            past: end,
+            steps: search.steps,
+        };
+        if let SoakOutcome::Broken(at) = soak(rt, alloc, program, setup, chunk)? {
             return Ok(Soaked::BrokenAt(at));
         }
         next = end;
