@@ -2,16 +2,19 @@ use Rattle.std.proofs.Common.{refl}
 use Rattle.std.proofs.lemmas.Result.{IfOk-weaker}
 use Rattle.reports.specs.Said.{OnError}
 use Rattle.reports.specs.TraceRuns.{not_traced, of_traced}
+use Rattle.commands.proofs.Following.{none_follows}
 use Rattle.commands.proofs.replaying.replay_files.Goals as goal
 
 pub returns-in-Ok-clause-said : goal.returns-in-Ok-clause-said
 returns-in-Ok-clause-said c =
     IfOk-weaker c.replay_traced-status.result _ _
-    (λ status told. (told.0, of_traced c.in-Ok.traced.program c.in-Ok.traced.trace told.0 c.in-Ok.ensures.program c.in-Ok.ensures.trace told.1, told.2))
+    (λ status told.
+    let says = told.1 in
+    (told.0, (says.0, of_traced c.in-Ok.traced.program c.in-Ok.traced.trace says.0 c.in-Ok.ensures.program c.in-Ok.ensures.trace says.1, says.2), told.2, told.3))
     c.replay_traced-status.ensures.said
 
 pub returns-in-Err-clause-said : goal.returns-in-Err-clause-said
 returns-in-Err-clause-said c =
     IfOk-weaker c.unread.result _ _
-    (λ status told. (OnError _, not_traced c.in-Err.fault c.in-Err.ensures.err, (refl, told)))
+    (λ status told. (_, (OnError _, not_traced c.in-Err.fault c.in-Err.ensures.err, (refl, told)), none_follows _ c.args.results.now.outputs.out.items, refl))
     c.unread.ensures
