@@ -4,7 +4,7 @@ use Rattle.command_line.specs.Asked.{are_told}
 use Rattle.reports.specs.Said.{OnError}
 use Rattle.reports.specs.TraceRuns.{not_traced, of_traced}
 use Rattle.reports.specs.declared.outputs.Outputs.{Outputs}
-use Rattle.commands.proofs.Words.{gives_none}
+use Rattle.commands.proofs.Following.{none_follows}
 use Rattle.commands.proofs.replaying.replay_files.Goals as goal
 
 pub returns-in-Ok-clause-said : goal.returns-in-Ok-clause-said
@@ -20,5 +20,5 @@ pub returns-in-Err-clause-said : goal.returns-in-Err-clause-said
 returns-in-Err-clause-said c =
     let said : Outputs = record { out = c.args.results.now.outputs.out; err = c.unread.new.err } in
     IfOk-weaker c.unread.result _ _
-    (λ status told. (said, (OnError _, not_traced c.in-Err.fault c.in-Err.ensures.err, (refl, told)), gives_none (are_told c.args.options.steps) _, refl))
+    (λ status told. (said, (OnError _, not_traced c.in-Err.fault c.in-Err.ensures.err, (refl, told)), none_follows (are_told c.args.options.steps) _, refl))
     c.unread.ensures
