@@ -20,7 +20,6 @@ use Rattle.ir_ast.specs.declared.operand.Operand.TheVariants as operand
 use Rattle.ir_ast.specs.declared.operand.Constant.TheVariants.{Null}
 use Rattle.ir_ast.specs.declared.ends.End.TheVariants.{ReturnVoid}
 use Rattle.pools.specs.Heap.{Setup, IsSetup, kind_of}
-use Rattle.pools.specs.declared.word_kind.WordKind.{WordKind}
 use Rattle.pools.specs.declared.word_kind.WordKind.TheVariants.{Reference}
 use Rattle.layout.specs.Globals.{AreGlobals, word_of_global}
 use Rattle.layout.specs.Layouts.{LaidOut}
@@ -105,4 +104,5 @@ worked = record {
   set_up = set_up;
   begun = λ t below. record { func = 0; function = f0; arguments = []; is = refl; takes = record { takes_integers = refl; fit = refl; meet = tt }; stands = refl };
   some_thread = lit< tt;
+  reads = refl;
 }

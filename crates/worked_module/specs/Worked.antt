@@ -6,9 +6,11 @@ use Rattle.layout.specs.Layouts.{LaidOut, AreLayouts}
 use Rattle.certs.specs.Families.{is_opaque_text}
 use Rattle.certs.specs.declared.section.Section.{Section}
 use Rattle.program_safety.specs.Safety.{AreBegun, AreCertified}
-use Rattle.program_safety.specs.Threads.{ProgramThread}
+use Rattle.program_safety.specs.Threads.{ProgramThread, asks}
+use Rattle.runs.specs.Machine.{Read}
+use Rattle.runs.specs.Moves.{null}
 
--- the program is laid out and certified, and these threads, one at least, begin at its functions over this heap of it
+-- the program is laid out and certified, and these threads, one at least, begin at its functions over this heap of it; the first one has a step to make
 pub record IsWorked (program : LaidOut) (certs : List Section) (heap : Setup) (starts : ℕ → ProgramThread) : Type 0 where
   pub laid_out : AreLayouts program.of_module program.layouts
   pub certified : AreCertified program certs
@@ -16,6 +18,8 @@ pub record IsWorked (program : LaidOut) (certs : List Section) (heap : Setup) (s
   pub set_up : IsSetup heap
   pub begun : AreBegun heap program certs starts
   pub some_thread : 0 < heap.threads
+  -- the first thread first reads the word of the first global
+  pub reads : asks (starts 0) ≡ Read null 0
 
 -- there is such a program, whose text writes `ptr`
 abbrev pub OpaqueIsWorked : Type 0
