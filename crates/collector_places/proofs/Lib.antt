@@ -1,0 +1,4 @@
+mod CountLemmas
+mod PassLemmas
+mod Moves
+mod Looks

@@ -1,0 +1,5 @@
+pub mod Counts
+pub mod Spots
+pub mod Nexts
+pub mod Places
+pub mod View
