@@ -1,0 +1,2 @@
+pub mod CellSets
+pub mod Knows
