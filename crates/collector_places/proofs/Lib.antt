@@ -1,4 +1,6 @@
+mod WordPlaces
 mod CountLemmas
 mod PassLemmas
 mod Moves
 mod Looks
+mod Spotted

@@ -1,5 +1,5 @@
 -- Places of the collector's order, as the code keeps them.
-use Rattle.std.specs.Prelude.{ℕ, ◌+◌, ◌≡◌, ◌<◌, ◌≤◌, ◌⊎◌, List, if◌then◌else◌, nat_lt}
+use Rattle.std.specs.Prelude.{ℕ, suc, ◌+◌, ◌≡◌, ◌<◌, ◌≤◌, ◌⊎◌, List, if◌then◌else◌, nat_lt}
 use Rattle.pools.specs.Heap.{Setup, cells}
 use Rattle.colours.specs.declared.turn.Turn.{Turn}
 use Rattle.colours.specs.Collector as order
@@ -71,9 +71,9 @@ rounds_of (Scanning cell word p) = p.rounds
 rounds_of (Shading value cell word p) = p.rounds
 rounds_of spot = 0
 
--- the thread that is waited for, or 0
+-- the number of threads up to the one that is waited for, or 0
 abbrev pub thread_of : Spot → ℕ
-thread_of (Waiting thread) = thread
+thread_of (Waiting thread) = suc thread
 thread_of spot = 0
 
 -- the numbers of a spot are those of the heap, after this number of steps

@@ -7,7 +7,7 @@ use Rattle.collector_places.specs.Places.{Places}
 
 -- the places of the code as contracts see them
 abbrev pub view_of : Inside → Places
-view_of c = record { heap = c.plan.now; posted = c.posted; turns = c.turns; looks = c.looks; shades = c.shades; spots = c.spots }
+view_of c = record { heap = c.plan.now; posted = c.posted; turns = c.turns; looks = c.looks.items; shades = c.shades.items; spots = c.spots }
 
 -- the count of cells, and the numbers of words
 pub record IsCounted (c : Inside) : Type 0 where
