@@ -4,3 +4,4 @@ mod PassLemmas
 mod Moves
 mod Looks
 mod Spotted
+mod WordsThere

@@ -5,6 +5,8 @@ ghost use Rattle.pools.specs.Layouts.{is_reference_kind};
 ghost use Rattle.colours.specs.declared.turn.Turn.{Turn as ATurn};
 ghost use Rattle.colours.specs.Colours.{cycle_of};
 ghost use Rattle.colours.specs.Collector.{Collection, Collects, reference_from};
+ghost use Rattle.colours.specs.Steps.{place_of, turn_of};
+ghost use Rattle.heap_rule.specs.Rule.{HasPlace};
 ghost use Rattle.trace_sweep.specs.Words.{place_from};
 ghost use Rattle.collector_places.specs.Counted.{counted, with_one_more};
 ghost use Rattle.collector_places.specs.Spots.{IsPlaced};
@@ -69,6 +71,20 @@ impl<'a> CollectorPlaces<'a> {
             shades: zeros(alloc, cells)?,
             spots,
         })
+    }
+
+    /// The stage that was posted last.
+    pub fn posted(&self) -> u64
+        ensures { result ≡ self.now.posted }
+    {
+        self.posted
+    }
+
+    /// The law of the words: a step that the order allows is one on a word of the heap.
+    pub fn words_law(&self)
+        ensures { (s : Setup) (log : List ATurn) (turn : ATurn) (c : Collection) (cycle : ℕ) → Stands s log self.now → Collects s (turn ∷ log) c → HasPlace s (place_of (turn_of cycle turn)) }
+    {
+        let _plan = self.plan;
     }
 
     /// The collector made this step, as far as the order of its steps allows it: then it is true. Otherwise nothing changes. So it

@@ -1,6 +1,6 @@
 -- The bytes of an entry.
-use Rattle.std.specs.Prelude.{ℕ, zero, suc, ◌+◌, ◌*◌, ◌/◌, List, [], ◌∷◌, ◌++◌, length, drop, slice_index, w16, w32, w64}
-use Rattle.std.specs.Int.{from_le_bytes, to_le_bytes}
+use Rattle.std.specs.Prelude.{ℕ, zero, suc, ◌+◌, ◌*◌, ◌/◌, List, [], ◌∷◌, ◌++◌, length, drop, slice_index}
+use Rattle.std.specs.Int.{from_le_bytes, w16, w32, w64}
 use Rattle.record_text.specs.declared.entry.Entry.{Entry}
 
 -- the entry with which bytes begin

@@ -1,11 +1,11 @@
 ghost use Rattle.std.specs.Prelude.{◌≡◌, ◌≤◌, length};
-ghost use Rattle.record_text.specs.Entries.{entry_at, bytes_of};
+ghost use Rattle.record_text.specs.Entries.{entry_at};
 
 /// How many bytes an entry has.
 pub const ENTRY_BYTES: usize = 16;
 
 /// One entry of a record: the actor, the kind of the step, and its numbers. The numbers of a record have their lowest byte first.
-#[derive(Clone, Copy, Debug, PartialEq, Eq)]
+#[derive(Clone, Copy)]
 pub struct Entry {
     pub actor: u8,
     pub kind: u8,
