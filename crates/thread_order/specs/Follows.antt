@@ -1,5 +1,5 @@
 -- Which step may come next, as tests; and where the thread stands after it.
-use Rattle.std.specs.Prelude.{ℕ, ◌==◌, ◌&&◌, ◌||◌, not, nat_lt, Bool, true, false, List, [], ◌∷◌, ◌++◌, length, slice_index, slice_set, replicate, if◌then◌else◌}
+use Rattle.std.specs.Prelude.{ℕ, ◌-◌, ◌==◌, ◌&&◌, ◌||◌, not, nat_lt, Bool, true, false, List, [], ◌∷◌, ◌++◌, length, slice_index, slice_set, replicate, if◌then◌else◌}
 use Rattle.pools.specs.Heap.{Setup, cells, layout_of}
 use Rattle.colours.specs.Colours.{is_async, done}
 use Rattle.colours.specs.Steps.{Step, ReadWord, ReadOldValue, Mark, StoreAfterBarrier, StorePlain, Claim, ReadPosted, StoreStage, ReadPostedFirst, EnterStage, ReadPostedAgain}
@@ -18,10 +18,9 @@ is_none (root ∷ roots) = false
 abbrev pub is_cell : Setup → (cell : ℕ) → Bool
 is_cell s cell = nat_lt 0 cell && nat_lt cell (cells s)
 
--- the cell may be tried, after these
-abbrev pub may_try : Setup → (is_tried : List Bool) → (tried : List ℕ) → (cell : ℕ) → Bool
-may_try s is_tried [] cell = is_cell s cell
-may_try s is_tried (first ∷ tried) cell = is_cell s cell && ((layout_of s cell == layout_of s first) && not (has is_tried cell))
+-- the cell may be tried next
+abbrev pub may_try : Standing → (cell : ℕ) → Bool
+may_try v cell = is_cell v.heap cell && ((layout_of v.heap cell == v.pool) && not (has v.is_tried cell))
 
 -- the step may come next
 abbrev pub may_follow : Standing → At → Step → Bool
@@ -35,7 +34,7 @@ may_follow v (MarkingOld cell word old) (Mark c) = c == old
 may_follow v (MarkingNew cell word old) (Mark c) = not (is_async v.stage) && not (c == 0)
 may_follow v (MarkingNew cell word old) (StoreAfterBarrier c w value) = (c == cell) && ((w == word) && (is_async v.stage || (value == 0)))
 may_follow v (Writing cell word old new) (StoreAfterBarrier c w value) = (c == cell) && ((w == word) && (value == new))
-may_follow v Trying (Claim cell won) = may_try v.heap v.is_tried v.tried cell
+may_follow v Trying (Claim cell won) = may_try v cell
 may_follow v (Answering next) (Mark c) = is_async next && not (c == 0)
 may_follow v (Answering next) (StoreStage to roots) = (to == next) && (not (is_async next) || are_marked v.marked roots)
 may_follow v Absent (ReadPostedFirst posted) = true
@@ -54,14 +53,18 @@ abbrev pub is_trying : At → Bool
 is_trying Trying = true
 is_trying _ = false
 
--- the cells that were tried, with one more; a request begins with none
+-- a request for a cell of this one's pool
+abbrev pub with_request : Standing → (cell : ℕ) → Standing
+with_request v cell = record v { pool = layout_of v.heap cell; left = slice_index v.heap.pools (layout_of v.heap cell) - 1; is_tried = replicate (length v.is_tried) false }
+
+-- a cell was tried; a request begins so
 abbrev pub tried_too : Standing → (trying : Bool) → (cell : ℕ) → Standing
-tried_too v true cell = record v { tried = v.tried ++ cell ∷ []; is_tried = slice_set v.is_tried cell true }
-tried_too v false cell = record v { tried = cell ∷ []; is_tried = slice_set (replicate (length v.is_tried) false) cell true }
+tried_too v true cell = record v { left = v.left - 1; is_tried = slice_set v.is_tried cell true }
+tried_too v false cell = let w = with_request v cell in record w { is_tried = slice_set w.is_tried cell true }
 
 -- null is the answer once each cell of the pool was tried
-abbrev pub after_try : Standing → (cell : ℕ) → Standing
-after_try v cell = with_at v (if length v.tried == slice_index v.heap.pools (layout_of v.heap cell) then Ready else Trying)
+abbrev pub after_try : Standing → Standing
+after_try v = with_at v (if v.left == 0 then Ready else Trying)
 
 -- after a mark
 abbrev pub after_mark : Standing → At → (cell : ℕ) → Standing
@@ -75,17 +78,21 @@ abbrev pub after_store : At → (stage : ℕ) → At
 after_store Leaving next = Absent
 after_store _ next = if next == done then Ended else Ready
 
+-- where a thread that is there stands after a step
+abbrev pub stands_from : Standing → At → Step → Standing
+stands_from v at (ReadWord cell word value) = with_at v Ready
+stands_from v at (ReadOldValue cell word value) = with_at v (if value == 0 then MarkingNew cell word value else MarkingOld cell word value)
+stands_from v at (Mark c) = after_mark v at c
+stands_from v at (StoreAfterBarrier cell word value) = with_at v Ready
+stands_from v at (StorePlain cell word value) = with_at v Ready
+stands_from v at (Claim cell true) = with_at v Ready
+stands_from v at (Claim cell false) = after_try (tried_too v (is_trying at) cell)
+stands_from v at (ReadPosted posted) = if posted == v.stage then with_at v Ready else record v { at = Answering posted; marked = [] }
+stands_from v at (StoreStage next roots) = record v { stage = next; at = after_store at next }
+stands_from v at (ReadPostedFirst posted) = with_at v (Arriving posted)
+stands_from v at (EnterStage next) = record v { stage = next; at = Entering }
+stands_from v at (ReadPostedAgain posted) = with_at v (if posted == v.stage then Ready else Leaving)
+
 -- where the thread stands after a step
 abbrev pub stands_after : Standing → Step → Standing
-stands_after v (ReadWord cell word value) = with_at v Ready
-stands_after v (ReadOldValue cell word value) = with_at v (if value == 0 then MarkingNew cell word value else MarkingOld cell word value)
-stands_after v (Mark c) = after_mark v v.at c
-stands_after v (StoreAfterBarrier cell word value) = with_at v Ready
-stands_after v (StorePlain cell word value) = with_at v Ready
-stands_after v (Claim cell true) = with_at v Ready
-stands_after v (Claim cell false) = after_try (tried_too v (is_trying v.at) cell) cell
-stands_after v (ReadPosted posted) = if posted == v.stage then with_at v Ready else record v { at = Answering posted; marked = [] }
-stands_after v (StoreStage next roots) = record v { stage = next; at = after_store v.at next }
-stands_after v (ReadPostedFirst posted) = with_at v (Arriving posted)
-stands_after v (EnterStage next) = record v { stage = next; at = Entering }
-stands_after v (ReadPostedAgain posted) = with_at v (if posted == v.stage then Ready else Leaving)
+stands_after v step = stands_from v v.at step

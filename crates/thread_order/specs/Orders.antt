@@ -1,17 +1,17 @@
 -- A thread and its log.
-use Rattle.std.specs.Prelude.{ℕ, ◌≡◌, ◌↔◌, Bool, List, ◌∷◌, IsTrue}
-use Rattle.pools.specs.Heap.{Setup}
+use Rattle.std.specs.Prelude.{ℕ, ◌≡◌, ◌↔◌, Bool, List, ◌∷◌, length, IsTrue}
+use Rattle.pools.specs.Heap.{Setup, cells}
 use Rattle.colours.specs.Steps.{Step}
 use Rattle.colours.specs.Mutator.{stage_of, phase_of, MayFollow}
-use Rattle.thread_order.specs.Standings.{Standing, phase_seen, IsTied}
+use Rattle.thread_order.specs.Standings.{Standing, IsInPhase}
 
 
 -- the thread stands where it is after this log
 pub record Stands (s : Setup) (thread : ℕ) (log : List Step) (v : Standing) : Type 0 where
   pub heap : v.heap ≡ s
   pub stage : v.stage ≡ stage_of log
-  pub phase : phase_seen v ≡ phase_of s thread log
-  pub tied : IsTied v
+  pub phase : IsInPhase v v.at (phase_of s thread log)
+  pub set_of : length v.is_tried ≡ cells s
 
 -- what a test of the next step says of each log that led here
 abbrev pub Tells : Standing → Step → Bool → Type 0

@@ -1,9 +1,9 @@
-ghost use Rattle.std.specs.Prelude.{ℕ, ◌≡◌, ◌<◌, Bool, List, [], IsTrue, IfOk, OnOk, OnErr};
+ghost use Rattle.std.specs.Prelude.{ℕ, ◌≡◌, ◌<◌, Bool, List, [], ◌∷◌, slice_index, IsTrue, IfOk, OnOk, OnErr};
 ghost use Rattle.pools.specs.Heap.{Setup, cells, layout_of};
 ghost use Rattle.colours.specs.Steps.{Step};
 ghost use Rattle.colours.specs.Mutator.{stage_of, phase_of, MayFollow};
 ghost use Rattle.record_text.specs.Records.{step_with};
-ghost use Rattle.thread_order.specs.Standings.{Standing, IsTied};
+ghost use Rattle.thread_order.specs.Standings.{Standing, MayLose};
 ghost use Rattle.thread_order.specs.Follows as follows;
 ghost use Rattle.thread_order.specs.Follows.{may_follow, stands_after};
 ghost use Rattle.thread_order.specs.Orders.{Stands, Tells, GoesOn};
@@ -22,12 +22,12 @@ use watch::CellSet;
 /// A thread, by the order of its steps: the stage that it stored last, and where it is in a call.
 #[derive(Drop)]
 pub struct ThreadOrder<'a> {
-    alloc: Global,
     plan: &'a Plan<'a>,
     stage: u64,
     at: At,
-    /// The cells that the request under way tried, as a list and as a set.
-    tried: Items<u32>,
+    /// Of the request under way: its pool, how many of its cells are left to try, and which were tried.
+    pool: LayoutId,
+    left: u32,
     is_tried: CellSet,
     /// The roots that the answer under way marked.
     marked: Items<u32>,
@@ -51,11 +51,11 @@ impl<'a> ThreadOrder<'a> {
         let is_late = plan.late.get(thread).copied().unwrap_or(false);
         let is_tried = CellSet::new(alloc, plan.pools.cells())?;
         Ok(ThreadOrder {
-            alloc,
             plan,
             stage: 0,
             at: if is_late { At::Absent } else { At::Ready },
-            tried: Items::new(alloc),
+            pool: LayoutId::new(0),
+            left: 0,
             is_tried,
             marked: Items::new(alloc),
         })
@@ -80,7 +80,6 @@ impl<'a> ThreadOrder<'a> {
 
     /// Whether the step, with these roots if it is an answer, may come next.
     pub fn may_follow(&self, step: ThreadStep, roots: &[u32]) -> bool
-        requires { IsTied self.now }
         ensures tells { Tells self.now (step_with roots.now step) result }
     {
         self.is_next(step, roots)
@@ -96,7 +95,6 @@ impl<'a> ThreadOrder<'a> {
     }
 
     fn is_next(&self, step: ThreadStep, roots: &[u32]) -> bool
-        requires { IsTied self.now }
         ensures { result ≡ may_follow self.now self.now.at (step_with roots.now step) }
     {
         match self.at {
@@ -143,7 +141,6 @@ impl<'a> ThreadOrder<'a> {
 
     /// Each try so far was lost.
     fn is_try(&self, step: ThreadStep) -> bool
-        requires { IsTied self.now }
         ensures { (roots : List ℕ) → result ≡ may_follow self.now At.Trying (step_with roots step) }
     {
         match step {
@@ -166,17 +163,9 @@ impl<'a> ThreadOrder<'a> {
 
     /// Whether the cell may be tried, after those that were.
     fn may_try(&self, cell: u32) -> bool
-        requires { IsTied self.now }
-        ensures { result ≡ follows.may_try self.now.heap self.now.is_tried self.now.tried cell }
+        ensures { result ≡ follows.may_try self.now cell }
     {
-        if !self.is_cell(cell) {
-            return false;
-        }
-        match self.tried.get(0) {
-            None => true,
-            Some(first) =>
-                self.pool_of(cell) == self.pool_of(*first) && !self.is_tried.has(cell),
-        }
+        self.is_cell(cell) && self.pool_of(cell) == self.pool && !self.is_tried.has(cell)
     }
 
     /// Whether it is a cell that may be claimed.
@@ -198,7 +187,7 @@ impl<'a> ThreadOrder<'a> {
     }
 
     fn go_on(&mut self, step: ThreadStep) -> Result<(), AllocError>
-        requires { (cell : ℕ) (won : Bool) → step ≡ ThreadStep.Claim cell won → (0 < cell) × (cell < cells self.old.heap) }
+        requires { (cell : ℕ) (won : Bool) → step ≡ ThreadStep.Claim cell won → MayLose self.old cell }
         ensures ok { (roots : List ℕ) → OnOk result (self.new ≡ stands_after self.old (step_with roots step)) }
         ensures err { OnErr result (self.new ≡ self.old) }
     {
@@ -215,7 +204,7 @@ impl<'a> ThreadOrder<'a> {
                 };
             }
             ThreadStep::Mark(cell) => return self.mark(cell),
-            ThreadStep::Claim(cell, false) => return self.lose(cell),
+            ThreadStep::Claim(cell, false) => self.lose(cell),
             ThreadStep::ReadPosted(posted) => self.look(posted),
             ThreadStep::StoreStage(next) => {
                 self.at = after_store(self.at, next);
@@ -266,39 +255,38 @@ impl<'a> ThreadOrder<'a> {
     }
 
     /// The thread tried a cell in vain.
-    fn lose(&mut self, cell: u32) -> Result<(), AllocError>
+    fn lose(&mut self, cell: u32)
         requires first { 0 < cell }
         requires cell { cell < cells self.old.heap }
-        ensures ok { OnOk result (self.new ≡ follows.after_try (follows.tried_too self.old (follows.is_trying self.old.at) cell) cell) }
-        ensures err { OnErr result (self.new ≡ self.old) }
+        requires more { IsTrue (follows.is_trying self.old.at) → 0 < self.old.left }
+        requires some { 0 < slice_index self.old.heap.pools (layout_of self.old.heap cell) }
+        ensures { self.new ≡ follows.after_try (follows.tried_too self.old (follows.is_trying self.old.at) cell) }
     {
-        let is_trying = matches!(self.at, At::Trying);
-        self.try_too(is_trying, cell)?;
-        let pool = self.pool_of(cell);
-        let plan = self.plan;
-        self.at = if self.tried.len() == plan.pools.count(pool) as usize {
+        if matches!(self.at, At::Trying) {
+            self.left -= 1;
+        } else {
+            self.begin_tries(cell);
+        }
+        self.is_tried.add(cell);
+        self.at = if self.left == 0 {
             At::Ready
         } else {
             At::Trying
         };
-        Ok(())
     }
 
-    /// Adds a cell to those that were tried.
-    fn try_too(&mut self, is_trying: bool, cell: u32) -> Result<(), AllocError>
-        ensures ok { OnOk result (self.new ≡ follows.tried_too self.old is_trying cell) }
-        ensures err { OnErr result (self.new ≡ self.old) }
+    /// A request begins with a try of this cell.
+    fn begin_tries(&mut self, cell: u32)
+        requires first { 0 < cell }
+        requires cell { cell < cells self.old.heap }
+        requires some { 0 < slice_index self.old.heap.pools (layout_of self.old.heap cell) }
+        ensures { self.new ≡ follows.with_request self.old cell }
     {
-        if is_trying {
-            self.tried.push(cell)?;
-        } else {
-            let mut tried = Items::new(self.alloc);
-            tried.push(cell)?;
-            self.tried = tried;
-            self.is_tried.clear();
-        }
-        self.is_tried.add(cell);
-        Ok(())
+        let plan = self.plan;
+        let pool = self.pool_of(cell);
+        self.pool = pool;
+        self.left = plan.pools.count(pool) - 1;
+        self.is_tried.clear();
     }
 }
 
