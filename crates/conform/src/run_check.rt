@@ -87,6 +87,7 @@ impl<'a> RunCheck<'a> {
             → IfOk result (λ broken. IfSome broken (λ rule. Breaks rule s run (ByCollector turn))) }
     {
         word_law();
+        self.collector.words_law();
         let ask = turn_of(cycle_of(self.collector.posted()), turn);
         if !self.words.has(place_of(ask)) {
             return Ok(Some(rule_of_turn(turn)));
@@ -118,7 +119,7 @@ fn threads_of<'a>(
 
 /// The rule that a step of the collector breaks which its order does not allow.
 fn rule_of_turn(turn: Turn) -> Rule
-    ensures { (s : Setup) (run : List Event) → Asks result s run (ByCollector turn) ≡ ((c : Collection) × Collects s (turn ∷ turns_of run) c) }
+    ensures { (s : Setup) (run : List Event) → Asks result s run (ByCollector turn) → (c : Collection) × Collects s (turn ∷ turns_of run) c }
 {
     match turn {
         Turn::ReadColour(_, _) => Rule::Look,

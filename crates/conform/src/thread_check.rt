@@ -72,7 +72,7 @@ impl<'a> CheckedThread<'a> {
 
 /// The rule that a step breaks which its thread's order does not allow.
 fn rule_of_order(step: ThreadStep, is_answer: bool) -> Rule
-    ensures { (s : Setup) (thread : ℕ) (log : List Step) (roots : List ℕ) → AsksOfStep result s thread log (step_with roots step) ≡ ComesNext s thread log (step_with roots step) }
+    ensures { (s : Setup) (thread : ℕ) (log : List Step) (roots : List ℕ) → AsksOfStep result s thread log (step_with roots step) → ComesNext s thread log (step_with roots step) }
 {
     match step {
         ThreadStep::StoreAfterBarrier(_, _, _) => Rule::UnmarkedStore,
