@@ -4,6 +4,7 @@ ghost use Rattle.command_line.specs.Asked.{asks_for_steps, HasWorkers, is_wanted
 ghost use Rattle.commands.specs.Commands.{OfCommand};
 ghost use Rattle.reports.specs.Said.{GivesText, SaysAndTells};
 
+use crate::conforming::conform_files;
 use crate::replaying::replay_files;
 use crate::running::run_files;
 use check_commands::{check_files, explain_code, make_file, migrate_files, recheck_files};
@@ -38,6 +39,7 @@ fn answer(
         What::Soak(options) => soak_files(rt, alloc, options, files, results, onlooker),
         What::Hunt(options) => hunt_files(rt, alloc, options, files, results, onlooker),
         What::Run(options) => run_files(rt, alloc, options, files, outputs),
+        What::Conform => conform_files(alloc, files, outputs),
         What::Explain(options) => explain_code(options, outputs),
         What::Migrate => migrate_files(alloc, files, outputs),
     }

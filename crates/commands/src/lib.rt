@@ -1,7 +1,8 @@
-//! The commands, from a command and its files to the printed lines and the status: `replay` and `run`, and those of the crates below.
+//! The commands, from a command and its files to the printed lines and the status: `replay`, `run` and `conform`, and those of the crates below.
 #![tactic(auto)]
 
 mod command;
+mod conforming;
 mod files;
 mod replaying;
 mod running;

@@ -51,6 +51,7 @@ pub fn checked_texts(of_module: Option<Vec<u8>>, certificate: Option<Vec<u8>>) -
         shapes: None,
         trace: None,
         edits: None,
+        record: None,
     }
 }
 
@@ -149,6 +150,7 @@ fn made(
         shapes,
         trace: None,
         edits: None,
+        record: None,
     };
     let printed = printed_of(rt, &command, &contents);
     drop(contents);

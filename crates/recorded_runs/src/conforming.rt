@@ -1,20 +1,39 @@
-ghost use Rattle.std.specs.Prelude.{◌≡◌, ◌≤◌, ◌^◌, length, map, IfOk};
+ghost use Rattle.std.specs.Prelude.{◌≡◌, ◌≢◌, ◌≤◌, ◌^◌, length, map, IfOk, IfErr};
 ghost use Rattle.record_text.specs.Entries.{entries_of};
 ghost use Rattle.conform.specs.Verdicts.{IsVerdict};
 ghost use Rattle.program_runner.specs.Heaps.{heap_of};
-ghost use Rattle.program_runner.specs.Setups.{IsSetupOf};
+ghost use Rattle.program_runner.specs.Setups.{HasNoFault, IsSetupFault, IsSetupOf};
+ghost use Rattle.program_runner.specs.declared.setup_fault.SetupFault.TheVariants as fault;
 ghost use Rattle.trace_text.specs.Arrivals.{is_late};
 
 use conform::{Verdict, conform};
 use heap_rule::Plan;
 use layout::Program;
-use program_runner::values_at_start;
+use program_runner::{SetupFault, begun_threads, values_at_start};
 use std::alloc::{AllocError, Global};
 use trace_text::Setup;
 
-/// What is told of a record of a run of this setup: of the pools and the threads, whatever functions the threads begin at. Memory
-/// is also answered where there are 2^32 globals.
-pub fn conform_setup(
+/// What is told of a record of a run of this setup, or the first thread that may not begin. Memory is also answered where there are
+/// 2^32 globals.
+pub fn judge(
+    alloc: Global,
+    program: &Program,
+    setup: &Setup,
+    record: &[u8],
+) -> Result<Verdict, SetupFault>
+    requires setup { IsSetupOf program.now setup.now }
+    requires long { length record.now ≤ 2 ^ 30 }
+    ensures verdict { IfOk result (IsVerdict (heap_of program.now setup.now) (entries_of record.now)) }
+    ensures no_fault { IfOk result (λ _. HasNoFault program.now setup.now) }
+    ensures fault { IfErr result (λ e. e ≢ fault.Memory → IsSetupFault program.now setup.now e) }
+{
+    let threads = begun_threads(alloc, program, setup)?;
+    drop(threads);
+    Ok(conform_setup(alloc, program, setup, record)?)
+}
+
+/// What is told of a record of a run of this setup: of the pools and the threads, whatever functions the threads begin at.
+fn conform_setup(
     alloc: Global,
     program: &Program,
     setup: &Setup,

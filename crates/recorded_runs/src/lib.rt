@@ -1,8 +1,6 @@
-//! Recorded runs of a program's setup: whether they conform, and the line that is printed of one.
+//! Recorded runs of a program's setup: whether they conform to the collector's profile.
 #![tactic(auto)]
 
 mod conforming;
-mod lines;
 
-pub use conforming::conform_setup;
-pub use lines::{code_of, write_verdict};
+pub use conforming::judge;
