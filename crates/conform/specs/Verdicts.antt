@@ -30,7 +30,7 @@ BreaksRule s entries (Root t cell) r = ⊥
 BreaksRule s entries Unknown r = r ≡ rule.NoStep
 
 -- the first entry that breaks a rule: those before it conform, and with it they do not
-pub record IsFirstBroken (s : Setup) (entries : List Entry) (step actor : ℕ) (r : Rule) : Type 0 where
+pub record IsFirstBroken (s : Setup) (entries : List Entry) (step by : ℕ) (r : Rule) : Type 0 where
   pub before : List Entry  -- the newest first
   pub entry : Entry
   pub after : List Entry
@@ -38,7 +38,7 @@ pub record IsFirstBroken (s : Setup) (entries : List Entry) (step actor : ℕ) (
   pub conforming : IsConforming s before
   pub not_with : ¬ IsConforming s (entry ∷ before)
   pub number : step ≡ suc (length (run_of before))
-  pub actor : actor ≡ entry.actor
+  pub actor : by ≡ entry.actor
   pub breaks : BreaksRule s before (recorded_of entry) r
 
 -- What is told of entries, the first one first. Where they conform, no kept cell was freed at any moment of the run.

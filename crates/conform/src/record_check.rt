@@ -1,4 +1,4 @@
-ghost use Rattle.std.specs.Prelude.{ℕ, ◌≡◌, ◌≤◌, ◌<◌, ◌^◌, ◌++◌, List, [], ◌∷◌, length, reverse, take, IfOk, OnOk, All};
+ghost use Rattle.std.specs.Prelude.{◌≡◌, ◌+◌, ◌≤◌, ◌<◌, ◌^◌, List, [], ◌∷◌, length, reverse, IfOk, OnOk, All};
 ghost use Rattle.pools.specs.Heap.{Setup, IsSetup};
 ghost use Rattle.record_text.specs.declared.entry.Entry.{Entry as AnEntry};
 ghost use Rattle.record_text.specs.Entries.{entries_of};

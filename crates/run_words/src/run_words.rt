@@ -1,4 +1,4 @@
-ghost use Rattle.std.specs.Prelude.{◌≡◌, ◌<◌, ◌^◌, ◌↔◌, [], length, IfOk, IsTrue, All};
+ghost use Rattle.std.specs.Prelude.{◌≡◌, ◌<◌, ◌^◌, ◌↔◌, [], length, slice_get, IfOk, IsTrue, All};
 ghost use Rattle.pools.specs.Heap.{IsSetup, cells, kind_of, words_of_cell};
 ghost use Rattle.colours.specs.Steps.{place_of};
 ghost use Rattle.heap_rule.specs.Rule.{HasPlace, index, size};
@@ -102,6 +102,14 @@ impl<'a> RunWords<'a> {
         ensures performed { self.new ≡ performed ask self.old }
         ensures extends { Extends ask self.old self.new }
     {
+        let _words = self.table.len();
+        self.put(ask);
+    }
+
+    fn put(&mut self, ask: Ask)
+        requires { HasPlace self.old.heap (place_of ask) }
+        ensures { self.new ≡ performed ask self.old }
+    {
         let at = index_of(self.plan, &self.starts, place_of(ask));
         let word = left_in(ask, self.table[at]);
         self.table[at] = word;
@@ -112,8 +120,15 @@ impl<'a> RunWords<'a> {
         requires { cell < cells self.now.heap }
         ensures { result ≡ kind_of self.now.heap cell word }
     {
-        self.words(cell).get(word as usize).copied()
+        kind_at(self.words(cell), word)
     }
+}
+
+/// What this word of a cell holds, by the kinds of its words.
+fn kind_at(words: &[WordKind], word: u32) -> Option<WordKind>
+    ensures { result ≡ slice_get words.now word }
+{
+    words.get(word as usize).copied()
 }
 
 /// The word of an operation.
