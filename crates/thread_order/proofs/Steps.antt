@@ -16,7 +16,7 @@ use Rattle.watch.specs.CellSets.{has}
 use Rattle.thread_order.specs.declared.at.At.{At}
 use Rattle.thread_order.specs.declared.at.At.TheVariants.{Ready, MarkingOld, MarkingNew, Writing, Trying, Answering, Ended, Absent, Arriving, Entering, Leaving}
 use Rattle.thread_order.specs.Standings.{Standing, phase_at, HasTried, IsInPhase}
-use Rattle.thread_order.specs.Follows.{with_at, is_trying, with_request, tried_too, after_try, after_mark, after_store, stands_from, stands_after, MayLose}
+use Rattle.thread_order.specs.Follows.{with_at, is_trying, with_request, tried_too, after_try, after_mark, after_store, after_claim, stands_from, stands_after, MayLose}
 use Rattle.thread_order.specs.Orders.{Stands}
 
 -- ---- the tries

@@ -66,6 +66,11 @@ tried_too v false cell = let w = with_request v cell in record w { is_tried = sl
 abbrev pub after_try : Standing → Standing
 after_try v = with_at v (if v.left == 0 then Ready else Trying)
 
+-- after a try of a cell
+abbrev pub after_claim : Standing → At → (cell : ℕ) → (won : Bool) → Standing
+after_claim v at cell true = with_at v Ready
+after_claim v at cell false = after_try (tried_too v (is_trying at) cell)
+
 -- a try of the cell may be lost
 pub record MayLose (v : Standing) (cell : ℕ) : Type 0 where
   pub first : 0 < cell
@@ -81,7 +86,7 @@ after_poll v posted = if posted == v.stage then with_at v Ready else record v { 
 abbrev pub after_mark : Standing → At → (cell : ℕ) → Standing
 after_mark v (MarkingOld cell word old) c = with_at v (MarkingNew cell word old)
 after_mark v (MarkingNew cell word old) c = with_at v (Writing cell word old c)
-after_mark v (Answering stage) c = record v { marked = v.marked ++ c ∷ [] }
+after_mark v (Answering stage) c = record v { at = Answering stage; marked = v.marked ++ c ∷ [] }
 after_mark v _ c = with_at v Ready
 
 -- after the store of the own stage
@@ -96,8 +101,7 @@ stands_from v at (ReadOldValue cell word value) = with_at v (if value == 0 then 
 stands_from v at (Mark c) = after_mark v at c
 stands_from v at (StoreAfterBarrier cell word value) = with_at v Ready
 stands_from v at (StorePlain cell word value) = with_at v Ready
-stands_from v at (Claim cell true) = with_at v Ready
-stands_from v at (Claim cell false) = after_try (tried_too v (is_trying at) cell)
+stands_from v at (Claim cell won) = after_claim v at cell won
 stands_from v at (ReadPosted posted) = after_poll v posted
 stands_from v at (StoreStage next roots) = record v { stage = next; at = after_store at next }
 stands_from v at (ReadPostedFirst posted) = with_at v (Arriving posted)

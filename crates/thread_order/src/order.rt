@@ -195,8 +195,7 @@ impl<'a> ThreadOrder<'a> {
         match step {
             ThreadStep::ReadWord(_, _, _)
             | ThreadStep::StoreAfterBarrier(_, _, _)
-            | ThreadStep::StorePlain(_, _, _)
-            | ThreadStep::Claim(_, true) => self.at = At::Ready,
+            | ThreadStep::StorePlain(_, _, _) => self.at = At::Ready,
             ThreadStep::ReadOldValue(cell, word, value) => {
                 self.at = if value == 0 {
                     At::MarkingNew(cell, word, value)
@@ -205,7 +204,7 @@ impl<'a> ThreadOrder<'a> {
                 };
             }
             ThreadStep::Mark(cell) => return self.mark(cell),
-            ThreadStep::Claim(cell, false) => self.lose(cell),
+            ThreadStep::Claim(cell, won) => self.claim(cell, won),
             ThreadStep::ReadPosted(posted) => self.look(posted),
             ThreadStep::StoreStage(next) => {
                 self.at = after_store(self.at, next);
@@ -252,6 +251,18 @@ impl<'a> ThreadOrder<'a> {
         } else {
             self.at = At::Answering(posted);
             self.marked.clear();
+        }
+    }
+
+    /// The thread tried to take a cell.
+    fn claim(&mut self, cell: u32, won: bool)
+        requires { MayLose self.old cell }
+        ensures { self.new ≡ follows.after_claim self.old self.old.at cell won }
+    {
+        if won {
+            self.at = At::Ready;
+        } else {
+            self.lose(cell);
         }
     }
 
