@@ -5,8 +5,8 @@
     crates.py --check    writes nothing; says whether docs/CRATES.md is current, and exits with 1 if it is not
 
 The order, the groups and the crates that each one uses come from crates.txt: a comment line names the group of the crates
-below it. What a crate does is the first paragraph of the comment at the head of its src/lib.rt or src/main.rt. Source lines are all lines of the
-.rt files in src/. Edits are the files of must-fail/.
+below it. A crate may use only crates that are listed above it: where one does not, the script says so and exits with 1. What a crate does is the
+first paragraph of the comment at the head of its src/lib.rt or src/main.rt. Source lines are all lines of the .rt files in src/. Edits are the files of must-fail/.
 """
 import argparse
 import glob
@@ -39,6 +39,16 @@ def listed():
     return found
 
 
+def check_order(own):
+    """Ends with a line where a crate uses one that is listed after it."""
+    above, names = set(), {name for name, _, _ in own}
+    for name, _, uses in own:
+        later = [use for use in uses if use in names and use not in above]
+        if later:
+            sys.exit(f"crates.txt: {name} uses {', '.join(later)}, listed after it")
+        above.add(name)
+
+
 def described(name):
     """The first paragraph of the comment at the head of a crate's root file."""
     for root in ("lib.rt", "main.rt"):
@@ -68,6 +78,7 @@ def edits(name):
 def page():
     """The text of the page."""
     own = listed()
+    check_order(own)
     names = {name for name, _, _ in own}
     lines = ["| Crate | Does | Uses | Source lines | Edits |", "|---|---|---|---:|---:|"]
     total, all_edits, last = 0, 0, None

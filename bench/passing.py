@@ -6,7 +6,8 @@
 Draws N modules, each once with typed pointers and once with opaque ones. Their functions take and return references of type `i8*`
 or `ptr`: they claim cells and return them, hand parameters on, call themselves and one another, choose references by phis and
 selects, follow links, and put references into cells and globals. Others keep a fresh cell in a slot over branches, and store into it
-plainly at the end. Each module has a certificate, which `dgc check` has to accept. `dgc make` has to make one too, and `check` has to
+plainly at the end, or lose it there: on one of the ways that meet the slot is written again, or a phi that was the cell is another one. The text tells the layout of each
+reference that is used: by its claim, by a call, or by a getelementptr on it. Each module has a certificate, which `dgc check` has to accept. `dgc make` has to make one too, and `check` has to
 accept that. Prints how many were made, and each module for which none was. Ends with status 1 where there is one.
 """
 import argparse
@@ -67,6 +68,9 @@ class Typed:
         cast = body.made(f"bitcast i8* {ref.name} to %{ref.layout}*")
         body.add(f"store %{ref.layout}* {cast}, %{ref.layout}** {slot}")
 
+    def clear_slot(self, body, slot, layout):
+        body.add(f"store %{layout}* null, %{layout}** {slot}")
+
     def load_slot(self, body, slot, layout):
         loaded = body.made(f"load %{layout}*, %{layout}** {slot}")
         return body.made(f"bitcast %{layout}* {loaded} to i8*")
@@ -94,7 +98,7 @@ class Opaque:
         return "ptr"
 
     def place_of(self, body, cell, field):
-        if field == 0 and body.draw.random() < 0.5:
+        if field == 0 and cell.name in body.told and body.draw.random() < 0.5:
             return cell.name
         return body.made(f"getelementptr %{cell.layout}, ptr {cell.name}, i32 0, i32 {field}")
 
@@ -119,6 +123,9 @@ class Opaque:
     def store_slot(self, body, slot, ref):
         body.add(f"store ptr {ref.name}, ptr {slot}")
 
+    def clear_slot(self, body, slot, layout):
+        body.add(f"store ptr null, ptr {slot}")
+
     def load_slot(self, body, slot, layout):
         return body.made(f"load ptr, ptr {slot}")
 
@@ -142,7 +149,8 @@ class Body:
         self.module, self.name = module, name
         self.draw, self.form = module.draw, module.form
         self.parameters, self.result, self.mark = module.signatures[name]
-        self.lines, self.section, self.count = [], [f"function @{name} {self.mark}"], 0
+        self.lines, self.section, self.count, self.label = [], [f"function @{name} {self.mark}"], 0, "entry"
+        self.told = set()
         self.known = [Ref(f"%p{at}", layout, False) for at, layout in enumerate(self.parameters)]
         self.section += [f"param {ref.name} ref {ref.layout}" for ref in self.known]
         self.section += [f"result ref {self.result}"] * bool(self.result)
@@ -165,6 +173,7 @@ class Body:
 
     def begin(self, label, more=()):
         """Begins a block, where the references are known that are known now."""
+        self.label = label
         self.lines.append(f"{label}:")
         self.section += [f"block %{label}", "%n i64", *more]
         self.section += [f"{ref.name} ref {ref.layout}{' nonnull' * ref.nonnull}" for ref in self.known]
@@ -183,6 +192,7 @@ class Body:
     def claim(self, layout=None):
         layout = layout or self.draw.choice(list(self.module.fields))
         number = list(self.module.fields).index(layout)
+        self.told.add("%" + f"v{self.count + 1}")
         return self.learn(self.made(f"call {self.form.ref} @dg_alloc(i32 {number})"), layout)
 
     def call(self, *_):
@@ -289,9 +299,8 @@ class Body:
             self.claim(self.result)
         self.give_back()
 
-    def write_kept(self):
-        """A fresh cell is kept in a slot over branches, and at the end a parameter is stored into it plainly."""
-        layout = self.draw.choice([layout for layout in self.module.fields if self.links(layout)])
+    def keep(self, layout):
+        """A cell is claimed and kept in a slot, and goes on where it is not null: the slot, the cell, and what is known of both."""
         slot = self.form.slot(self, layout)
         cell = self.claim(layout)
         self.form.store_slot(self, slot, cell)
@@ -303,15 +312,28 @@ class Body:
         self.add("unreachable")
         kept = [f"{cell.name} ref {layout} nonnull fresh", f"slot {slot} nonnull holds {cell.name}"]
         self.begin(some, kept)
+        return slot, cell._replace(nonnull=True), kept
+
+    def with_links(self):
+        """A layout with a word that is a reference."""
+        return self.draw.choice([layout for layout in self.module.fields if self.links(layout)])
+
+    def count_in(self, cell):
+        """Stores a number into a cell."""
+        numbers = [at for at, held in enumerate(self.module.fields[cell.layout]) if held == "i64"]
+        self.form.store_number(self, cell, self.draw.choice(numbers))
+
+    def write_kept(self):
+        """A fresh cell is kept in a slot over branches, and at the end a parameter is stored into it plainly."""
+        layout = self.with_links()
+        slot, _, kept = self.keep(layout)
         for _ in range(self.draw.randrange(1, 4)):
             one, other, met = self.fresh_name(), self.fresh_name(), self.fresh_name()
             self.add(f"br i1 {self.made('icmp ult i64 %n, 9')}, label %{one}, label %{other}")
             for label in (one, other):
                 self.begin(label, kept)
                 if self.draw.random() < 0.6:
-                    inner = Ref(self.form.load_slot(self, slot, layout), layout, True)
-                    numbers = [at for at, held in enumerate(self.module.fields[layout]) if held == "i64"]
-                    self.form.store_number(self, inner, self.draw.choice(numbers))
+                    self.count_in(Ref(self.form.load_slot(self, slot, layout), layout, True))
                 self.add(f"br label %{met}")
             self.begin(met, kept)
         field = self.draw.choice(self.links(layout))
@@ -319,6 +341,86 @@ class Body:
         held = self.module.fields[layout][field]
         value = Ref(self.of_layout(held), held, False)
         self.form.store_plainly(self, last, field, value)
+        self.give_back()
+
+    def write_slot(self, slot, layout):
+        """The slot holds something else from here on."""
+        name = self.of_layout(layout)
+        if name == "null":
+            self.form.clear_slot(self, slot, layout)
+        else:
+            self.form.store_slot(self, slot, Ref(name, layout, False))
+
+    def lose_on_a_way(self, slot, cell, kept):
+        """One of two ways that meet writes the slot again."""
+        ways, met = [self.fresh_name(), self.fresh_name()], self.fresh_name()
+        self.add(f"br i1 {self.made('icmp ult i64 %n, 9')}, label %{ways[0]}, label %{ways[1]}")
+        losing = self.draw.choice(ways)
+        for label in ways:
+            self.begin(label, kept)
+            if label == losing:
+                self.write_slot(slot, cell.layout)
+            self.add(f"br label %{met}")
+        self.known.append(cell)
+        self.begin(met)
+
+    def counted(self, cell, more):
+        """A loop of four turns, in which the cell is known, but not as fresh: where it is left, and what goes back to its head."""
+        before, head, body, left = self.label, self.fresh_name(), self.fresh_name(), self.fresh_name()
+        at, onward = "%" + self.fresh_name(), "%" + self.fresh_name()
+        self.add(f"br label %{head}")
+        self.known.append(cell)
+        come = more(before)
+        self.begin(head, [f"{at} i64"])
+        phis = len(self.lines)
+        self.add(f"br i1 {self.made(f'icmp ult i64 {at}, 4')}, label %{body}, label %{left}")
+        self.begin(body, [f"{at} i64 below 4"])
+        lines = come(f"{at} i64 below 4")
+        self.add(f"{onward} = add i64 {at}, 1")
+        self.add(f"br label %{head}")
+        self.lines[phis:phis] = [f"  {at} = phi i64 [ 0, %{before} ], [ {onward}, %{self.label} ]"] + [line.replace("BACK", self.label) for line in lines]
+        self.known = [ref for ref in self.known if ref in self.at_head]
+        self.begin(left)
+
+    def lose_in_a_loop(self, slot, cell, _):
+        """A loop writes the slot again."""
+        def more(_):
+            self.at_head = list(self.known)
+
+            def come(_):
+                self.write_slot(slot, cell.layout)
+                return []
+            return come
+        self.counted(cell, more)
+
+    def lose_by_a_phi(self, slot, cell, _):
+        """A phi is the cell at first, and then another one that a loop claims."""
+        def more(before):
+            phi = Ref("%" + self.fresh_name(), cell.layout, True)
+            self.known.append(phi)
+            self.at_head = list(self.known)
+
+            def come(counted):
+                new = self.claim(cell.layout)
+                test, none, some = self.made(f"icmp eq {self.form.ref} {new.name}, null"), self.fresh_name(), self.fresh_name()
+                self.add(f"br i1 {test}, label %{none}, label %{some}")
+                self.begin(none)
+                self.give_back()
+                self.known = [ref._replace(nonnull=True) if ref.name == new.name else ref for ref in self.known]
+                self.begin(some, [counted])
+                return [f"  {phi.name} = phi {self.form.ref} [ {cell.name}, %{before} ], [ {new.name}, %BACK ]"]
+            return come
+        self.counted(cell, more)
+
+    def write_lost(self):
+        """A fresh cell is kept in a slot until it is fresh no more, and is used after that."""
+        slot, cell, kept = self.keep(self.draw.choice(list(self.module.fields)))
+        self.draw.choice([self.lose_on_a_way, self.lose_in_a_loop, self.lose_by_a_phi])(slot, cell, kept)
+        for _ in range(self.draw.randrange(1, 3)):
+            cells = [ref for ref in self.known if ref.nonnull]
+            if cells:
+                self.count_in(self.draw.choice(cells))
+            self.draw.choice([self.follow, self.link, self.join, self.choose])()
         self.give_back()
 
     def text(self):
@@ -343,10 +445,7 @@ class Drawn:
         self.shapes, bodies = [], []
         for name in self.signatures:
             body = Body(self, name)
-            if self.draw.random() < 0.25:
-                body.write_kept()
-            else:
-                body.write()
+            self.draw.choice([body.write_kept, body.write_lost, body.write, body.write])()
             bodies.append(body)
         self.shapes = form.head(self) + self.shapes
         self.text = "\n".join(self.head() + [line for body in bodies for line in body.text()]) + "\n"

@@ -1,12 +1,14 @@
 #!/bin/sh
-# Takes a C program through clang, opt, gcroot.py and dgc, step by step. README.md says why these steps.
+# Takes a C program through clang, opt, gcroot.py, dgc, lower.py and llc, step by step. README.md says why these steps.
 #
 #     DGC=path examples/pipeline/run.sh [PROGRAM.c [REPLAY.trace [RUN.trace]]]
 #
 # Without arguments it takes trees.c, replay.trace and run.trace. Without a trace, replay and run are left out.
-# LLVM is the version of clang and opt: 14 where it is not set. Version 14 prints typed pointers, and later ones opaque pointers.
+# LLVM is the version of clang, opt and llc: 14 where it is not set. Version 14 prints typed pointers, and later ones opaque pointers.
 # LEVEL, such as -O2, takes what clang makes at that level in place of the text after mem2reg and jump-threading.
-# DGC, CLANG and OPT name the programs. They are crates/dgc/out/dgc, clang-LLVM and opt-LLVM where they are not set.
+# ABSTRACT, where it is set, puts abstract.py before gcroot.py, for programs with forms that dgc does not read; then nothing is compiled.
+# DGC, CLANG, OPT, LLC and OBJDUMP name the programs. They are crates/dgc/out/dgc, clang-LLVM, opt-LLVM, llc-LLVM and llvm-objdump-LLVM
+# where they are not set.
 # OUT names a folder to keep what is made. Ends with 0 where each step succeeds, and otherwise with 1.
 
 here=$(cd "$(dirname "$0")" && pwd)
@@ -15,6 +17,8 @@ dgc=${DGC:-$top/crates/dgc/out/dgc}
 llvm=${LLVM:-14}
 clang=${CLANG:-clang-$llvm}
 opt=${OPT:-opt-$llvm}
+llc=${LLC:-llc-$llvm}
+objdump=${OBJDUMP:-llvm-objdump-$llvm}
 if [ $# -eq 0 ]; then
     set -- "$here/trees.c" "$here/replay.trace" "$here/run.trace"
 fi
@@ -55,6 +59,8 @@ version_of() {
 needs python3 "install Python 3"
 needs "$clang" "install clang $llvm (Debian: apt-get install clang-$llvm), or set LLVM or CLANG"
 needs "$opt" "install LLVM $llvm (Debian: apt-get install llvm-$llvm), or set LLVM or OPT"
+needs "$llc" "install LLVM $llvm (Debian: apt-get install llvm-$llvm), or set LLVM or LLC"
+needs "$objdump" "install LLVM $llvm (Debian: apt-get install llvm-$llvm), or set LLVM or OBJDUMP"
 needs "$dgc" "build it (README.md at the top, 'Build'), or set DGC"
 [ "$(version_of "$clang")" = "$(version_of "$opt")" ] || fail "$clang and $opt are not of one version"
 for file in "$@"; do
@@ -84,6 +90,13 @@ if [ -n "$LEVEL" ] && grep -qw ptr "$out/2.ll"; then
     echo "   fields.py: byte offsets to fields"
     mv "$out/2.ll" "$out/2.bytes.ll"
     python3 "$here/fields.py" "$out/1.ll" "$out/2.bytes.ll" >"$out/2.ll" 2>"$out/3.txt" || stop "$(cat "$out/3.txt")"
+    show "$out/3.txt"
+fi
+
+if [ -n "$ABSTRACT" ]; then
+    echo "   abstract.py: any number in place of each that is not computed"
+    mv "$out/2.ll" "$out/2.forms.ll"
+    python3 "$here/abstract.py" "$out/2.forms.ll" >"$out/2.ll" 2>"$out/3.txt" || stop "$(cat "$out/3.txt")"
     show "$out/3.txt"
 fi
 
@@ -118,6 +131,42 @@ if [ -n "$run" ]; then
     echo "7. dgc run: real threads, as in $(basename "$run")"
     "$dgc" run "$out/3.ll" "$out/3.cert" "$run" --steps 4294967295 --turns 4294967295 >"$out/7.txt" 2>&1 || refused run "$(cat "$out/7.txt")"
     show "$out/7.txt"
+fi
+
+if [ -n "$ABSTRACT" ]; then
+    [ -z "$OUT" ] || echo "What was made is in $out."
+    exit 0
+fi
+
+echo "8. lower.py: what LLVM compiles"
+cp "$out/3.ll" "$out/8.opaque.ll"
+opaque=
+if ! grep -qw ptr "$out/3.ll"; then
+    "$dgc" migrate "$out/3.ll" >"$out/8.opaque.ll" 2>"$out/8.txt" || refused migrate "$(cat "$out/8.txt")"
+fi
+[ "$(version_of "$opt")" -gt 14 ] || opaque=-opaque-pointers
+python3 "$here/lower.py" "$out/8.opaque.ll" >"$out/8.ll" 2>"$out/8.txt" || stop "$(cat "$out/8.txt")"
+"$opt" $opaque -passes=verify -disable-output "$out/8.ll" || fail "opt refuses what lower.py writes"
+echo "    $(wc -l <"$out/8.ll") lines, verified by opt"
+
+# places_of NAME FILE: how many places in the code of an object file name a symbol.
+places_of() {
+    "$objdump" -d -r "$2" | grep -c "R_[A-Z0-9_]*[[:space:]]*$1\([-+]\|\$\)"
+}
+
+echo "9. llc: the object file calls the barrier"
+"$llc" $opaque -O2 -filetype=obj -o "$out/9.plain.o" "$out/8.opaque.ll" || fail "llc failed on the text that was checked"
+"$llc" $opaque -O2 -filetype=obj -o "$out/9.o" "$out/8.ll" || fail "llc failed on what lower.py writes"
+barriers=$(grep -c 'call void @llvm.gcwrite(' "$out/3.ll")
+calls=$(places_of dg_write "$out/9.o")
+echo "    the text that was checked has $barriers calls of llvm.gcwrite"
+echo "    LLVM's own code of it calls a barrier $(places_of '[A-Za-z_.]*write[A-Za-z_.]*' "$out/9.plain.o") times"
+echo "    the lowered text calls dg_write $(grep -c 'call void @dg_write(' "$out/8.ll") times, and its code has $calls such calls (llc joins equal ends of blocks)"
+[ "$barriers" -eq "$(grep -c 'call void @dg_write(' "$out/8.ll")" ] || fail "a barrier is missing in what lower.py writes"
+[ "$barriers" -eq 0 ] || [ "$calls" -gt 0 ] || fail "the object file has no barrier"
+if grep -q 'call void @llvm.gcroot(' "$out/3.ll"; then
+    "$objdump" -t "$out/9.o" | grep -q '[.]tbss.*llvm_gc_root_chain' || fail "all threads share one root chain"
+    echo "    each thread has a root chain of its own"
 fi
 
 [ -z "$OUT" ] || echo "What was made is in $out."

@@ -27,6 +27,14 @@ pub struct Exit<'a> {
     pub facts: &'a Facts,
 }
 
+/// A br that has a condition: the labels to which it leads where that is 1, and else.
+#[derive(Clone, Copy)]
+struct Branch<'a> {
+    condition: &'a Operand,
+    taken: ValueId,
+    other: ValueId,
+}
+
 /// How the scratch for an edge gets what is known at the end of the block.
 #[derive(Clone, Copy)]
 pub enum Refill {
@@ -82,7 +90,14 @@ impl EdgeScratch {
                 taken,
                 other,
                 ..
-            } => self.unmet_on_branch(alloc, under_check, exit, condition, *taken, *other),
+            } => {
+                let branch = Branch {
+                    condition,
+                    taken: *taken,
+                    other: *other,
+                };
+                self.unmet_on_branch(alloc, under_check, exit, &branch)
+            }
             End::Switch {
                 otherwise,
                 cases,
@@ -102,20 +117,18 @@ impl EdgeScratch {
         alloc: Global,
         under_check: &FunctionUnderCheck,
         exit: &Exit,
-        condition: &Operand,
-        taken: ValueId,
-        other: ValueId,
+        branch: &Branch,
     ) -> Result<Option<Detail>, AllocError>
         requires ready { IsReady under_check.now }
         requires refill { CanRefill exit.now.facts.now self.old }
-        ensures { IfOk result (λ found. found ≡ unmet_on (seen under_check.now) exit.now.block exit.now.facts.now (branch_edges condition.now taken other)) }
+        ensures { IfOk result (λ found. found ≡ unmet_on (seen under_check.now) exit.now.block exit.now.facts.now (branch_edges branch.now.condition.now branch.now.taken branch.now.other)) }
     {
-        let on = decided_by(condition, true);
-        if let Some(detail) = self.unmet_at(alloc, under_check, exit, taken, on)? {
+        let on = decided_by(branch.condition, true);
+        if let Some(detail) = self.unmet_at(alloc, under_check, exit, branch.taken, on)? {
             return Ok(Some(detail));
         }
-        let off = decided_by(condition, false);
-        self.unmet_at(alloc, under_check, exit, other, off)
+        let off = decided_by(branch.condition, false);
+        self.unmet_at(alloc, under_check, exit, branch.other, off)
     }
 
     fn unmet_on_cases(

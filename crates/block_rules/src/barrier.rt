@@ -204,16 +204,24 @@ fn after_read(
     }
 }
 
-fn is_write(
-    context: &RuleContext,
-    facts: &Facts,
-    returned: TypeId,
-    value: &Argument,
-    object: &Argument,
-    place: &Argument,
-) -> bool
-    ensures { result ≡ is_write context.now.program.now context.now.function.now context.now.slots.now facts.now returned value.now object.now place.now }
+/// A call of gcwrite: the type that it gives, and its arguments.
+#[derive(Clone, Copy)]
+pub struct WriteCall<'a> {
+    pub returned: TypeId,
+    pub value: &'a Argument,
+    pub object: &'a Argument,
+    pub place: &'a Argument,
+}
+
+fn is_write(context: &RuleContext, facts: &Facts, call: &WriteCall) -> bool
+    ensures { result ≡ is_write context.now.program.now context.now.function.now context.now.slots.now facts.now call.now.returned call.now.value.now call.now.object.now call.now.place.now }
 {
+    let WriteCall {
+        returned,
+        value,
+        object,
+        place,
+    } = *call;
     is_value(context, facts, value.written, &value.operand)
         && is_value(context, facts, object.written, &object.operand)
         && is_typed(context, place.written, &place.operand)
@@ -238,18 +246,21 @@ fn is_write(
         )
 }
 
-/// The rule that a call of gcwrite with this value, object and place breaks, if it breaks one.
+/// The rule that a call of gcwrite breaks, if it breaks one.
 pub fn write_refusal(
     context: &RuleContext,
     here: InstrContext,
     facts: &Facts,
-    returned: TypeId,
-    value: &Argument,
-    object: &Argument,
-    place: &Argument,
+    call: &WriteCall,
 ) -> Option<Rule>
-    ensures { result ≡ first_failing (write_conditions context.now.program.now context.now.function.now context.now.slots.now here facts.now returned value.now object.now place.now) }
+    ensures { result ≡ first_failing (write_conditions context.now.program.now context.now.function.now context.now.slots.now here facts.now call.now.returned call.now.value.now call.now.object.now call.now.place.now) }
 {
+    let WriteCall {
+        value,
+        object,
+        place,
+        ..
+    } = *call;
     let at = place_known(context, facts, place.written, &place.operand);
     first_failing(&[
         (
@@ -258,10 +269,7 @@ pub fn write_refusal(
                 && is_available(context.slots, facts, &object.operand)
                 && is_available(context.slots, facts, &place.operand),
         ),
-        (
-            Rule::K2,
-            is_write(context, facts, returned, value, object, place),
-        ),
+        (Rule::K2, is_write(context, facts, call)),
         (
             Rule::K3,
             is_operand_current(facts, &value.operand)

@@ -17,7 +17,7 @@ use crate::places::{after_load, after_store, is_one_layout, may_load, may_store}
 use crate::rule::Rule;
 use crate::type_kind::TypeKind;
 use facts::Facts;
-use ir_ast::{MemoryOp, Operand, TypeId, ValueId};
+use ir_ast::{Argument, MemoryOp, Operand, TypeId, ValueId};
 use shadow_stack::{SlotId, Slots};
 use std::alloc::AllocError;
 
@@ -89,39 +89,39 @@ fn store_refusal(
     context: &RuleContext,
     here: InstrContext,
     facts: &Facts,
-    stored: TypeId,
-    value: &Operand,
-    place_type: TypeId,
-    place: &Operand,
+    stored: &Argument,
+    place: &Argument,
 ) -> Option<Rule>
-    ensures { result ≡ first_failing (memory_conditions context.now.program.now context.now.function.now context.now.slots.now here facts.now None (MemoryOp.Store stored value.now place_type place.now)) }
+    ensures { result ≡ first_failing (memory_conditions context.now.program.now context.now.function.now context.now.slots.now here facts.now None (MemoryOp.Store stored.now.written stored.now.operand place.now.written place.now.operand)) }
 {
+    let value = &stored.operand;
+    let to = &place.operand;
     let known = known_of(facts, value);
-    let at = place_known(context, facts, place_type, place);
+    let at = place_known(context, facts, place.written, to);
     first_failing(&[
         (
             Rule::K1,
-            is_available(context.slots, facts, value) && is_available(context.slots, facts, place),
+            is_available(context.slots, facts, value) && is_available(context.slots, facts, to),
         ),
         (
             Rule::K2,
-            is_value(context, facts, stored, value)
-                && is_typed(context, place_type, place)
-                && may_store(context, facts, stored, &known, place, &at)
-                && is_one_layout(context, facts, stored, &at),
+            is_value(context, facts, stored.written, value)
+                && is_typed(context, place.written, to)
+                && may_store(context, facts, stored.written, &known, to, &at)
+                && is_one_layout(context, facts, stored.written, &at),
         ),
         (
             Rule::K3,
             is_operand_current(facts, value) && is_current(facts, &at),
         ),
-        (Rule::K4, is_based(facts, place, &at)),
+        (Rule::K4, is_based(facts, to, &at)),
         (
             Rule::K6,
-            needs_no_barrier(context, facts, stored, place, &at),
+            needs_no_barrier(context, facts, stored.written, to, &at),
         ),
         (Rule::K10, is_no_slot(context.slots, value)),
         (Rule::K12, here.may_move_references),
-        (Rule::K19, casts_operand(context.module(), place)),
+        (Rule::K19, casts_operand(context.module(), to)),
     ])
 }
 
@@ -147,7 +147,17 @@ pub fn memory_refusal(
             value,
             place_type,
             place,
-        } => store_refusal(context, here, facts, *stored, value, *place_type, place),
+        } => {
+            let stored = Argument {
+                written: *stored,
+                operand: *value,
+            };
+            let place = Argument {
+                written: *place_type,
+                operand: *place,
+            };
+            store_refusal(context, here, facts, &stored, &place)
+        }
     }
 }
 

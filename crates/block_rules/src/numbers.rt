@@ -14,7 +14,7 @@ use crate::operands::{
 use crate::rule::Rule;
 use crate::type_kind::TypeKind;
 use facts::{Facts, Known, Test};
-use ir_ast::{Arithmetic, Comparison, NumberOp, Operand, Resize, TypeId, ValueId};
+use ir_ast::{Argument, Arithmetic, Comparison, NumberOp, Operand, Resize, TypeId, ValueId};
 use std::alloc::AllocError;
 
 /// The number after this one, which it is below; 2 to the 64 is no bound.
@@ -236,57 +236,57 @@ fn resize_refusal(
     here: InstrContext,
     facts: &Facts,
     kind: Resize,
-    from: TypeId,
-    operand: &Operand,
+    from: &Argument,
     to: TypeId,
 ) -> Option<Rule>
-    ensures { result ≡ first_failing (number_conditions context.now.program.now context.now.function.now context.now.slots.now here facts.now (NumberOp.Resize kind from operand.now to)) }
+    ensures { result ≡ first_failing (number_conditions context.now.program.now context.now.function.now context.now.slots.now here facts.now (NumberOp.Resize kind from.now.written from.now.operand to)) }
 {
     first_failing(&[
-        (Rule::K1, is_available(context.slots, facts, operand)),
+        (Rule::K1, is_available(context.slots, facts, &from.operand)),
         (
             Rule::K2,
-            is_value(context, facts, from, operand)
+            is_value(context, facts, from.written, &from.operand)
                 && may_resize(
                     kind,
-                    TypeKind::of(context.module(), from),
+                    TypeKind::of(context.module(), from.written),
                     TypeKind::of(context.module(), to),
                 )
-                && is_no_slot(context.slots, operand),
+                && is_no_slot(context.slots, &from.operand),
         ),
         (Rule::K12, here.may_move_references),
     ])
 }
 
+/// The second operand has the type that is written before the first one.
 fn compare_refusal(
     context: &RuleContext,
     here: InstrContext,
     facts: &Facts,
     kind: Comparison,
-    written: TypeId,
-    first: &Operand,
+    first: &Argument,
     second: &Operand,
 ) -> Option<Rule>
-    ensures { result ≡ first_failing (number_conditions context.now.program.now context.now.function.now context.now.slots.now here facts.now (NumberOp.Compare kind written first.now second.now)) }
+    ensures { result ≡ first_failing (number_conditions context.now.program.now context.now.function.now context.now.slots.now here facts.now (NumberOp.Compare kind first.now.written first.now.operand second.now)) }
 {
     first_failing(&[
         (
             Rule::K1,
-            is_available(context.slots, facts, first) && is_available(context.slots, facts, second),
+            is_available(context.slots, facts, &first.operand)
+                && is_available(context.slots, facts, second),
         ),
         (
             Rule::K2,
-            is_value(context, facts, written, first)
-                && is_value(context, facts, written, second)
-                && may_compare(kind, TypeKind::of(context.module(), written)),
+            is_value(context, facts, first.written, &first.operand)
+                && is_value(context, facts, first.written, second)
+                && may_compare(kind, TypeKind::of(context.module(), first.written)),
         ),
         (
             Rule::K3,
-            is_operand_current(facts, first) && is_operand_current(facts, second),
+            is_operand_current(facts, &first.operand) && is_operand_current(facts, second),
         ),
         (
             Rule::K10,
-            is_no_slot(context.slots, first) && is_no_slot(context.slots, second),
+            is_no_slot(context.slots, &first.operand) && is_no_slot(context.slots, second),
         ),
         (Rule::K12, here.may_move_references),
     ])
@@ -313,13 +313,25 @@ pub fn number_refusal(
             from,
             operand,
             to,
-        } => resize_refusal(context, here, facts, *kind, *from, operand, *to),
+        } => {
+            let from = Argument {
+                written: *from,
+                operand: *operand,
+            };
+            resize_refusal(context, here, facts, *kind, &from, *to)
+        }
         NumberOp::Compare {
             kind,
             written,
             first,
             second,
-        } => compare_refusal(context, here, facts, *kind, *written, first, second),
+        } => {
+            let first = Argument {
+                written: *written,
+                operand: *first,
+            };
+            compare_refusal(context, here, facts, *kind, &first, second)
+        }
     }
 }
 

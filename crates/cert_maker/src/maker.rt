@@ -1,7 +1,8 @@
-ghost use Rattle.std.specs.Prelude.{◌≡◌, ◌⊎◌, Some, IfOk, IfErr, IfSome};
+ghost use Rattle.std.specs.Prelude.{◌≡◌, ◌⊎◌, Some, true, IfOk, IfErr, IfSome};
 ghost use Rattle.layout.specs.Functions.{with_shapes};
 ghost use Rattle.cert_maker.specs.Made.{AreGood, AreRefused, AreTried, IsMade};
 ghost use Rattle.certs.specs.Plain.{plain};
+ghost use Rattle.certs.specs.ShapesFit.{shapes_fit};
 ghost use Rattle.cert_maker.specs.declared.tried.MakeFailure.TheVariants.{NoAnswer};
 
 use crate::made::{MakeFault, NotMade, Refused};
@@ -47,10 +48,11 @@ pub fn make(alloc: Global, of_module: Module) -> Result<Accepted, NotMade>
     }
 }
 
-/// Certificates with which a module of these shapes is accepted. They have the shapes. Where none is accepted the module is given
-/// back with them.
+/// Certificates with which a module of these shapes is accepted. They have the shapes as they are given: where these fit
+/// the module, so do the certificates. Where none is accepted the module is given back with the shapes.
 pub fn make_with(alloc: Global, of_module: Module, shapes: Shapes) -> Result<Accepted, NotMade>
-    ensures { IsMade (with_shapes of_module (Some shapes)) result }
+    ensures made { IsMade (with_shapes of_module (Some shapes)) result }
+    ensures fit { shapes_fit of_module (Some shapes) ≡ true → IfOk result (λ accepted. shapes_fit of_module accepted.certs.shapes ≡ true) }
 {
     let mut of_module = of_module;
     of_module.shapes = Some(shapes);

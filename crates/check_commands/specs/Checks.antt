@@ -12,14 +12,15 @@ use Rattle.certificate.specs.Print.{cert_text}
 use Rattle.certs.specs.Plain.{plain}
 use Rattle.block_rules.specs.declared.block_fault.Refusal.{Refusal}
 use Rattle.module_check.specs.Accepted.{IsAccepted, IsFirstRefusal, shaped}
-use Rattle.command_line.specs.declared.asked.Refusals.{Refusals}
-use Rattle.command_line.specs.declared.asked.Refusals.TheVariants.{First, OfBlocks}
-use Rattle.command_line.specs.declared.asked.Why.{Why}
-use Rattle.command_line.specs.declared.asked.Why.TheVariants.{Wanted}
+use Rattle.command_line.specs.declared.options.Refusals.{Refusals}
+use Rattle.command_line.specs.declared.options.Refusals.TheVariants.{First, OfBlocks}
+use Rattle.command_line.specs.declared.options.Why.{Why}
+use Rattle.command_line.specs.declared.options.Why.TheVariants.{Wanted}
 use Rattle.module_check.specs.Refusals.{AreOfFunctions}
 use Rattle.reports.specs.Report.{Answer, line_of, made_text, no, no_answer, no_memory, of_layout_fault, yes}
 use Rattle.reports.specs.Files.{HasShaped, IsNoShaped, of_unread}
 use Rattle.reports.specs.Said.{Said, OnOutput, OnError, OnBoth, OfVerdict}
+use Rattle.reports.specs.declared.files.File.{File}
 use Rattle.reports.specs.declared.files.Unread.{Unread}
 
 -- ---- check
@@ -76,7 +77,7 @@ pub data OfMade (why : Why) (m : Module) : Said → Type 0 where
   without_layouts : (fault : LayoutFault) → IsLayoutFault m fault → OfMade why m (OnError (of_layout_fault m fault))
   not_made : OfMade why m (OnError no_memory)
 
--- what is said of the files of a module and its shapes, which have these paths
-pub data OfMake (why : Why) (module_path : List ℕ) (shapes_path : Option (List ℕ)) (first second : Option (List ℕ)) : Said → Type 0 where
-  no_module : (unread : Unread) → IsNoShaped module_path shapes_path first second unread → OfMake why module_path shapes_path first second (OnError (of_unread unread))
-  of_module : (m : Module) (said : Said) → HasShaped first shapes_path second m → OfMade why m said → OfMake why module_path shapes_path first second said
+-- what is said of the files of a module and its shapes
+pub data OfMake (why : Why) (first shapes : Option File) : Said → Type 0 where
+  no_module : (unread : Unread) → IsNoShaped first shapes unread → OfMake why first shapes (OnError (of_unread unread))
+  of_module : (m : Module) (said : Said) → HasShaped first shapes m → OfMade why m said → OfMake why first shapes said

@@ -10,6 +10,7 @@ use Rattle.recheck.specs.Session.{State}
 use Rattle.reports.specs.Report.{Answer, no_memory, of_layout_fault}
 use Rattle.reports.specs.Files.{HasEdits, IsNoEdits, of_unread}
 use Rattle.reports.specs.Said.{Said, OnOutput, OnError}
+use Rattle.reports.specs.declared.files.File.{File}
 use Rattle.reports.specs.declared.files.Unread.{Unread}
 use Rattle.check_commands.specs.Rechecks.{IsBegun, OfEdits, OfSession}
 
@@ -27,7 +28,7 @@ pub data OfRechecked (m : Module) (certs : Certs) (edits : List Edit) : Said →
   no_session : (fault : LayoutFault) → IsLayoutFault (shaped m certs) fault → OfRechecked m certs edits (OnError (of_layout_fault m fault))
   not_rechecked : OfRechecked m certs edits (OnError no_memory)
 
--- what it says of a module, its certificates and the file of edits, which has this path
-pub data OfEditsFile (path : List ℕ) (file : Option (List ℕ)) (m : Module) (certs : Certs) : Said → Type 0 where
-  no_edits : (unread : Unread) → IsNoEdits path file unread → OfEditsFile path file m certs (OnError (of_unread unread))
-  of_edits : (edits : List Edit) (said : Said) → HasEdits file edits → OfRechecked m certs edits said → OfEditsFile path file m certs said
+-- what it says of a module, its certificates and the file of edits
+pub data OfEditsFile (file : Option File) (m : Module) (certs : Certs) : Said → Type 0 where
+  no_edits : (unread : Unread) → IsNoEdits file unread → OfEditsFile file m certs (OnError (of_unread unread))
+  of_edits : (edits : List Edit) (said : Said) → HasEdits file edits → OfRechecked m certs edits said → OfEditsFile file m certs said

@@ -9,13 +9,14 @@ use Rattle.certificate.specs.Print.{cert_text}
 use Rattle.certificate.specs.declared.fault.CertFault.{CertFault}
 use Rattle.certificate.specs.declared.fault.CertFault.TheVariants as cert
 use Rattle.reports.specs.Report.{made_text, no_memory, of_cert_fault}
-use Rattle.reports.specs.Files.{Files, HasModule, IsNoModule, file_at, of_unread}
+use Rattle.reports.specs.Files.{HasModule, IsNoModule, bytes_of, of_unread}
 use Rattle.reports.specs.Said.{Said, OnOutput, OnError, OfCertified}
+use Rattle.reports.specs.declared.files.File.{File}
 use Rattle.reports.specs.declared.files.Unread.{Unread}
 
--- the bytes of the file at a place of the line, none where it cannot be read
-abbrev pub bytes_at : Files → (place : ℕ) → List ℕ
-bytes_at files place = unwrap_or (file_at files place) []
+-- the bytes of a file, none where it is not given or cannot be read
+abbrev pub known_bytes : Option File → List ℕ
+known_bytes file = unwrap_or (bytes_of file) []
 
 -- ---- a module
 
@@ -28,10 +29,10 @@ pub data OfText (m : Module) (bytes : List ℕ) : Said → Type 0 where
   printed : OfText m bytes (OnOutput (made_text (migrated_text m bytes)))
   not_printed : OfText m bytes (OnError no_memory)
 
--- what is said of the file of a module, which has this path
-pub data OfModule (path : List ℕ) (file : Option (List ℕ)) : Said → Type 0 where
-  no_module : (unread : Unread) → IsNoModule path file unread → OfModule path file (OnError (of_unread unread))
-  of_module : (m : Module) (said : Said) → HasModule file m → OfText m (unwrap_or file []) said → OfModule path file said
+-- what is said of the file of a module
+pub data OfModule (file : Option File) : Said → Type 0 where
+  no_module : (unread : Unread) → IsNoModule file unread → OfModule file (OnError (of_unread unread))
+  of_module : (m : Module) (said : Said) → HasModule file m → OfText m (known_bytes file) said → OfModule file said
 
 -- ---- its certificates
 
@@ -48,7 +49,7 @@ pub data OfMigrated (bytes : List ℕ) (m : Module) (certs : Certs) : Said → T
   missing : (fault : CertFault) → (fault ≢ cert.Memory → IsMigration m certs (Err fault)) → OfMigrated bytes m certs (OnError (of_cert_fault m fault))
   not_migrated : OfMigrated bytes m certs (OnError no_memory)
 
--- what is said of the files of a line, which have these paths
-abbrev pub OfMigrate : (module_path : List ℕ) → (cert_path : Option (List ℕ)) → (first second : Option (List ℕ)) → Said → Type 0
-OfMigrate module_path None first second = OfModule module_path first
-OfMigrate module_path (Some cert_path) first second = OfCertified (OfMigrated (unwrap_or second [])) module_path cert_path first second
+-- what is said of the files of a module and, where it is given, of its certificates
+abbrev pub OfMigrate : (first certificate : Option File) → Said → Type 0
+OfMigrate first None = OfModule first
+OfMigrate first (Some certificate) = OfCertified (OfMigrated (known_bytes (Some certificate))) first (Some certificate)

@@ -4,9 +4,9 @@ ghost use Rattle.check_commands.specs.Explained.{explained, no_code, OfExplain};
 ghost use Rattle.reports.specs.Report.{IsTold};
 ghost use Rattle.reports.specs.Said.{Says};
 
-use command_line::ExplainLine;
+use command_line::ExplainOptions;
 use explain::{Code, LIST};
-use reports::{STATUS_USAGE, STATUS_YES};
+use reports::{Outputs, STATUS_USAGE, STATUS_YES};
 use std::io;
 use std::io::Write;
 
@@ -26,19 +26,15 @@ fn print_no_code<E: Write>(err: &mut E, name: &str) -> io::Result<u8>
     Ok(STATUS_USAGE)
 }
 
-/// Tells of the code of a line; without one, lists all codes.
-pub fn explain_code<O: Write, E: Write>(
-    asked: ExplainLine<'_>,
-    out: &mut O,
-    err: &mut E,
-) -> io::Result<u8>
-    ensures { IfOk result (Says (OfExplain (option_map (λ name. name.now) asked.entry.code)) (O.contents out.old) (O.contents out.new) (E.contents err.old) (E.contents err.new)) }
+/// Tells of a code; without one, lists all codes.
+pub fn explain_code(options: ExplainOptions<'_>, outputs: &mut Outputs) -> io::Result<u8>
+    ensures { IfOk result (Says (OfExplain (option_map (λ name. name.now) options.entry.code)) outputs.old outputs.new) }
 {
-    let Some(name) = asked.code else {
-        return print_told(out, LIST);
+    let Some(name) = options.code else {
+        return print_told(&mut outputs.out, LIST);
     };
     match Code::named(name) {
-        Some(code) => print_told(out, code.text()),
-        None => print_no_code(err, name),
+        Some(code) => print_told(&mut outputs.out, code.text()),
+        None => print_no_code(&mut outputs.err, name),
     }
 }

@@ -1,5 +1,5 @@
 //! The command `make`.
-ghost use Rattle.std.specs.Prelude.{◌≡◌, IfOk, IfSome, true, option_map};
+ghost use Rattle.std.specs.Prelude.{◌≡◌, IfOk, IfSome, true};
 ghost use Rattle.certs.specs.Fits.{fits};
 ghost use Rattle.module_check.specs.Accepted.{IsAccepted};
 ghost use Rattle.layout.specs.Layouts.{IsLayoutFault};
@@ -8,38 +8,32 @@ ghost use Rattle.certs.specs.Plain.{plain};
 ghost use Rattle.cert_maker.specs.declared.made.MakeFault.TheVariants as fault;
 ghost use Rattle.check_commands.specs.Checks.{OfMade, OfMake};
 ghost use Rattle.reports.specs.Said.{Says};
-ghost use Rattle.reports.specs.Files as spec;
-ghost use Rattle.command_line.specs.declared.asked.Why.TheVariants.{Wanted};
+ghost use Rattle.command_line.specs.declared.options.Why.TheVariants.{Wanted};
 ghost use Rattle.reports.specs.Report.{IsTold, made_text, no_answer};
 
 use cert_maker::{MakeFault, NotMade, Refused, make};
 use certificate::print_cert;
-use command_line::{MakeLine, Why};
+use command_line::{MakeOptions, Why};
 use ir_ast::Module;
 use module_check::Accepted;
 use reports::{
-    STATUS_NO, STATUS_YES, line_of_refusal, memory, no_layouts, refused, shaped_in, unread,
+    Files, Outputs, STATUS_NO, STATUS_YES, line_of_refusal, memory, no_layouts, refused, shaped_in,
+    unread,
 };
 use std::alloc::Global;
 use std::io;
 use std::io::Write;
 
 /// Prints the certificates with which a module is accepted.
-fn print_made<O: Write, E: Write>(
-    alloc: Global,
-    accepted: &Accepted,
-    why: Why,
-    out: &mut O,
-    err: &mut E,
-) -> io::Result<u8>
+fn print_made(alloc: Global, accepted: &Accepted, why: Why, outputs: &mut Outputs) -> io::Result<u8>
     requires fits { fits accepted.now.program.of_module accepted.now.certs.sections ≡ true }
     requires shapes { accepted.now.certs.shapes ≡ accepted.now.program.of_module.shapes }
     requires certified { IsAccepted accepted.now.program.of_module accepted.now.certs.sections }
-    ensures { IfOk result (Says (OfMade why accepted.now.program.of_module) (O.contents out.old) (O.contents out.new) (E.contents err.old) (E.contents err.new)) }
+    ensures { IfOk result (Says (OfMade why accepted.now.program.of_module) outputs.old outputs.new) }
 {
     match print_cert(alloc, accepted.certs(), accepted.program().module()) {
-        Ok(text) => print_text(out, text.as_slice()),
-        Err(_) => memory(err),
+        Ok(text) => print_text(&mut outputs.out, text.as_slice()),
+        Err(_) => memory(&mut outputs.err),
     }
 }
 
@@ -60,106 +54,91 @@ fn print_no_answer<O: Write>(out: &mut O) -> io::Result<u8>
 }
 
 /// Prints that no certificates are made, and the first refusal with some.
-fn print_refused<O: Write, E: Write>(
+fn print_refused(
     alloc: Global,
     of_module: &Module,
     tried: &Refused,
-    out: &mut O,
-    err: &mut E,
+    outputs: &mut Outputs,
 ) -> io::Result<u8>
     requires plain { IsAccepted of_module.now (plain of_module.now) → ⊥ }
     requires refused { IsRefusedWith of_module.now tried.now }
-    ensures { IfOk result (Says (OfMade Wanted of_module.now) (O.contents out.old) (O.contents out.new) (E.contents err.old) (E.contents err.new)) }
+    ensures { IfOk result (Says (OfMade Wanted of_module.now) outputs.old outputs.new) }
 {
     match line_of_refusal(alloc, of_module, &tried.certs, &tried.refusal) {
         Ok(line) => {
-            let status = print_no_answer(out)?;
-            refused(err, of_module, &tried.refusal, line.as_slice())?;
+            let status = print_no_answer(&mut outputs.out)?;
+            refused(&mut outputs.err, of_module, &tried.refusal, line.as_slice())?;
             Ok(status)
         }
-        Err(_) => memory(err),
+        Err(_) => memory(&mut outputs.err),
     }
 }
 
 /// Prints that no certificates are made; and if that is wanted, the first refusal with some.
-fn print_tried<O: Write, E: Write>(
+fn print_tried(
     alloc: Global,
     of_module: &Module,
     tried: &Refused,
     why: Why,
-    out: &mut O,
-    err: &mut E,
+    outputs: &mut Outputs,
 ) -> io::Result<u8>
     requires plain { IsAccepted of_module.now (plain of_module.now) → ⊥ }
     requires refused { IsRefusedWith of_module.now tried.now }
-    ensures { IfOk result (Says (OfMade why of_module.now) (O.contents out.old) (O.contents out.new) (E.contents err.old) (E.contents err.new)) }
+    ensures { IfOk result (Says (OfMade why of_module.now) outputs.old outputs.new) }
 {
     match why {
-        Why::Wanted => print_refused(alloc, of_module, tried, out, err),
-        Why::NotWanted => print_no_answer(out),
+        Why::Wanted => print_refused(alloc, of_module, tried, outputs),
+        Why::NotWanted => print_no_answer(&mut outputs.out),
     }
 }
 
 /// Prints why no certificates are made.
-fn print_unmade<O: Write, E: Write>(
-    alloc: Global,
-    unmade: &NotMade,
-    why: Why,
-    out: &mut O,
-    err: &mut E,
-) -> io::Result<u8>
+fn print_unmade(alloc: Global, unmade: &NotMade, why: Why, outputs: &mut Outputs) -> io::Result<u8>
     requires none { unmade.now.fault ≡ fault.NoAnswer → IsAccepted unmade.now.of_module (plain unmade.now.of_module) → ⊥ }
     requires layout { IfLayout unmade.now.fault (IsLayoutFault unmade.now.of_module) }
     requires refused { IfSome unmade.now.refused (IsRefusedWith unmade.now.of_module) }
-    ensures { IfOk result (Says (OfMade why unmade.now.of_module) (O.contents out.old) (O.contents out.new) (E.contents err.old) (E.contents err.new)) }
+    ensures { IfOk result (Says (OfMade why unmade.now.of_module) outputs.old outputs.new) }
 {
     match (unmade.fault, &unmade.refused) {
-        (MakeFault::Layout(fault), _) => no_layouts(err, &unmade.of_module, fault),
-        (MakeFault::Memory, _) => memory(err),
+        (MakeFault::Layout(fault), _) => no_layouts(&mut outputs.err, &unmade.of_module, fault),
+        (MakeFault::Memory, _) => memory(&mut outputs.err),
         (MakeFault::NoAnswer, Some(tried)) => {
-            print_tried(alloc, &unmade.of_module, tried, why, out, err)
+            print_tried(alloc, &unmade.of_module, tried, why, outputs)
         }
-        (MakeFault::NoAnswer, _) => print_no_answer(out),
+        (MakeFault::NoAnswer, _) => print_no_answer(&mut outputs.out),
     }
 }
 
 /// Makes certificates of a module.
-fn make_of<O: Write, E: Write>(
-    alloc: Global,
-    of_module: Module,
-    why: Why,
-    out: &mut O,
-    err: &mut E,
-) -> io::Result<u8>
-    ensures { IfOk result (Says (OfMade why of_module) (O.contents out.old) (O.contents out.new) (E.contents err.old) (E.contents err.new)) }
+fn make_of(alloc: Global, of_module: Module, why: Why, outputs: &mut Outputs) -> io::Result<u8>
+    ensures { IfOk result (Says (OfMade why of_module) outputs.old outputs.new) }
 {
     match make(alloc, of_module) {
         Ok(accepted) => {
-            let status = print_made(alloc, &accepted, why, out, err);
+            let status = print_made(alloc, &accepted, why, outputs);
             drop(accepted);
             status
         }
         Err(unmade) => {
-            let status = print_unmade(alloc, &unmade, why, out, err);
+            let status = print_unmade(alloc, &unmade, why, outputs);
             drop(unmade);
             status
         }
     }
 }
 
-/// Makes certificates of the module of a line, with the shapes of the line where it writes `ptr`. The first fault counts: of the module, its
-/// path and then its text, then of the shapes, their path and then their text, then of the layouts.
-pub fn make_file<O: Write, E: Write>(
+/// Makes certificates of the module, with the shapes where it writes `ptr`. The first fault counts: of the module, its path and then its
+/// text, then of the shapes, their path and then their text, then of the layouts.
+pub fn make_file(
     alloc: Global,
-    asked: MakeLine<'_>,
-    files: &[Option<Vec<u8>>],
-    out: &mut O,
-    err: &mut E,
+    options: MakeOptions,
+    files: &Files<'_>,
+    outputs: &mut Outputs,
 ) -> io::Result<u8>
-    ensures { IfOk result (Says (OfMake asked.entry.why asked.entry.module_path.now (option_map (λ path. path.now) asked.entry.shapes_path) (spec.file_at files.now 0) (spec.file_at files.now 1)) (O.contents out.old) (O.contents out.new) (E.contents err.old) (E.contents err.new)) }
+    ensures { IfOk result (Says (OfMake options.why files.now.of_module files.now.shapes) outputs.old outputs.new) }
 {
-    match shaped_in(alloc, (asked.module_path, asked.shapes_path), files, 1) {
-        Ok(of_module) => make_of(alloc, of_module, asked.why, out, err),
-        Err(fault) => unread(err, fault),
+    match shaped_in(alloc, files) {
+        Ok(of_module) => make_of(alloc, of_module, options.why, outputs),
+        Err(fault) => unread(&mut outputs.err, fault),
     }
 }

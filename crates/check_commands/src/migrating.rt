@@ -1,30 +1,29 @@
 //! The command `migrate`.
-ghost use Rattle.std.specs.Prelude.{◌≡◌, Ok, IfOk, option_map};
+ghost use Rattle.std.specs.Prelude.{◌≡◌, Ok, IfOk};
 ghost use Rattle.certificate.specs.Migrated.{IsMigration};
-ghost use Rattle.check_commands.specs.Migrating.{bytes_at, migrated_text, OfCerts, OfMigrate, OfMigrated, OfModule, OfText};
+ghost use Rattle.check_commands.specs.Migrating.{known_bytes, migrated_text, OfCerts, OfMigrate, OfMigrated, OfModule, OfText};
 ghost use Rattle.copies.specs.Opaque.{opaque_module};
-ghost use Rattle.reports.specs.Files as spec;
 ghost use Rattle.reports.specs.Report.{IsTold, made_text};
 ghost use Rattle.reports.specs.Said.{OfCertified, Says};
 
 use certificate::{is_typed_text, migrate, print_cert};
 use certs::Certs;
-use command_line::MigrateLine;
 use copies::opaque;
 use ir_ast::Module;
 use ir_print::print;
 use reports::{
-    Certified, STATUS_YES, file_at, memory, module_in, no_certificate, read_certified, unread,
+    Certified, File, Files, Outputs, STATUS_YES, bytes_of, memory, module_in, no_certificate,
+    read_certified, unread,
 };
 use std::alloc::{AllocError, Global};
 use std::io;
 use std::io::Write;
 
-/// The bytes of the file at this place of the line, none where it cannot be read.
-fn bytes_at(files: &[Option<Vec<u8>>], place: usize) -> &[u8]
-    ensures { result.now ≡ bytes_at files.now place }
+/// The bytes of a file, none where it is not given or cannot be read.
+fn known_bytes(file: Option<File<'_>>) -> &[u8]
+    ensures { result.now ≡ known_bytes file.entry }
 {
-    match file_at(files, place) {
+    match bytes_of(file) {
         Some(bytes) => bytes,
         None => &[],
     }
@@ -74,152 +73,129 @@ fn text_of_module(alloc: Global, of_module: &Module, bytes: &[u8]) -> Result<Vec
     text
 }
 
-fn print_module<O: Write, E: Write>(
+fn print_module(
     alloc: Global,
     of_module: &Module,
     bytes: &[u8],
-    out: &mut O,
-    err: &mut E,
+    outputs: &mut Outputs,
 ) -> io::Result<u8>
-    ensures { IfOk result (Says (OfText of_module.now bytes.now) (O.contents out.old) (O.contents out.new) (E.contents err.old) (E.contents err.new)) }
+    ensures { IfOk result (Says (OfText of_module.now bytes.now) outputs.old outputs.new) }
 {
     match text_of_module(alloc, of_module, bytes) {
-        Ok(text) => print_text(out, text.as_slice()),
-        Err(_) => memory(err),
+        Ok(text) => print_text(&mut outputs.out, text.as_slice()),
+        Err(_) => memory(&mut outputs.err),
     }
 }
 
-/// Prints the opaque text of the module of this path.
-fn migrate_module<O: Write, E: Write>(
-    alloc: Global,
-    path: &str,
-    files: &[Option<Vec<u8>>],
-    out: &mut O,
-    err: &mut E,
-) -> io::Result<u8>
-    ensures { IfOk result (Says (OfModule path.now (spec.file_at files.now 0)) (O.contents out.old) (O.contents out.new) (E.contents err.old) (E.contents err.new)) }
+/// Prints the opaque text of the module.
+fn migrate_module(alloc: Global, files: &Files<'_>, outputs: &mut Outputs) -> io::Result<u8>
+    ensures { IfOk result (Says (OfModule files.now.of_module) outputs.old outputs.new) }
 {
-    match module_in(alloc, path, files) {
+    match module_in(alloc, files) {
         Ok(of_module) => {
-            let status = print_module(alloc, &of_module, bytes_at(files, 0), out, err);
+            let status = print_module(alloc, &of_module, known_bytes(files.of_module), outputs);
             drop(of_module);
             status
         }
-        Err(fault) => unread(err, fault),
+        Err(fault) => unread(&mut outputs.err, fault),
     }
 }
 
 /// Prints certificates of an opaque text.
-fn print_certs<O: Write, E: Write>(
+fn print_certs(
     alloc: Global,
     migrated: &Certs,
     made: &Module,
-    out: &mut O,
-    err: &mut E,
+    outputs: &mut Outputs,
 ) -> io::Result<u8>
-    ensures { IfOk result (Says (OfCerts made.now migrated.now) (O.contents out.old) (O.contents out.new) (E.contents err.old) (E.contents err.new)) }
+    ensures { IfOk result (Says (OfCerts made.now migrated.now) outputs.old outputs.new) }
 {
     match print_cert(alloc, migrated, made) {
-        Ok(text) => print_text(out, text.as_slice()),
-        Err(_) => memory(err),
+        Ok(text) => print_text(&mut outputs.out, text.as_slice()),
+        Err(_) => memory(&mut outputs.err),
     }
 }
 
 /// Prints what came of certificates that were read from these bytes. The opaque text is given.
-fn print_made<O: Write, E: Write>(
+fn print_made(
     alloc: Global,
     certified: &Certified,
     migrated: (&Certs, &Module),
     bytes: &[u8],
-    out: &mut O,
-    err: &mut E,
+    outputs: &mut Outputs,
 ) -> io::Result<u8>
     requires migration { IsMigration certified.now.of_module certified.now.certs (Ok migrated.0.now) }
     requires made { migrated.1.now ≡ opaque_module certified.now.of_module }
-    ensures { IfOk result (Says (OfMigrated bytes.now certified.now.of_module certified.now.certs) (O.contents out.old) (O.contents out.new) (E.contents err.old) (E.contents err.new)) }
+    ensures { IfOk result (Says (OfMigrated bytes.now certified.now.of_module certified.now.certs) outputs.old outputs.new) }
 {
     if is_typed_text(&certified.of_module, migrated.1) {
-        print_certs(alloc, migrated.0, migrated.1, out, err)
+        print_certs(alloc, migrated.0, migrated.1, outputs)
     } else {
-        print_text(out, bytes)
+        print_text(&mut outputs.out, bytes)
     }
 }
 
-fn print_migrated<O: Write, E: Write>(
+fn print_migrated(
     alloc: Global,
     certified: &Certified,
     migrated: &Certs,
     bytes: &[u8],
-    out: &mut O,
-    err: &mut E,
+    outputs: &mut Outputs,
 ) -> io::Result<u8>
     requires { IsMigration certified.now.of_module certified.now.certs (Ok migrated.now) }
-    ensures { IfOk result (Says (OfMigrated bytes.now certified.now.of_module certified.now.certs) (O.contents out.old) (O.contents out.new) (E.contents err.old) (E.contents err.new)) }
+    ensures { IfOk result (Says (OfMigrated bytes.now certified.now.of_module certified.now.certs) outputs.old outputs.new) }
 {
     match opaque(alloc, &certified.of_module) {
         Ok(made) => {
-            let status = print_made(alloc, certified, (migrated, &made), bytes, out, err);
+            let status = print_made(alloc, certified, (migrated, &made), bytes, outputs);
             drop(made);
             status
         }
-        Err(_) => memory(err),
+        Err(_) => memory(&mut outputs.err),
     }
 }
 
 /// Migrates certificates that were read from these bytes.
-fn migrate_certified<O: Write, E: Write>(
+fn migrate_certified(
     alloc: Global,
     certified: &Certified,
     bytes: &[u8],
-    out: &mut O,
-    err: &mut E,
+    outputs: &mut Outputs,
 ) -> io::Result<u8>
-    ensures { IfOk result (Says (OfMigrated bytes.now certified.now.of_module certified.now.certs) (O.contents out.old) (O.contents out.new) (E.contents err.old) (E.contents err.new)) }
+    ensures { IfOk result (Says (OfMigrated bytes.now certified.now.of_module certified.now.certs) outputs.old outputs.new) }
 {
     match migrate(alloc, &certified.certs, &certified.of_module) {
         Ok(migrated) => {
-            let status = print_migrated(alloc, certified, &migrated, bytes, out, err);
+            let status = print_migrated(alloc, certified, &migrated, bytes, outputs);
             drop(migrated);
             status
         }
-        Err(fault) => no_certificate(err, &certified.of_module, fault),
+        Err(fault) => no_certificate(&mut outputs.err, &certified.of_module, fault),
     }
 }
 
-/// Migrates the certificates of these paths.
-fn migrate_certs<O: Write, E: Write>(
-    alloc: Global,
-    module_path: &str,
-    certificate_path: &str,
-    files: &[Option<Vec<u8>>],
-    out: &mut O,
-    err: &mut E,
-) -> io::Result<u8>
-    ensures { IfOk result (Says (OfCertified (OfMigrated (bytes_at files.now 1)) module_path.now certificate_path.now (spec.file_at files.now 0) (spec.file_at files.now 1)) (O.contents out.old) (O.contents out.new) (E.contents err.old) (E.contents err.new)) }
+/// Migrates the certificates of the module.
+fn migrate_certs(alloc: Global, files: &Files<'_>, outputs: &mut Outputs) -> io::Result<u8>
+    ensures { IfOk result (Says (OfCertified (OfMigrated (known_bytes files.now.certificate)) files.now.of_module files.now.certificate) outputs.old outputs.new) }
 {
-    match read_certified(alloc, (module_path, certificate_path), files) {
+    match read_certified(alloc, files) {
         Ok(certified) => {
-            let status = migrate_certified(alloc, &certified, bytes_at(files, 1), out, err);
+            let bytes = known_bytes(files.certificate);
+            let status = migrate_certified(alloc, &certified, bytes, outputs);
             drop(certified);
             status
         }
-        Err(fault) => unread(err, fault),
+        Err(fault) => unread(&mut outputs.err, fault),
     }
 }
 
-/// Prints the opaque text of the module of a line, or the certificates of that text where the line has a certificate. The first fault
-/// counts: of each file in the line's order, its path and then its text, then of the shapes.
-pub fn migrate_files<O: Write, E: Write>(
-    alloc: Global,
-    asked: MigrateLine<'_>,
-    files: &[Option<Vec<u8>>],
-    out: &mut O,
-    err: &mut E,
-) -> io::Result<u8>
-    ensures { IfOk result (Says (OfMigrate asked.entry.module_path.now (option_map (λ path. path.now) asked.entry.certificate_path) (spec.file_at files.now 0) (spec.file_at files.now 1)) (O.contents out.old) (O.contents out.new) (E.contents err.old) (E.contents err.new)) }
+/// Prints the opaque text of the module, or the certificates of that text where a certificate is given. The first fault counts: of each
+/// of the two files, its path and then its text, then of the shapes.
+pub fn migrate_files(alloc: Global, files: &Files<'_>, outputs: &mut Outputs) -> io::Result<u8>
+    ensures { IfOk result (Says (OfMigrate files.now.of_module files.now.certificate) outputs.old outputs.new) }
 {
-    match asked.certificate_path {
-        Some(path) => migrate_certs(alloc, asked.module_path, path, files, out, err),
-        None => migrate_module(alloc, asked.module_path, files, out, err),
+    match files.certificate {
+        Some(_) => migrate_certs(alloc, files, outputs),
+        None => migrate_module(alloc, files, outputs),
     }
 }

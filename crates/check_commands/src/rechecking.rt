@@ -4,18 +4,16 @@ ghost use Rattle.std.specs.Io.KnownBytes.{Appends};
 ghost use Rattle.certs.specs.Fits.{fits};
 ghost use Rattle.reports.specs.Said.{OfCertified, Says};
 ghost use Rattle.check_commands.specs.EditedFiles.{OfEdited, OfEditsFile, OfRechecked};
-ghost use Rattle.reports.specs.Files.{file_at};
 ghost use Rattle.check_commands.specs.Rechecks as spec;
 ghost use Rattle.check_commands.specs.Rechecks.{OfEdit, OfEdits, OfSession};
 ghost use Rattle.reports.specs.Report.{Answer, IsTold};
 ghost use Rattle.recheck.specs.declared.edit_fault.EditFault.TheVariants as edit_fault;
 
 use crate::codes::code_of_edit;
-use command_line::RecheckLine;
 use recheck::{Edit, EditFault, Session};
 use reports::{
-    Certified, STATUS_NO, STATUS_YES, accepted, edits_in, line_of_refusal, memory, not_laid_out,
-    read_certified, refused, unread,
+    Certified, Files, Outputs, STATUS_NO, STATUS_YES, accepted, edits_in, line_of_refusal, memory,
+    not_laid_out, read_certified, refused, unread,
 };
 use std::alloc::{AllocError, Global};
 use std::io;
@@ -116,87 +114,77 @@ fn lines_of(alloc: Global, session: &mut Session, edits: &[Edit]) -> io::Result<
 }
 
 /// Edits a session that begins, and prints its lines.
-fn edit_session<O: Write, E: Write>(
+fn edit_session(
     alloc: Global,
     session: &mut Session,
     edits: &[Edit],
-    out: &mut O,
-    err: &mut E,
+    outputs: &mut Outputs,
 ) -> io::Result<u8>
-    ensures { IfOk result (Says (OfEdited session.old edits.now) (O.contents out.old) (O.contents out.new) (E.contents err.old) (E.contents err.new)) }
+    ensures { IfOk result (Says (OfEdited session.old edits.now) outputs.old outputs.new) }
 {
     match lines_of(alloc, session, edits) {
         Ok(lines) => {
-            out.write_all(lines.as_slice())?;
+            outputs.out.write_all(lines.as_slice())?;
             Ok(status_of_verdict(session))
         }
-        Err(_) => memory(err),
+        Err(_) => memory(&mut outputs.err),
     }
 }
 
 /// Begins a session of a module with its certificates, and edits it.
-fn recheck_certified<O: Write, E: Write>(
+fn recheck_certified(
     alloc: Global,
     certified: Certified,
     edits: &[Edit],
-    out: &mut O,
-    err: &mut E,
+    outputs: &mut Outputs,
 ) -> io::Result<u8>
     requires { fits certified.of_module certified.certs.sections ≡ true }
-    ensures { IfOk result (Says (OfRechecked certified.of_module certified.certs edits.now) (O.contents out.old) (O.contents out.new) (E.contents err.old) (E.contents err.new)) }
+    ensures { IfOk result (Says (OfRechecked certified.of_module certified.certs edits.now) outputs.old outputs.new) }
 {
     match Session::new(alloc, certified.of_module, certified.certs) {
         Ok(mut session) => {
-            let status = edit_session(alloc, &mut session, edits, out, err);
+            let status = edit_session(alloc, &mut session, edits, outputs);
             drop(session);
             status
         }
         Err(answer) => {
-            let status = not_laid_out(err, &answer);
+            let status = not_laid_out(&mut outputs.err, &answer);
             drop(answer);
             status
         }
     }
 }
 
-/// Reads the edits of this path, the third file, and applies them to a module with its certificates.
-fn recheck_edits<O: Write, E: Write>(
+/// Reads the edits, and applies them to a module with its certificates.
+fn recheck_edits(
     alloc: Global,
     certified: Certified,
-    path: &str,
-    files: &[Option<Vec<u8>>],
-    out: &mut O,
-    err: &mut E,
+    files: &Files<'_>,
+    outputs: &mut Outputs,
 ) -> io::Result<u8>
     requires { fits certified.of_module certified.certs.sections ≡ true }
-    ensures { IfOk result (Says (OfEditsFile path.now (file_at files.now 2) certified.of_module certified.certs) (O.contents out.old) (O.contents out.new) (E.contents err.old) (E.contents err.new)) }
+    ensures { IfOk result (Says (OfEditsFile files.now.edits certified.of_module certified.certs) outputs.old outputs.new) }
 {
-    match edits_in(alloc, path, files, 2) {
+    match edits_in(alloc, files) {
         Ok(edits) => {
-            let status = recheck_certified(alloc, certified, edits.as_slice(), out, err);
+            let status = recheck_certified(alloc, certified, edits.as_slice(), outputs);
             drop(edits);
             status
         }
         Err(fault) => {
             drop(certified);
-            unread(err, fault)
+            unread(&mut outputs.err, fault)
         }
     }
 }
 
-/// Checks the module of a line against its certificate, and again after each of its edits. The first fault counts: of each file in
-/// the line's order, its path and then its text, of the edits their frame; then of the layouts.
-pub fn recheck_files<O: Write, E: Write>(
-    alloc: Global,
-    asked: RecheckLine<'_>,
-    files: &[Option<Vec<u8>>],
-    out: &mut O,
-    err: &mut E,
-) -> io::Result<u8>
-    ensures { IfOk result (Says (OfCertified (OfEditsFile asked.entry.edits_path.now (file_at files.now 2)) asked.entry.module_path.now asked.entry.certificate_path.now (file_at files.now 0) (file_at files.now 1)) (O.contents out.old) (O.contents out.new) (E.contents err.old) (E.contents err.new)) }
+/// Checks the module against the certificate, and again after each of the edits. The first fault counts: of each of the three files, its
+/// path and then its text, of the edits their frame; then of the layouts.
+pub fn recheck_files(alloc: Global, files: &Files<'_>, outputs: &mut Outputs) -> io::Result<u8>
+    ensures { IfOk result (Says (OfCertified (OfEditsFile files.now.edits) files.now.of_module files.now.certificate) outputs.old outputs.new) }
 {
-    match read_certified(alloc, (asked.module_path, asked.certificate_path), files) {
-        Ok(certified) => recheck_edits(alloc, certified, asked.edits_path, files, out, err),
-        Err(fault) => unread(err, fault),
+    match read_certified(alloc, files) {
+        Ok(certified) => recheck_edits(alloc, certified, files, outputs),
+        Err(fault) => unread(&mut outputs.err, fault),
     }
 }

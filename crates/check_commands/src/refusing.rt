@@ -13,7 +13,7 @@ use certs::Certs;
 use ir_ast::Module;
 use layout::Program;
 use module_check::{NotAccepted, Reason, Refusal, Refusals, UnderCheck, first_refusals};
-use reports::{Certified, STATUS_NO, line_of_refusal, memory, no_layouts, refused};
+use reports::{Certified, Outputs, STATUS_NO, line_of_refusal, memory, no_layouts, refused};
 use std::alloc::Global;
 use std::io;
 use std::io::Write;
@@ -66,60 +66,57 @@ fn lines_of_program(
 }
 
 /// Prints the refusals of a program.
-fn print_refusals<O: Write, E: Write>(
+fn print_refusals(
     alloc: Global,
     program: &Program,
     certs: &Certs,
     limit: u32,
-    out: &mut O,
-    err: &mut E,
+    outputs: &mut Outputs,
 ) -> io::Result<u8>
-    ensures { IfOk result (Says (OfRefusals limit program.now certs.now.sections) (O.contents out.old) (O.contents out.new) (E.contents err.old) (E.contents err.new)) }
+    ensures { IfOk result (Says (OfRefusals limit program.now certs.now.sections) outputs.old outputs.new) }
 {
     match lines_of_program(alloc, program, certs, limit) {
         Ok(lines) => {
-            out.write_all(lines.as_slice())?;
+            outputs.out.write_all(lines.as_slice())?;
             Ok(STATUS_NO)
         }
-        Err(_) => memory(err),
+        Err(_) => memory(&mut outputs.err),
     }
 }
 
 /// Prints the refusals of a module that is not accepted because of one.
-fn refuse_all<O: Write, E: Write>(
+fn refuse_all(
     alloc: Global,
     certified: Certified,
     limit: u32,
-    out: &mut O,
-    err: &mut E,
+    outputs: &mut Outputs,
 ) -> io::Result<u8>
     requires { (refusal : Refusal) × IsFirstRefusal (shaped certified.of_module certified.certs) certified.certs.sections refusal }
-    ensures { IfOk result (Says (OfAll limit certified.of_module certified.certs) (O.contents out.old) (O.contents out.new) (E.contents err.old) (E.contents err.new)) }
+    ensures { IfOk result (Says (OfAll limit certified.of_module certified.certs) outputs.old outputs.new) }
 {
     let Certified { of_module, certs } = certified;
     match UnderCheck::new(alloc, of_module, certs) {
         Ok(under) => {
-            let status = print_refusals(alloc, under.program(), under.certs(), limit, out, err);
+            let status = print_refusals(alloc, under.program(), under.certs(), limit, outputs);
             drop(under);
             status
         }
         Err(refused) => {
             drop(refused);
-            memory(err)
+            memory(&mut outputs.err)
         }
     }
 }
 
 /// Prints why a module is not accepted, by the refusals of all its blocks.
-pub(crate) fn report_all<O: Write, E: Write>(
+pub(crate) fn report_all(
     alloc: Global,
     answer: NotAccepted,
     limit: u32,
-    out: &mut O,
-    err: &mut E,
+    outputs: &mut Outputs,
 ) -> io::Result<u8>
     requires { IsVerdictOf (shaped answer.of_module answer.certs) answer.certs.sections answer.verdict }
-    ensures { IfOk result (Says (OfAll limit answer.of_module answer.certs) (O.contents out.old) (O.contents out.new) (E.contents err.old) (E.contents err.new)) }
+    ensures { IfOk result (Says (OfAll limit answer.of_module answer.certs) outputs.old outputs.new) }
 {
     let NotAccepted {
         verdict,
@@ -128,15 +125,15 @@ pub(crate) fn report_all<O: Write, E: Write>(
     } = answer;
     let certified = Certified { of_module, certs };
     match verdict {
-        Reason::Refused(_) => refuse_all(alloc, certified, limit, out, err),
+        Reason::Refused(_) => refuse_all(alloc, certified, limit, outputs),
         Reason::Layout(fault) => {
-            let status = no_layouts(err, &certified.of_module, fault);
+            let status = no_layouts(&mut outputs.err, &certified.of_module, fault);
             drop(certified);
             status
         }
         Reason::Memory => {
             drop(certified);
-            memory(err)
+            memory(&mut outputs.err)
         }
     }
 }

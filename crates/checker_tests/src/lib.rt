@@ -1,5 +1,5 @@
-//! Tests of the readers of modules, certificates and traces, and of the facts of blocks. Each returns a plain value, which one
-//! assertion compares.
+//! Tests of the readers of modules, certificates and traces, of the facts of blocks, and of calls that no command makes. Each returns
+//! a plain value, which one assertion compares.
 #![tactic(auto)]
 
 #[cfg(test)]
@@ -12,6 +12,8 @@ mod faults;
 mod front_tests;
 #[cfg(test)]
 mod fronts;
+#[cfg(test)]
+mod library_tests;
 #[cfg(test)]
 mod section_tests;
 #[cfg(test)]

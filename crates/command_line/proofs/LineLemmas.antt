@@ -1,29 +1,24 @@
 -- From what `clap` gives to what a line asks for.
-use Rattle.std.proofs.Common.{◌≡◌, ◌∙◌, ◌&&◌, ◌^◌, ℕ, nat_lt, List, length, Option, Some, None, refl, ap, ap₂, sym, option_map, unwrap_or, lt-ltb, ltb-true}
-use Rattle.std.specs.Prelude.{IfErr, IfOk, IsErrAnd, IsOkAnd, Result, Ok, Err, option_and_then, if◌then◌else◌, true, false, Bool}
+use Rattle.std.proofs.Common.{◌≡◌, ◌∙◌, ◌&&◌, ◌^◌, ℕ, nat_lt, List, [], ◌∷◌, ◌++◌, length, Option, Some, None, refl, ap, ap₂, sym, option_map, unwrap_or, lt-ltb, ltb-true}
+use Rattle.std.specs.Prelude.{IfErr, IsErrAnd, Result, Ok, Err, option_and_then, if◌then◌else◌, true, false, Bool}
 use Rattle.std.specs.Result.{result_ok}
 use Rattle.std.specs.Str.{all_ascii_digits}
 use Rattle.std.specs.Str.Parse.{ParsesUnsigned, digits_value, without_leading_plus}
 use Rattle.std.proofs.Common.{inl, inr, subst, true≢false}
 use Rattle.std.proofs.lemmas.Str.Parse.{IsNumeralModel, numerals_by_value, tells_all_ascii_digits}
 use Rattle.std.specs.Box.{box_value}
-use Rattle.clap.specs.Words.{HasKind, ReadsOne, Row, Text, fault_of, found_of, is_simple, is_simple_and_free, kind_of, one_text, rows_of, subcommand_name_of, subcommand_of, subcommand_rows_of}
+use Rattle.clap.specs.Words.{App, HasKind, ReadsOne, Row, Text, fault_of, found_of, is_simple, is_simple_and_free, kind_of, one_text, rows_of, subcommand_name_of, subcommand_rows_of, with_subcommand}
 use Rattle.clap.specs.declared.parser.matches.ArgMatches.{ArgMatches}
 use Rattle.clap.specs.declared.parser.matches.ArgMatches.TheViews.{out-ArgMatches, out-SubCommand}
 use Rattle.clap.specs.declared.parser.matches.Found.{Found}
 use Rattle.clap.specs.declared.error.Error.{Error}
 use Rattle.clap.proofs.OnLiterals.{clap_on_literals}
 use Rattle.clap.proofs.WalkLemmas.{one_text-rows}
-use Rattle.command_line.specs.Asked.{Asked, fault_of_error, is_memory_kind}
-use Rattle.command_line.specs.declared.asked.Line.{Line}
-use Rattle.command_line.specs.declared.asked.LineFault.{LineFault}
-use Rattle.command_line.specs.declared.asked.LineFault.TheVariants.{Memory, Words}
-use Rattle.command_line.specs.Grammar.{IsRefusalOf, asked_in, asked_of, dgc_app, number_in, number_of}
-
--- what follows of a result that is there, and of what holds of it if it is
-pub of_both : {A E R : Type 0} (made : Result A E) (P Q : A → Type 0) → IsOkAnd made P → IfOk made Q → ((a : A) → P a → Q a → R) → R
-of_both (Ok a) P Q p q so = so a p q
-of_both (Err e) P Q p q so = absurd p
+use Rattle.command_line.specs.Asked.{fault_of_error, is_memory_kind}
+use Rattle.command_line.specs.declared.command.Command.{Command}
+use Rattle.command_line.specs.declared.fault.LineFault.{LineFault}
+use Rattle.command_line.specs.declared.fault.LineFault.TheVariants.{Memory, Words}
+use Rattle.command_line.specs.Grammar.{AskedLine, IsRefusalOf, dgc_app, line_found, line_of, number_in, number_of, with_commands}
 
 -- whether the digits write a number below 2 to the 32
 abbrev is_number : Text → Bool
@@ -70,11 +65,11 @@ number_from {E} G held name r only none value = go (one_text held name) refl ∙
 
 -- the grammar is one whose meaning `clap` states whole
 pub is_simple_and_free_dgc : is_simple_and_free dgc_app ≡ true
-unfolding clap_on_literals
+unfolding clap_on_literals with_commands
 is_simple_and_free_dgc = refl
 
 pub is_simple_dgc : is_simple dgc_app ≡ true
-unfolding clap_on_literals
+unfolding clap_on_literals with_commands
 is_simple_dgc = refl
 
 -- an error of one of these kinds is a refusal of the words
@@ -86,9 +81,9 @@ is_refusal words error kind = by_kind (is_memory_kind (kind_of error)) kind refl
     by_kind false (inl memory) is = absurd (true≢false (sym (ap is_memory_kind memory) ∙ is))
     by_kind false (inr among) is = among
 
-pub refuses : (words : List Text) (error : Error) (result : Result Line LineFault) → HasKind (fault_of dgc_app words) error
+pub refuses : (words : List Text) (error : Error) (result : Result Command LineFault) → HasKind (fault_of dgc_app words) error
     → IsErrAnd result (λ fault. fault ≡ fault_of_error error) → IfErr result (IsRefusalOf words)
-refuses words error (Ok line) kind is = tt
+refuses words error (Ok command) kind is = tt
 refuses words error (Err fault) kind is = subst (IsRefusalOf words) (sym is) (is_refusal words error kind)
 
 -- ---- what the words ask for
@@ -103,11 +98,25 @@ name_and_rows name_in rows_in (Some x) name rows named given =
     let rows_are : rows ≡ rows_in x = ap (λ o. unwrap_or o rows) given in
     ap₂ (λ n r. Some (n, r)) (sym name_is) (sym rows_are)
 
--- the words ask for what the subcommand with its rows asks for
-pub asked_from : (words : List Text) (m : ArgMatches) (name : Text) (rows : List Row) (asked : Option Asked)
-    → subcommand_rows_of m ≡ subcommand_of dgc_app words → Some name ≡ subcommand_name_of m → Some rows ≡ option_map (λ (p : Text × List Row). p.1) (subcommand_rows_of m)
-    → asked ≡ asked_of (Some (name, rows)) → asked_in words ≡ asked
-asked_from words m name rows asked of_words named given gives =
+-- what was found asks for what the name with its rows asks for
+pub line_from : (m : ArgMatches) (name : Text) (rows : List Row) (line : Option AskedLine)
+    → Some name ≡ subcommand_name_of m → Some rows ≡ option_map (λ (p : Text × List Row). p.1) (subcommand_rows_of m)
+    → line ≡ line_of name rows → line_found (subcommand_rows_of m) ≡ line
+line_from m name rows line named given gives =
     let entered : subcommand_rows_of m ≡ Some (name, rows) =
     name_and_rows (λ b. (out-SubCommand (box_value b)).name.now) (λ b. rows_of (found_of (out-SubCommand (box_value b)).matches)) (out-ArgMatches m).subcommand name rows named given in
-    sym (ap asked_of of_words) ∙ ap asked_of entered ∙ sym gives
+    ap line_found entered ∙ sym gives
+
+-- ---- the table of commands
+
+-- one more command after others
+pub with_commands_more : (app : App) (commands : List App) (command : App)
+    → with_commands app (commands ++ command ∷ []) ≡ with_subcommand (with_commands app commands) command.top
+unfolding with_commands
+with_commands_more app [] command = refl
+with_commands_more app (first ∷ commands) command = with_commands_more (with_subcommand app first.top) commands command
+
+-- none after a program
+pub with_commands_none : (app : App) → with_commands app [] ≡ app
+unfolding with_commands
+with_commands_none app = refl

@@ -1,29 +1,39 @@
 -- The grammar of the command line, as `clap` has it, and what the words of a line ask for.
-use Rattle.std.specs.Prelude.{◌≡◌, ◌&&◌, ◌||◌, ◌^◌, ℕ, pos, length, nat_lt, List, [], ◌∷◌, Option, Some, None, is_some, unwrap_or, Bool, true, false, codes, option_map, option_and_then, if◌then◌else◌}
-use Rattle.std.specs.Option.{option_map_or}
+use Rattle.std.specs.Prelude.{◌≡◌, ◌&&◌, ◌||◌, ◌^◌, ℕ, pos, length, nat_lt, List, [], ◌∷◌, map, Option, Some, None, is_some, unwrap_or, Bool, true, false, codes, option_map, option_and_then, if◌then◌else◌}
+use Rattle.std.specs.Option.{option_map_or, option_or}
 use Rattle.std.specs.Str.{all_ascii_digits, bytes_eq}
 use Rattle.std.specs.Str.Parse.{digits_value, without_leading_plus}
 use Rattle.clap.specs.Words.{App, IsAmong, Row, Rule, Text, fault_of, first_of, kind_of, new_app, new_rule, one_of, subcommand_of, with_subcommand}
 use Rattle.clap.specs.declared.builder.action.ArgAction.TheVariants.{SetTrue}
 use Rattle.clap.specs.declared.builder.value_parser.ValueParser.TheVariants.{Signed}
-use Rattle.command_line.specs.Asked.{Asked, check, make, recheck, replay, soak, hunt, run, explain, migrate}
-use Rattle.command_line.specs.declared.grammar.Argument.{Argument}
-use Rattle.command_line.specs.declared.grammar.Argument.TheVariants.{File, MayBeGiven, Number, Workers, ExplainWhen, Optional, NumberOr, Flag, Path}
-use Rattle.command_line.specs.declared.asked.Explained.{Explained}
-use Rattle.command_line.specs.declared.asked.Explained.TheVariants.{Always, OnTerminal, Never}
-use Rattle.command_line.specs.declared.asked.LineFault.{LineFault}
-use Rattle.command_line.specs.declared.asked.LineFault.TheVariants.{Memory, NoCommand, Words}
-use Rattle.command_line.specs.declared.asked.Draws.{Draws}
-use Rattle.command_line.specs.declared.asked.Draws.TheVariants.{Uniform, Biased}
-use Rattle.command_line.specs.declared.asked.Refusals.{Refusals}
-use Rattle.command_line.specs.declared.asked.Refusals.TheVariants.{First, OfBlocks}
-use Rattle.command_line.specs.declared.asked.Search.{Search}
-use Rattle.command_line.specs.declared.asked.Shrink.{Shrink}
-use Rattle.command_line.specs.declared.asked.Shrink.TheVariants.{AsDrawn, WithTries}
-use Rattle.command_line.specs.declared.asked.StepsTold.{StepsTold}
-use Rattle.command_line.specs.declared.asked.StepsTold.TheVariants.{NotTold, Last, Between, WrittenBetween}
-use Rattle.command_line.specs.declared.asked.Why.{Why}
-use Rattle.command_line.specs.declared.asked.Why.TheVariants.{Wanted, NotWanted}
+use Rattle.command_line.specs.Asked.{PathTexts, texts_of}
+use Rattle.command_line.specs.declared.command.Command.{Command}
+use Rattle.command_line.specs.declared.command.Explained.{Explained}
+use Rattle.command_line.specs.declared.command.Explained.TheVariants.{Always, OnTerminal, Never}
+use Rattle.command_line.specs.declared.fault.LineFault.{LineFault}
+use Rattle.command_line.specs.declared.fault.LineFault.TheVariants.{Memory, NoCommand, Words}
+use Rattle.command_line.specs.declared.options.CheckOptions.{CheckOptions}
+use Rattle.command_line.specs.declared.options.MakeOptions.{MakeOptions}
+use Rattle.command_line.specs.declared.options.ReplayOptions.{ReplayOptions}
+use Rattle.command_line.specs.declared.options.SoakOptions.{SoakOptions}
+use Rattle.command_line.specs.declared.options.HuntOptions.{HuntOptions}
+use Rattle.command_line.specs.declared.options.RunOptions.{RunOptions}
+use Rattle.command_line.specs.declared.options.Draws.{Draws}
+use Rattle.command_line.specs.declared.options.Draws.TheVariants.{Uniform, Biased}
+use Rattle.command_line.specs.declared.options.Refusals.{Refusals}
+use Rattle.command_line.specs.declared.options.Refusals.TheVariants.{First, OfBlocks}
+use Rattle.command_line.specs.declared.options.Search.{Search}
+use Rattle.command_line.specs.declared.options.Shrink.{Shrink}
+use Rattle.command_line.specs.declared.options.Shrink.TheVariants.{AsDrawn, WithTries}
+use Rattle.command_line.specs.declared.options.StepsTold.{StepsTold}
+use Rattle.command_line.specs.declared.options.StepsTold.TheVariants.{NotTold, Last, Between, WrittenBetween}
+use Rattle.command_line.specs.declared.options.What.{What}
+use Rattle.command_line.specs.declared.options.What.TheVariants as what
+use Rattle.command_line.specs.declared.options.Why.{Why}
+use Rattle.command_line.specs.declared.options.Why.TheVariants.{Wanted, NotWanted}
+use Rattle.command_line.specs.declared.table.Argument.{Argument}
+use Rattle.command_line.specs.declared.table.Argument.TheVariants.{File, MayBeGiven, Number, Workers, ExplainWhen, Optional, NumberOr, Flag, Path}
+use Rattle.command_line.specs.declared.table.CommandRow.{CommandRow}
 
 -- a word that has to be given: a file's path
 abbrev pub file_rule : Text → Rule
@@ -71,8 +81,8 @@ abbrev pub rule_of_argument : Argument → Rule
 rule_of_argument (File name help) = file_rule name.now
 rule_of_argument (MayBeGiven name help) = new_rule name.now
 rule_of_argument (Number name shown help) = number_rule name.now
-rule_of_argument Workers = workers_rule
-rule_of_argument ExplainWhen = explain_rule
+rule_of_argument (Workers help) = workers_rule
+rule_of_argument (ExplainWhen help) = explain_rule
 rule_of_argument (Optional name shown help) = optional_rule name.now
 rule_of_argument (NumberOr name default shown help) = default_rule name.now default.now
 rule_of_argument (Flag name help) = flag_rule name.now
@@ -82,66 +92,61 @@ rule_of_argument (Path name help) = valued_rule name.now
 abbrev pub command_app : (name : Text) → List Rule → App
 command_app name rules = record { top = record (new_app name).top { rules = rules }; subs = [] }
 
--- check MODULE CERT [--workers N] [--explain WHEN] [--all] [--limit N]
-abbrev pub check_app : App
-check_app = command_app (codes "check") (file_rule (codes "MODULE") ∷ file_rule (codes "CERT") ∷ workers_rule ∷ explain_rule ∷ flag_rule (codes "all") ∷ optional_rule (codes "limit") ∷ [])
+-- what `clap` asks of a command
+abbrev pub app_of_row : CommandRow → App
+app_of_row row = command_app row.name.now (map rule_of_argument row.arguments.now)
 
--- make MODULE [--shapes FILE] [--why] [--explain WHEN]
-abbrev pub make_app : App
-make_app = command_app (codes "make") (file_rule (codes "MODULE") ∷ valued_rule (codes "shapes") ∷ flag_rule (codes "why") ∷ explain_rule ∷ [])
-
--- recheck MODULE CERT EDITS [--explain WHEN]
-abbrev pub recheck_app : App
-recheck_app = command_app (codes "recheck") (file_rule (codes "MODULE") ∷ file_rule (codes "CERT") ∷ file_rule (codes "EDITS") ∷ explain_rule ∷ [])
-
--- replay MODULE TRACE [--shapes FILE] [--steps] [--from N] [--to M] [--json FILE] [--explain WHEN]
-abbrev pub replay_app : App
-replay_app = command_app (codes "replay")
+-- all commands, each with its files and options
+abbrev pub command_apps : List App
+command_apps =
+    -- check MODULE CERT [--workers N] [--explain WHEN] [--all] [--limit N]
+    command_app (codes "check") (file_rule (codes "MODULE") ∷ file_rule (codes "CERT") ∷ workers_rule ∷ explain_rule ∷ flag_rule (codes "all") ∷ optional_rule (codes "limit") ∷ [])
+    ∷
+    -- make MODULE [--shapes FILE] [--why] [--explain WHEN]
+    command_app (codes "make") (file_rule (codes "MODULE") ∷ valued_rule (codes "shapes") ∷ flag_rule (codes "why") ∷ explain_rule ∷ [])
+    ∷
+    -- recheck MODULE CERT EDITS [--explain WHEN]
+    command_app (codes "recheck") (file_rule (codes "MODULE") ∷ file_rule (codes "CERT") ∷ file_rule (codes "EDITS") ∷ explain_rule ∷ [])
+    ∷
+    -- replay MODULE TRACE [--shapes FILE] [--steps] [--from N] [--to M] [--json FILE] [--explain WHEN]
+    command_app (codes "replay")
     (file_rule (codes "MODULE") ∷ file_rule (codes "TRACE") ∷ valued_rule (codes "shapes") ∷ flag_rule (codes "steps")
     ∷ optional_rule (codes "from") ∷ optional_rule (codes "to") ∷ valued_rule (codes "json") ∷ explain_rule ∷ [])
-
--- soak MODULE TRACE [--shapes FILE] --seeds N --steps S [--first F] [--save FILE] [--bias] [--seconds N] [--shrink] [--tries N] [--explain WHEN]
-abbrev pub soak_app : App
-soak_app = command_app (codes "soak")
+    ∷
+    -- soak MODULE TRACE [--shapes FILE] --seeds N --steps S [--first F] [--save FILE] [--bias] [--seconds N] [--shrink] [--tries N] [--explain WHEN]
+    command_app (codes "soak")
     (file_rule (codes "MODULE") ∷ file_rule (codes "TRACE") ∷ valued_rule (codes "shapes") ∷ number_rule (codes "seeds") ∷ number_rule (codes "steps") ∷ default_rule (codes "first") (codes "0")
     ∷ valued_rule (codes "save") ∷ flag_rule (codes "bias") ∷ optional_rule (codes "seconds") ∷ flag_rule (codes "shrink") ∷ optional_rule (codes "tries") ∷ explain_rule ∷ [])
-
--- hunt MODULE [--shapes FILE] [--cert FILE] [--seeds N] [--steps S] [--tries N] [--seconds N] [--save FILE]
-abbrev pub hunt_app : App
-hunt_app = command_app (codes "hunt")
+    ∷
+    -- hunt MODULE [--shapes FILE] [--cert FILE] [--seeds N] [--steps S] [--tries N] [--seconds N] [--save FILE]
+    command_app (codes "hunt")
     (file_rule (codes "MODULE") ∷ valued_rule (codes "shapes") ∷ valued_rule (codes "cert") ∷ default_rule (codes "seeds") (codes "10000")
     ∷ default_rule (codes "steps") (codes "1000") ∷ default_rule (codes "tries") (codes "10000") ∷ optional_rule (codes "seconds") ∷ valued_rule (codes "save") ∷ [])
-
--- run MODULE CERT TRACE [--turns N] [--steps S] [--explain WHEN]
-abbrev pub run_app : App
-run_app = command_app (codes "run")
+    ∷
+    -- run MODULE CERT TRACE [--turns N] [--steps S] [--explain WHEN]
+    command_app (codes "run")
     (file_rule (codes "MODULE") ∷ file_rule (codes "CERT") ∷ file_rule (codes "TRACE")
     ∷ default_rule (codes "turns") (codes "1000000") ∷ default_rule (codes "steps") (codes "1000000") ∷ explain_rule ∷ [])
+    ∷
+    -- explain [CODE]
+    command_app (codes "explain") (new_rule (codes "CODE") ∷ [])
+    ∷
+    -- migrate MODULE [CERT]
+    command_app (codes "migrate") (file_rule (codes "MODULE") ∷ new_rule (codes "CERT") ∷ [])
+    ∷ []
 
--- explain [CODE]
-abbrev pub explain_app : App
-explain_app = command_app (codes "explain") (new_rule (codes "CODE") ∷ [])
+-- the program's own line, without its commands
+abbrev pub bare_app : App
+bare_app = record { top = record (new_app (codes "dgc")).top { has_version = true; subcommand_required = true }; subs = [] }
 
--- migrate MODULE [CERT]
-abbrev pub migrate_app : App
-migrate_app = command_app (codes "migrate") (file_rule (codes "MODULE") ∷ new_rule (codes "CERT") ∷ [])
-
--- a command that has a version, and needs a subcommand
-abbrev pub with_version_and_commands : App → App
-with_version_and_commands app = record app { top = record app.top { has_version = true; subcommand_required = true } }
-
--- the program with the commands that check
-abbrev pub checks_app : App
-checks_app =
-    with_subcommand (with_subcommand (with_subcommand (with_version_and_commands (new_app (codes "dgc"))) check_app.top) make_app.top) recheck_app.top
-
--- with those that replay and search too
-abbrev pub searches_app : App
-searches_app = with_subcommand (with_subcommand (with_subcommand checks_app replay_app.top) soak_app.top) hunt_app.top
+-- a command that has these ones too
+unfoldable pub with_commands : App → List App → App
+with_commands app [] = app
+with_commands app (command ∷ commands) = with_commands (with_subcommand app command.top) commands
 
 -- the whole grammar
 abbrev pub dgc_app : App
-dgc_app = with_subcommand (with_subcommand (with_subcommand searches_app run_app.top) explain_app.top) migrate_app.top
+dgc_app = with_commands bare_app command_apps
 
 -- the number that a text of decimal digits writes, where it is below 2 to the 32; a plus may come first
 abbrev pub number_in : Text → Option ℕ
@@ -158,34 +163,39 @@ number_of name given = option_and_then number_in (one_of name given)
 abbrev pub flag_of : Text → List Row → Bool
 flag_of name given = option_map_or (λ text. bytes_eq text (codes "true")) (first_of name given) false
 
--- whether to say what is refused, by the option `why`
-abbrev pub why_of : List Row → Why
-why_of given = if flag_of (codes "why") given then Wanted else NotWanted
+-- what was given under the first of these names, or else under the second
+abbrev pub either_of : (first second : Text) → List Row → Option Text
+either_of first second given = option_or (first_of first given) (first_of second given)
 
--- the paths of the module and of the other file, if both were given
-abbrev pub paths_in : (second : Text) → List Row → Option (Text × Text)
-paths_in second given =
-    option_and_then (λ module_path. option_map (λ path. (module_path, path)) (first_of second given)) (first_of (codes "MODULE") given)
+-- ---- the options of each command
 
--- the path of the shapes, if it was given
-abbrev pub shapes_in : List Row → Option Text
-shapes_in given = first_of (codes "shapes") given
+-- what a command is to do, as plain text and numbers
+pub data Asked : Type 0 where
+  check : CheckOptions → Asked
+  make : MakeOptions → Asked
+  recheck : Asked
+  replay : ReplayOptions → Asked
+  soak : SoakOptions → Asked
+  hunt : HuntOptions → Asked
+  run : RunOptions → Asked
+  explain : (code : Option Text) → Asked
+  migrate : Asked
+
+-- what this command is to do
+abbrev pub asked_by : What → Asked
+asked_by (what.Check options) = check options
+asked_by (what.Make options) = make options
+asked_by what.Recheck = recheck
+asked_by (what.Replay options) = replay options
+asked_by (what.Soak options) = soak options
+asked_by (what.Hunt options) = hunt options
+asked_by (what.Run options) = run options
+asked_by (what.Explain options) = explain (option_map (λ code. code.now) options.code)
+asked_by what.Migrate = migrate
 
 -- how many workers were given, from 1 to 64
 abbrev pub workers_of : List Row → Option ℕ
 workers_of given = option_and_then (λ workers. if nat_lt 0 workers && nat_lt workers 65 then Some workers else None) (number_of (codes "workers") given)
-
--- when a refusal is explained, by its word
-abbrev pub explained_by : Text → Option Explained
-explained_by word =
-    if bytes_eq word (codes "always") then Some Always
-    else if bytes_eq word (codes "auto") then Some OnTerminal
-    else if bytes_eq word (codes "never") then Some Never
-    else None
-
--- the same, by what was given
-abbrev pub explained_of : List Row → Option Explained
-explained_of given = option_and_then explained_by (first_of (codes "explain") given)
 
 -- how many refusals are told where no limit is given
 abbrev pub LIMIT : ℕ
@@ -199,23 +209,18 @@ refusals_of given =
     else if is_some limit then None
     else Some First
 
--- `check` with what was given to it, if that is a module, a certificate, a number of workers, when a refusal is explained, and how many are told
+-- the options of `check`, if they are a number of workers and how many refusals are told
 abbrev pub check_of : List Row → Option Asked
 check_of given =
-    option_and_then (λ paths. option_and_then (λ workers. option_and_then (λ explained. option_map (λ refusals. check paths.0 paths.1 workers explained refusals)
-    (refusals_of given)) (explained_of given)) (workers_of given)) (paths_in (codes "CERT") given)
+    option_and_then (λ workers. option_map (λ refusals. check (record { workers = workers; refusals = refusals })) (refusals_of given)) (workers_of given)
 
--- `make` with what was given to it, if that is a module, and when a refusal is explained
-abbrev pub make_of : List Row → Option Asked
-make_of given =
-    option_and_then (λ module_path. option_map (λ explained. make module_path (shapes_in given) (why_of given) explained)
-    (explained_of given)) (first_of (codes "MODULE") given)
+-- whether to say what is refused, by the option `why`
+abbrev pub why_of : List Row → Why
+why_of given = if flag_of (codes "why") given then Wanted else NotWanted
 
--- `recheck` with what was given to it, if that is a module, a certificate and edits, and when a refusal is explained
-abbrev pub recheck_of : List Row → Option Asked
-recheck_of given =
-    option_and_then (λ paths. option_and_then (λ edits_path. option_map (λ explained. recheck paths.0 paths.1 edits_path explained)
-    (explained_of given)) (first_of (codes "EDITS") given)) (paths_in (codes "CERT") given)
+-- the options of `make`
+abbrev pub make_of : List Row → Asked
+make_of given = make (record { why = why_of given })
 
 -- the steps between these numbers, if one of them is given; otherwise the last ones
 abbrev pub steps_between : (first last : Option ℕ) → StepsTold
@@ -236,11 +241,9 @@ steps_of given =
     else if is_some first || is_some last then written_between (first_of (codes "json") given) first last
     else Some NotTold
 
--- `replay` with what was given to it, if that is a module and a trace, and which steps are told, and when a refusal is explained
+-- the options of `replay`, if they are which steps are told
 abbrev pub replay_of : List Row → Option Asked
-replay_of given =
-    option_and_then (λ paths. option_and_then (λ steps. option_map (λ explained. replay paths.0 paths.1 (shapes_in given) steps (first_of (codes "json") given) explained)
-    (explained_of given)) (steps_of given)) (paths_in (codes "TRACE") given)
+replay_of given = option_map (λ steps. replay (record { steps = steps })) (steps_of given)
 
 -- how a seed draws, by the option `bias`
 abbrev pub draws_of : List Row → Draws
@@ -264,59 +267,98 @@ shrink_of given =
     else if is_some tries then None
     else Some AsDrawn
 
--- `soak` with what was given to it, if that is a module, a trace and a search, whether a schedule is made shorter, and when a refusal is explained
+-- the options of `soak`, if they are a search, and whether a schedule is made shorter
 abbrev pub soak_of : List Row → Option Asked
-soak_of given =
-    option_and_then (λ paths. option_and_then (λ search. option_and_then (λ shrink. option_map (λ explained. soak paths.0 paths.1 (shapes_in given) search shrink (first_of (codes "save") given) explained)
-    (explained_of given)) (shrink_of given)) (search_of given)) (paths_in (codes "TRACE") given)
+soak_of given = option_and_then (λ search. option_map (λ shrink. soak (record { search = search; shrink = shrink })) (shrink_of given)) (search_of given)
 
--- how many seeds, how many steps each makes, and how many tries a shorter schedule is sought with
-abbrev pub hunted_of : List Row → Option (ℕ × ℕ × ℕ)
-hunted_of given =
-    option_and_then (λ seeds. option_and_then (λ steps. option_map (λ tries. (seeds, steps, tries))
-    (number_of (codes "tries") given)) (number_of (codes "steps") given)) (number_of (codes "seeds") given)
-
--- `hunt` with what was given to it, if that is a module and three numbers
+-- the options of `hunt`, if they are three numbers
 abbrev pub hunt_of : List Row → Option Asked
 hunt_of given =
-    option_and_then (λ module_path. option_map (λ numbers. hunt module_path (first_of (codes "cert") given) (shapes_in given) numbers.0 numbers.1 numbers.2 (number_of (codes "seconds") given) (first_of (codes "save") given))
-    (hunted_of given)) (first_of (codes "MODULE") given)
+    option_and_then (λ seeds. option_and_then (λ steps. option_map (λ tries. hunt (record { seeds = seeds; steps = steps; tries = tries; seconds = number_of (codes "seconds") given }))
+    (number_of (codes "tries") given)) (number_of (codes "steps") given)) (number_of (codes "seeds") given)
 
--- `run` with what was given to it, if that is a module, a certificate, a trace and both limits, and when a refusal is explained
+-- the options of `run`, if they are both limits
 abbrev pub run_of : List Row → Option Asked
 run_of given =
-    option_and_then (λ paths. option_and_then (λ trace_path. option_and_then (λ turns. option_and_then (λ steps. option_map (λ explained. run paths.0 paths.1 trace_path turns steps explained)
-    (explained_of given)) (number_of (codes "steps") given)) (number_of (codes "turns") given)) (first_of (codes "TRACE") given)) (paths_in (codes "CERT") given)
+    option_and_then (λ turns. option_map (λ steps. run (record { turns = turns; steps = steps })) (number_of (codes "steps") given)) (number_of (codes "turns") given)
 
--- `explain` with what was given to it: a code, or nothing
+-- the options of `explain`: a code, or nothing
 abbrev pub explain_of : List Row → Asked
 explain_of given = explain (first_of (codes "CODE") given)
 
--- `migrate` with what was given to it: a module, or a module and a certificate
-abbrev pub migrate_of : List Row → Option Asked
-migrate_of given = option_map (λ module_path. migrate module_path (first_of (codes "CERT") given)) (first_of (codes "MODULE") given)
-
--- what a command's name with what was given to it asks for
-abbrev pub asked_of : Option (Text × List Row) → Option Asked
-asked_of None = None
-asked_of (Some found) =
-    if bytes_eq found.0 (codes "check") then check_of found.1
-    else if bytes_eq found.0 (codes "make") then make_of found.1
-    else if bytes_eq found.0 (codes "recheck") then recheck_of found.1
-    else if bytes_eq found.0 (codes "replay") then replay_of found.1
-    else if bytes_eq found.0 (codes "soak") then soak_of found.1
-    else if bytes_eq found.0 (codes "hunt") then hunt_of found.1
-    else if bytes_eq found.0 (codes "run") then run_of found.1
-    else if bytes_eq found.0 (codes "explain") then Some (explain_of found.1)
-    else if bytes_eq found.0 (codes "migrate") then migrate_of found.1
+-- what the command of this name is to do, by what was given to it
+abbrev pub asked_of : (name : Text) → List Row → Option Asked
+asked_of name given =
+    if bytes_eq name (codes "check") then check_of given
+    else if bytes_eq name (codes "make") then Some (make_of given)
+    else if bytes_eq name (codes "recheck") then Some recheck
+    else if bytes_eq name (codes "replay") then replay_of given
+    else if bytes_eq name (codes "soak") then soak_of given
+    else if bytes_eq name (codes "hunt") then hunt_of given
+    else if bytes_eq name (codes "run") then run_of given
+    else if bytes_eq name (codes "explain") then Some (explain_of given)
+    else if bytes_eq name (codes "migrate") then Some migrate
     else None
 
+-- ---- what all commands have
+
+-- the path of the shapes, if it was given, and the certificate's was not
+abbrev pub shapes_beside : (certificate : Option Text) → List Row → Option Text
+shapes_beside None given = first_of (codes "shapes") given
+shapes_beside (Some path) given = None
+
+-- the paths of the files that were given
+abbrev pub paths_of : List Row → PathTexts
+paths_of given =
+    let certificate = either_of (codes "CERT") (codes "cert") given in
+    record {
+      of_module = first_of (codes "MODULE") given;
+      certificate = certificate;
+      shapes = shapes_beside certificate given;
+      trace = first_of (codes "TRACE") given;
+      edits = first_of (codes "EDITS") given;
+      saved = either_of (codes "save") (codes "json") given;
+    }
+
+-- when a refusal is explained, by its word
+abbrev pub explained_by : Text → Option Explained
+explained_by word =
+    if bytes_eq word (codes "always") then Some Always
+    else if bytes_eq word (codes "auto") then Some OnTerminal
+    else if bytes_eq word (codes "never") then Some Never
+    else None
+
+-- when a refusal is explained, by the option `explain`: never by a command that has no such option
+abbrev pub explained_of : List Row → Option Explained
+explained_of given = option_map_or explained_by (first_of (codes "explain") given) (Some Never)
+
+-- what a line asks for
+pub record AskedLine : Type 0 where
+  pub paths : PathTexts
+  pub explained : Explained
+  pub asked : Asked
+
+-- what this command asks for
+abbrev pub line_by : Command → AskedLine
+line_by command = record { paths = texts_of command.paths; explained = command.explained; asked = asked_by command.what }
+
+-- what the command of this name asks for, by what was given to it
+abbrev pub line_of : (name : Text) → List Row → Option AskedLine
+line_of name given =
+    option_and_then (λ explained. option_map (λ asked. record { paths = paths_of given; explained = explained; asked = asked })
+    (asked_of name given)) (explained_of given)
+
+-- what a command's name with what was given to it asks for
+abbrev pub line_found : Option (Text × List Row) → Option AskedLine
+line_found None = None
+line_found (Some found) = line_of found.0 found.1
+
 -- what the words of a command line ask for, the program's own name first
-abbrev pub asked_in : List Text → Option Asked
-asked_in words = asked_of (subcommand_of dgc_app words)
+abbrev pub line_in : List Text → Option AskedLine
+line_in words = line_found (subcommand_of dgc_app words)
 
 -- why these words are refused: an error of a kind that `clap` finds in them, or they ask for nothing
 abbrev pub IsRefusalOf : List Text → LineFault → Type 0
 IsRefusalOf words Memory = Unit
 IsRefusalOf words (Words error) = IsAmong (kind_of error) (fault_of dgc_app words)
-IsRefusalOf words (NoCommand hint) = asked_in words ≡ None
+IsRefusalOf words (NoCommand hint) = line_in words ≡ None

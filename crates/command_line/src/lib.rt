@@ -1,13 +1,18 @@
 //! The command line: its grammar, and what a line asks for.
 #![tactic(auto)]
 
-mod asked;
+mod command;
+mod fault;
+mod given;
 mod grammar;
-mod help;
+mod options;
 mod reader;
+mod table;
 
-pub use asked::{
-    CheckLine, Draws, ExplainLine, Explained, HuntLine, Line, LineFault, MakeLine, MigrateLine,
-    RecheckLine, Refusals, ReplayLine, RunLine, Search, Shrink, SoakLine, StepsTold, Why,
+pub use command::{Command, Explained, Paths};
+pub use fault::LineFault;
+pub use options::{
+    CheckOptions, Draws, ExplainOptions, HuntOptions, MakeOptions, Refusals, ReplayOptions,
+    RunOptions, Search, Shrink, SoakOptions, StepsTold, What, Why,
 };
-pub use reader::line;
+pub use reader::read_command;

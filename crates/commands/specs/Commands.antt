@@ -1,8 +1,9 @@
--- What each command says of the files of its line.
-use Rattle.std.specs.Prelude.{◌≡◌, ◌⊎◌, ℕ, Bool, true, false, List, Option, is_some}
-use Rattle.command_line.specs.Asked.{Asked, check, make, recheck, replay, soak, hunt, run, explain, migrate}
-use Rattle.explained_checks.specs.Explained.{GivesText}
-use Rattle.reports.specs.Said.{Said, OfCertified, Says}
+-- What each command says of its files.
+use Rattle.std.specs.Prelude.{ℕ, List, option_map}
+use Rattle.command_line.specs.declared.options.What.{What}
+use Rattle.command_line.specs.declared.options.What.TheVariants.{Check, Make, Recheck, Replay, Soak, Hunt, Run, Explain, Migrate}
+use Rattle.reports.specs.Said.{Said, OfCertified}
+use Rattle.reports.specs.declared.files.Files.{Files}
 use Rattle.check_commands.specs.Checks.{OfCerts, OfMake}
 use Rattle.check_commands.specs.Explained.{OfExplain}
 use Rattle.check_commands.specs.Migrating.{OfMigrate}
@@ -10,30 +11,15 @@ use Rattle.check_commands.specs.EditedFiles.{OfEditsFile}
 use Rattle.reports.specs.TraceRuns.{OfRun, OfRunCerts, OfTrace}
 use Rattle.search_commands.specs.Searches.{OfHuntFiles, OfSeeds}
 
--- what a command says of its files, each at its place in the line's order; before and after it these bytes are saved
-abbrev pub OfCommand : Asked → (file_at : ℕ → Option (List ℕ)) → (before after : List ℕ) → Said → Type 0
-OfCommand (check module_path cert_path workers explained refusals) file_at before after = OfCertified (OfCerts refusals) module_path cert_path (file_at 0) (file_at 1)
-OfCommand (make module_path shapes_path why explained) file_at before after = OfMake why module_path shapes_path (file_at 0) (file_at 1)
-OfCommand (recheck module_path cert_path edits_path explained) file_at before after =
-    OfCertified (OfEditsFile edits_path (file_at 2)) module_path cert_path (file_at 0) (file_at 1)
-OfCommand (replay module_path trace_path shapes_path steps json_path explained) file_at before after = OfRun OfTrace module_path trace_path shapes_path file_at
-OfCommand (soak module_path trace_path shapes_path search shrink save_path explained) file_at before after =
-    OfRun (OfSeeds search shrink (is_some save_path) before after) module_path trace_path shapes_path file_at
-OfCommand (hunt module_path cert_path shapes_path seeds steps tries seconds save_path) file_at before after =
-    OfHuntFiles (is_some save_path) before after module_path shapes_path cert_path (file_at 0) (file_at 1)
-OfCommand (run module_path cert_path trace_path turns steps explained) file_at before after =
-    OfCertified (OfRunCerts (record { turns = turns; steps = steps }) trace_path (file_at 2)) module_path cert_path (file_at 0) (file_at 1)
-OfCommand (explain code) file_at before after = OfExplain code
-OfCommand (migrate module_path cert_path) file_at before after = OfMigrate module_path cert_path (file_at 0) (file_at 1)
-
--- some text may be given to a writer, if that is wanted
-abbrev pub GivesTextIf : (wanted : Bool) → (old new : Option (List ℕ)) → Type 0
-GivesTextIf true old new = (new ≡ old) ⊎ GivesText old new
-GivesTextIf false old new = new ≡ old
-
--- something was said that is one of these; and then some text may be given to the standard output, if steps are to be told, and to
--- the standard error, if a refusal is to be explained
-abbrev pub SaysAndTells : (told explained : Bool) → (Said → Type 0) → (old_output output old_error error : Option (List ℕ)) → (status : ℕ) → Type 0
-SaysAndTells told explained Meant old_output output old_error error status =
-    (said_output said_error : Option (List ℕ)) × Says Meant old_output said_output old_error said_error status
-    × GivesTextIf told said_output output × GivesTextIf explained said_error error
+-- what a command says of its files; before and after it these bytes are saved
+abbrev pub OfCommand : What → Files → (before after : List ℕ) → Said → Type 0
+OfCommand (Check options) files before after = OfCertified (OfCerts options.refusals) files.of_module files.certificate
+OfCommand (Make options) files before after = OfMake options.why files.of_module files.shapes
+OfCommand Recheck files before after = OfCertified (OfEditsFile files.edits) files.of_module files.certificate
+OfCommand (Replay options) files before after = OfRun OfTrace files.of_module files.trace files.shapes
+OfCommand (Soak options) files before after = OfRun (λ p t. OfSeeds options files.saves p t before after) files.of_module files.trace files.shapes
+OfCommand (Hunt options) files before after = OfHuntFiles files.saves files.of_module files.certificate files.shapes before after
+OfCommand (Run options) files before after =
+    OfCertified (OfRunCerts (record { turns = options.turns; steps = options.steps }) files.trace) files.of_module files.certificate
+OfCommand (Explain options) files before after = OfExplain (option_map (λ code. code.now) options.code)
+OfCommand Migrate files before after = OfMigrate files.of_module files.certificate

@@ -1,94 +1,91 @@
 //! The command `replay`. The files are read once, and one run gives the answer. A run that is asked for its steps is made again for them.
-ghost use Rattle.std.specs.Prelude.{◌≡◌, false, is_some, option_map, IfOk, OnOk};
-ghost use Rattle.std.specs.Io.KnownBytes.{Appends};
-ghost use Rattle.command_line.specs.Asked.{asked_by, save_of};
-ghost use Rattle.command_line.specs.declared.asked.Line.TheVariants.{Replay};
+ghost use Rattle.std.specs.Prelude.{◌≡◌, ◌++◌, [], Some, false, Vec, ℕ, IfOk};
+ghost use Rattle.std.specs.Global.{Global as Heap};
+ghost use Rattle.command_line.specs.Asked.{are_told};
 ghost use Rattle.reports.specs.TraceRuns.{OfRun, OfTrace};
-ghost use Rattle.reports.specs.Said.{Says};
-ghost use Rattle.reports.specs.Files as spec;
+ghost use Rattle.reports.specs.Report.{IsTold};
+ghost use Rattle.reports.specs.Outcomes.{of_outcome};
+ghost use Rattle.reports.specs.Said.{SaysAndTells};
 ghost use Rattle.trace_text.specs.Traces.{IsTraceOf};
 
 use crate::steps_told::{save_steps, words_of_steps};
-use command_line::ReplayLine;
+use command_line::{ReplayOptions, StepsTold};
 use replay::{Outcome, replay};
-use reports::{Traced, no_threads, read_traced, replayed, unread};
+use reports::{Files, Results, Traced, no_threads, read_traced, replayed, unread};
 use std::alloc::{AllocError, Global};
 use std::io;
 use std::io::Write;
 
-/// Makes the steps that a line asks for, which lead to this outcome: in words, and appended to `saved` as JSON.
+/// Makes the steps that are asked for, which lead to this outcome: in words, and appended to `saved` as JSON where that is to be written.
 fn make_steps(
     alloc: Global,
-    asked: ReplayLine<'_>,
+    steps: StepsTold,
+    saves: bool,
     traced: &Traced,
     outcome: &Outcome,
     saved: &mut Vec<u8>,
-    words: &mut Vec<u8>,
-) -> Result<(), AllocError>
+) -> Result<Vec<u8>, AllocError>
     requires { IsTraceOf traced.now.program traced.now.trace }
-    ensures { is_some (save_of (asked_by (Replay asked.entry))) ≡ false → saved.new.items ≡ saved.old.items }
+    ensures told { are_told steps ≡ false → IfOk result (λ words. words.items ≡ []) }
+    ensures kept { saves ≡ false → saved.new.items ≡ saved.old.items }
 {
-    if asked.json_path.is_some() {
-        save_steps(alloc, asked.steps, traced, outcome, saved)?;
+    if saves {
+        save_steps(alloc, steps, traced, outcome, saved)?;
     }
-    if asked.steps.is_wanted() {
-        *words = words_of_steps(alloc, asked.steps, traced, outcome)?;
+    if steps.is_wanted() {
+        return words_of_steps(alloc, steps, traced, outcome);
     }
-    Ok(())
+    Ok(Vec::new(alloc))
+}
+
+/// Writes an outcome, and then these words.
+fn write_outcome(out: &mut Vec<u8>, outcome: &Outcome, words: &[u8]) -> io::Result<u8>
+    ensures { IfOk result (λ status. (said : Vec ℕ Heap) × IsTold (Some out.old.items) (Some said.items) status (of_outcome outcome.now) × (out.new.items ≡ said.items ++ words.now)) }
+{
+    let status = replayed(out, outcome)?;
+    out.write_all(words)?;
+    Ok(status)
 }
 
 /// Makes the steps of a trace.
-fn replay_traced<O: Write, E: Write>(
+fn replay_traced(
     alloc: Global,
-    asked: ReplayLine<'_>,
+    steps: StepsTold,
+    saves: bool,
     traced: &Traced,
-    saved: &mut Vec<u8>,
-    words: &mut Vec<u8>,
-    out: &mut O,
-    err: &mut E,
+    results: &mut Results,
 ) -> io::Result<u8>
     requires { IsTraceOf traced.now.program traced.now.trace }
-    ensures said { IfOk result (Says (OfTrace traced.now.program traced.now.trace) (O.contents out.old) (O.contents out.new) (E.contents err.old) (E.contents err.new)) }
-    ensures kept { is_some (save_of (asked_by (Replay asked.entry))) ≡ false → saved.new.items ≡ saved.old.items }
+    ensures said { IfOk result (SaysAndTells (are_told steps) false (OfTrace traced.now.program traced.now.trace) results.old.outputs results.new.outputs) }
+    ensures kept { saves ≡ false → results.new.saved.items ≡ results.old.saved.items }
 {
     match replay(alloc, &traced.program, &traced.trace) {
         Ok(outcome) => {
-            make_steps(alloc, asked, traced, &outcome, saved, words)?;
-            replayed(out, &outcome)
+            let words = make_steps(alloc, steps, saves, traced, &outcome, &mut results.saved)?;
+            write_outcome(&mut results.outputs.out, &outcome, words.as_slice())
         }
-        Err(fault) => no_threads(err, fault),
+        Err(fault) => no_threads(&mut results.outputs.err, fault),
     }
 }
 
-/// Replays the trace of a line in its module, which has the shapes of the line where it writes `ptr`. After the faults of the files, the
-/// first thread counts that does not begin. The steps that the line asks for are made before the answer is written: in words they replace
-/// `words`, and as JSON they are appended to `saved`. Where they find no memory, nothing is answered.
-pub fn replay_files<O: Write, E: Write>(
+/// Replays the trace in the module, which has the shapes where it writes `ptr`. After the faults of the files, the first thread counts
+/// that does not begin. The steps that are asked for are made before the answer is written: in words they follow it, and as JSON they are
+/// appended to what is saved. Where they find no memory, nothing is answered.
+pub fn replay_files(
     alloc: Global,
-    asked: ReplayLine<'_>,
-    files: &[Option<Vec<u8>>],
-    saved: &mut Vec<u8>,
-    words: &mut Vec<u8>,
-    out: &mut O,
-    err: &mut E,
+    options: ReplayOptions,
+    files: &Files<'_>,
+    results: &mut Results,
 ) -> io::Result<u8>
-    ensures said { IfOk result (Says (OfRun OfTrace asked.entry.module_path.now asked.entry.trace_path.now (option_map (λ path. path.now) asked.entry.shapes_path) (spec.file_at files.now)) (O.contents out.old) (O.contents out.new) (E.contents err.old) (E.contents err.new)) }
-    ensures kept { is_some (save_of (asked_by (Replay asked.entry))) ≡ false → saved.new.items ≡ saved.old.items }
+    ensures said { IfOk result (SaysAndTells (are_told options.steps) false (OfRun OfTrace files.now.of_module files.now.trace files.now.shapes) results.old.outputs results.new.outputs) }
+    ensures kept { files.now.saves ≡ false → results.new.saved.items ≡ results.old.saved.items }
 {
-    let paths = (asked.module_path, asked.trace_path, asked.shapes_path);
-    match read_traced(alloc, paths, files) {
+    match read_traced(alloc, files) {
         Ok(traced) => {
-            let status = replay_traced(alloc, asked, &traced, saved, words, out, err);
+            let status = replay_traced(alloc, options.steps, files.saves, &traced, results);
             drop(traced);
             status
         }
-        Err(fault) => unread(err, fault),
+        Err(fault) => unread(&mut results.outputs.err, fault),
     }
-}
-
-/// Writes the steps of a run in words.
-pub fn tell_steps<O: Write>(words: &[u8], out: &mut O) -> io::Result<()>
-    ensures { OnOk result (Appends (O.contents out.old) (O.contents out.new) words.now) }
-{
-    out.write_all(words)
 }

@@ -1,6 +1,7 @@
 //! The files of a command. Each is read up to its limit. One may be written.
 use crate::failure::Failure;
-use commands::Line;
+use command_line::Paths;
+use commands::Contents;
 use ir_tokens::TEXT_LIMIT;
 use std::fs::OpenFile;
 use std::io::Read;
@@ -61,46 +62,67 @@ fn other_bytes(rt: &(impl Runtime + AllocGlobal), path: &str) -> io::Result<Vec<
     Ok(bytes)
 }
 
-/// The bytes of the file at this place of a command's line, if it can be read. The first one is a module.
-pub fn bytes_of(
-    rt: &(impl Runtime + AllocGlobal),
-    path: &str,
-    place: usize,
-) -> Result<Option<Vec<u8>>, Failure> {
-    let bytes = if place == 0 {
-        module_bytes(rt, path)
-    } else {
-        other_bytes(rt, path)
-    };
+/// The bytes that were read of a file, if it could be read. That memory was refused is remembered.
+fn if_read(bytes: io::Result<Vec<u8>>, is_refused: &mut bool) -> Option<Vec<u8>> {
     match bytes {
-        Ok(bytes) => Ok(Some(bytes)),
-        Err(error) => match Failure::from(error) {
-            Failure::Memory => Err(Failure::Memory),
-            _ => Ok(None),
-        },
+        Ok(bytes) => Some(bytes),
+        Err(error) => {
+            if let Failure::Memory = Failure::from(error) {
+                *is_refused = true;
+            }
+            None
+        }
     }
 }
 
-/// The file to which a line wants something written.
-fn save_path<'a>(line: &Line<'a>) -> Option<&'a str> {
-    match *line {
-        Line::Soak(asked) => asked.save_path,
-        Line::Replay(asked) => asked.json_path,
-        Line::Hunt(asked) => asked.save_path,
-        _ => None,
-    }
+/// What is read of a module's file, if it is given.
+fn of_module(
+    rt: &(impl Runtime + AllocGlobal),
+    path: Option<&str>,
+    is_refused: &mut bool,
+) -> Option<Vec<u8>> {
+    if_read(module_bytes(rt, path?), is_refused)
 }
 
-/// Writes what was saved to the file of the line, if there is anything.
+/// What is read of another file, if it is given.
+fn of_other(
+    rt: &(impl Runtime + AllocGlobal),
+    path: Option<&str>,
+    is_refused: &mut bool,
+) -> Option<Vec<u8>> {
+    if_read(other_bytes(rt, path?), is_refused)
+}
+
+/// Reads the files of these paths.
+pub fn read_files(
+    rt: &(impl Runtime + AllocGlobal),
+    paths: Paths<'_>,
+) -> Result<Contents, Failure> {
+    let mut is_refused = false;
+    let contents = Contents {
+        of_module: of_module(rt, paths.of_module, &mut is_refused),
+        certificate: of_other(rt, paths.certificate, &mut is_refused),
+        shapes: of_other(rt, paths.shapes, &mut is_refused),
+        trace: of_other(rt, paths.trace, &mut is_refused),
+        edits: of_other(rt, paths.edits, &mut is_refused),
+    };
+    if is_refused {
+        drop(contents);
+        return Err(Failure::Memory);
+    }
+    Ok(contents)
+}
+
+/// Writes what a command saves to its file, if there is anything.
 pub fn save(
     rt: &(impl Runtime + AllocGlobal),
-    line: &Line<'_>,
+    paths: Paths<'_>,
     saved: &[u8],
 ) -> Result<(), Failure> {
     if saved.is_empty() {
         return Ok(());
     }
-    if let Some(path) = save_path(line) {
+    if let Some(path) = paths.saved {
         fs::write(rt, path, saved)?;
     }
     Ok(())

@@ -8,12 +8,14 @@ mod progress;
 mod terminal;
 mod ticking;
 
-ghost use Rattle.command_line.specs.Asked.{asked_by, HasWorkers};
+ghost use Rattle.std.specs.Prelude.{◌≡◌};
+ghost use Rattle.command_line.specs.Asked.{HasWorkers};
 
-use answering::answer_of;
-use commands::{Line, LineFault, Look, STATUS_USAGE, STATUS_YES, line, memory, status_of};
+use answering::{Answer, answer_of};
+use command_line::{Command, LineFault, read_command};
+use commands::{Files, Look, STATUS_USAGE, STATUS_YES, memory, status_of};
 use failure::Failure;
-use files::bytes_of;
+use files::read_files;
 use progress::Watcher;
 use std::env::VarError;
 use std::io::{IsTerminal, Stderr, Write};
@@ -31,27 +33,35 @@ enum Errors {
     Terminal(Terminal),
 }
 
-/// Does what a line asks for.
+/// What a command answers of its files.
+fn answer_on(
+    rt: &(impl Runtime + AllocGlobal + Threads + Wait + Sync),
+    errors: Errors,
+    command: &Command<'_>,
+    files: &Files<'_>,
+) -> Result<Answer, Failure>
+    requires { HasWorkers command.now.what }
+{
+    match errors {
+        Errors::Elsewhere => answer_of(rt, Look::Plain, command, files, &mut Watcher::Nobody),
+        Errors::Terminal(terminal) => answer_on_terminal(rt, terminal, command, files),
+    }
+}
+
+/// Does a command.
 fn answer<O: Write, E: Write>(
     rt: &(impl Runtime + AllocGlobal + Threads + Wait + Sync),
     errors: Errors,
-    line: &Line<'_>,
+    command: &Command<'_>,
     out: &mut O,
     err: &mut E,
 ) -> Result<u8, Failure>
-    requires { HasWorkers (asked_by line.now) }
+    requires { HasWorkers command.now.what }
 {
-    let mut files: Vec<Option<Vec<u8>>> = Vec::new(rt.alloc());
-    for path in line.paths(rt.alloc())? {
-        let bytes = bytes_of(rt, path, files.len())?;
-        files.push(bytes)?;
-    }
-    let files = files.as_slice();
-    let answer = match errors {
-        Errors::Elsewhere => answer_of(rt, Look::Plain, line, files, &mut Watcher::Nobody)?,
-        Errors::Terminal(terminal) => answer_on_terminal(rt, terminal, line, files)?,
-    };
-    answer.write(rt, line, out, err)
+    let contents = read_files(rt, command.paths)?;
+    let answer = answer_on(rt, errors, command, &contents.of_paths(command.paths));
+    drop(contents);
+    answer?.write(rt, command.paths, out, err)
 }
 
 /// The words of the command line.
@@ -68,13 +78,13 @@ fn words_given(rt: &(impl Runtime + AllocGlobal)) -> Result<Vec<String>, Failure
     }
 }
 
-/// The line as it is where the standard error goes there.
-fn line_on(line: Line<'_>, errors: Errors) -> Line<'_>
-    ensures { HasWorkers (asked_by line.entry) → HasWorkers (asked_by result) }
+/// The command as it is where the standard error goes there.
+fn command_on(command: Command<'_>, errors: Errors) -> Command<'_>
+    ensures { result.what ≡ command.entry.what }
 {
     match errors {
-        Errors::Elsewhere => line,
-        Errors::Terminal(_) => line.on_terminal(),
+        Errors::Elsewhere => command,
+        Errors::Terminal(_) => command.on_terminal(),
     }
 }
 
@@ -88,8 +98,8 @@ fn run<O: Write, E: Write>(
     let alloc = rt.alloc();
     let owned = words_given(rt)?;
     let words: Vec<&str> = owned.iter().map(|word| word.as_str()).collect(alloc)?;
-    match line(alloc, words.as_slice()) {
-        Ok(line) => answer(rt, errors, &line_on(line, errors), out, err),
+    match read_command(alloc, words.as_slice()) {
+        Ok(command) => answer(rt, errors, &command_on(command, errors), out, err),
         Err(LineFault::Words(error)) => {
             error.print(rt)?;
             Ok(if error.use_stderr() {

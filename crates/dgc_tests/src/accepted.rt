@@ -2,7 +2,8 @@
 use crate::done::{done, printed_of};
 use crate::printed::{Printed, bytes_of};
 use crate::row_failure::RowFailure;
-use commands::{CheckLine, Explained, Line, MakeLine, MigrateLine, Refusals, STATUS_YES, Why};
+use command_line::{CheckOptions, Command, Explained, MakeOptions, Paths, Refusals, What, Why};
+use commands::{Contents, STATUS_YES};
 use ir_print::print;
 use ir_text::read;
 use std::alloc::{AllocError, Global};
@@ -10,13 +11,18 @@ use std::rt::Runtime;
 use std::thread::Threads;
 
 /// A check of texts that are made.
-pub const CHECK: Line<'static> = Line::Check(CheckLine {
-    module_path: "module.ll",
-    certificate_path: "module.cert",
-    workers: 1,
+pub const CHECK: Command<'static> = Command {
+    paths: Paths {
+        of_module: Some("module.ll"),
+        certificate: Some("module.cert"),
+        ..Paths::NONE
+    },
     explained: Explained::Never,
-    refusals: Refusals::First,
-});
+    what: What::Check(CheckOptions {
+        workers: 1,
+        refusals: Refusals::First,
+    }),
+};
 
 /// A folder with a module and its certificate.
 #[derive(Clone, Copy)]
@@ -26,19 +32,42 @@ pub struct Certified<'a> {
     pub certificate_path: &'a str,
 }
 
+impl<'a> Certified<'a> {
+    /// The paths of both.
+    fn paths(self) -> Paths<'a> {
+        Paths {
+            of_module: Some(self.module_path),
+            certificate: Some(self.certificate_path),
+            ..Paths::NONE
+        }
+    }
+}
+
+/// The texts of a check, as far as they can be read.
+pub fn checked_texts(of_module: Option<Vec<u8>>, certificate: Option<Vec<u8>>) -> Contents {
+    Contents {
+        of_module,
+        certificate,
+        shapes: None,
+        trace: None,
+        edits: None,
+    }
+}
+
 /// What a check by three workers prints.
 pub fn checked_by_three(
     rt: &(impl Runtime + AllocGlobal + Threads + Sync),
     row: Certified<'_>,
 ) -> Result<Printed, RowFailure> {
-    let line = Line::Check(CheckLine {
-        module_path: row.module_path,
-        certificate_path: row.certificate_path,
-        workers: 3,
+    let command = Command {
+        paths: row.paths(),
         explained: Explained::Never,
-        refusals: Refusals::First,
-    });
-    done(rt, row.folder, &line)
+        what: What::Check(CheckOptions {
+            workers: 3,
+            refusals: Refusals::First,
+        }),
+    };
+    done(rt, row.folder, &command)
 }
 
 /// A text of the shapes of a certificate, if it has some: its lines between the first one and the first section.
@@ -79,14 +108,32 @@ fn shapes(
     Ok(shapes?)
 }
 
-/// The module of a row, and this file beside it.
-fn beside(
+/// The bytes of the module of a row, as far as it can be read.
+fn module_of(
     rt: &(impl Runtime + AllocGlobal),
     row: Certified<'_>,
-    second: Option<Vec<u8>>,
-) -> Result<[Option<Vec<u8>>; 2], RowFailure> {
-    let of_module = bytes_of(rt, row.folder, row.module_path)?;
-    Ok([of_module, second])
+) -> Result<Option<Vec<u8>>, RowFailure> {
+    bytes_of(rt, row.folder, row.module_path)
+}
+
+/// The making of a certificate of the module, with shapes if there are some.
+fn making<'a>(row: Certified<'a>, shapes: &Option<Vec<u8>>) -> Command<'a> {
+    let shapes_path = if shapes.is_some() {
+        Some("module.shapes")
+    } else {
+        None
+    };
+    Command {
+        paths: Paths {
+            of_module: Some(row.module_path),
+            shapes: shapes_path,
+            ..Paths::NONE
+        },
+        explained: Explained::Never,
+        what: What::Make(MakeOptions {
+            why: Why::NotWanted,
+        }),
+    }
 }
 
 /// What `make` prints of the module, with the shapes of its certificate, if that has some.
@@ -95,20 +142,16 @@ fn made(
     row: Certified<'_>,
 ) -> Result<Printed, RowFailure> {
     let shapes = shapes(rt, row)?;
-    let shapes_path = if shapes.is_some() {
-        Some("module.shapes")
-    } else {
-        None
+    let command = making(row, &shapes);
+    let contents = Contents {
+        of_module: module_of(rt, row)?,
+        certificate: None,
+        shapes,
+        trace: None,
+        edits: None,
     };
-    let files = beside(rt, row, shapes)?;
-    let line = Line::Make(MakeLine {
-        module_path: row.module_path,
-        shapes_path,
-        why: Why::NotWanted,
-        explained: Explained::Never,
-    });
-    let printed = printed_of(rt, &line, files.as_slice());
-    drop(files);
+    let printed = printed_of(rt, &command, &contents);
+    drop(contents);
     Ok(printed)
 }
 
@@ -118,9 +161,9 @@ fn checked_with(
     row: Certified<'_>,
     certificate: Vec<u8>,
 ) -> Result<Printed, RowFailure> {
-    let files = beside(rt, row, Some(certificate))?;
-    let printed = printed_of(rt, &CHECK, files.as_slice());
-    drop(files);
+    let contents = checked_texts(module_of(rt, row)?, Some(certificate));
+    let printed = printed_of(rt, &CHECK, &contents);
+    drop(contents);
     Ok(printed)
 }
 
@@ -144,16 +187,30 @@ fn text_in(printed: Printed) -> Result<Vec<u8>, Printed> {
     }
 }
 
+/// What `migrate` prints of the files of these paths.
+fn migrated(
+    rt: &(impl Runtime + AllocGlobal + Threads + Sync),
+    folder: &str,
+    paths: Paths<'_>,
+) -> Result<Printed, RowFailure> {
+    let command = Command {
+        paths,
+        explained: Explained::Never,
+        what: What::Migrate,
+    };
+    done(rt, folder, &command)
+}
+
 /// What `migrate` prints of the module.
 pub fn migrated_module(
     rt: &(impl Runtime + AllocGlobal + Threads + Sync),
     row: Certified<'_>,
 ) -> Result<Printed, RowFailure> {
-    let line = Line::Migrate(MigrateLine {
-        module_path: row.module_path,
-        certificate_path: None,
-    });
-    done(rt, row.folder, &line)
+    let paths = Paths {
+        of_module: Some(row.module_path),
+        ..Paths::NONE
+    };
+    migrated(rt, row.folder, paths)
 }
 
 /// What `migrate` prints of the certificate.
@@ -161,11 +218,7 @@ fn migrated_certificate(
     rt: &(impl Runtime + AllocGlobal + Threads + Sync),
     row: Certified<'_>,
 ) -> Result<Printed, RowFailure> {
-    let line = Line::Migrate(MigrateLine {
-        module_path: row.module_path,
-        certificate_path: Some(row.certificate_path),
-    });
-    done(rt, row.folder, &line)
+    migrated(rt, row.folder, row.paths())
 }
 
 /// What a check prints of these two texts.
@@ -174,9 +227,9 @@ fn checked(
     of_module: Vec<u8>,
     certificate: Vec<u8>,
 ) -> Printed {
-    let files = [Some(of_module), Some(certificate)];
-    let printed = printed_of(rt, &CHECK, files.as_slice());
-    drop(files);
+    let contents = checked_texts(Some(of_module), Some(certificate));
+    let printed = printed_of(rt, &CHECK, &contents);
+    drop(contents);
     printed
 }
 

@@ -1,97 +1,78 @@
 //! Commands on the files of a folder.
-ghost use Rattle.command_line.specs.Asked.{asked_by, HasWorkers};
+ghost use Rattle.command_line.specs.Asked.{HasWorkers};
 
-use crate::output::Output;
 use crate::printed::{Printed, bytes_of};
 use crate::row_failure::RowFailure;
-use commands::{Line, LineFault, Look, Nobody, STATUS_USAGE, STATUS_YES, line, status_of, work};
+use command_line::{Command, LineFault, Paths, read_command};
+use commands::{Contents, Look, Nobody, Results, STATUS_USAGE, STATUS_YES, status_of, work};
 use std::alloc::{AllocError, Global};
 use std::rt::Runtime;
 use std::thread::Threads;
 
-/// The status of the command of a line on the bytes of its files, with these outputs.
+/// The status of a command on files with these contents, and what it results in.
 pub fn status_with(
     rt: &(impl Runtime + AllocGlobal + Threads + Sync),
-    line: &Line<'_>,
-    files: &[Option<Vec<u8>>],
-    saved: &mut Vec<u8>,
-    out: &mut Output,
-    err: &mut Output,
+    command: &Command<'_>,
+    contents: &Contents,
+    results: &mut Results,
 ) -> u8
-    requires { HasWorkers (asked_by line.now) }
+    requires { HasWorkers command.now.what }
 {
-    let answered = work(
-        rt,
-        rt.alloc(),
-        Look::Plain,
-        line,
-        files,
-        saved,
-        out,
-        err,
-        &mut Nobody,
-    );
-    status_of(answered)
+    let files = contents.of_paths(command.paths);
+    status_of(work(rt, Look::Plain, command, &files, results, &mut Nobody))
 }
 
-/// What the command of a line prints of the bytes of its files.
+/// What a command prints of files with these contents.
 pub fn printed_of(
     rt: &(impl Runtime + AllocGlobal + Threads + Sync),
-    line: &Line<'_>,
-    files: &[Option<Vec<u8>>],
+    command: &Command<'_>,
+    contents: &Contents,
 ) -> Printed
-    requires { HasWorkers (asked_by line.now) }
+    requires { HasWorkers command.now.what }
 {
-    let alloc = rt.alloc();
-    let mut saved = Vec::new(alloc);
-    let mut out = Output::Kept(Vec::new(alloc));
-    let mut err = Output::Kept(Vec::new(alloc));
-    let status = status_with(rt, line, files, &mut saved, &mut out, &mut err);
-    Printed {
-        status,
-        out: out.into_bytes(alloc),
-        err: err.into_bytes(alloc),
-        saved: Some(saved),
+    let mut results = Results::new(rt.alloc());
+    let status = status_with(rt, command, contents, &mut results);
+    Printed::of_results(status, results)
+}
+
+/// What can be read of the file of this path in a folder, if it is given.
+fn bytes_if(
+    rt: &(impl Runtime + AllocGlobal),
+    folder: &str,
+    path: Option<&str>,
+) -> Result<Option<Vec<u8>>, RowFailure> {
+    match path {
+        Some(path) => bytes_of(rt, folder, path),
+        None => Ok(None),
     }
 }
 
-/// The bytes of the files at these paths of a folder, as far as they can be read.
-fn files_of(
+/// What can be read of the files of these paths in a folder.
+fn contents_of(
     rt: &(impl Runtime + AllocGlobal),
     folder: &str,
-    paths: &[&str],
-) -> Result<Vec<Option<Vec<u8>>>, RowFailure> {
-    let mut files = Vec::new(rt.alloc());
-    for path in paths {
-        let bytes = bytes_of(rt, folder, path)?;
-        files.push(bytes)?;
-    }
-    Ok(files)
+    paths: Paths<'_>,
+) -> Result<Contents, RowFailure> {
+    Ok(Contents {
+        of_module: bytes_if(rt, folder, paths.of_module)?,
+        certificate: bytes_if(rt, folder, paths.certificate)?,
+        shapes: bytes_if(rt, folder, paths.shapes)?,
+        trace: bytes_if(rt, folder, paths.trace)?,
+        edits: bytes_if(rt, folder, paths.edits)?,
+    })
 }
 
-/// The bytes of the files of a line, as far as they can be read.
-fn files_for(
-    rt: &(impl Runtime + AllocGlobal),
-    folder: &str,
-    line: &Line<'_>,
-) -> Result<Vec<Option<Vec<u8>>>, RowFailure> {
-    let paths = line.paths(rt.alloc())?;
-    let files = files_of(rt, folder, paths.as_slice());
-    drop(paths);
-    files
-}
-
-/// What the command of a line prints of the files of a folder.
+/// What a command prints of the files of a folder.
 pub fn done(
     rt: &(impl Runtime + AllocGlobal + Threads + Sync),
     folder: &str,
-    line: &Line<'_>,
+    command: &Command<'_>,
 ) -> Result<Printed, RowFailure>
-    requires { HasWorkers (asked_by line.now) }
+    requires { HasWorkers command.now.what }
 {
-    let files = files_for(rt, folder, line)?;
-    let printed = printed_of(rt, line, files.as_slice());
-    drop(files);
+    let contents = contents_of(rt, folder, command.paths)?;
+    let printed = printed_of(rt, command, &contents);
+    drop(contents);
     Ok(printed)
 }
 
@@ -120,8 +101,8 @@ pub fn done_by(
     folder: &str,
     words: &[&str],
 ) -> Result<Printed, RowFailure> {
-    match line(rt.alloc(), words) {
-        Ok(line) => done(rt, folder, &line),
+    match read_command(rt.alloc(), words) {
+        Ok(command) => done(rt, folder, &command),
         Err(fault) => {
             let printed = printed_fault(rt.alloc(), &fault);
             drop(fault);

@@ -1,5 +1,6 @@
 //! What a command prints, compared with what is wanted.
 use crate::row_failure::RowFailure;
+use commands::{Outputs, Results};
 use std::alloc::{AllocError, Global};
 use std::io::Write;
 use std::rt::Runtime;
@@ -112,6 +113,18 @@ impl Printed {
             err,
             saved,
         })
+    }
+
+    /// The status and the results of a command.
+    pub fn of_results(status: u8, results: Results) -> Printed {
+        let Results { outputs, saved } = results;
+        let Outputs { out, err } = outputs;
+        Printed {
+            status,
+            out,
+            err,
+            saved: Some(saved),
+        }
     }
 
     /// What is printed on the standard error before the program ends with this status.

@@ -1,21 +1,25 @@
 //! Replays of traces in which an actor stops for good.
 use crate::done::printed_of;
 use crate::texts::{CLAIMER, FOUR, PUBLISHER_AND_CLEARER, module_of};
-use commands::{Explained, Line, ReplayLine, STATUS_YES, StepsTold};
+use command_line::{Command, Explained, Paths, ReplayOptions, StepsTold, What};
+use commands::{Contents, STATUS_YES};
 use std::alloc::{AllocError, Global};
 use std::io;
 use std::io::Write;
 use std::rt::Runtime;
 use std::thread::Threads;
 
-const REPLAY: Line<'static> = Line::Replay(ReplayLine {
-    module_path: "module.ll",
-    trace_path: "module.trace",
-    shapes_path: None,
-    steps: StepsTold::NotTold,
-    json_path: None,
+const REPLAY: Command<'static> = Command {
+    paths: Paths {
+        of_module: Some("module.ll"),
+        trace: Some("module.trace"),
+        ..Paths::NONE
+    },
     explained: Explained::Never,
-});
+    what: What::Replay(ReplayOptions {
+        steps: StepsTold::NotTold,
+    }),
+};
 
 /// A trace of some functions.
 #[derive(Clone, Copy)]
@@ -76,11 +80,8 @@ fn stopped(alloc: Global, case: Case, last: usize, stops: u8) -> Result<Vec<u8>,
 }
 
 /// Whether no step breaks the run of the trace in these files.
-fn is_replayed(
-    rt: &(impl Runtime + AllocGlobal + Threads + Sync),
-    files: &[Option<Vec<u8>>],
-) -> bool {
-    let printed = printed_of(rt, &REPLAY, files);
+fn is_replayed(rt: &(impl Runtime + AllocGlobal + Threads + Sync), contents: &Contents) -> bool {
+    let printed = printed_of(rt, &REPLAY, contents);
     let is_replayed = printed.status == STATUS_YES;
     drop(printed);
     is_replayed
@@ -95,9 +96,15 @@ fn is_sound(
 ) -> Result<bool, AllocError> {
     let of_module = module_of(rt.alloc(), case.functions)?;
     let trace = stopped(rt.alloc(), case, last, stops)?;
-    let files = [Some(of_module), Some(trace)];
-    let is_sound = is_replayed(rt, files.as_slice());
-    drop(files);
+    let contents = Contents {
+        of_module: Some(of_module),
+        certificate: None,
+        shapes: None,
+        trace: Some(trace),
+        edits: None,
+    };
+    let is_sound = is_replayed(rt, &contents);
+    drop(contents);
     Ok(is_sound)
 }
 

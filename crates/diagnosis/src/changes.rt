@@ -10,6 +10,14 @@ use facts::{Facts, Known};
 use ir_ast::{BlockId, FuncId, Instr, ValueId};
 use std::alloc::{AllocError, Global};
 
+/// A place of a block of a function.
+#[derive(Clone, Copy)]
+pub struct CodeAt {
+    pub func: FuncId,
+    pub block: BlockId,
+    pub place: usize,
+}
+
 /// How a reference changes.
 #[derive(Clone, Copy)]
 pub enum Change {
@@ -67,17 +75,15 @@ fn later(found: Option<usize>, index: usize, changes: bool) -> Option<usize>
 pub fn last_change(
     alloc: Global,
     context: &RuleContext,
-    func: FuncId,
-    block: BlockId,
-    place: usize,
+    at: CodeAt,
     value: ValueId,
     change: Change,
 ) -> Result<Option<usize>, AllocError>
-    ensures { IfOk result (λ found. IfSome found (λ index. ChangesIn context.now func block place index value change)) }
+    ensures { IfOk result (λ found. IfSome found (λ index. ChangesIn context.now at.func at.block at.place index value change)) }
 {
-    let mut facts = facts_at_entry(alloc, context, func, block)?;
+    let mut facts = facts_at_entry(alloc, context, at.func, at.block)?;
     let mut found = None;
-    let body = body_before(context, block, place);
+    let body = body_before(context, at.block, at.place);
     for (index, instr) in body.iter().enumerate() {
         let changes = changes_at(context, &mut facts, instr, value, change)?;
         found = later(found, index, changes);

@@ -7,5 +7,5 @@ mod changes;
 mod known_claims;
 
 pub use before::{facts_at_entry, facts_before};
-pub use changes::{Change, last_change};
+pub use changes::{Change, CodeAt, last_change};
 pub use known_claims::{claim_of, claims_as_certs};

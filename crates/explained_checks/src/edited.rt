@@ -1,7 +1,6 @@
 //! Makes the edits of a recheck again, and explains the first verdict, each edit that is refused, and the last verdict.
-ghost use Rattle.std.specs.Prelude.{◌≡◌, true, OnOk};
+ghost use Rattle.std.specs.Prelude.{◌≡◌, true};
 ghost use Rattle.certs.specs.Fits.{fits};
-ghost use Rattle.explained_checks.specs.Explained.{GivesText};
 
 use crate::explained::{named, put_in_program, put_unread};
 use certificate::{CertFault, print_cert};
@@ -10,13 +9,11 @@ use fault_texts::{
     CheckedTexts, put_cert_fault, put_edits_fault, put_fault_of, put_layout_fault, put_read_fault,
 };
 use ir_print::print;
-use messages::{Look, Message, NamedText, Pen};
+use messages::{Message, NamedText, Pen};
 use module_check::Reason;
 use recheck::{Edit, EditFault, Session};
-use reports::{Certified, Unread, edits_in, read_certified};
+use reports::{Certified, Files, Unread, edits_in, read_certified};
 use std::alloc::{AllocError, Global};
-use std::io;
-use std::io::Write;
 
 /// How a module is named that stands in no file.
 const EDITED_MODULE: &str = "edited module";
@@ -260,18 +257,17 @@ fn put_begun(pen: Pen, out: &mut Message, texts: CheckedTexts, certified: Certif
     }
 }
 
-/// Reads the edits of this path, the third file, and explains what comes of them.
+/// Reads the edits, and explains what comes of them.
 fn put_with_edits(
     pen: Pen,
     out: &mut Message,
     texts: CheckedTexts,
     certified: Certified,
-    path: &str,
-    files: &[Option<Vec<u8>>],
+    files: &Files<'_>,
 )
     requires { fits certified.of_module certified.certs.sections ≡ true }
 {
-    match edits_in(pen.alloc, path, files, 2) {
+    match edits_in(pen.alloc, files) {
         Ok(edits) => {
             put_begun(pen, out, texts, certified, edits.as_slice());
             drop(edits);
@@ -279,7 +275,7 @@ fn put_with_edits(
         Err(unread) => {
             drop(certified);
             let told = match &unread {
-                Unread::NoEdits(fault) => put_edits_fault(pen, out, named(path, files, 2), fault),
+                Unread::NoEdits(fault) => put_edits_fault(pen, out, named(files.edits), fault),
                 _ => {}
             };
             drop(unread);
@@ -288,45 +284,17 @@ fn put_with_edits(
     }
 }
 
-/// What is told of the files of these paths: a module, a certificate and edits.
-fn put_files(pen: Pen, out: &mut Message, paths: (&str, &str, &str), files: &[Option<Vec<u8>>]) {
+/// What is told of the files: a module, a certificate and edits.
+pub(crate) fn put_recheck(pen: Pen, out: &mut Message, files: &Files<'_>) {
     let texts = CheckedTexts {
-        of_module: named(paths.0, files, 0),
-        of_certs: named(paths.1, files, 1),
+        of_module: named(files.of_module),
+        of_certs: named(files.certificate),
     };
-    match read_certified(pen.alloc, (paths.0, paths.1), files) {
-        Ok(certified) => put_with_edits(pen, out, texts, certified, paths.2, files),
+    match read_certified(pen.alloc, files) {
+        Ok(certified) => put_with_edits(pen, out, texts, certified, files),
         Err(unread) => {
             put_unread(pen, out, texts, &unread);
             drop(unread);
         }
-    }
-}
-
-/// The text of what is told of the files of these paths.
-fn text_of_recheck(
-    pen: Pen,
-    paths: (&str, &str, &str),
-    files: &[Option<Vec<u8>>],
-) -> Result<Vec<u8>, AllocError> {
-    let mut out = Message::new(pen.alloc);
-    put_files(pen, &mut out, paths, files);
-    out.finish()
-}
-
-/// Explains why the module of the first path is not accepted with the certificate of the second, before or after the edits of the third,
-/// and why edits are refused.
-pub fn explain_recheck<E: Write>(
-    alloc: Global,
-    look: Look,
-    paths: (&str, &str, &str),
-    files: &[Option<Vec<u8>>],
-    err: &mut E,
-) -> io::Result<()>
-    ensures { OnOk result (GivesText (E.contents err.old) (E.contents err.new)) }
-{
-    match text_of_recheck(Pen { alloc, look }, paths, files) {
-        Ok(text) => err.write_all(text.as_slice()),
-        Err(_) => writeln!(err, "no memory to explain it"),
     }
 }

@@ -1,7 +1,4 @@
 //! Reads and checks the files of a check again, and explains why they are not accepted.
-ghost use Rattle.std.specs.Prelude.{OnOk};
-ghost use Rattle.explained_checks.specs.Explained.{GivesText};
-
 use crate::traced::put_trace;
 use block_rules::{BlockFault, Refusal};
 use certs::Certs;
@@ -9,12 +6,9 @@ use explanations::{Source, Texts, put_refusal};
 use fault_texts::{CheckedTexts, TracedTexts, put_cert_fault, put_layout_fault, put_read_fault};
 use ir_tokens::{TEXT_LIMIT, read_tokens};
 use layout::Program;
-use messages::{Look, Message, NamedText, Pen};
+use messages::{Message, NamedText, Pen};
 use module_check::{Reason, UnderCheck, fault_in_module, first_refusals};
-use reports::{Certified, Unread, read_certified};
-use std::alloc::{AllocError, Global};
-use std::io;
-use std::io::Write;
+use reports::{Certified, File, Files, Unread, bytes_of, path_of, read_certified};
 
 /// The texts of a check, and what is done after it.
 #[derive(Clone, Copy)]
@@ -25,7 +19,7 @@ struct AskedTexts<'a> {
 
 /// What is asked of a check.
 #[derive(Clone, Copy)]
-enum Asked<'a> {
+pub(crate) enum Asked<'a> {
     /// The first refusal.
     First,
     /// The first refusal of each block, at most this many.
@@ -34,17 +28,16 @@ enum Asked<'a> {
     Run(NamedText<'a>),
 }
 
-/// A file of the line, with its path.
-pub(crate) fn named<'a>(
-    path: &'a str,
-    files: &'a [Option<Vec<u8>>],
-    place: usize,
-) -> NamedText<'a> {
-    let text: &[u8] = match files.get(place) {
-        Some(Some(bytes)) => bytes.as_slice(),
-        _ => &[],
+/// A file's path and text, empty where it is not given.
+pub(crate) fn named<'a>(file: Option<File<'a>>) -> NamedText<'a> {
+    let text: &[u8] = match bytes_of(file) {
+        Some(bytes) => bytes,
+        None => &[],
     };
-    NamedText { path, text }
+    NamedText {
+        path: path_of(file),
+        text,
+    }
 }
 
 /// Explains each of some refusals in a program, with a blank line between.
@@ -197,86 +190,17 @@ pub(crate) fn put_unread(pen: Pen, out: &mut Message, texts: CheckedTexts, unrea
     }
 }
 
-/// What is told of the files of these paths, a module and a certificate, and of a trace.
-fn put_files(
-    pen: Pen,
-    out: &mut Message,
-    paths: (&str, &str),
-    asked: Asked,
-    files: &[Option<Vec<u8>>],
-) {
+/// What is told of the files: a module and a certificate, and a trace where that is asked for.
+pub(crate) fn put_check(pen: Pen, out: &mut Message, asked: Asked, files: &Files<'_>) {
     let checked = CheckedTexts {
-        of_module: named(paths.0, files, 0),
-        of_certs: named(paths.1, files, 1),
+        of_module: named(files.of_module),
+        of_certs: named(files.certificate),
     };
-    match read_certified(pen.alloc, paths, files) {
+    match read_certified(pen.alloc, files) {
         Ok(certified) => put_checked(pen, out, AskedTexts { checked, asked }, certified),
         Err(unread) => {
             put_unread(pen, out, checked, &unread);
             drop(unread);
         }
-    }
-}
-
-/// The text of what is told of the files of these paths, a module and a certificate, and of a trace.
-fn text_of_check(
-    pen: Pen,
-    paths: (&str, &str),
-    asked: Asked,
-    files: &[Option<Vec<u8>>],
-) -> Result<Vec<u8>, AllocError> {
-    let mut out = Message::new(pen.alloc);
-    put_files(pen, &mut out, paths, asked, files);
-    out.finish()
-}
-
-/// Explains why the module of the first path is not accepted with the certificate of the second. Nothing is told where it is.
-pub fn explain_check<E: Write>(
-    alloc: Global,
-    look: Look,
-    paths: (&str, &str),
-    files: &[Option<Vec<u8>>],
-    err: &mut E,
-) -> io::Result<()>
-    ensures { OnOk result (GivesText (E.contents err.old) (E.contents err.new)) }
-{
-    match text_of_check(Pen { alloc, look }, paths, Asked::First, files) {
-        Ok(text) => err.write_all(text.as_slice()),
-        Err(_) => writeln!(err, "no memory to explain it"),
-    }
-}
-
-/// Explains the first refusal of each block of the module of the first path with the certificate of the second, at most this many, with a
-/// blank line between. Nothing is told where it is accepted.
-pub fn explain_check_of_blocks<E: Write>(
-    alloc: Global,
-    look: Look,
-    paths: (&str, &str),
-    limit: u32,
-    files: &[Option<Vec<u8>>],
-    err: &mut E,
-) -> io::Result<()>
-    ensures { OnOk result (GivesText (E.contents err.old) (E.contents err.new)) }
-{
-    match text_of_check(Pen { alloc, look }, paths, Asked::OfBlocks(limit), files) {
-        Ok(text) => err.write_all(text.as_slice()),
-        Err(_) => writeln!(err, "no memory to explain it"),
-    }
-}
-
-/// Explains why the module of the first path is not accepted with the certificate of the second, or why the third is no trace of it.
-pub fn explain_run<E: Write>(
-    alloc: Global,
-    look: Look,
-    paths: (&str, &str, &str),
-    files: &[Option<Vec<u8>>],
-    err: &mut E,
-) -> io::Result<()>
-    ensures { OnOk result (GivesText (E.contents err.old) (E.contents err.new)) }
-{
-    let asked = Asked::Run(named(paths.2, files, 2));
-    match text_of_check(Pen { alloc, look }, (paths.0, paths.1), asked, files) {
-        Ok(text) => err.write_all(text.as_slice()),
-        Err(_) => writeln!(err, "no memory to explain it"),
     }
 }

@@ -4,11 +4,9 @@
 
 mod edited;
 mod explained;
+mod explaining;
 mod made;
 mod traced;
 
-pub use edited::explain_recheck;
-pub use explained::{explain_check, explain_check_of_blocks, explain_run};
-pub use made::explain_make;
+pub use explaining::{Question, explain};
 pub use messages::Look;
-pub use traced::explain_traced;

@@ -1,19 +1,13 @@
 //! Makes certificates of a module again, and explains the first refusal with the boldest that were tried.
-ghost use Rattle.std.specs.Prelude.{OnOk};
-ghost use Rattle.explained_checks.specs.Explained.{GivesText};
-
 use crate::explained::{named, put_in_program, put_unread};
 use cert_maker::{MakeFault, NotMade, Refused, make};
 use certificate::print_cert;
 use copies::copy_shapes;
 use fault_texts::{CheckedTexts, put_layout_fault};
 use ir_ast::{Module, Shapes};
-use messages::{Look, Message, NamedText, Pen};
+use messages::{Message, NamedText, Pen};
 use module_check::UnderCheck;
-use reports::shaped_in;
-use std::alloc::{AllocError, Global};
-use std::io;
-use std::io::Write;
+use reports::{Files, shaped_in};
 
 /// How the certificate is named that stands in no file.
 const TRIED: &str = "certificate";
@@ -106,45 +100,18 @@ fn put_made(pen: Pen, out: &mut Message, of_file: NamedText, of_module: Module) 
     }
 }
 
-/// What is told of the files of these paths.
-fn put_files(pen: Pen, out: &mut Message, paths: (&str, Option<&str>), files: &[Option<Vec<u8>>]) {
-    let of_file = named(paths.0, files, 0);
-    match shaped_in(pen.alloc, paths, files, 1) {
+/// What is told of the files: a module and its shapes.
+pub(crate) fn put_make(pen: Pen, out: &mut Message, files: &Files<'_>) {
+    let of_file = named(files.of_module);
+    match shaped_in(pen.alloc, files) {
         Ok(of_module) => put_made(pen, out, of_file, of_module),
         Err(unread) => {
             let texts = CheckedTexts {
                 of_module: of_file,
-                of_certs: named(paths.1.unwrap_or(""), files, 1),
+                of_certs: named(files.shapes),
             };
             put_unread(pen, out, texts, &unread);
             drop(unread);
         }
-    }
-}
-
-/// The text of what is told of the files of these paths.
-fn text_of_make(
-    pen: Pen,
-    paths: (&str, Option<&str>),
-    files: &[Option<Vec<u8>>],
-) -> Result<Vec<u8>, AllocError> {
-    let mut out = Message::new(pen.alloc);
-    put_files(pen, &mut out, paths, files);
-    out.finish()
-}
-
-/// Explains why no certificates of the module of the first path are made with the shapes of the second.
-pub fn explain_make<E: Write>(
-    alloc: Global,
-    look: Look,
-    paths: (&str, Option<&str>),
-    files: &[Option<Vec<u8>>],
-    err: &mut E,
-) -> io::Result<()>
-    ensures { OnOk result (GivesText (E.contents err.old) (E.contents err.new)) }
-{
-    match text_of_make(Pen { alloc, look }, paths, files) {
-        Ok(text) => err.write_all(text.as_slice()),
-        Err(_) => writeln!(err, "no memory to explain it"),
     }
 }

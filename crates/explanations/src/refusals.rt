@@ -351,16 +351,19 @@ fn put_refusal_by(
     put_scene(out, &scene)
 }
 
-/// What is told of an instruction of this function.
-fn put_refusal_in(
+/// What is told of a refusal besides its line, by the texts of the module and of the certificate.
+pub fn put_refusal(
     pen: Pen,
     out: &mut Message,
     texts: Texts,
     program: &Program,
     certs: &Certs,
-    function: &Function,
     refusal: Refusal,
 ) {
+    let functions = program.module().functions.as_slice();
+    let Some(function) = functions.get(refusal.func.number() as usize) else {
+        return;
+    };
     let Ok(slots) = slots_of(pen.alloc, program.module(), function) else {
         return out.refuse();
     };
@@ -385,23 +388,4 @@ fn put_refusal_in(
         Err(_) => out.refuse(),
     }
     drop(slots)
-}
-
-/// What is told of a refusal besides its line, by the texts of the module and of the certificate.
-pub fn put_refusal(
-    pen: Pen,
-    out: &mut Message,
-    texts: Texts,
-    program: &Program,
-    certs: &Certs,
-    refusal: Refusal,
-) {
-    match program
-        .module()
-        .functions
-        .get(refusal.func.number() as usize)
-    {
-        Some(function) => put_refusal_in(pen, out, texts, program, certs, function, refusal),
-        None => {}
-    }
 }

@@ -4,7 +4,7 @@ use crate::nulls::slot_loaded;
 use crate::stale::class_of;
 use crate::told::{Told, value_in};
 use crate::write_barrier::spot_of;
-use diagnosis::{Change, last_change};
+use diagnosis::{Change, CodeAt, last_change};
 use facts::{ClassId, Facts};
 use ir_ast::{Operand, ValueId};
 use messages::Message;
@@ -18,15 +18,12 @@ const CALLS: usize = 16;
 /// Where a reference lost `fresh` in the block of the refused instruction.
 fn unfresh_at(scene: &Scene, value: ValueId) -> Result<Option<Spot>, AllocError> {
     let refusal = scene.refusal;
-    let index = last_change(
-        scene.pen.alloc,
-        &scene.context,
-        refusal.func,
-        refusal.block,
-        refusal.instr,
-        value,
-        Change::Unfresh,
-    )?;
+    let at = CodeAt {
+        func: refusal.func,
+        block: refusal.block,
+        place: refusal.instr,
+    };
+    let index = last_change(scene.pen.alloc, &scene.context, at, value, Change::Unfresh)?;
     match index {
         Some(index) => Ok(Some(scene.spot_in(refusal.block, index))),
         None => Ok(None),

@@ -5,7 +5,7 @@ ghost use Rattle.colours.specs.Colours.{done, is_async};
 ghost use Rattle.colours.specs.Steps.{ReadOldValue, Mark, StoreAfterBarrier};
 ghost use Rattle.colours.specs.Calls.{marks, marks_of_new};
 ghost use Rattle.colours.specs.Mutator.{stage_of, phase_of, MayFollow, MayUse, MayStore, Held, IsPossibleLog, MarkingOld, MarkingNew};
-ghost use Rattle.heap_table.specs.Writes.{Writes};
+ghost use Rattle.heap_table.specs.Writes.{Replaces};
 
 use crate::heap::Heap;
 use crate::mutator::Mutator;
@@ -17,14 +17,14 @@ impl<'a> Heap<'a> {
 
     /// Stores a reference after the barrier. As in Doligez and Gonthier (POPL 1994) the old value is marked, and at the sync stages
     /// the new one too, and only then comes the store. That the old value is marked at every stage, and that a mark is one
-    /// fetch-max of the colour, is this project's own.
-    pub fn write(&self, me: &mut Mutator, cell: u32, word: u32, new: u32)
+    /// fetch-max of the colour, is this project's own. Returns the old value, which the thread holds then.
+    pub fn write(&self, me: &mut Mutator, cell: u32, word: u32, new: u32) -> u32
         requires token { MayCall self.now me.old }
         requires cell { MayUse me.old.setup me.old.log cell }
         requires word { IsTrue (is_reference_kind (kind_of me.old.setup cell word)) }
         requires new { MayStore me.old.setup me.old.log (kind_of me.old.setup cell word) new }
         ensures token { IsNow me.old me.new.log me.new × MayCall self.now me.new }
-        ensures log { Writes (stage_of me.old.log) cell word new me.old.log me.new.log }
+        ensures log { Replaces (stage_of me.old.log) cell word result new me.old.log me.new.log }
         ensures possible { IsPossibleLog me.new.setup me.new.log }
         ensures run { IsOfRun me.new }
     {
@@ -32,6 +32,7 @@ impl<'a> Heap<'a> {
         self.mark_old(me, cell, word, old);
         self.mark_new(me, cell, word, old, new);
         self.put(me, cell, word, new);
+        old
     }
 
     /// Reads what the store will replace.

@@ -2,9 +2,10 @@
 use Rattle.layout.specs.Layouts.{LaidOut}
 use Rattle.hunting.specs.Shorter.{IsBreaking}
 use Rattle.hunting.specs.declared.searching.Hunted.{Hunted}
-use Rattle.hunting.specs.declared.searching.Hunted.TheVariants.{Broken, Nothing}
+use Rattle.hunting.specs.declared.searching.Hunted.TheVariants.{Broken, Sound, NoStart}
 
 -- what is found is a trace whose last step is the first that breaks its run. Where nothing is found, nothing is said
 abbrev pub IsHunted : LaidOut → Hunted → Type 0
-IsHunted p (Broken shorter) = IsBreaking p shorter.found.trace shorter.found.broken
-IsHunted p Nothing = Unit {0}
+IsHunted p (Broken b) = IsBreaking p b.found.trace b.found.broken
+IsHunted p Sound = Unit {0}
+IsHunted p (NoStart seed) = Unit {0}

@@ -14,7 +14,7 @@ use crate::steps::with_steps;
 use items::Items;
 use layout::Program;
 use program_runner::SetupFault;
-use replay::replay;
+use replay::{Schedules, replay};
 use std::alloc::Global;
 use trace_text::{STEP_LIMIT, Trace};
 
@@ -87,26 +87,24 @@ fn may_begin(alloc: Global, program: &Program, start: &Trace) -> Result<(), Setu
     Ok(())
 }
 
-/// Draws a schedule with few switches for each seed from `first` to below `past`, with this number of steps from the start of a trace: the
-/// first one that breaks its run, up to the break. It was replayed. Steps past a trace's limit are left out.
+/// Draws a schedule with few switches for each seed, from the start of a trace: the first one that breaks its run, up to the break. It was
+/// replayed. Steps past a trace's limit are left out.
 pub fn first_broken(
     alloc: Global,
     program: &Program,
     start: &Trace,
-    first: u32,
-    past: u32,
-    steps: u32,
+    schedules: Schedules,
 ) -> Result<BiasedOutcome, SetupFault>
     requires { IsTraceOf program.now start.now }
-    ensures outcome { IfOk result (IsBiasedOutcome program.now start.now.setup first past) }
+    ensures outcome { IfOk result (IsBiasedOutcome program.now start.now.setup schedules.first schedules.past) }
     ensures no_fault { IfOk result (λ _. HasNoFault program.now start.now.setup) }
     ensures fault { IfErr result (λ e. e ≢ fault.Memory → IsSetupFault program.now start.now.setup e) }
     // Where the program is certified, and the threads begin with what its certificates promise, there is none.
     ensures safe { (certs : List Section) → IsCertifiedSetup program.now start.now.setup certs → IfOk result IsSoundOutcome }
 {
     may_begin(alloc, program, start)?;
-    for seed in first..past {
-        match broken_by_seed(alloc, program, start, seed, steps) {
+    for seed in schedules.first..schedules.past {
+        match broken_by_seed(alloc, program, start, seed, schedules.steps) {
             Ok(Some(found)) => return Ok(BiasedOutcome::Broken(BrokenSeed { seed, found })),
             Ok(None) => {}
             Err(fault) => return Err(fault),

@@ -1,16 +1,30 @@
-ghost use Rattle.std.specs.Prelude.{◌≡◌, ◌≢◌, ◌+◌, ◌≤◌, length, min, IfOk, IfErr, IfSome};
+//! How much happens in the runs of seeds.
+ghost use Rattle.std.specs.Prelude.{◌≡◌, ◌≢◌, ◌≤◌, false, length, min, IfOk, IfErr, IfSome};
 ghost use Rattle.trace_text.specs.Traces.{IsTraceOf};
 ghost use Rattle.program_runner.specs.Setups.{IsSetupFault};
 ghost use Rattle.program_runner.specs.declared.setup_fault.SetupFault.TheVariants as fault;
+ghost use Rattle.replay.specs.Lists.{actors_of};
+ghost use Rattle.replay.specs.Soaks.{actors_drawn};
 ghost use Rattle.hunting.specs.Happened.{IsCounted, IsReportOfSeed, is_ended, ends_in, cycles_in, nothing, with_report};
 
+use crate::biased_searching::biased_trace;
 use crate::steps::with_steps;
 use items::Items;
 use layout::Program;
 use program_runner::SetupFault;
-use replay::{Outcome, Report, ThreadOutcome, drawn_trace, replay};
+use replay::{Outcome, Report, Schedules, ThreadOutcome, drawn_trace, replay};
 use std::alloc::Global;
 use trace_text::{STEP_LIMIT, Trace};
+
+/// The runs of which is counted how much happens.
+#[derive(Clone, Copy)]
+pub struct Sample {
+    pub schedules: Schedules,
+    /// Whether the seeds draw with few switches between actors, and not uniformly.
+    pub biased: bool,
+    /// After how many steps no further seeds are looked at.
+    pub budget: u64,
+}
 
 /// How much happened in the runs of some seeds.
 #[derive(Clone, Copy)]
@@ -83,6 +97,30 @@ impl Happened {
     }
 }
 
+/// A trace with the steps that a seed draws, uniformly or with few switches, from the start of a trace.
+fn trace_of_seed(
+    alloc: Global,
+    program: &Program,
+    start: &Trace,
+    seed: u32,
+    steps: u32,
+    biased: bool,
+) -> Result<Trace, SetupFault>
+    requires is_trace { IsTraceOf program.now start.now }
+    requires few { steps ≤ 10000000 }
+    ensures is_trace { IfOk result (IsTraceOf program.now) }
+    ensures setup { IfOk result (λ made. made.setup ≡ start.now.setup) }
+    ensures steps { biased ≡ false → IfOk result (λ made. actors_of made.steps ≡ actors_drawn (length start.now.setup.starts) seed steps) }
+    ensures fault { IfErr result (λ e. e ≢ fault.Memory → IsSetupFault program.now start.now.setup e) }
+{
+    if biased {
+        return biased_trace(alloc, program, start, seed, steps);
+    }
+    let before = with_steps(alloc, program, start, Items::new(alloc))?;
+    let trace = drawn_trace(alloc, before, seed, steps)?;
+    Ok(trace)
+}
+
 /// Where the actors are after the steps that a seed draws, if no step breaks the run.
 fn report_of_seed(
     alloc: Global,
@@ -90,43 +128,41 @@ fn report_of_seed(
     start: &Trace,
     seed: u32,
     steps: u32,
+    biased: bool,
 ) -> Result<Option<Report>, SetupFault>
     requires is_trace { IsTraceOf program.now start.now }
     requires few { steps ≤ 10000000 }
-    ensures report { IfOk result (λ report. IfSome report (IsReportOfSeed program.now start.now.setup steps seed)) }
+    ensures report { biased ≡ false → IfOk result (λ report. IfSome report (IsReportOfSeed program.now start.now.setup steps seed)) }
     ensures fault { IfErr result (λ e. e ≢ fault.Memory → IsSetupFault program.now start.now.setup e) }
 {
-    let before = with_steps(alloc, program, start, Items::new(alloc))?;
-    let trace = drawn_trace(alloc, before, seed, steps)?;
+    let trace = trace_of_seed(alloc, program, start, seed, steps, biased)?;
     match replay(alloc, program, &trace)? {
         Outcome::Sound(report) => Ok(Some(report)),
         Outcome::Broken(_) => Ok(None),
     }
 }
 
-/// Counts what happens in the steps that seeds draw from the start of a trace, from `first` on. It ends before `past`, once `budget` steps
-/// are made, or at a seed whose schedule breaks its run. A seed's steps past a trace's limit are left out.
+/// Counts what happens in the steps that seeds draw from the start of a trace, in their order. It ends with the last of the seeds, once the
+/// budget is spent, or at a seed whose schedule breaks its run. A seed's steps past a trace's limit are left out.
 pub fn counted(
     alloc: Global,
     program: &Program,
     start: &Trace,
-    first: u32,
-    past: u32,
-    steps: u32,
-    budget: u64,
+    sample: Sample,
 ) -> Result<Happened, SetupFault>
     requires { IsTraceOf program.now start.now }
-    ensures counted { IfOk result (IsCounted program.now start.now.setup (min steps 10000000) first) }
+    ensures counted { sample.biased ≡ false → IfOk result (IsCounted program.now start.now.setup (min sample.schedules.steps 10000000) sample.schedules.first) }
     ensures fault { IfErr result (λ e. e ≢ fault.Memory → IsSetupFault program.now start.now.setup e) }
 {
+    let Schedules { first, past, steps } = sample.schedules;
     let steps = steps.min(STEP_LIMIT as u32);
     let mut happened = Happened::nothing();
     let mut spent: u64 = 0;
     for seed in first..past {
-        if spent >= budget {
+        if spent >= sample.budget {
             return Ok(happened);
         }
-        let Some(report) = report_of_seed(alloc, program, start, seed, steps)? else {
+        let Some(report) = report_of_seed(alloc, program, start, seed, steps, sample.biased)? else {
             return Ok(happened);
         };
         let Some(more) = happened.with(&report) else {

@@ -4,7 +4,6 @@
 //! that break by the same kind of cause: with fewer steps, threads or cells. Of seeds that break no run it is counted how much happened.
 #![tactic(auto)]
 
-mod biased_counting;
 mod biased_drawing;
 mod biased_searching;
 mod breaking;
@@ -30,12 +29,11 @@ mod shorter_trace;
 mod starts;
 mod steps;
 
-pub use biased_counting::counted_biased;
 pub use biased_searching::{BiasedOutcome, BrokenSeed, biased_trace, first_broken};
 pub use breaking::BrokenTrace;
 pub use broken_seed::broken_trace;
-pub use counting::{Happened, counted};
+pub use counting::{Happened, Sample, counted};
 pub use judging::broken_trace_of;
 pub use kind::{Kind, kind_of};
-pub use searching::{ALIKE, HuntLimits, HuntReport, Hunted, hunt};
+pub use searching::{ALIKE, Hunted, hunt};
 pub use shortening::{ShorterTrace, shortened};

@@ -11,6 +11,13 @@ use ir_ast::{Argument, Case, End, Module, Names, TypeId, ValueId};
 use name_text::{Blank, put_local};
 use std::alloc::{AllocError, Global};
 
+/// Where the names of a text stand: those of the module, and those of the function.
+#[derive(Clone, Copy)]
+struct Scope<'a> {
+    of_module: &'a Module,
+    locals: &'a Names,
+}
+
 /// `label %b`.
 fn put_target(out: &mut Vec<u8>, locals: &Names, label: ValueId) -> Result<(), AllocError>
     ensures { OnOk result (out.new.items ≡ out.old.items ++ spec.target_text locals.now label) }
@@ -23,34 +30,32 @@ fn put_target(out: &mut Vec<u8>, locals: &Names, label: ValueId) -> Result<(), A
 fn put_case(
     alloc: Global,
     out: &mut Vec<u8>,
-    module: &Module,
-    locals: &Names,
+    scope: &Scope,
     written: TypeId,
     case: &Case,
 ) -> Result<(), AllocError>
-    ensures { OnOk result (out.new.items ≡ out.old.items ++ spec.case_text «module».now locals.now written case.now) }
+    ensures { OnOk result (out.new.items ≡ out.old.items ++ spec.case_text scope.now.of_module.now scope.now.locals.now written case.now) }
 {
     out.push(b' ')?;
-    put_type(alloc, out, module, written)?;
+    put_type(alloc, out, scope.of_module, written)?;
     out.push(b' ')?;
-    put_constant(alloc, out, module, written, case.constant)?;
+    put_constant(alloc, out, scope.of_module, written, case.constant)?;
     out.extend_from_slice(b", ")?;
-    put_target(out, locals, case.target)
+    put_target(out, scope.locals, case.target)
 }
 
 /// The cases of a switch.
 fn put_cases(
     alloc: Global,
     out: &mut Vec<u8>,
-    module: &Module,
-    locals: &Names,
+    scope: &Scope,
     written: TypeId,
     cases: &[Case],
 ) -> Result<(), AllocError>
-    ensures { OnOk result (out.new.items ≡ out.old.items ++ flat_map (spec.case_text «module».now locals.now written) cases.now) }
+    ensures { OnOk result (out.new.items ≡ out.old.items ++ flat_map (spec.case_text scope.now.of_module.now scope.now.locals.now written) cases.now) }
 {
     for case in cases {
-        put_case(alloc, out, module, locals, written, case)?;
+        put_case(alloc, out, scope, written, case)?;
     }
     Ok(())
 }
@@ -59,57 +64,49 @@ fn put_cases(
 fn put_branch(
     alloc: Global,
     out: &mut Vec<u8>,
-    module: &Module,
-    locals: &Names,
+    scope: &Scope,
     condition: &Argument,
     taken: ValueId,
     other: ValueId,
 ) -> Result<(), AllocError>
-    ensures { OnOk result (out.new.items ≡ out.old.items ++ spec.end_text «module».now locals.now (end.Branch condition.now.written condition.now.operand taken other)) }
+    ensures { OnOk result (out.new.items ≡ out.old.items ++ spec.end_text scope.now.of_module.now scope.now.locals.now (end.Branch condition.now.written condition.now.operand taken other)) }
 {
     out.extend_from_slice(b"br ")?;
-    put_argument(alloc, out, module, locals, condition)?;
+    put_argument(alloc, out, scope.of_module, scope.locals, condition)?;
     out.extend_from_slice(b", ")?;
-    put_target(out, locals, taken)?;
+    put_target(out, scope.locals, taken)?;
     out.extend_from_slice(b", ")?;
-    put_target(out, locals, other)
+    put_target(out, scope.locals, other)
 }
 
 /// A switch.
 fn put_switch(
     alloc: Global,
     out: &mut Vec<u8>,
-    module: &Module,
-    locals: &Names,
+    scope: &Scope,
     value: &Argument,
     otherwise: ValueId,
     cases: &[Case],
 ) -> Result<(), AllocError>
-    ensures { OnOk result (out.new.items ≡ out.old.items ++ spec.end_text «module».now locals.now (end.Switch value.now.written value.now.operand otherwise cases.now)) }
+    ensures { OnOk result (out.new.items ≡ out.old.items ++ spec.end_text scope.now.of_module.now scope.now.locals.now (end.Switch value.now.written value.now.operand otherwise cases.now)) }
 {
     out.extend_from_slice(b"switch ")?;
-    put_argument(alloc, out, module, locals, value)?;
+    put_argument(alloc, out, scope.of_module, scope.locals, value)?;
     out.extend_from_slice(b", ")?;
-    put_target(out, locals, otherwise)?;
+    put_target(out, scope.locals, otherwise)?;
     out.extend_from_slice(b" [")?;
-    put_cases(alloc, out, module, locals, value.written, cases)?;
+    put_cases(alloc, out, scope, value.written, cases)?;
     out.extend_from_slice(b" ]")
 }
 
 /// How a block ends.
-fn put_end(
-    alloc: Global,
-    out: &mut Vec<u8>,
-    module: &Module,
-    locals: &Names,
-    end: &End,
-) -> Result<(), AllocError>
-    ensures { OnOk result (out.new.items ≡ out.old.items ++ spec.end_text «module».now locals.now end.now) }
+fn put_end(alloc: Global, out: &mut Vec<u8>, scope: &Scope, end: &End) -> Result<(), AllocError>
+    ensures { OnOk result (out.new.items ≡ out.old.items ++ spec.end_text scope.now.of_module.now scope.now.locals.now end.now) }
 {
     match end {
         End::Jump(target) => {
             out.extend_from_slice(b"br ")?;
-            put_target(out, locals, *target)
+            put_target(out, scope.locals, *target)
         }
         End::Branch {
             condition_type,
@@ -118,7 +115,7 @@ fn put_end(
             other,
         } => {
             let condition = typed(*condition_type, *condition);
-            put_branch(alloc, out, module, locals, &condition, *taken, *other)
+            put_branch(alloc, out, scope, &condition, *taken, *other)
         }
         End::Switch {
             written,
@@ -128,13 +125,13 @@ fn put_end(
         } => {
             let value = typed(*written, *value);
             let cases = cases.as_slice();
-            put_switch(alloc, out, module, locals, &value, *otherwise, cases)
+            put_switch(alloc, out, scope, &value, *otherwise, cases)
         }
         End::Unreachable => out.extend_from_slice(b"unreachable"),
         End::ReturnVoid => out.extend_from_slice(b"ret void"),
         End::Return(value) => {
             out.extend_from_slice(b"ret ")?;
-            put_argument(alloc, out, module, locals, value)
+            put_argument(alloc, out, scope.of_module, scope.locals, value)
         }
     }
 }
@@ -150,6 +147,10 @@ pub fn put_end_line(
     ensures { OnOk result (out.new.items ≡ out.old.items ++ spec.end_line «module».now locals.now end.now) }
 {
     out.extend_from_slice(b"  ")?;
-    put_end(alloc, out, module, locals, end)?;
+    let scope = Scope {
+        of_module: module,
+        locals,
+    };
+    put_end(alloc, out, &scope, end)?;
     out.extend_from_slice(b"\n")
 }

@@ -8,6 +8,7 @@ ghost use Rattle.machine.specs.Entered.{WasEntered};
 
 use crate::entry::{all_unset, most_phis};
 use crate::frame::Frame;
+use crate::frame_code::FrameCode;
 use crate::frame_roots::FrameRoots;
 use crate::memory::slot_value;
 use crate::value::Value;
@@ -99,6 +100,21 @@ impl<'a> Entered<'a> {
         match self.tables.get(number.number() as usize) {
             Some(Some(slots)) => slots,
             _ => unreachable!(),
+        }
+    }
+
+    /// The code of a function that was entered.
+    pub fn code<'e>(&'e self, number: FuncId, function: &'e Function) -> FrameCode<'e>
+        requires entered { WasEntered self.now.tables number }
+        requires function { slice_get self.now.program.of_module.functions number ≡ Some function.now }
+        ensures program { result.program.now ≡ self.now.program }
+        ensures function { result.function.now ≡ function.now }
+        ensures slots { result.slots.now ≡ slots_of self.now.program.of_module function.now }
+    {
+        FrameCode {
+            program: self.program,
+            function,
+            slots: self.slots(number),
         }
     }
 

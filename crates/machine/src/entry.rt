@@ -6,10 +6,10 @@ ghost use Rattle.machine.specs.Machine.{initial, with_arguments, entry_frame};
 
 use crate::elements::address_of;
 use crate::frame::{Frame, initial, put};
+use crate::frame_code::FrameCode;
 use crate::value::{Pointee, Value};
 use ir_ast::{FuncId, Function, Module, TypeId, ValueId};
 use items::Items;
-use shadow_stack::Slots;
 use std::alloc::{AllocError, Global};
 
 /// The greatest number of phis that a block of the function has.
@@ -54,18 +54,16 @@ fn registers_of(
 /// A frame at the beginning of a function.
 pub fn entry_frame(
     alloc: Global,
-    of_module: &Module,
-    slots: &Slots,
-    function: &Function,
+    code: &FrameCode,
     number: FuncId,
     into: Option<ValueId>,
     arguments: &[Value],
 ) -> Result<Frame, AllocError>
-    requires { slots.now ≡ slots_of of_module.now function.now }
-    ensures { IfOk result (λ frame. frame ≡ entry_frame of_module.now function.now number into arguments.now) }
+    requires { code.now.slots.now ≡ slots_of code.now.program.now.of_module code.now.function.now }
+    ensures { IfOk result (λ frame. frame ≡ entry_frame code.now.program.now.of_module code.now.function.now number into arguments.now) }
 {
-    let registers = registers_of(alloc, function, arguments)?;
-    let held = initials(alloc, of_module, slots.held_types())?;
+    let registers = registers_of(alloc, code.function, arguments)?;
+    let held = initials(alloc, code.program.module(), code.slots.held_types())?;
     Ok(Frame {
         function: number,
         into,

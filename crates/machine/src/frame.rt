@@ -8,6 +8,7 @@ use crate::answer::Answer;
 use crate::calls::{alloc_value, layout_of_call, place_of_call, root_of_call};
 use crate::choices::choice_value;
 use crate::elements::element_address;
+use crate::frame_code::FrameCode;
 use crate::frame_context::FrameContext;
 use crate::jumps::{phi_value, phis_of};
 use crate::kinds::is_integer;
@@ -57,46 +58,41 @@ impl Frame {
     }
 
     /// What an instruction that calls no defined function does with the answer.
-    pub fn after_op(
-        &mut self,
-        program: &Program,
-        function: &Function,
-        slots: &Slots,
-        name: Option<ValueId>,
-        op: &Op,
-        answer: Answer,
-    )
-        ensures { self.new ≡ after_op program.now function.now slots.now name op.now answer self.old }
+    pub fn after_op(&mut self, code: &FrameCode, name: Option<ValueId>, op: &Op, answer: Answer)
+        ensures { self.new ≡ after_op code.now.program.now code.now.function.now code.now.slots.now name op.now answer self.old }
     {
+        let FrameCode {
+            program,
+            function,
+            slots,
+        } = *code;
         match op {
             Op::Number(op) => {
                 let value = number_value(&self.context(program, function, slots), op);
                 self.set_register(name, value);
             }
-            Op::Memory(op) => self.after_memory(program, function, slots, name, op, answer),
+            Op::Memory(op) => self.after_memory(code, name, op, answer),
             Op::Element(element) => {
                 let value = element_address(&self.context(program, function, slots), element);
                 self.set_register(name, value);
             }
-            Op::Cast(cast) => self.after_cast(program, function, slots, name, cast),
+            Op::Cast(cast) => self.after_cast(code, name, cast),
             Op::Choice(choice) => {
                 let value = choice_value(&self.context(program, function, slots), choice);
                 self.set_register(name, value);
             }
-            Op::Call(call) => self.after_call(program, function, slots, name, call, answer),
+            Op::Call(call) => self.after_call(code, name, call, answer),
         }
     }
 
-    fn after_cast(
-        &mut self,
-        program: &Program,
-        function: &Function,
-        slots: &Slots,
-        name: Option<ValueId>,
-        cast: &Cast,
-    )
-        ensures { self.new ≡ after_cast program.now slots.now name cast.now self.old }
+    fn after_cast(&mut self, code: &FrameCode, name: Option<ValueId>, cast: &Cast)
+        ensures { self.new ≡ after_cast code.now.program.now code.now.slots.now name cast.now self.old }
     {
+        let FrameCode {
+            program,
+            function,
+            slots,
+        } = *code;
         let value = value_of(
             &self.context(program, function, slots),
             cast.from,
@@ -109,15 +105,18 @@ impl Frame {
 
     fn after_memory(
         &mut self,
-        program: &Program,
-        function: &Function,
-        slots: &Slots,
+        code: &FrameCode,
         name: Option<ValueId>,
         op: &MemoryOp,
         answer: Answer,
     )
-        ensures { self.new ≡ after_memory program.now function.now slots.now name op.now answer self.old }
+        ensures { self.new ≡ after_memory code.now.program.now code.now.function.now code.now.slots.now name op.now answer self.old }
     {
+        let FrameCode {
+            program,
+            function,
+            slots,
+        } = *code;
         let context = self.context(program, function, slots);
         match op {
             MemoryOp::Alloca(_) => {}
@@ -144,17 +143,14 @@ impl Frame {
         }
     }
 
-    fn after_call(
-        &mut self,
-        program: &Program,
-        function: &Function,
-        slots: &Slots,
-        name: Option<ValueId>,
-        call: &Call,
-        answer: Answer,
-    )
-        ensures { self.new ≡ after_call program.now function.now slots.now name call.now.arguments (runtime_called program.now.of_module call.now.callee) answer self.old }
+    fn after_call(&mut self, code: &FrameCode, name: Option<ValueId>, call: &Call, answer: Answer)
+        ensures { self.new ≡ after_call code.now.program.now code.now.function.now code.now.slots.now name call.now.arguments (runtime_called code.now.program.now.of_module call.now.callee) answer self.old }
     {
+        let FrameCode {
+            program,
+            function,
+            slots,
+        } = *code;
         let context = self.context(program, function, slots);
         let arguments = call.arguments.as_slice();
         match runtime_called(program.module(), call.callee) {

@@ -73,31 +73,30 @@ fn push_frame(
     Ok(())
 }
 
-/// The first frame of a function that was entered, which is called with these arguments.
+/// A call of a defined function: its number, the name that takes the result, and the arguments.
+#[derive(Clone, Copy)]
+struct DefinedCall<'a> {
+    number: FuncId,
+    into: Option<ValueId>,
+    arguments: &'a [Argument],
+}
+
+/// The first frame of a function that was entered and is called so.
 fn called_frame(
     alloc: Global,
     entered: &Entered<'_>,
     registers: &[Value],
     callee: &Function,
-    number: FuncId,
-    into: Option<ValueId>,
-    arguments: &[Argument],
+    called: &DefinedCall,
 ) -> Result<Frame, AllocError>
-    requires entered { WasEntered entered.now.tables number }
-    requires callee { slice_get entered.now.program.of_module.functions number ≡ Some callee.now }
-    ensures { let m = entered.now.program.of_module in IfOk result (λ frame. frame ≡ entry_frame m callee.now number into (values_of m registers.now arguments.now)) }
+    requires entered { WasEntered entered.now.tables called.now.number }
+    requires callee { slice_get entered.now.program.of_module.functions called.now.number ≡ Some callee.now }
+    ensures { let m = entered.now.program.of_module in IfOk result (λ frame. frame ≡ entry_frame m callee.now called.now.number called.now.into (values_of m registers.now called.now.arguments.now)) }
 {
     let of_module = entered.program().module();
-    let values = values_of(alloc, of_module, registers, arguments)?;
-    let frame = entry_frame(
-        alloc,
-        of_module,
-        entered.slots(number),
-        callee,
-        number,
-        into,
-        values.as_slice(),
-    );
+    let values = values_of(alloc, of_module, registers, called.arguments)?;
+    let code = entered.code(called.number, callee);
+    let frame = entry_frame(alloc, &code, called.number, called.into, values.as_slice());
     drop(values);
     frame
 }
@@ -108,59 +107,45 @@ fn call(
     entered: &mut Entered<'_>,
     running: &mut Frame,
     below: &mut Vec<WaitingFrame>,
-    number: FuncId,
-    into: Option<ValueId>,
-    arguments: &[Argument],
+    called: &DefinedCall,
 ) -> Result<bool, AllocError>
     requires entered { WereEntered entered.old.tables (running.old ∷ below.old.items) }
     requires place { running.old.place + 1 < 2 ^ 64 }
     ensures program { entered.new.program ≡ entered.old.program }
     ensures entered { WereEntered entered.new.tables (running.new ∷ below.new.items) }
-    ensures ok { let m = entered.old.program.of_module in IfOk result (λ goes_on. frames_unless (not goes_on) running.new (reverse below.new.items) ≡ frames_called m into (values_of m running.old.registers arguments.now) number (slice_get m.functions number) running.old (reverse below.old.items)) }
+    ensures ok { let m = entered.old.program.of_module in IfOk result (λ goes_on. frames_unless (not goes_on) running.new (reverse below.new.items) ≡ frames_called m called.now.into (values_of m running.old.registers called.now.arguments.now) called.now.number (slice_get m.functions called.now.number) running.old (reverse below.old.items)) }
     ensures err { OnErr result ((running.new ≡ running.old) × (below.new.items ≡ below.old.items)) }
 {
     let of_module = entered.program().module();
-    let Some(callee) = of_module.functions.get(number.number() as usize) else {
+    let Some(callee) = of_module.functions.get(called.number.number() as usize) else {
         return Ok(true);
     };
     if !has_room(below.len()) {
         return Ok(false);
     }
-    entered.enter(alloc, number)?;
-    let frame = called_frame(
-        alloc,
-        entered,
-        running.registers.as_slice(),
-        callee,
-        number,
-        into,
-        arguments,
-    )?;
+    entered.enter(alloc, called.number)?;
+    let frame = called_frame(alloc, entered, running.registers.as_slice(), callee, called)?;
     push_frame(alloc, running, below, frame)?;
     Ok(true)
 }
 
+/// An instruction of the running frame, with the answer to what it asked for.
+#[derive(Clone, Copy)]
+pub struct Answered<'a> {
+    pub instr: &'a Instr,
+    pub answer: Answer,
+}
+
 /// The running frame goes on at the next place of its block.
-fn go_on(
-    entered: &Entered<'_>,
-    running: &mut Frame,
-    function: &Function,
-    instr: &Instr,
-    answer: Answer,
-)
+fn go_on(entered: &Entered<'_>, running: &mut Frame, function: &Function, answered: &Answered)
     requires entered { WasEntered entered.now.tables running.old.function }
     requires function { slice_get entered.now.program.of_module.functions running.old.function ≡ Some function.now }
     requires place { running.old.place + 1 < 2 ^ 64 }
-    ensures { let p = entered.now.program in running.new ≡ go_on (after_op p function.now (slots_of p.of_module function.now) instr.now.result instr.now.op answer running.old) }
+    ensures { let p = entered.now.program in running.new ≡ go_on (after_op p function.now (slots_of p.of_module function.now) answered.now.instr.now.result answered.now.instr.now.op answered.now.answer running.old) }
 {
-    running.after_op(
-        entered.program(),
-        function,
-        entered.slots(running.function),
-        instr.result,
-        &instr.op,
-        answer,
-    );
+    let code = entered.code(running.function, function);
+    let instr = answered.instr;
+    running.after_op(&code, instr.result, &instr.op, answered.answer);
     running.place += 1;
 }
 
@@ -215,33 +200,28 @@ pub fn after_instr(
     running: &mut Frame,
     below: &mut Vec<WaitingFrame>,
     function: &Function,
-    instr: &Instr,
-    answer: Answer,
+    answered: &Answered,
 ) -> Result<bool, AllocError>
     requires entered { WereEntered entered.old.tables (running.old ∷ below.old.items) }
     requires function { slice_get entered.old.program.of_module.functions running.old.function ≡ Some function.now }
     requires place { running.old.place + 1 < 2 ^ 64 }
     ensures program { entered.new.program ≡ entered.old.program }
     ensures entered { WereEntered entered.new.tables (running.new ∷ below.new.items) }
-    ensures ok { let p = entered.old.program in IfOk result (λ goes_on. frames_unless (not goes_on) running.new (reverse below.new.items) ≡ after_instr p function.now instr.now answer running.old (reverse below.old.items) (function_called p.of_module instr.now.op)) }
+    ensures ok { let p = entered.old.program in IfOk result (λ goes_on. frames_unless (not goes_on) running.new (reverse below.new.items) ≡ after_instr p function.now answered.now.instr.now answered.now.answer running.old (reverse below.old.items) (function_called p.of_module answered.now.instr.now.op)) }
     ensures err { OnErr result ((running.new ≡ running.old) × (below.new.items ≡ below.old.items)) }
 {
     let of_module = entered.program().module();
-    if let Op::Call(called) = &instr.op {
-        if let Some(number) = number_called(of_module, called.callee) {
-            let arguments = called.arguments.as_slice();
-            return call(
-                alloc,
-                entered,
-                running,
-                below,
+    if let Op::Call(of_call) = &answered.instr.op {
+        if let Some(number) = number_called(of_module, of_call.callee) {
+            let called = DefinedCall {
                 number,
-                instr.result,
-                arguments,
-            );
+                into: answered.instr.result,
+                arguments: of_call.arguments.as_slice(),
+            };
+            return call(alloc, entered, running, below, &called);
         }
     }
-    go_on(entered, running, function, instr, answer);
+    go_on(entered, running, function, answered);
     Ok(true)
 }
 

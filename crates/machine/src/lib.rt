@@ -13,6 +13,7 @@ mod ends;
 mod entered;
 mod entry;
 mod frame;
+mod frame_code;
 mod frame_context;
 mod frame_place;
 mod frame_roots;

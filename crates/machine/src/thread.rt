@@ -19,7 +19,7 @@ use crate::entry::entry_frame;
 use crate::frame::Frame;
 use crate::frame_place::FramePlace;
 use crate::frame_roots::FrameRoots;
-use crate::frames::{above_callers, after_end, after_instr, with_room};
+use crate::frames::{Answered, above_callers, after_end, after_instr, with_room};
 use crate::integers::wrapped;
 use crate::kinds::{bits_at, is_integer};
 use crate::value::Value;
@@ -225,7 +225,10 @@ impl<'a> Thread<'a> {
             ..
         } = self;
         let goes_on = match instr_at(function, running.block, running.place) {
-            Some(instr) => after_instr(*alloc, entered, running, below, function, instr, answer)?,
+            Some(instr) => {
+                let answered = Answered { instr, answer };
+                after_instr(*alloc, entered, running, below, function, &answered)?
+            }
             None => match end_at(function, running.block) {
                 Some(end) => after_end(*alloc, entered, running, below, function, end)?,
                 None => true,
@@ -249,15 +252,8 @@ fn first_frame(
     ensures { IfOk result (λ frame. frame ≡ entry_frame entered.now.program.of_module function.now number None (argument_values arguments.now)) }
 {
     let values = argument_values(alloc, arguments)?;
-    let frame = entry_frame(
-        alloc,
-        entered.program().module(),
-        entered.slots(number),
-        function,
-        number,
-        None,
-        values.as_slice(),
-    );
+    let code = entered.code(number, function);
+    let frame = entry_frame(alloc, &code, number, None, values.as_slice());
     drop(values);
     frame
 }

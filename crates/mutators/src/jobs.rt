@@ -16,6 +16,13 @@ use serving::{Job, ServingEnd};
 use std::alloc::Global;
 use trace_text::{Setup, Start};
 
+/// An accepted module, with a setup of it.
+#[derive(Clone, Copy)]
+pub(crate) struct AcceptedSetup<'a> {
+    pub(crate) accepted: &'a Accepted,
+    pub(crate) setup: &'a Setup,
+}
+
 /// The threads of a setup with their tokens, each at the beginning of its function; or the first fault.
 pub(crate) fn new_jobs<'a>(
     alloc: Global,
@@ -33,10 +40,11 @@ pub(crate) fn new_jobs<'a>(
     ensures no_fault { IfOk result (λ _. HasNoRunFault accepted.now.program accepted.now.certs.sections setup.now) }
     ensures fault { IfErr result (λ e. e ≢ fault.Memory → IsRunFault accepted.now.program accepted.now.certs.sections setup.now e) }
 {
+    let of_setup = AcceptedSetup { accepted, setup };
     let mut jobs = Vec::new(alloc);
     for (number, begun) in setup.starts.as_slice().iter().enumerate() {
         let me = tokens.remove(0);
-        let job = new_job(alloc, accepted, setup, heap, me, number as u32, begun)?;
+        let job = new_job(alloc, &of_setup, heap, me, number as u32, begun)?;
         jobs.push(job)?;
     }
     Ok(jobs)
@@ -45,21 +53,21 @@ pub(crate) fn new_jobs<'a>(
 /// The thread with this number and its token, at the beginning of its function.
 fn new_job<'a>(
     alloc: Global,
-    accepted: &'a Accepted,
-    setup: &'a Setup,
+    of_setup: &AcceptedSetup<'a>,
     heap: &Heap<'_>,
     me: Mutator,
     number: u32,
     begun: &Start,
 ) -> Result<Job<ProgramThread<'a>>, SetupFault>
-    requires begun { IsStartOf accepted.now.program begun.now }
-    requires at { slice_get setup.now.starts number ≡ Some begun.now }
-    requires heap { heap.now.setup ≡ heap_of accepted.now.program setup.now }
+    requires begun { IsStartOf of_setup.now.accepted.now.program begun.now }
+    requires at { slice_get of_setup.now.setup.now.starts number ≡ Some begun.now }
+    requires heap { heap.now.setup ≡ heap_of of_setup.now.accepted.now.program of_setup.now.setup.now }
     requires token { IsNew heap.now number me }
-    ensures ok { IfOk result (IsJobOf accepted.now.program setup.now heap.now number) }
-    ensures no_fault { IfOk result (λ _. MayStart accepted.now.program accepted.now.certs.sections begun.now) }
-    ensures fault { IfErr result (λ e. e ≢ fault.Memory → IsStartFault accepted.now.program accepted.now.certs.sections number begun.now e) }
+    ensures ok { IfOk result (IsJobOf of_setup.now.accepted.now.program of_setup.now.setup.now heap.now number) }
+    ensures no_fault { IfOk result (λ _. MayStart of_setup.now.accepted.now.program of_setup.now.accepted.now.certs.sections begun.now) }
+    ensures fault { IfErr result (λ e. e ≢ fault.Memory → IsStartFault of_setup.now.accepted.now.program of_setup.now.accepted.now.certs.sections number begun.now e) }
 {
+    let AcceptedSetup { accepted, setup } = *of_setup;
     begun_law();
     let machine = begun_thread(alloc, accepted.program(), setup, number, begun)?;
     let section = accepted.certs().section(begun.function);

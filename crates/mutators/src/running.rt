@@ -15,14 +15,14 @@ ghost use Rattle.mutators.specs.Faults.{IsRunFault, HasNoRunFault};
 ghost use Rattle.mutators.specs.Jobs.{AreJobs};
 ghost use Rattle.mutators.specs.Reports.{IsReport};
 
-use crate::jobs::new_jobs;
+use crate::jobs::{AcceptedSetup, new_jobs};
 use crate::report::RunReport;
 use crate::thread_end::ends_of;
 use gate::Gate;
 use heap_table::{Heap, Plan, Sweeper};
 use module_check::Accepted;
 use program_runner::{ProgramThread, SetupFault, values_at_start};
-use serving::{Job, Limits, close_after, serve_beside};
+use serving::{Job, Limits, Service, close_after, serve_beside};
 use std::alloc::{AllocError, Global};
 use std::thread::Threads;
 use trace_sweep::heap_law;
@@ -69,9 +69,13 @@ pub fn run<T: Threads + Sync, G: Gate + Sync>(
     };
     let (heap, tokens, sweeper) = Heap::new(alloc, plan)?;
     let jobs = new_jobs(alloc, accepted, setup, &heap, tokens)?;
-    let report = run_jobs(
-        rt, alloc, accepted, setup, heap, jobs, sweeper, limits, gate,
-    )?;
+    let begun = Begun {
+        heap,
+        jobs,
+        sweeper,
+    };
+    let of_setup = AcceptedSetup { accepted, setup };
+    let report = run_jobs(rt, alloc, &of_setup, begun, limits, gate)?;
     Ok(report)
 }
 
@@ -87,35 +91,41 @@ fn late_threads(alloc: Global, setup: &Setup) -> Result<Vec<bool>, AllocError>
         .collect(alloc)
 }
 
+/// The heap of a setup, with its collector and with threads that may begin.
+#[derive(Drop)]
+struct Begun<'a, 'b> {
+    heap: Heap<'a>,
+    jobs: Vec<Job<ProgramThread<'b>>>,
+    sweeper: Sweeper<'a>,
+}
+
 /// Runs threads that may begin, and tells what came of it.
 fn run_jobs<'a, T: Threads + Sync, G: Gate + Sync>(
     rt: &T,
     alloc: Global,
-    accepted: &Accepted,
-    setup: &Setup,
-    heap: Heap<'a>,
-    mut jobs: Vec<Job<ProgramThread<'_>>>,
-    mut sweeper: Sweeper<'a>,
+    of_setup: &AcceptedSetup,
+    begun: Begun<'a, '_>,
     limits: Limits,
     gate: &G,
 ) -> Result<RunReport, AllocError>
-    requires heap { heap.setup ≡ heap_of accepted.now.program setup.now }
-    requires jobs { AreJobs accepted.now.program setup.now heap jobs.items }
-    requires count { length jobs.items ≡ length setup.now.starts }
-    requires sweeper { IsSweeperOf heap sweeper }
-    requires fresh { sweeper.log ≡ [] }
-    ensures { IfOk result (IsReport accepted.now.program setup.now limits) }
+    requires heap { begun.heap.setup ≡ heap_of of_setup.now.accepted.now.program of_setup.now.setup.now }
+    requires jobs { AreJobs of_setup.now.accepted.now.program of_setup.now.setup.now begun.heap begun.jobs.items }
+    requires count { length begun.jobs.items ≡ length of_setup.now.setup.now.starts }
+    requires sweeper { IsSweeperOf begun.heap begun.sweeper }
+    requires fresh { begun.sweeper.log ≡ [] }
+    ensures { IfOk result (IsReport of_setup.now.accepted.now.program of_setup.now.setup.now limits) }
 {
     heap_law();
-    let turns = serve_programs(
-        rt,
-        alloc,
-        &heap,
-        jobs.as_mut_slice(),
-        &mut sweeper,
+    let Begun {
+        heap,
+        mut jobs,
+        mut sweeper,
+    } = begun;
+    let service = Service {
+        heap: &heap,
         limits,
-        gate,
-    );
+    };
+    let turns = serve_programs(rt, alloc, &service, jobs.as_mut_slice(), &mut sweeper, gate);
     let threads = ends_of(alloc, jobs.as_slice())?;
     let cycles = sweeper.cycles();
     close_after(alloc, heap, jobs, sweeper)?;
@@ -130,19 +140,18 @@ fn run_jobs<'a, T: Threads + Sync, G: Gate + Sync>(
 fn serve_programs<'a, 'b, T: Threads + Sync, G: Gate + Sync>(
     rt: &T,
     alloc: Global,
-    heap: &Heap<'_>,
+    service: &Service,
     jobs: &mut [Job<ProgramThread<'b>>],
     sweeper: &mut Sweeper<'a>,
-    limits: Limits,
     gate: &G,
 ) -> u32
-    requires jobs { AllByRecursion (MayBegin program_machine FitsThread heap.now) jobs.old }
-    requires sweeper { IsSweeperOf heap.now sweeper.old }
-    ensures jobs { (i : ℕ) (d : _) → i < length jobs.old → WasServed program_machine limits.steps (slice_index_or jobs.old i d) (slice_index_or jobs.new i d) }
+    requires jobs { AllByRecursion (MayBegin program_machine FitsThread service.now.heap.now) jobs.old }
+    requires sweeper { IsSweeperOf service.now.heap.now sweeper.old }
+    ensures jobs { (i : ℕ) (d : _) → i < length jobs.old → WasServed program_machine service.now.limits.steps (slice_index_or jobs.old i d) (slice_index_or jobs.new i d) }
     ensures token { IsNowAt sweeper.old sweeper.new.log sweeper.new }
     ensures turns { (turns : List Turn) × (sweeper.new.log ≡ turns ++ sweeper.old.log) × (length turns ≡ result) }
-    ensures limit { result ≤ limits.turns }
-    ensures first { 0 < limits.turns → MayTurn sweeper.old.setup sweeper.old.log → 0 < result }
+    ensures limit { result ≤ service.now.limits.turns }
+    ensures first { 0 < service.now.limits.turns → MayTurn sweeper.old.setup sweeper.old.log → 0 < result }
 {
-    serve_beside::<T, ProgramThread<'b>, G>(rt, alloc, heap, jobs, sweeper, limits, gate)
+    serve_beside::<T, ProgramThread<'b>, G>(rt, alloc, service, jobs, sweeper, gate)
 }

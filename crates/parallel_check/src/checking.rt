@@ -6,7 +6,7 @@ ghost use Rattle.program_safety.specs.Safety.{IsCarefulProgram, IsSafeProgram};
 ghost use Rattle.parallel_check.specs.Shares.{IsFirstFault, IsOf};
 
 use crate::first::first_of;
-use crate::share::fault_in_share;
+use crate::share::{FirstFunctions, fault_in_share};
 use block_rules::BlockFault;
 use certs::Certs;
 use gate::Gate;
@@ -22,23 +22,21 @@ fn fault_by_workers<R: Threads + Sync, G: Gate + Sync>(
     alloc: Global,
     workers: u32,
     gate: &G,
-    program: &Program,
-    certs: &Certs,
-    count: u32,
+    functions: &FirstFunctions,
 ) -> Option<BlockFault>
     requires some { 1 ≤ workers }
     requires few { workers ≤ 64 }
-    requires count { count ≤ length program.now.of_module.functions }
-    ensures { MatchOption result (IsModuleCertified program.now certs.now.sections count) (IsModuleFault program.now certs.now.sections count) }
+    requires count { functions.now.count ≤ length functions.now.program.now.of_module.functions }
+    ensures { MatchOption result (IsModuleCertified functions.now.program.now functions.now.certs.now.sections functions.now.count) (IsModuleFault functions.now.program.now functions.now.certs.now.sections functions.now.count) }
 {
     let faults = map_indices(
         rt,
         alloc,
         workers as usize,
         &|worker: usize| -> Option<BlockFault>
-            requires { (worker < workers) × (workers ≤ 64) × (count ≤ length program.now.of_module.functions) }
-            ensures { IsFirstFault program.entry.now certs.entry.now.sections (IsOf workers worker) count result }
-        { fault_in_share(alloc, workers, worker as u32, gate, program, certs, count) },
+            requires { (worker < workers) × (workers ≤ 64) × (functions.now.count ≤ length functions.now.program.now.of_module.functions) }
+            ensures { IsFirstFault functions.entry.now.program.now functions.entry.now.certs.now.sections (IsOf workers worker) functions.entry.now.count result }
+        { fault_in_share(alloc, workers, worker as u32, gate, functions) },
     );
     match faults {
         Ok(faults) => first_of(faults),
@@ -61,7 +59,14 @@ fn fault_in_module<R: Threads + Sync, G: Gate + Sync>(
 {
     // No memory holds more functions than there are numbers for them.
     match u32::try_from(program.module().functions.len()) {
-        Ok(count) => fault_by_workers(rt, alloc, workers, gate, program, certs, count),
+        Ok(count) => {
+            let functions = FirstFunctions {
+                program,
+                certs,
+                count,
+            };
+            fault_by_workers(rt, alloc, workers, gate, &functions)
+        }
         Err(_) => Some(BlockFault::Memory),
     }
 }

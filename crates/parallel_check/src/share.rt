@@ -10,21 +10,32 @@ use ir_ast::FuncId;
 use layout::Program;
 use std::alloc::Global;
 
+/// The first functions of a program, with the certificates by which they are checked.
+#[derive(Clone, Copy)]
+pub struct FirstFunctions<'a> {
+    pub program: &'a Program,
+    pub certs: &'a Certs,
+    pub count: u32,
+}
+
 /// The first fault in the functions that a worker checks: the one with its number, and from there each `workers`-th.
 pub fn fault_in_share<G: Gate>(
     alloc: Global,
     workers: u32,
     worker: u32,
     gate: &G,
-    program: &Program,
-    certs: &Certs,
-    count: u32,
+    functions: &FirstFunctions,
 ) -> Option<BlockFault>
     requires worker { worker < workers }
     requires few { workers ≤ 64 }
-    requires count { count ≤ length program.now.of_module.functions }
-    ensures { IsFirstFault program.now certs.now.sections (IsOf workers worker) count result }
+    requires count { functions.now.count ≤ length functions.now.program.now.of_module.functions }
+    ensures { IsFirstFault functions.now.program.now functions.now.certs.now.sections (IsOf workers worker) functions.now.count result }
 {
+    let FirstFunctions {
+        program,
+        certs,
+        count,
+    } = *functions;
     for number in (worker..count).step_by(workers as usize) {
         let piece = number as usize;
         gate.before(piece);

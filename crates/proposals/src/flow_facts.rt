@@ -20,6 +20,13 @@ enum EdgeFacts {
     Changed,
 }
 
+/// An edge from a block to another.
+#[derive(Clone, Copy)]
+pub struct Edge {
+    pub from: BlockId,
+    pub to: BlockId,
+}
+
 /// What is known at a place of a block, on an edge out of it, and where the block to which the edge leads begins.
 #[derive(Drop)]
 pub struct FlowFacts {
@@ -182,17 +189,17 @@ impl FlowFacts {
         }
     }
 
-    /// Goes on the edge to a block, past its phis; `decided` is the value that decides the edge, and what it is.
+    /// Goes on an edge to a block, past its phis; `decided` is the value that decides the edge, and what it is.
     pub fn enter(
         &mut self,
         alloc: Global,
         rule_context: &RuleContext,
         summary: &FunctionSummary,
-        from: BlockId,
-        to: BlockId,
+        edge: Edge,
         decided: Option<(ValueId, bool)>,
     ) -> Result<(), AllocError> {
-        if decided.is_none() && !has_phis(rule_context, to) {
+        let enters_phis = has_phis(rule_context, edge.to);
+        if decided.is_none() && !enters_phis {
             self.edge_facts = EdgeFacts::Unchanged;
             return Ok(());
         }
@@ -202,7 +209,7 @@ impl FlowFacts {
             let test = self.changed.test(value);
             self.changed.learn(test, taken)?;
         }
-        self.record_entries(rule_context, summary, from, to)?;
+        self.record_entries(rule_context, summary, edge)?;
         self.changed
             .after_phis(alloc, &mut self.spare, self.entries.as_slice())
     }
@@ -219,10 +226,10 @@ impl FlowFacts {
         &mut self,
         rule_context: &RuleContext,
         summary: &FunctionSummary,
-        from: BlockId,
-        to: BlockId,
+        edge: Edge,
     ) -> Result<(), AllocError> {
         self.entries.clear();
+        let Edge { from, to } = edge;
         let Some(block) = rule_context.function.blocks.get(to.number() as usize) else {
             return Ok(());
         };

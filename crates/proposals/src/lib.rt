@@ -14,6 +14,7 @@ mod marks;
 mod needs;
 mod numbers;
 mod order;
+mod predecessors;
 mod proposal;
 mod scan;
 mod summaries;

@@ -1,5 +1,6 @@
 use crate::guesses::Guesses;
 use crate::incoming_operands::IncomingOperands;
+use crate::predecessors::predecessors_of;
 use crate::scan::Scan;
 use crate::wanted::wanted_of;
 use ir_ast::{FuncId, Function, Module, ValueId};
@@ -27,6 +28,8 @@ pub struct Reading {
     pub guesses: Guesses,
     /// The values and slots that are wanted at each block; a slot's number comes after those of all values.
     pub wanted: Buckets,
+    /// The blocks from which each block is entered, once for each edge.
+    pub predecessors: Buckets,
 }
 
 impl<'a> FunctionSummary<'a> {
@@ -59,21 +62,40 @@ impl<'a> FunctionSummary<'a> {
 
 impl Reading {
     fn of(alloc: Global, function: &Function, slots: &Slots) -> Result<Reading, AllocError> {
-        let guesses = Guesses::of(alloc, function, slots)?;
-        let Ok(wanted) = wanted_in(alloc, function, slots, &guesses) else {
-            drop(guesses);
+        let incoming = IncomingOperands::of(alloc, function)?;
+        let Ok(predecessors) = predecessors_of(alloc, function) else {
+            drop(incoming);
             return Err(AllocError);
         };
-        let Ok(incoming) = IncomingOperands::of(alloc, function) else {
+        match guesses_and_wanted(alloc, function, slots, &predecessors) {
+            Ok((guesses, wanted)) => Ok(Reading {
+                incoming,
+                guesses,
+                wanted,
+                predecessors,
+            }),
+            Err(refused) => {
+                drop(incoming);
+                drop(predecessors);
+                Err(refused)
+            }
+        }
+    }
+}
+
+fn guesses_and_wanted(
+    alloc: Global,
+    function: &Function,
+    slots: &Slots,
+    predecessors: &Buckets,
+) -> Result<(Guesses, Buckets), AllocError> {
+    let guesses = Guesses::of(alloc, function, slots)?;
+    match wanted_in(alloc, function, slots, predecessors, &guesses) {
+        Ok(wanted) => Ok((guesses, wanted)),
+        Err(refused) => {
             drop(guesses);
-            drop(wanted);
-            return Err(AllocError);
-        };
-        Ok(Reading {
-            incoming,
-            guesses,
-            wanted,
-        })
+            Err(refused)
+        }
     }
 }
 
@@ -81,10 +103,11 @@ fn wanted_in(
     alloc: Global,
     function: &Function,
     slots: &Slots,
+    predecessors: &Buckets,
     guesses: &Guesses,
 ) -> Result<Buckets, AllocError> {
     let scan = Scan::of(alloc, function, slots, &guesses.bases)?;
-    let wanted = wanted_of(alloc, function, &scan);
+    let wanted = wanted_of(alloc, function.blocks.len(), predecessors, &scan);
     drop(scan);
     wanted
 }

@@ -3,14 +3,14 @@ use crate::best::best_claims;
 use crate::call_graph::{CallGraph, defined};
 use crate::draft_claims::{BlockClaims, DraftClaims};
 use crate::first_claims::first_claims;
-use crate::flow_facts::FlowFacts;
+use crate::flow_facts::{Edge, FlowFacts};
 use crate::summaries::Summaries;
 use crate::summary::FunctionSummary;
-use crate::weaken::weakened;
+use crate::weaken::{lists_less_of_fresh, weakened};
 use block_rules::{RuleContext, TypeKind};
 use certs::Claim;
 use indexmap::IndexSet;
-use ir_ast::{Argument, Block, BlockId, Case, End, Instr, Op, Operand, ValueId};
+use ir_ast::{Argument, BlockId, Case, End, Instr, Op, Operand, ValueId};
 use std::alloc::{AllocError, Global};
 use types::target_of;
 
@@ -32,9 +32,9 @@ pub struct FlowAnalysis {
     pub names: Vec<ValueId>,
 }
 
-/// An edge out of a block: the label that it leads to, the value that decides it, and what it is.
+/// An edge out of a block, to a label: the value that decides it, if one does, and what that is.
 #[derive(Clone, Copy)]
-struct Edge {
+struct LabelledEdge {
     from: BlockId,
     label: ValueId,
     decided: Option<(ValueId, bool)>,
@@ -49,7 +49,7 @@ impl FlowAnalysis {
         })
     }
 
-    /// Walks over a function until nothing changes; `limit` walks over blocks at most.
+    /// Walks over a function until nothing changes, but over each block 64 times at most, taken together.
     pub fn walk(
         &mut self,
         alloc: Global,
@@ -119,7 +119,8 @@ impl FlowAnalysis {
         for instr in block.body.as_slice() {
             self.instr(context, summaries, instr)?;
         }
-        self.end(alloc, context, summaries, draft, number, block)
+        self.returned(context, summaries, &block.end)?;
+        self.edges(alloc, context, draft, number, &block.end)
     }
 
     fn begin(
@@ -176,16 +177,31 @@ impl FlowAnalysis {
         self.flow.shown(&argument.operand, kind)
     }
 
-    fn end(
+    /// What a block returns, if it does, is recorded for the callers.
+    fn returned(
+        &mut self,
+        context: &FunctionContext,
+        summaries: &mut Summaries,
+        end: &End,
+    ) -> Result<(), AllocError> {
+        match end {
+            End::Return(argument) => {
+                let shown = self.shown(context, argument);
+                summaries.record_result(context.graph, context.summary.func, shown)
+            }
+            _ => Ok(()),
+        }
+    }
+
+    fn edges(
         &mut self,
         alloc: Global,
         context: &FunctionContext,
-        summaries: &mut Summaries,
         draft: &mut DraftClaims,
         from: BlockId,
-        block: &Block,
+        end: &End,
     ) -> Result<(), AllocError> {
-        match &block.end {
+        match end {
             End::Jump(label) => self.open_edge(alloc, context, draft, from, *label),
             End::Branch {
                 condition,
@@ -193,13 +209,13 @@ impl FlowAnalysis {
                 other,
                 ..
             } => {
-                let on = Edge {
+                let on = LabelledEdge {
                     from,
                     label: *taken,
                     decided: decided_by(condition, true),
                 };
                 self.edge(alloc, context, draft, on)?;
-                let off = Edge {
+                let off = LabelledEdge {
                     from,
                     label: *other,
                     decided: decided_by(condition, false),
@@ -212,45 +228,26 @@ impl FlowAnalysis {
                 ..
             } => {
                 self.open_edge(alloc, context, draft, from, *otherwise)?;
-                self.cases(alloc, context, draft, from, cases.as_slice())
+                let targets = targets_of(alloc, cases.as_slice())?;
+                let walked = self.open_edges(alloc, context, draft, from, &targets);
+                drop(targets);
+                walked
             }
-            End::Return(argument) => {
-                let shown = self.shown(context, argument);
-                summaries.record_result(context.graph, context.summary.func, shown)
-            }
-            End::Unreachable | End::ReturnVoid => Ok(()),
+            End::Return(_) | End::Unreachable | End::ReturnVoid => Ok(()),
         }
     }
 
-    /// The edges of cases: one to each target, since a further one says the same.
-    fn cases(
+    /// Edges that nothing decides of which something is known.
+    fn open_edges(
         &mut self,
         alloc: Global,
         context: &FunctionContext,
         draft: &mut DraftClaims,
         from: BlockId,
-        cases: &[Case],
+        labels: &[ValueId],
     ) -> Result<(), AllocError> {
-        let mut gone = IndexSet::new(alloc);
-        let went = self.new_edges(alloc, context, draft, from, cases, &mut gone);
-        drop(gone);
-        went
-    }
-
-    /// The edges to targets that were not seen; `gone` are those that were.
-    fn new_edges(
-        &mut self,
-        alloc: Global,
-        context: &FunctionContext,
-        draft: &mut DraftClaims,
-        from: BlockId,
-        cases: &[Case],
-        gone: &mut IndexSet<u32>,
-    ) -> Result<(), AllocError> {
-        for case in cases {
-            if gone.insert(case.target.number())? {
-                self.open_edge(alloc, context, draft, from, case.target)?;
-            }
+        for label in labels {
+            self.open_edge(alloc, context, draft, from, *label)?;
         }
         Ok(())
     }
@@ -264,7 +261,7 @@ impl FlowAnalysis {
         from: BlockId,
         label: ValueId,
     ) -> Result<(), AllocError> {
-        let edge = Edge {
+        let edge = LabelledEdge {
             from,
             label,
             decided: None,
@@ -277,28 +274,29 @@ impl FlowAnalysis {
         alloc: Global,
         context: &FunctionContext,
         draft: &mut DraftClaims,
-        edge: Edge,
+        labelled: LabelledEdge,
     ) -> Result<(), AllocError> {
-        let Some(to) = target_of(context.rule_context.function, edge.label) else {
+        let Some(to) = target_of(context.rule_context.function, labelled.label) else {
             return Ok(());
         };
         if to.number() == 0 {
             return Ok(());
         }
-        let rule_context = &context.rule_context;
+        let edge = Edge {
+            from: labelled.from,
+            to,
+        };
         self.flow.enter(
             alloc,
-            rule_context,
+            &context.rule_context,
             context.summary,
-            edge.from,
-            to,
-            edge.decided,
+            edge,
+            labelled.decided,
         )?;
-        if let Some(listed) = self.claims_after(alloc, context, draft, to)? {
-            draft.set(to, listed);
-            draft.wake(to)?;
+        match self.claims_after(alloc, context, draft, to)? {
+            Some(listed) => change(context, draft, to, listed),
+            None => Ok(()),
         }
-        Ok(())
     }
 
     /// The claims of a block after one more edge to it, if they change.
@@ -339,6 +337,41 @@ impl FlowAnalysis {
             &self.names,
         )
     }
+}
+
+/// Puts claims in the place of those of a block, and wakes it. Where they list less of what is fresh, an edge that was walked may imply
+/// them no longer. So the blocks from which the block is entered are woken too.
+fn change(
+    context: &FunctionContext,
+    draft: &mut DraftClaims,
+    to: BlockId,
+    listed: BlockClaims,
+) -> Result<(), AllocError> {
+    let again = match draft.claims(to) {
+        Some(before) => lists_less_of_fresh(before, &listed),
+        None => false,
+    };
+    draft.set(to, listed);
+    draft.wake(to)?;
+    if again {
+        let predecessors = &context.summary.reading.predecessors;
+        for from in predecessors.group(to.number() as usize) {
+            draft.wake(BlockId::new(*from))?;
+        }
+    }
+    Ok(())
+}
+
+/// The targets of cases, each once, since a further edge to one says the same.
+fn targets_of(alloc: Global, cases: &[Case]) -> Result<Vec<ValueId>, AllocError> {
+    let mut seen = IndexSet::new(alloc);
+    let mut targets = Vec::new(alloc);
+    for case in cases {
+        if seen.insert(case.target.number())? {
+            targets.push(case.target)?;
+        }
+    }
+    Ok(targets)
 }
 
 fn decided_by(condition: &Operand, taken: bool) -> Option<(ValueId, bool)> {

@@ -1,15 +1,13 @@
 //! Which values and slots are read at a block or after it, before they are written again.
 use crate::scan::Scan;
-use ir_ast::{Block, End, Function, ValueId};
 use number_tables::{Buckets, put, row_or};
 use std::alloc::{AllocError, Global};
-use types::target_of;
 
 /// The blocks that read and write each value and slot, and the edges between blocks.
 #[derive(Drop)]
-struct BlockUses {
+struct BlockUses<'a> {
     /// The blocks from which each block is entered.
-    predecessors: Buckets,
+    predecessors: &'a Buckets,
     /// The blocks that read each value and slot.
     reads: Buckets,
     /// The blocks that write each.
@@ -27,19 +25,20 @@ struct BackwardWalk {
     wanted: Vec<(usize, u32)>,
 }
 
-/// For each block the numbers of what is wanted where it begins, in their order.
+/// For each of `count` blocks the numbers of what is wanted where it begins, in their order.
 pub fn wanted_of(
     alloc: Global,
-    function: &Function,
+    count: usize,
+    predecessors: &Buckets,
     scan: &Scan<'_>,
 ) -> Result<Buckets, AllocError> {
-    let uses = BlockUses::of(alloc, function, scan)?;
-    let Ok(mut walk) = BackwardWalk::new(alloc, function.blocks.len()) else {
+    let uses = BlockUses::of(alloc, predecessors, scan)?;
+    let Ok(mut walk) = BackwardWalk::new(alloc, count) else {
         drop(uses);
         return Err(AllocError);
     };
     let wanted = match walk.go(&uses, scan) {
-        Ok(()) => Buckets::of(alloc, &walk.wanted, function.blocks.len()),
+        Ok(()) => Buckets::of(alloc, &walk.wanted, count),
         Err(refused) => Err(refused),
     };
     drop(walk);
@@ -47,15 +46,14 @@ pub fn wanted_of(
     wanted
 }
 
-impl BlockUses {
-    fn of(alloc: Global, function: &Function, scan: &Scan<'_>) -> Result<BlockUses, AllocError> {
-        let predecessors = predecessors_of(alloc, function)?;
-        let Ok(reads) = Buckets::of(alloc, &scan.read, scan.count()) else {
-            drop(predecessors);
-            return Err(AllocError);
-        };
+impl<'a> BlockUses<'a> {
+    fn of(
+        alloc: Global,
+        predecessors: &'a Buckets,
+        scan: &Scan<'_>,
+    ) -> Result<BlockUses<'a>, AllocError> {
+        let reads = Buckets::of(alloc, &scan.read, scan.count())?;
         let Ok(ends) = Buckets::of(alloc, &scan.ended, scan.count()) else {
-            drop(predecessors);
             drop(reads);
             return Err(AllocError);
         };
@@ -82,7 +80,7 @@ impl BackwardWalk {
         })
     }
 
-    fn go(&mut self, uses: &BlockUses, scan: &Scan<'_>) -> Result<(), AllocError> {
+    fn go(&mut self, uses: &BlockUses<'_>, scan: &Scan<'_>) -> Result<(), AllocError> {
         let Ok(count) = u32::try_from(scan.count()) else {
             return Err(AllocError);
         };
@@ -92,7 +90,12 @@ impl BackwardWalk {
         Ok(())
     }
 
-    fn from(&mut self, uses: &BlockUses, scan: &Scan<'_>, number: u32) -> Result<(), AllocError> {
+    fn from(
+        &mut self,
+        uses: &BlockUses<'_>,
+        scan: &Scan<'_>,
+        number: u32,
+    ) -> Result<(), AllocError> {
         let name = number as usize;
         for block in uses.ends.group(name) {
             put(&mut self.ended, *block as usize, Some(name));
@@ -112,7 +115,7 @@ impl BackwardWalk {
 
     fn reach(
         &mut self,
-        uses: &BlockUses,
+        uses: &BlockUses<'_>,
         scan: &Scan<'_>,
         number: u32,
         block: u32,
@@ -134,62 +137,4 @@ impl BackwardWalk {
         }
         Ok(())
     }
-}
-
-/// The blocks from which each block is entered.
-fn predecessors_of(alloc: Global, function: &Function) -> Result<Buckets, AllocError> {
-    let pairs = edges_of(alloc, function)?;
-    let predecessors = Buckets::of(alloc, &pairs, function.blocks.len());
-    drop(pairs);
-    predecessors
-}
-
-/// Each block with one from which it is entered.
-fn edges_of(alloc: Global, function: &Function) -> Result<Vec<(usize, u32)>, AllocError> {
-    let mut pairs = Vec::new(alloc);
-    let mut from = 0u32;
-    for block in function.blocks.as_slice() {
-        record_edges(&mut pairs, function, from, block)?;
-        from = from.saturating_add(1);
-    }
-    Ok(pairs)
-}
-
-fn record_edges(
-    pairs: &mut Vec<(usize, u32)>,
-    function: &Function,
-    from: u32,
-    block: &Block,
-) -> Result<(), AllocError> {
-    match &block.end {
-        End::Jump(target) => record_edge(pairs, function, from, *target),
-        End::Branch { taken, other, .. } => {
-            record_edge(pairs, function, from, *taken)?;
-            record_edge(pairs, function, from, *other)
-        }
-        End::Switch {
-            otherwise,
-            cases,
-            ..
-        } => {
-            record_edge(pairs, function, from, *otherwise)?;
-            for case in cases.as_slice() {
-                record_edge(pairs, function, from, case.target)?;
-            }
-            Ok(())
-        }
-        End::Unreachable | End::ReturnVoid | End::Return(_) => Ok(()),
-    }
-}
-
-fn record_edge(
-    pairs: &mut Vec<(usize, u32)>,
-    function: &Function,
-    from: u32,
-    target: ValueId,
-) -> Result<(), AllocError> {
-    if let Some(to) = target_of(function, target) {
-        pairs.push((to.number() as usize, from))?;
-    }
-    Ok(())
 }

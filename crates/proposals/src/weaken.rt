@@ -57,6 +57,58 @@ pub fn weakened(
     }
 }
 
+/// Whether claims of which one says `fresh` name fewer values that are the same, or that slots hold, than those before them. An edge shows `fresh`
+/// only where they list all that is the same, and each slot that holds it.
+pub fn lists_less_of_fresh(before: &BlockClaims, left: &BlockClaims) -> bool {
+    says_fresh(left) && names_listed(left) < names_listed(before)
+}
+
+fn says_fresh(listed: &BlockClaims) -> bool {
+    for claim in listed.claims.as_slice() {
+        if is_fresh(claim) {
+            return true;
+        }
+    }
+    false
+}
+
+fn is_fresh(claim: &Claim) -> bool {
+    match claim {
+        Claim::Value { fact, .. } => {
+            matches!(
+                fact,
+                Fact::Reference {
+                    age: Age::Fresh,
+                    ..
+                }
+            )
+        }
+        Claim::Slot { .. } => false,
+    }
+}
+
+/// How many claims name a value that is the same, or that a slot holds.
+fn names_listed(listed: &BlockClaims) -> usize {
+    let mut count = 0usize;
+    for claim in listed.claims.as_slice() {
+        if names_another(claim) {
+            count = count.saturating_add(1);
+        }
+    }
+    count
+}
+
+fn names_another(claim: &Claim) -> bool {
+    match claim {
+        Claim::Value {
+            fact: Fact::Reference { same, .. },
+            ..
+        } => same.is_some(),
+        Claim::Value { .. } => false,
+        Claim::Slot { holds, .. } => holds.is_some(),
+    }
+}
+
 fn shows_all(alloc: Global, summary: &FunctionSummary, flow: &FlowFacts, claims: &[Claim]) -> bool {
     flow.edge()
         .first_unmet(alloc, &summary.slots, &flow.there, claims)

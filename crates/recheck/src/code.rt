@@ -17,6 +17,7 @@ use crate::edit_fault::EditFault;
 use crate::kept::KeptWork;
 use crate::put::{answer_all, function_at, put_in_place, read_text};
 use crate::tables::same_tables;
+use crate::texts::{OldFunction, SectionText};
 use certs::Certs;
 use copies::{Tables, copy_tables};
 use ir_ast::{FuncId, Function, Module};
@@ -135,30 +136,29 @@ fn put_anew(
     alloc: Global,
     program: &mut Program,
     certs: &mut Certs,
-    func: FuncId,
     code: &[u8],
-    text: &[u8],
+    text: &SectionText<'_>,
     kept: &mut KeptWork,
 ) -> Result<u64, EditFault>
-    requires function { func < length program.old.of_module.functions }
-    requires section { func < length certs.old.sections }
+    requires function { text.now.func < length program.old.of_module.functions }
+    requires section { text.now.func < length certs.old.sections }
     ensures shapes { certs.new.shapes ≡ certs.old.shapes }
-    ensures put { IfOk result (λ count. IsBothPut program.old certs.old.sections func code.now text.now program.new certs.new.sections count) }
+    ensures put { IfOk result (λ count. IsBothPut program.old certs.old.sections text.now.func code.now text.now.bytes.now program.new certs.new.sections count) }
     ensures answers { OnOk result (AreAnswers program.new certs.new.sections kept.new.functions.answers) }
     ensures rows { OnOk result (AreKept program.new certs.new.sections kept.new.functions.rows) }
     ensures ready { OnOk result (kept.new.tables ≡ None) }
     ensures kept { OnErr result ((program.new ≡ program.old) × (certs.new ≡ certs.old) × (kept.new ≡ kept.old)) }
-    ensures fault { IfErr result (λ e. e ≢ Memory → HasCodeFault program.old.of_module func code.now text.now e) }
-    ensures only { (n : AModule) (section : ASection) → AreRead program.old.of_module func code.now text.now n section → IsEditAccepted result }
-    ensures only_fault { (e : AFault) → HasCodeFault program.old.of_module func code.now text.now e → IsRefusedBy result e }
+    ensures fault { IfErr result (λ e. e ≢ Memory → HasCodeFault program.old.of_module text.now.func code.now text.now.bytes.now e) }
+    ensures only { (n : AModule) (section : ASection) → AreRead program.old.of_module text.now.func code.now text.now.bytes.now n section → IsEditAccepted result }
+    ensures only_fault { (e : AFault) → HasCodeFault program.old.of_module text.now.func code.now text.now.bytes.now e → IsRefusedBy result e }
 {
     grown_law();
     layouts_stay_law();
-    let of_module = match read_code(alloc, program.module(), func, code) {
+    let of_module = match read_code(alloc, program.module(), text.func, code) {
         Ok(of_module) => of_module,
         Err(fault) => return Err(fault),
     };
-    let section = match read_text(alloc, &of_module, func, text) {
+    let section = match read_text(alloc, &of_module, text.func, text.bytes) {
         Ok(section) => section,
         Err(fault) => {
             drop(of_module);
@@ -174,9 +174,13 @@ fn put_anew(
             return Err(without_layouts(fault));
         }
     };
-    let past = certs.replace(func, section);
-    let old = function_at(program.module(), func);
-    match answer_all(alloc, &anew, certs, func, old, &past, &mut kept.functions) {
+    let past = certs.replace(text.func, section);
+    let old = OldFunction {
+        func: text.func,
+        code: function_at(program.module(), text.func),
+        section: &past,
+    };
+    match answer_all(alloc, &anew, certs, &old, &mut kept.functions) {
         Ok(count) => {
             drop(past);
             put_program(program, anew);
@@ -185,7 +189,7 @@ fn put_anew(
         }
         Err(_) => {
             drop(anew);
-            drop(certs.replace(func, past));
+            drop(certs.replace(text.func, past));
             Err(EditFault::Memory)
         }
     }
@@ -196,36 +200,34 @@ pub fn put_code(
     alloc: Global,
     program: &mut Program,
     certs: &mut Certs,
-    func: FuncId,
     code: &[u8],
-    text: &[u8],
+    text: &SectionText<'_>,
     kept: &mut KeptWork,
 ) -> Result<u64, EditFault>
-    requires function { func < length program.old.of_module.functions }
-    requires section { func < length certs.old.sections }
+    requires function { text.now.func < length program.old.of_module.functions }
+    requires section { text.now.func < length certs.old.sections }
     requires kept { IsKept program.old certs.old.sections kept.old }
     ensures shapes { certs.new.shapes ≡ certs.old.shapes }
-    ensures put { IfOk result (λ count. IsBothPut program.old certs.old.sections func code.now text.now program.new certs.new.sections count) }
+    ensures put { IfOk result (λ count. IsBothPut program.old certs.old.sections text.now.func code.now text.now.bytes.now program.new certs.new.sections count) }
     ensures answers { OnOk result (AreAnswers program.new certs.new.sections kept.new.functions.answers) }
     ensures rows { AreKept program.new certs.new.sections kept.new.functions.rows }
     ensures ready { AreReady program.new.of_module kept.new.tables }
     ensures kept { OnErr result ((program.new ≡ program.old) × (certs.new ≡ certs.old) × (kept.new.functions.answers ≡ kept.old.functions.answers)) }
-    ensures fault { IfErr result (λ e. e ≢ Memory → HasCodeFault program.old.of_module func code.now text.now e) }
-    ensures only { (n : AModule) (section : ASection) → AreRead program.old.of_module func code.now text.now n section → IsEditAccepted result }
-    ensures only_fault { (e : AFault) → HasCodeFault program.old.of_module func code.now text.now e → IsRefusedBy result e }
+    ensures fault { IfErr result (λ e. e ≢ Memory → HasCodeFault program.old.of_module text.now.func code.now text.now.bytes.now e) }
+    ensures only { (n : AModule) (section : ASection) → AreRead program.old.of_module text.now.func code.now text.now.bytes.now n section → IsEditAccepted result }
+    ensures only_fault { (e : AFault) → HasCodeFault program.old.of_module text.now.func code.now text.now.bytes.now e → IsRefusedBy result e }
 {
     layouts_stay_law();
-    match read_within(alloc, program.module(), &mut kept.tables, func, code) {
+    match read_within(alloc, program.module(), &mut kept.tables, text.func, code) {
         Ok(Some(function)) => put_in_place(
             alloc,
             program,
             certs,
-            func,
-            function,
             text,
+            function,
             &mut kept.functions,
         ),
-        Ok(None) => put_anew(alloc, program, certs, func, code, text, kept),
+        Ok(None) => put_anew(alloc, program, certs, code, text, kept),
         Err(fault) => Err(fault),
     }
 }

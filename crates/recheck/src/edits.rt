@@ -14,6 +14,7 @@ use crate::edit_fault::EditFault;
 use crate::kept::KeptWork;
 use crate::named::function_named;
 use crate::put::{function_at, put_section_of};
+use crate::texts::SectionText;
 use certificate::print_section;
 use certs::{Certs, Section};
 use ir_ast::FuncId;
@@ -90,8 +91,10 @@ fn put_at(
             alloc,
             program,
             certs,
-            func,
-            section.as_slice(),
+            &SectionText {
+                func,
+                bytes: section.as_slice(),
+            },
             &mut kept.functions,
         ),
         Edit::Code { code, .. } => {
@@ -103,9 +106,11 @@ fn put_at(
                 alloc,
                 program,
                 certs,
-                func,
                 code.as_slice(),
-                text.as_slice(),
+                &SectionText {
+                    func,
+                    bytes: text.as_slice(),
+                },
                 kept,
             )
         }
@@ -113,9 +118,11 @@ fn put_at(
             alloc,
             program,
             certs,
-            func,
             code.as_slice(),
-            section.as_slice(),
+            &SectionText {
+                func,
+                bytes: section.as_slice(),
+            },
             kept,
         ),
     }

@@ -19,6 +19,7 @@ mod reader;
 mod roots;
 mod session;
 mod tables;
+mod texts;
 
 pub use certificate::CertFault;
 pub use edit::Edit;

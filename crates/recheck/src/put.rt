@@ -15,6 +15,7 @@ ghost use Rattle.recheck.specs.declared.edit_fault.EditFault.TheVariants.{Memory
 use crate::edit_fault::EditFault;
 use crate::interface::{count_checked, seen};
 use crate::roots::missing_root;
+use crate::texts::{OldFunction, SectionText};
 use answers::{KeptFunctions, answers_again, answers_to, rows_law, touched_by};
 use certificate::{CertFault, read_section};
 use certs::{Certs, Section};
@@ -36,23 +37,28 @@ fn answer_anew(
     alloc: Global,
     program: &Program,
     certs: &Certs,
-    func: FuncId,
-    old: &Function,
-    past: &Section,
+    old: &OldFunction<'_>,
     kept: &mut KeptFunctions,
 ) -> Result<u64, AllocError>
-    requires within { func < length program.now.of_module.functions }
+    requires within { old.now.func < length program.now.of_module.functions }
     requires one_each { length kept.old.answers ≡ length program.now.of_module.functions }
-    requires rows { AreOthersKept program.now certs.now.sections func kept.old.rows }
-    ensures answers { (p : LaidOut) (past_certs : List ASection) → AreAnswers p past_certs kept.old.answers → IsWithCode p program.now func old.now → IsWithSection past_certs certs.now.sections func past.now → OnOk result (AreAnswers program.now certs.now.sections kept.new.answers) }
-    ensures count { IfOk result (λ count. count ≡ rechecked_by program.now.of_module certs.now.sections func (Some old.now) (Some past.now)) }
+    requires rows { AreOthersKept program.now certs.now.sections old.now.func kept.old.rows }
+    ensures answers { (p : LaidOut) (past_certs : List ASection) → AreAnswers p past_certs kept.old.answers → IsWithCode p program.now old.now.func old.now.code.now → IsWithSection past_certs certs.now.sections old.now.func old.now.section.now → OnOk result (AreAnswers program.now certs.now.sections kept.new.answers) }
+    ensures count { IfOk result (λ count. count ≡ rechecked_by program.now.of_module certs.now.sections old.now.func (Some old.now.code.now) (Some old.now.section.now)) }
     ensures kept { OnErr result (kept.new.answers ≡ kept.old.answers) }
-    ensures rows { AreOthersKept program.now certs.now.sections func kept.new.rows }
-    ensures stay { StayKept func kept.old.rows kept.new.rows }
+    ensures rows { AreOthersKept program.now certs.now.sections old.now.func kept.new.rows }
+    ensures stay { StayKept old.now.func kept.old.rows kept.new.rows }
 {
-    let callers = seen(program.module(), certs, func, old, past);
-    let checked = answers_again(alloc, program, certs, func, callers, kept)?;
-    Ok(count_checked(program.module(), certs, func, old, past, checked))
+    let callers = seen(program.module(), certs, old.func, old.code, old.section);
+    let checked = answers_again(alloc, program, certs, old.func, callers, kept)?;
+    Ok(count_checked(
+        program.module(),
+        certs,
+        old.func,
+        old.code,
+        old.section,
+        checked,
+    ))
 }
 
 /// Makes the answers those of a program in which more may be other: each function is checked, and what their blocks begin with is
@@ -61,21 +67,26 @@ pub fn answer_all(
     alloc: Global,
     program: &Program,
     certs: &Certs,
-    func: FuncId,
-    old: &Function,
-    past: &Section,
+    old: &OldFunction<'_>,
     kept: &mut KeptFunctions,
 ) -> Result<u64, AllocError>
     ensures answers { OnOk result (AreAnswers program.now certs.now.sections kept.new.answers) }
     ensures rows { OnOk result (AreKept program.now certs.now.sections kept.new.rows) }
-    ensures count { IfOk result (λ count. count ≡ rechecked_by program.now.of_module certs.now.sections func (Some old.now) (Some past.now)) }
+    ensures count { IfOk result (λ count. count ≡ rechecked_by program.now.of_module certs.now.sections old.now.func (Some old.now.code.now) (Some old.now.section.now)) }
     ensures kept { OnErr result (kept.new ≡ kept.old) }
 {
-    let callers = seen(program.module(), certs, func, old, past);
-    let touched = touched_by(alloc, program.module(), func, callers)?;
+    let callers = seen(program.module(), certs, old.func, old.code, old.section);
+    let touched = touched_by(alloc, program.module(), old.func, callers)?;
     kept.answers = answers_to(alloc, program, certs)?;
     kept.rows.forget_all();
-    Ok(count_checked(program.module(), certs, func, old, past, touched.len()))
+    Ok(count_checked(
+        program.module(),
+        certs,
+        old.func,
+        old.code,
+        old.section,
+        touched.len(),
+    ))
 }
 
 /// Whether a fault is looked for last: something is missing of what is read.
@@ -142,35 +153,39 @@ pub fn put_section(
     alloc: Global,
     program: &Program,
     certs: &mut Certs,
-    func: FuncId,
+    text: &SectionText<'_>,
     old: &Function,
-    text: &[u8],
     kept: &mut KeptFunctions,
 ) -> Result<u64, EditFault>
-    requires function { func < length program.now.of_module.functions }
-    requires section { func < length certs.old.sections }
+    requires function { text.now.func < length program.now.of_module.functions }
+    requires section { text.now.func < length certs.old.sections }
     requires answers { length kept.old.answers ≡ length program.now.of_module.functions }
-    requires rows { AreOthersKept program.now certs.old.sections func kept.old.rows }
+    requires rows { AreOthersKept program.now certs.old.sections text.now.func kept.old.rows }
     ensures shapes { certs.new.shapes ≡ certs.old.shapes }
-    ensures put { (p : LaidOut) → IsWithCode p program.now func old.now → IfOk result (λ count. IsTextPut p certs.old.sections func text.now program.now certs.new.sections count) }
-    ensures answers { (p : LaidOut) → AreAnswers p certs.old.sections kept.old.answers → IsWithCode p program.now func old.now → OnOk result (AreAnswers program.now certs.new.sections kept.new.answers) }
+    ensures put { (p : LaidOut) → IsWithCode p program.now text.now.func old.now → IfOk result (λ count. IsTextPut p certs.old.sections text.now.func text.now.bytes.now program.now certs.new.sections count) }
+    ensures answers { (p : LaidOut) → AreAnswers p certs.old.sections kept.old.answers → IsWithCode p program.now text.now.func old.now → OnOk result (AreAnswers program.now certs.new.sections kept.new.answers) }
     ensures kept { OnErr result ((certs.new ≡ certs.old) × (kept.new.answers ≡ kept.old.answers)) }
-    ensures rows { AreOthersKept program.now certs.new.sections func kept.new.rows }
-    ensures stay { StayKept func kept.old.rows kept.new.rows }
-    ensures fault { IfErr result (λ e. e ≢ Memory → HasSectionFault program.now.of_module func text.now e) }
-    ensures only { (section : ASection) → IsShapedSection text.now program.now.of_module func section → IsEditAccepted result }
-    ensures only_fault { (e : AFault) → HasSectionFault program.now.of_module func text.now e → IsRefusedBy result e }
+    ensures rows { AreOthersKept program.now certs.new.sections text.now.func kept.new.rows }
+    ensures stay { StayKept text.now.func kept.old.rows kept.new.rows }
+    ensures fault { IfErr result (λ e. e ≢ Memory → HasSectionFault program.now.of_module text.now.func text.now.bytes.now e) }
+    ensures only { (section : ASection) → IsShapedSection text.now.bytes.now program.now.of_module text.now.func section → IsEditAccepted result }
+    ensures only_fault { (e : AFault) → HasSectionFault program.now.of_module text.now.func text.now.bytes.now e → IsRefusedBy result e }
 {
     rows_law();
-    let section = match read_text(alloc, program.module(), func, text) {
+    let section = match read_text(alloc, program.module(), text.func, text.bytes) {
         Ok(section) => section,
         Err(fault) => return Err(fault),
     };
-    let past = certs.replace(func, section);
-    match answer_anew(alloc, program, certs, func, old, &past, kept) {
+    let past = certs.replace(text.func, section);
+    let before = OldFunction {
+        func: text.func,
+        code: old,
+        section: &past,
+    };
+    match answer_anew(alloc, program, certs, &before, kept) {
         Ok(count) => Ok(count),
         Err(_) => {
-            certs.replace(func, past);
+            certs.replace(text.func, past);
             Err(EditFault::Memory)
         }
     }
@@ -181,33 +196,32 @@ pub fn put_in_place(
     alloc: Global,
     program: &mut Program,
     certs: &mut Certs,
-    func: FuncId,
+    text: &SectionText<'_>,
     function: Function,
-    text: &[u8],
     kept: &mut KeptFunctions,
 ) -> Result<u64, EditFault>
-    requires function { func < length program.old.of_module.functions }
-    requires section { func < length certs.old.sections }
+    requires function { text.now.func < length program.old.of_module.functions }
+    requires section { text.now.func < length certs.old.sections }
     requires answers { AreAnswers program.old certs.old.sections kept.old.answers }
     requires rows { AreKept program.old certs.old.sections kept.old.rows }
-    ensures program { OnOk result (program.new ≡ laid_with program.old (slice_set program.old.of_module.functions func function)) }
+    ensures program { OnOk result (program.new ≡ laid_with program.old (slice_set program.old.of_module.functions text.now.func function)) }
     ensures shapes { certs.new.shapes ≡ certs.old.shapes }
-    ensures put { IfOk result (λ count. IsTextPut program.old certs.old.sections func text.now program.new certs.new.sections count) }
+    ensures put { IfOk result (λ count. IsTextPut program.old certs.old.sections text.now.func text.now.bytes.now program.new certs.new.sections count) }
     ensures answers { OnOk result (AreAnswers program.new certs.new.sections kept.new.answers) }
     ensures kept { OnErr result ((program.new ≡ program.old) × (certs.new ≡ certs.old) × (kept.new.answers ≡ kept.old.answers)) }
     ensures rows { AreKept program.new certs.new.sections kept.new.rows }
-    ensures stay { StayKept func kept.old.rows kept.new.rows }
-    ensures fault { IfErr result (λ e. e ≢ Memory → HasSectionFault (with_function program.old.of_module func function) func text.now e) }
-    ensures only { (section : ASection) → IsShapedSection text.now (with_function program.old.of_module func function) func section → IsEditAccepted result }
-    ensures only_fault { (e : AFault) → HasSectionFault (with_function program.old.of_module func function) func text.now e → IsRefusedBy result e }
+    ensures stay { StayKept text.now.func kept.old.rows kept.new.rows }
+    ensures fault { IfErr result (λ e. e ≢ Memory → HasSectionFault (with_function program.old.of_module text.now.func function) text.now.func text.now.bytes.now e) }
+    ensures only { (section : ASection) → IsShapedSection text.now.bytes.now (with_function program.old.of_module text.now.func function) text.now.func section → IsEditAccepted result }
+    ensures only_fault { (e : AFault) → HasSectionFault (with_function program.old.of_module text.now.func function) text.now.func text.now.bytes.now e → IsRefusedBy result e }
 {
     rows_law();
-    kept.rows.forget(func);
-    let old = program.replace_function(func, function);
-    match put_section(alloc, program, certs, func, &old, text, kept) {
+    kept.rows.forget(text.func);
+    let old = program.replace_function(text.func, function);
+    match put_section(alloc, program, certs, text, &old, kept) {
         Ok(count) => Ok(count),
         Err(fault) => {
-            program.replace_function(func, old);
+            program.replace_function(text.func, old);
             Err(fault)
         }
     }
@@ -218,25 +232,24 @@ pub fn put_section_of(
     alloc: Global,
     program: &Program,
     certs: &mut Certs,
-    func: FuncId,
-    text: &[u8],
+    text: &SectionText<'_>,
     kept: &mut KeptFunctions,
 ) -> Result<u64, EditFault>
-    requires function { func < length program.now.of_module.functions }
-    requires section { func < length certs.old.sections }
+    requires function { text.now.func < length program.now.of_module.functions }
+    requires section { text.now.func < length certs.old.sections }
     requires answers { AreAnswers program.now certs.old.sections kept.old.answers }
     requires rows { AreKept program.now certs.old.sections kept.old.rows }
     ensures shapes { certs.new.shapes ≡ certs.old.shapes }
-    ensures put { IfOk result (λ count. IsTextPut program.now certs.old.sections func text.now program.now certs.new.sections count) }
+    ensures put { IfOk result (λ count. IsTextPut program.now certs.old.sections text.now.func text.now.bytes.now program.now certs.new.sections count) }
     ensures answers { OnOk result (AreAnswers program.now certs.new.sections kept.new.answers) }
     ensures kept { OnErr result ((certs.new ≡ certs.old) × (kept.new.answers ≡ kept.old.answers)) }
     ensures rows { AreKept program.now certs.new.sections kept.new.rows }
-    ensures stay { StayKept func kept.old.rows kept.new.rows }
-    ensures fault { IfErr result (λ e. e ≢ Memory → HasSectionFault program.now.of_module func text.now e) }
-    ensures only { (section : ASection) → IsShapedSection text.now program.now.of_module func section → IsEditAccepted result }
-    ensures only_fault { (e : AFault) → HasSectionFault program.now.of_module func text.now e → IsRefusedBy result e }
+    ensures stay { StayKept text.now.func kept.old.rows kept.new.rows }
+    ensures fault { IfErr result (λ e. e ≢ Memory → HasSectionFault program.now.of_module text.now.func text.now.bytes.now e) }
+    ensures only { (section : ASection) → IsShapedSection text.now.bytes.now program.now.of_module text.now.func section → IsEditAccepted result }
+    ensures only_fault { (e : AFault) → HasSectionFault program.now.of_module text.now.func text.now.bytes.now e → IsRefusedBy result e }
 {
-    kept.rows.forget(func);
-    let old = function_at(program.module(), func);
-    put_section(alloc, program, certs, func, old, text, kept)
+    kept.rows.forget(text.func);
+    let old = function_at(program.module(), text.func);
+    put_section(alloc, program, certs, text, old, kept)
 }

@@ -16,7 +16,7 @@ pub use moves::Actor;
 pub use outcome::{Break, BreakCause, Outcome, Report, SeedBreak, SoakOutcome};
 pub use program_runner::{SetupFault, SetupFault as ReplayFault, setup_law};
 pub use replaying::replay;
-pub use soaking::soak;
+pub use soaking::{Schedules, soak};
 pub use thread_outcome::ThreadOutcome;
 pub use trace_text::{Setup, Start, Steps, Trace, TraceFault, print_trace, read_trace};
 pub use world::World;

@@ -18,6 +18,14 @@ use trace_text::Setup;
 /// The number of seeds that are tried before it is asked whether one of them was broken.
 const CHUNK: u32 = 256;
 
+/// The schedules of the seeds from `first` to below `past`, each of this many steps.
+#[derive(Clone, Copy)]
+pub struct Schedules {
+    pub first: u32,
+    pub past: u32,
+    pub steps: u32,
+}
+
 /// The outcome of one seed: where its schedule first breaks its run, if it does.
 #[derive(Clone, Copy)]
 struct SeedEnd {
@@ -41,19 +49,17 @@ impl SeedEnd {
     }
 }
 
-/// Runs a schedule of each seed from `first` to below `past`: the least seed whose schedule breaks its run, whichever ended first.
+/// Runs the schedule of each seed: the least seed whose schedule breaks its run, whichever ended first.
 pub fn soak(
     rt: &(impl Threads + Sync),
     alloc: Global,
     program: &Program,
     setup: &Setup,
-    first: u32,
-    past: u32,
-    steps: u32,
+    schedules: Schedules,
 ) -> Result<SoakOutcome, SetupFault>
     requires setup { IsSetupOf program.now setup.now }
-    requires range { first ≤ past }
-    ensures outcome { IfOk result (IsSoakOutcome program.now setup.now first past steps) }
+    requires range { schedules.first ≤ schedules.past }
+    ensures outcome { IfOk result (IsSoakOutcome program.now setup.now schedules.first schedules.past schedules.steps) }
     ensures no_fault { IfOk result (λ _. HasNoFault program.now setup.now) }
     ensures fault { IfErr result (λ e. e ≢ fault.Memory → IsSetupFault program.now setup.now e) }
     // Where the program is certified, and the threads begin with what its certificates promise, no schedule breaks its run.
@@ -61,10 +67,16 @@ pub fn soak(
 {
     setup_law();
     may_begin(alloc, program, setup)?;
+    let Schedules { first, past, steps } = schedules;
     let mut next = first;
     while next < past {
         let end = next + CHUNK.min(past - next);
-        if let Some(broken) = least_broken(rt, alloc, program, setup, next, end, steps)? {
+        let chunk = Schedules {
+            first: next,
+            past: end,
+            steps,
+        };
+        if let Some(broken) = least_broken(rt, alloc, program, setup, chunk)? {
             return Ok(SoakOutcome::Broken(broken));
         }
         next = end;
@@ -88,15 +100,14 @@ fn least_broken(
     alloc: Global,
     program: &Program,
     setup: &Setup,
-    first: u32,
-    past: u32,
-    steps: u32,
+    schedules: Schedules,
 ) -> Result<Option<SeedBreak>, SetupFault>
     requires setup { IsSetupOf program.now setup.now }
-    requires range { first ≤ past }
-    ensures least { IfOk result (IsLeastFrom program.now setup.now steps first past) }
+    requires range { schedules.first ≤ schedules.past }
+    ensures least { IfOk result (IsLeastFrom program.now setup.now schedules.steps schedules.first schedules.past) }
     ensures fault { IfErr result (λ e. e ≢ fault.Memory → IsSetupFault program.now setup.now e) }
 {
+    let Schedules { first, past, steps } = schedules;
     let found = (first..past)
         .into_par_iter()
         .with_min_len(1)

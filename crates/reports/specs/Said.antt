@@ -1,5 +1,5 @@
 -- What a command says of its files, and where.
-use Rattle.std.specs.Prelude.{◌≡◌, ℕ, List, Option}
+use Rattle.std.specs.Prelude.{◌≡◌, ◌++◌, ℕ, Bool, true, false, List, Option, Some}
 use Rattle.std.specs.Io.KnownBytes.{Appends}
 use Rattle.ir_ast.specs.declared.module.Module.{Module}
 use Rattle.layout.specs.Layouts.{IsLayoutFault}
@@ -9,7 +9,10 @@ use Rattle.block_rules.specs.declared.block_fault.Refusal.{Refusal}
 use Rattle.module_check.specs.Accepted.{IsFirstRefusal, shaped}
 use Rattle.reports.specs.Report.{Answer, IsTold, line_of, no, no_memory, of_layout_fault}
 use Rattle.reports.specs.Files.{HasModule, HasCerts, IsUncertified, of_unread}
+use Rattle.reports.specs.declared.files.File.{File}
 use Rattle.reports.specs.declared.files.Unread.{Unread}
+use Rattle.reports.specs.declared.outputs.Outputs.{Outputs}
+use Rattle.reports.specs.declared.outputs.Results.{Results}
 
 -- ---- what is said, and where
 
@@ -20,15 +23,34 @@ pub data Said : Type 0 where
   -- and a text on the standard error besides
   OnBoth : Answer → List ℕ → Said
 
--- one writer was given the text, the other one nothing or its own text, and the status is the answer's
-abbrev pub Tells : (old_output output old_error error : Option (List ℕ)) → (status : ℕ) → Said → Type 0
-Tells old_output output old_error error status (OnOutput answer) = IsTold old_output output status answer × (error ≡ old_error)
-Tells old_output output old_error error status (OnError answer) = (output ≡ old_output) × IsTold old_error error status answer
-Tells old_output output old_error error status (OnBoth answer text) = IsTold old_output output status answer × Appends old_error error text
+-- one of the outputs was given the text, the other one nothing or its own text, and the status is the answer's
+abbrev pub Tells : (old new : Outputs) → (status : ℕ) → Said → Type 0
+Tells old new status (OnOutput answer) = IsTold (Some old.out.items) (Some new.out.items) status answer × (new.err ≡ old.err)
+Tells old new status (OnError answer) = (new.out ≡ old.out) × IsTold (Some old.err.items) (Some new.err.items) status answer
+Tells old new status (OnBoth answer text) = IsTold (Some old.out.items) (Some new.out.items) status answer × Appends (Some old.err.items) (Some new.err.items) text
 
 -- something was said that is one of these
-abbrev pub Says : (Said → Type 0) → (old_output output old_error error : Option (List ℕ)) → (status : ℕ) → Type 0
-Says Meant old_output output old_error error status = (said : Said) × Meant said × Tells old_output output old_error error status said
+abbrev pub Says : (Said → Type 0) → (old new : Outputs) → (status : ℕ) → Type 0
+Says Meant old new status = (said : Said) × Meant said × Tells old new status said
+
+-- something was said that is one of these, by what was saved before and after it
+abbrev pub Saves : ((before after : List ℕ) → Said → Type 0) → (old new : Results) → (status : ℕ) → Type 0
+Saves Meant old new status = Says (Meant old.saved.items new.saved.items) old.outputs new.outputs status
+
+-- some text follows, which may be empty
+abbrev pub GivesText : (old new : List ℕ) → Type 0
+GivesText old new = (text : List ℕ) × (new ≡ old ++ text)
+
+-- so it is, if that is wanted
+abbrev pub GivesTextIf : (wanted : Bool) → (old new : List ℕ) → Type 0
+GivesTextIf true old new = GivesText old new
+GivesTextIf false old new = new ≡ old
+
+-- something was said that is one of these; and then some text may follow on the standard output, if steps are to be told, and on the
+-- standard error, if a refusal is to be explained
+abbrev pub SaysAndTells : (told explained : Bool) → (Said → Type 0) → (old new : Outputs) → (status : ℕ) → Type 0
+SaysAndTells told explained Meant old new status =
+    (said : Outputs) × Says Meant old said status × GivesTextIf told said.out.items new.out.items × GivesTextIf explained said.err.items new.err.items
 
 -- ---- modules and certificates
 
@@ -40,8 +62,8 @@ pub data OfVerdict (m : Module) (certs : Certs) : Said → Type 0 where
   not_laid_out : (fault : LayoutFault) → IsLayoutFault (shaped m certs) fault → OfVerdict m certs (OnError (of_layout_fault m fault))
   not_checked : OfVerdict m certs (OnError no_memory)
 
--- what is said of the files of a module and its certificates, which have these paths, where this is said of them once they are read
-pub data OfCertified (OfCerts : Module → Certs → Said → Type 0) (module_path cert_path : List ℕ) (first second : Option (List ℕ)) : Said → Type 0 where
-  not_certified : (unread : Unread) → IsUncertified module_path cert_path first second unread → OfCertified OfCerts module_path cert_path first second (OnError (of_unread unread))
-  of_certified : (m : Module) (certs : Certs) (said : Said) → HasModule first m → HasCerts second m certs → OfCerts m certs said
-      → OfCertified OfCerts module_path cert_path first second said
+-- what is said of the files of a module and its certificates, where this is said of them once they are read
+pub data OfCertified (OfCerts : Module → Certs → Said → Type 0) (first certificate : Option File) : Said → Type 0 where
+  not_certified : (unread : Unread) → IsUncertified first certificate unread → OfCertified OfCerts first certificate (OnError (of_unread unread))
+  of_certified : (m : Module) (certs : Certs) (said : Said) → HasModule first m → HasCerts certificate m certs → OfCerts m certs said
+      → OfCertified OfCerts first certificate said

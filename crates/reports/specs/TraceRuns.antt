@@ -1,5 +1,5 @@
 -- What `replay` and `run` say of their files.
-use Rattle.std.specs.Prelude.{◌≡◌, ◌≢◌, ℕ, List, Option}
+use Rattle.std.specs.Prelude.{◌≡◌, ◌≢◌, List, Option}
 use Rattle.ir_ast.specs.declared.module.Module.{Module}
 use Rattle.layout.specs.Layouts.{LaidOut}
 use Rattle.certs.specs.declared.certs.Certs.{Certs}
@@ -17,6 +17,7 @@ use Rattle.mutators.specs.Reports.{IsReport}
 use Rattle.mutators.specs.declared.report.RunReport.{RunReport}
 use Rattle.reports.specs.Files.{HasProgram, HasTrace, IsNoTrace, IsUntraced, of_unread}
 use Rattle.reports.specs.Said.{Said, OnOutput, OnError, OfVerdict}
+use Rattle.reports.specs.declared.files.File.{File}
 use Rattle.reports.specs.declared.files.Unread.{Unread}
 use Rattle.reports.specs.Outcomes.{of_outcome, of_setup_fault}
 use Rattle.reports.specs.RunReport.{of_report}
@@ -28,12 +29,11 @@ pub data OfTrace (p : LaidOut) (t : Trace) : Said → Type 0 where
   came : (outcome : Outcome) → HasNoFault p t.setup → IsOutcome p t outcome → OfTrace p t (OnOutput (of_outcome outcome))
   not_begun : (fault : SetupFault) → (fault ≢ setup.Memory → IsSetupFault p t.setup fault) → OfTrace p t (OnError (of_setup_fault fault))
 
--- what is said of the files of a program, its trace and its shapes, which have these paths, where this is said of program and trace once
--- they are read; of the files the second is the trace's and the third the shapes'
-pub data OfRun (Run : LaidOut → Trace → Said → Type 0) (module_path trace_path : List ℕ) (shapes_path : Option (List ℕ)) (file : ℕ → Option (List ℕ)) : Said → Type 0 where
-  not_traced : (unread : Unread) → IsUntraced module_path trace_path shapes_path file unread → OfRun Run module_path trace_path shapes_path file (OnError (of_unread unread))
-  of_traced : (p : LaidOut) (t : Trace) (said : Said) → HasProgram (file 0) shapes_path (file 2) p → HasTrace (file 1) p t → Run p t said
-      → OfRun Run module_path trace_path shapes_path file said
+-- what is said of the files of a program, its trace and its shapes, where this is said of program and trace once they are read
+pub data OfRun (Run : LaidOut → Trace → Said → Type 0) (first trace shapes : Option File) : Said → Type 0 where
+  not_traced : (unread : Unread) → IsUntraced first trace shapes unread → OfRun Run first trace shapes (OnError (of_unread unread))
+  of_traced : (p : LaidOut) (t : Trace) (said : Said) → HasProgram first shapes p → HasTrace trace p t → Run p t said
+      → OfRun Run first trace shapes said
 
 -- ---- run
 
@@ -43,13 +43,13 @@ pub data OfThreads (limits : Limits) (p : LaidOut) (certs : List Section) (t : T
   ran : (report : RunReport) → HasNoRunFault p certs t.setup → IsReport p t.setup limits report → OfThreads limits p certs t (OnOutput (of_report report))
   not_run : (fault : SetupFault) → (fault ≢ setup.Memory → IsRunFault p certs t.setup fault) → OfThreads limits p certs t (OnError (of_setup_fault fault))
 
--- what it says of them and the file of the trace, which has this path
-pub data OfTraceFile (limits : Limits) (p : LaidOut) (certs : List Section) (path : List ℕ) (file : Option (List ℕ)) : Said → Type 0 where
-  no_trace : (unread : Unread) → IsNoTrace path file p unread → OfTraceFile limits p certs path file (OnError (of_unread unread))
-  of_trace : (t : Trace) (said : Said) → HasTrace file p t → OfThreads limits p certs t said → OfTraceFile limits p certs path file said
+-- what it says of them and the file of the trace
+pub data OfTraceFile (limits : Limits) (p : LaidOut) (certs : List Section) (trace : Option File) : Said → Type 0 where
+  no_trace : (unread : Unread) → IsNoTrace trace p unread → OfTraceFile limits p certs trace (OnError (of_unread unread))
+  of_trace : (t : Trace) (said : Said) → HasTrace trace p t → OfThreads limits p certs t said → OfTraceFile limits p certs trace said
 
 -- what it says of a module, its certificates and the file of the trace: why they are not accepted, or what is said of the program
-pub data OfRunCerts (limits : Limits) (path : List ℕ) (file : Option (List ℕ)) (m : Module) (certs : Certs) : Said → Type 0 where
-  no_program : (said : Said) → OfVerdict m certs said → OfRunCerts limits path file m certs said
-  of_program : (p : LaidOut) (said : Said) → p.of_module ≡ shaped m certs → IsProgramCertified p certs.sections → OfTraceFile limits p certs.sections path file said
-      → OfRunCerts limits path file m certs said
+pub data OfRunCerts (limits : Limits) (trace : Option File) (m : Module) (certs : Certs) : Said → Type 0 where
+  no_program : (said : Said) → OfVerdict m certs said → OfRunCerts limits trace m certs said
+  of_program : (p : LaidOut) (said : Said) → p.of_module ≡ shaped m certs → IsProgramCertified p certs.sections → OfTraceFile limits p certs.sections trace said
+      → OfRunCerts limits trace m certs said

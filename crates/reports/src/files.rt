@@ -1,10 +1,11 @@
 //! The files of a command, and what is read from them: a module with its certificates, and edits of them; a module with its shapes; or
 //! a module with its layouts and a trace.
-ghost use Rattle.std.specs.Prelude.{◌≡◌, true, Some, option_map, IfOk, IfErr};
+ghost use Rattle.std.specs.Prelude.{◌≡◌, true, Some, IfOk, IfErr};
 ghost use Rattle.std.specs.Option.{option_copied};
 ghost use Rattle.certs.specs.Fits.{fits};
 ghost use Rattle.trace_text.specs.Traces.{IsTraceOf};
-ghost use Rattle.reports.specs.Files.{file_at, HasModule, HasCerts, HasEdits, HasProgram, HasShaped, HasTrace, IsNoModule, IsNoCertificate, IsNoEdits, IsNoProgram, IsNoShaped, IsNoShapes, IsNoTrace, IsRead, IsUncertified, IsUntraced, with_read};
+ghost use Rattle.reports.specs.Files as spec;
+ghost use Rattle.reports.specs.Files.{HasModule, HasCerts, HasEdits, HasProgram, HasShaped, HasTrace, IsNoModule, IsNoCertificate, IsNoEdits, IsNoProgram, IsNoShaped, IsNoShapes, IsNoTrace, IsRead, IsUncertified, IsUntraced, with_read};
 
 use certificate::{CertFault, read_cert, read_shapes};
 use certs::Certs;
@@ -16,13 +17,43 @@ use recheck::{Edit, read_edits};
 use std::alloc::Global;
 use trace_text::{Trace, TraceFault, read_trace};
 
-/// The bytes of the file at this place of the line, if it can be read.
-pub fn file_at(files: &[Option<Vec<u8>>], place: usize) -> Option<&[u8]>
-    ensures { option_copied result ≡ file_at files.now place }
+/// A file of a command: its path, and its bytes, if it can be read.
+#[derive(Clone, Copy)]
+pub struct File<'a> {
+    pub path: &'a str,
+    pub bytes: Option<&'a [u8]>,
+}
+
+/// The files of a command, by what each is. None is a file that the line does not give. One that a command needs counts then as a file
+/// with an empty path that cannot be read.
+#[derive(Clone, Copy)]
+pub struct Files<'a> {
+    pub of_module: Option<File<'a>>,
+    pub certificate: Option<File<'a>>,
+    pub shapes: Option<File<'a>>,
+    pub trace: Option<File<'a>>,
+    pub edits: Option<File<'a>>,
+    /// Whether the command is to write a file of its own.
+    pub saves: bool,
+}
+
+/// The path of a file, empty where it is not given.
+pub fn path_of<'a>(file: Option<File<'a>>) -> &'a str
+    ensures { result.now ≡ spec.path_of file.entry }
 {
-    match files.get(place) {
-        Some(Some(bytes)) => Some(bytes.as_slice()),
-        _ => None,
+    match file {
+        Some(file) => file.path,
+        None => "",
+    }
+}
+
+/// The bytes of a file, if it is given and can be read.
+pub fn bytes_of<'a>(file: Option<File<'a>>) -> Option<&'a [u8]>
+    ensures { option_copied result ≡ spec.bytes_of file.entry }
+{
+    match file {
+        Some(file) => file.bytes,
+        None => None,
     }
 }
 
@@ -53,17 +84,13 @@ pub enum Unread<'a> {
     NoTrace(TraceFault),
 }
 
-/// The module of the first file.
-pub fn module_in<'a>(
-    alloc: Global,
-    path: &'a str,
-    files: &[Option<Vec<u8>>],
-) -> Result<Module, Unread<'a>>
-    ensures ok { IfOk result (HasModule (file_at files.now 0)) }
-    ensures err { IfErr result (IsNoModule path.now (file_at files.now 0)) }
+/// Reads the module.
+pub fn module_in<'a>(alloc: Global, files: &Files<'a>) -> Result<Module, Unread<'a>>
+    ensures ok { IfOk result (HasModule files.now.of_module) }
+    ensures err { IfErr result (IsNoModule files.now.of_module) }
 {
-    let Some(text) = file_at(files, 0) else {
-        return Err(Unread::NoFile(path));
+    let Some(text) = bytes_of(files.of_module) else {
+        return Err(Unread::NoFile(path_of(files.of_module)));
     };
     match read(alloc, text) {
         Ok(of_module) => Ok(of_module),
@@ -71,21 +98,20 @@ pub fn module_in<'a>(
     }
 }
 
-/// A module with its certificates, those of the second file.
+/// Reads the certificates of a module.
 fn certified_in<'a>(
     alloc: Global,
-    path: &'a str,
-    files: &[Option<Vec<u8>>],
+    file: Option<File<'a>>,
     of_module: Module,
 ) -> Result<Certified, Unread<'a>>
     ensures of_module { IfOk result (λ certified. certified.of_module ≡ of_module) }
-    ensures ok { IfOk result (λ certified. HasCerts (file_at files.now 1) certified.of_module certified.certs) }
+    ensures ok { IfOk result (λ certified. HasCerts file.entry certified.of_module certified.certs) }
     ensures fits { IfOk result (λ certified. fits certified.of_module certified.certs.sections ≡ true) }
-    ensures err { IfErr result (IsNoCertificate path.now (file_at files.now 1) of_module) }
+    ensures err { IfErr result (IsNoCertificate file.entry of_module) }
 {
-    let Some(text) = file_at(files, 1) else {
+    let Some(text) = bytes_of(file) else {
         drop(of_module);
-        return Err(Unread::NoFile(path));
+        return Err(Unread::NoFile(path_of(file)));
     };
     match read_cert(alloc, text, &of_module) {
         Ok(certs) => Ok(Certified { of_module, certs }),
@@ -93,34 +119,24 @@ fn certified_in<'a>(
     }
 }
 
-/// Reads the module and the certificates of these paths. The first fault counts: of each file in the line's order, its path and
-/// then its text.
-pub fn read_certified<'a>(
-    alloc: Global,
-    paths: (&'a str, &'a str),
-    files: &[Option<Vec<u8>>],
-) -> Result<Certified, Unread<'a>>
-    ensures of_module { IfOk result (λ certified. HasModule (file_at files.now 0) certified.of_module) }
-    ensures certs { IfOk result (λ certified. HasCerts (file_at files.now 1) certified.of_module certified.certs) }
+/// Reads the module and the certificates. The first fault counts: of each file, in this order, its path and then its text.
+pub fn read_certified<'a>(alloc: Global, files: &Files<'a>) -> Result<Certified, Unread<'a>>
+    ensures of_module { IfOk result (λ certified. HasModule files.now.of_module certified.of_module) }
+    ensures certs { IfOk result (λ certified. HasCerts files.now.certificate certified.of_module certified.certs) }
     ensures fits { IfOk result (λ certified. fits certified.of_module certified.certs.sections ≡ true) }
-    ensures err { IfErr result (IsUncertified paths.entry.0.now paths.entry.1.now (file_at files.now 0) (file_at files.now 1)) }
+    ensures err { IfErr result (IsUncertified files.now.of_module files.now.certificate) }
 {
-    let of_module = module_in(alloc, paths.0, files)?;
-    certified_in(alloc, paths.1, files, of_module)
+    let of_module = module_in(alloc, files)?;
+    certified_in(alloc, files.certificate, of_module)
 }
 
-/// The edits of the file at this place of the line.
-pub fn edits_in<'a>(
-    alloc: Global,
-    path: &'a str,
-    files: &[Option<Vec<u8>>],
-    place: usize,
-) -> Result<Items<Edit>, Unread<'a>>
-    ensures ok { IfOk result (HasEdits (file_at files.now place)) }
-    ensures err { IfErr result (IsNoEdits path.now (file_at files.now place)) }
+/// Reads the edits.
+pub fn edits_in<'a>(alloc: Global, files: &Files<'a>) -> Result<Items<Edit>, Unread<'a>>
+    ensures ok { IfOk result (HasEdits files.now.edits) }
+    ensures err { IfErr result (IsNoEdits files.now.edits) }
 {
-    let Some(text) = file_at(files, place) else {
-        return Err(Unread::NoFile(path));
+    let Some(text) = bytes_of(files.edits) else {
+        return Err(Unread::NoFile(path_of(files.edits)));
     };
     match read_edits(alloc, text) {
         Ok(edits) => Ok(edits),
@@ -141,20 +157,18 @@ fn with_read(of_module: Module, shapes: Shapes) -> Module
     of_module
 }
 
-/// A module with its shapes, those of the file at this place of the line.
+/// A module with its shapes, those of this file.
 fn with_shapes_in<'a>(
     alloc: Global,
-    path: &'a str,
-    files: &[Option<Vec<u8>>],
-    place: usize,
+    file: File<'a>,
     of_module: Module,
 ) -> Result<Module, Unread<'a>>
-    ensures ok { IfOk result (IsRead (file_at files.now place) of_module) }
-    ensures err { IfErr result (IsNoShapes (Some path.now) (file_at files.now place) of_module) }
+    ensures ok { IfOk result (IsRead file.entry of_module) }
+    ensures err { IfErr result (IsNoShapes (Some file.entry) of_module) }
 {
-    let Some(text) = file_at(files, place) else {
+    let Some(text) = file.bytes else {
         drop(of_module);
-        return Err(Unread::NoFile(path));
+        return Err(Unread::NoFile(file.path));
     };
     match read_shapes(alloc, text, &of_module) {
         Ok(shapes) => Ok(with_read(of_module, shapes)),
@@ -162,54 +176,43 @@ fn with_shapes_in<'a>(
     }
 }
 
-/// The module of the first file, with the shapes of the file at this place of the line, if its path is given. The first fault counts: of the
-/// module, its path and then its text, then of the shapes, their path and then their text.
-pub fn shaped_in<'a>(
-    alloc: Global,
-    paths: (&'a str, Option<&'a str>),
-    files: &[Option<Vec<u8>>],
-    place: usize,
-) -> Result<Module, Unread<'a>>
-    ensures ok { IfOk result (HasShaped (file_at files.now 0) (option_map (λ path. path.now) paths.entry.1) (file_at files.now place)) }
-    ensures err { IfErr result (IsNoShaped paths.entry.0.now (option_map (λ path. path.now) paths.entry.1) (file_at files.now 0) (file_at files.now place)) }
+/// Reads the module, and its shapes if their file is given. The first fault counts: of the module, its path and then its text, then of
+/// the shapes, their path and then their text.
+pub fn shaped_in<'a>(alloc: Global, files: &Files<'a>) -> Result<Module, Unread<'a>>
+    ensures ok { IfOk result (HasShaped files.now.of_module files.now.shapes) }
+    ensures err { IfErr result (IsNoShaped files.now.of_module files.now.shapes) }
 {
-    let of_module = module_in(alloc, paths.0, files)?;
-    match paths.1 {
-        Some(path) => with_shapes_in(alloc, path, files, place, of_module),
+    let of_module = module_in(alloc, files)?;
+    match files.shapes {
+        Some(file) => with_shapes_in(alloc, file, of_module),
         None => Ok(of_module),
     }
 }
 
-/// The program of the first file, with the shapes of the third one, if its path is given.
-fn program_in<'a>(
-    alloc: Global,
-    paths: (&'a str, Option<&'a str>),
-    files: &[Option<Vec<u8>>],
-) -> Result<Program, Unread<'a>>
-    ensures ok { IfOk result (HasProgram (file_at files.now 0) (option_map (λ path. path.now) paths.entry.1) (file_at files.now 2)) }
-    ensures err { IfErr result (IsNoProgram paths.entry.0.now (option_map (λ path. path.now) paths.entry.1) (file_at files.now 0) (file_at files.now 2)) }
+/// Reads the module, its shapes if their file is given, and the layouts. The faults are those of `shaped_in`, and then that of the layouts.
+pub fn program_in<'a>(alloc: Global, files: &Files<'a>) -> Result<Program, Unread<'a>>
+    ensures ok { IfOk result (HasProgram files.now.of_module files.now.shapes) }
+    ensures err { IfErr result (IsNoProgram files.now.of_module files.now.shapes) }
 {
-    let of_module = shaped_in(alloc, paths, files, 2)?;
+    let of_module = shaped_in(alloc, files)?;
     match Program::new(alloc, of_module) {
         Ok(program) => Ok(program),
         Err(refused) => Err(Unread::NoLayouts(refused)),
     }
 }
 
-/// The trace of the file at this place of the line.
+/// Reads the trace of a program.
 pub fn trace_in<'a>(
     alloc: Global,
-    path: &'a str,
-    files: &[Option<Vec<u8>>],
-    place: usize,
+    files: &Files<'a>,
     program: &Program,
 ) -> Result<Trace, Unread<'a>>
     ensures of_program { IfOk result (IsTraceOf program.now) }
-    ensures ok { IfOk result (HasTrace (file_at files.now place) program.now) }
-    ensures err { IfErr result (IsNoTrace path.now (file_at files.now place) program.now) }
+    ensures ok { IfOk result (HasTrace files.now.trace program.now) }
+    ensures err { IfErr result (IsNoTrace files.now.trace program.now) }
 {
-    let Some(text) = file_at(files, place) else {
-        return Err(Unread::NoFile(path));
+    let Some(text) = bytes_of(files.trace) else {
+        return Err(Unread::NoFile(path_of(files.trace)));
     };
     match read_trace(alloc, text, program) {
         Ok(trace) => Ok(trace),
@@ -217,21 +220,16 @@ pub fn trace_in<'a>(
     }
 }
 
-/// Reads the module and the trace of these paths, the first two files, and the shapes of the last path, the third one, if it is given.
-/// The first fault counts: of the module, its path and then its text, then of the shapes, their path and then their text, then of the
-/// layouts, then of the trace, its path and then its text.
-pub fn read_traced<'a>(
-    alloc: Global,
-    paths: (&'a str, &'a str, Option<&'a str>),
-    files: &[Option<Vec<u8>>],
-) -> Result<Traced, Unread<'a>>
+/// Reads the program, as `program_in` does, and the trace. The first fault counts: of the program, then of the trace, its path and then
+/// its text.
+pub fn read_traced<'a>(alloc: Global, files: &Files<'a>) -> Result<Traced, Unread<'a>>
     ensures of_program { IfOk result (λ traced. IsTraceOf traced.program traced.trace) }
-    ensures program { IfOk result (λ traced. HasProgram (file_at files.now 0) (option_map (λ path. path.now) paths.entry.2) (file_at files.now 2) traced.program) }
-    ensures trace { IfOk result (λ traced. HasTrace (file_at files.now 1) traced.program traced.trace) }
-    ensures err { IfErr result (IsUntraced paths.entry.0.now paths.entry.1.now (option_map (λ path. path.now) paths.entry.2) (file_at files.now)) }
+    ensures program { IfOk result (λ traced. HasProgram files.now.of_module files.now.shapes traced.program) }
+    ensures trace { IfOk result (λ traced. HasTrace files.now.trace traced.program traced.trace) }
+    ensures err { IfErr result (IsUntraced files.now.of_module files.now.trace files.now.shapes) }
 {
-    let program = program_in(alloc, (paths.0, paths.2), files)?;
-    match trace_in(alloc, paths.1, files, 1, &program) {
+    let program = program_in(alloc, files)?;
+    match trace_in(alloc, files, &program) {
         Ok(trace) => Ok(Traced { program, trace }),
         Err(unread) => {
             drop(program);

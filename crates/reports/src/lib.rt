@@ -7,6 +7,7 @@ mod files;
 mod found;
 mod name;
 mod outcomes;
+mod outputs;
 mod run_report;
 mod status;
 mod unreadable;
@@ -14,10 +15,11 @@ mod verdicts;
 
 pub use faults::{memory, no_certificate, no_layouts};
 pub use files::{
-    Certified, Traced, Unread, edits_in, file_at, module_in, read_certified, read_traced,
-    shaped_in, trace_in,
+    Certified, File, Files, Traced, Unread, bytes_of, edits_in, module_in, path_of, program_in,
+    read_certified, read_traced, shaped_in, trace_in,
 };
 pub use outcomes::{no_threads, replayed, write_break};
+pub use outputs::{Outputs, Results};
 pub use run_report::ran;
 pub use status::{
     STATUS_MEMORY, STATUS_NO, STATUS_UNREADABLE, STATUS_USAGE, STATUS_YES, status_of,

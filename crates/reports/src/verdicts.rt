@@ -9,6 +9,7 @@ ghost use Rattle.module_check.specs.Accepted.{IsFirstRefusal, IsVerdictOf, shape
 
 use crate::faults::{memory, no_layouts};
 use crate::found::{name_of_block, name_of_function, write_found_local, write_found_name};
+use crate::outputs::Outputs;
 use crate::status::{STATUS_NO, STATUS_YES};
 use block_rules::{Detail, Refusal, Rule};
 use certificate::print_line;
@@ -104,19 +105,23 @@ pub fn refused<W: Write>(
 }
 
 /// Prints the first refusal of a module.
-fn report_refusal<O: Write, E: Write>(
+fn report_refusal(
     alloc: Global,
     answer: &NotAccepted,
     refusal: &Refusal,
-    out: &mut O,
-    err: &mut E,
+    outputs: &mut Outputs,
 ) -> io::Result<u8>
     requires { IsFirstRefusal (shaped answer.now.of_module answer.now.certs) answer.now.certs.sections refusal.now }
-    ensures { IfOk result (Says (OfVerdict answer.now.of_module answer.now.certs) (O.contents out.old) (O.contents out.new) (E.contents err.old) (E.contents err.new)) }
+    ensures { IfOk result (Says (OfVerdict answer.now.of_module answer.now.certs) outputs.old outputs.new) }
 {
     match line_of_refusal(alloc, &answer.of_module, &answer.certs, refusal) {
-        Ok(line) => refused(out, &answer.of_module, refusal, line.as_slice()),
-        Err(_) => memory(err),
+        Ok(line) => refused(
+            &mut outputs.out,
+            &answer.of_module,
+            refusal,
+            line.as_slice(),
+        ),
+        Err(_) => memory(&mut outputs.err),
     }
 }
 
@@ -131,18 +136,13 @@ pub fn not_laid_out<W: Write>(err: &mut W, answer: &NotAccepted) -> io::Result<u
 }
 
 /// Prints why a module is not accepted.
-pub fn report_verdict<O: Write, E: Write>(
-    alloc: Global,
-    answer: &NotAccepted,
-    out: &mut O,
-    err: &mut E,
-) -> io::Result<u8>
+pub fn report_verdict(alloc: Global, answer: &NotAccepted, outputs: &mut Outputs) -> io::Result<u8>
     requires { IsVerdictOf (shaped answer.now.of_module answer.now.certs) answer.now.certs.sections answer.now.verdict }
-    ensures { IfOk result (Says (OfVerdict answer.now.of_module answer.now.certs) (O.contents out.old) (O.contents out.new) (E.contents err.old) (E.contents err.new)) }
+    ensures { IfOk result (Says (OfVerdict answer.now.of_module answer.now.certs) outputs.old outputs.new) }
 {
     match answer.verdict {
-        Reason::Refused(refusal) => report_refusal(alloc, answer, &refusal, out, err),
-        Reason::Layout(fault) => no_layouts(err, &answer.of_module, fault),
-        Reason::Memory => memory(err),
+        Reason::Refused(refusal) => report_refusal(alloc, answer, &refusal, outputs),
+        Reason::Layout(fault) => no_layouts(&mut outputs.err, &answer.of_module, fault),
+        Reason::Memory => memory(&mut outputs.err),
     }
 }

@@ -3,7 +3,7 @@ use crate::entered::predecessors_of;
 use crate::operands::reference_of;
 use crate::scene::{Scene, Spot};
 use certs::Mark;
-use diagnosis::{Change, last_change};
+use diagnosis::{Change, CodeAt, last_change};
 use ir_ast::{
     Block, BlockId, End, Function, Incoming, Instr, Op, Operand, Phi, Runtime, SymbolSort, ValueId,
 };
@@ -231,12 +231,15 @@ fn reference_at(scene: &Scene, spot: &Spot, value: ValueId) -> Result<ValueId, A
 
 /// The instruction at which a reference becomes stale, up to this one of its block.
 fn last_stale(scene: &Scene, spot: &Spot, reference: ValueId) -> Result<Option<usize>, AllocError> {
+    let at = CodeAt {
+        func: scene.refusal.func,
+        block: spot.block,
+        place: spot.place.saturating_add(1),
+    };
     last_change(
         scene.pen.alloc,
         &scene.context,
-        scene.refusal.func,
-        spot.block,
-        spot.place.saturating_add(1),
+        at,
         reference,
         Change::Stale,
     )

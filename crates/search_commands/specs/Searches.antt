@@ -1,36 +1,32 @@
 -- What `soak` and `hunt` say of their files, and what they save.
-use Rattle.std.specs.Prelude.{◌≡◌, ◌≢◌, ◌⊎◌, ◌<◌, ◌≤◌, ◌+◌, ◌-◌, min, ℕ, Bool, true, false, List, [], ◌∷◌, ◌++◌, codes, Option, Some, None}
+use Rattle.std.specs.Prelude.{◌≡◌, ◌≢◌, ◌<◌, ◌≤◌, ◌+◌, ◌-◌, ◌/◌, ℕ, Bool, true, false, List, [], ◌∷◌, ◌++◌, codes, Option, Some, None}
 use Rattle.std.specs.Fmt.{decimal}
-use Rattle.std.specs.Io.KnownBytes.{Appends}
 use Rattle.ir_ast.specs.declared.module.Module.{Module}
 use Rattle.layout.specs.Layouts.{LaidOut, AreLayouts}
 use Rattle.certs.specs.declared.certs.Certs.{Certs}
 use Rattle.module_check.specs.Accepted.{IsLayoutReason, shaped}
 use Rattle.module_check.specs.declared.verdict.Reason.{Reason}
-use Rattle.command_line.specs.declared.asked.Draws.{Draws}
-use Rattle.command_line.specs.declared.asked.Draws.TheVariants.{Uniform, Biased}
-use Rattle.command_line.specs.declared.asked.Search.{Search}
-use Rattle.command_line.specs.declared.asked.Shrink.{Shrink}
-use Rattle.command_line.specs.declared.asked.Shrink.TheVariants.{AsDrawn, WithTries}
+use Rattle.command_line.specs.declared.options.Draws.{Draws}
+use Rattle.command_line.specs.declared.options.Draws.TheVariants.{Uniform, Biased}
+use Rattle.command_line.specs.declared.options.Search.{Search}
+use Rattle.command_line.specs.declared.options.Shrink.TheVariants.{AsDrawn, WithTries}
+use Rattle.command_line.specs.declared.options.SoakOptions.{SoakOptions}
 use Rattle.trace_text.specs.Print.{trace_shown}
-use Rattle.trace_text.specs.declared.trace.Setup.{Setup}
 use Rattle.trace_text.specs.declared.trace.Trace.{Trace}
 use Rattle.program_runner.specs.Setups.{HasNoFault, IsSetupFault}
 use Rattle.program_runner.specs.declared.setup_fault.SetupFault.{SetupFault}
 use Rattle.program_runner.specs.declared.setup_fault.SetupFault.TheVariants as setup
-use Rattle.replay.specs.Soaks.{AreSoundFrom, IsLeastBreak}
+use Rattle.replay.specs.Soaks.{IsLeastBreak}
 use Rattle.replay.specs.declared.outcome.Break.{Break}
 use Rattle.replay.specs.declared.outcome.SeedBreak.{SeedBreak}
 use Rattle.hunting.specs.Shorter.{IsBreaking, kind_of}
 use Rattle.reports.specs.Files.{HasProgram, IsNoProgram, of_unread}
 use Rattle.reports.specs.Report.{Answer, of_layout_reason, no_memory}
 use Rattle.reports.specs.Said.{Said, OnOutput, OnError, OnBoth, OfCertified}
+use Rattle.reports.specs.declared.files.File.{File}
 use Rattle.reports.specs.declared.files.Unread.{Unread}
 use Rattle.reports.specs.Outcomes.{of_setup_fault, break_text}
-use Rattle.search_commands.specs.declared.chunks.Soaked.{Soaked}
-use Rattle.search_commands.specs.declared.chunks.Soaked.TheVariants.{SoundBelow, BrokenAt}
-use Rattle.search_commands.specs.declared.few_switches.BiasedSoaked.{BiasedSoaked}
-use Rattle.search_commands.specs.declared.few_switches.BiasedSoaked.TheVariants as few
+use Rattle.search_commands.specs.Sources.{AreSoundBy, AreTried, IsFound, past_seed}
 
 -- ---- traces that are saved
 
@@ -59,27 +55,37 @@ IsDrawnIf false p t b before after = after ≡ before
 
 -- ---- soak
 
--- one past the last seed of a search; there is no seed past the numbers of 32 bits, and none is the greatest of these
-abbrev pub past_seed : Search → ℕ
-past_seed search = min (search.first + search.seeds) 4294967295
+-- the seeds of a search from the start of this trace have this break: by uniform draws it is that of the least one whose schedule breaks its
+-- run, with few switches of one whose steps were replayed
+abbrev pub IsBrokenBy : Draws → Search → LaidOut → Trace → SeedBreak → Type 0
+IsBrokenBy Uniform search p t at = IsLeastBreak p t.setup search.first (past_seed search) search.steps at
+IsBrokenBy Biased search p t at = (trace : Trace) × IsFound search.first (past_seed search) p t at trace
 
--- the seeds of a search from its first one to below this one are all of them; or they are fewer, where it ends after a time
-pub record AreTried (search : Search) (past : ℕ) : Type 0 where
-  pub from : search.first ≤ past
-  pub within : past ≤ past_seed search
-  pub all : search.seconds ≡ None → past ≡ past_seed search
+-- so it is by the draws of the search
+abbrev pub IsBroken : Search → LaidOut → Trace → SeedBreak → Type 0
+IsBroken search p t at = IsBrokenBy search.draws search p t at
+
+-- with what the line of a broken seed begins
+abbrev pub seed_words : Draws → List ℕ
+seed_words Uniform = codes "broken seed "
+seed_words Biased = codes "broken biased seed "
 
 -- the line of a seed whose schedule breaks its run
-abbrev pub seed_text : SeedBreak → List ℕ
-seed_text at = codes "broken seed " ++ decimal at.seed ++ codes " " ++ break_text at.broken
+abbrev pub seed_text : Draws → SeedBreak → List ℕ
+seed_text draws at = (seed_words draws ++ (decimal at.seed ++ codes " ")) ++ break_text at.broken
 
--- of that number of seeds none has a schedule that breaks its run
-abbrev pub of_sound : (seeds : ℕ) → Answer
-of_sound seeds = record { text = codes "sound " ++ decimal seeds ++ codes " seeds" ++ 10 ∷ []; status = 0 }
+-- how seeds are called
+abbrev pub seeds_word : Draws → List ℕ
+seeds_word Uniform = codes "seeds"
+seeds_word Biased = codes "biased seeds"
+
+-- of that number of seeds none has a schedule that breaks its run; of draws with few switches, none that was replayed
+abbrev pub of_sound : Draws → (seeds : ℕ) → Answer
+of_sound draws seeds = record { text = codes "sound " ++ decimal seeds ++ codes " " ++ seeds_word draws ++ 10 ∷ []; status = 0 }
 
 -- a seed whose schedule breaks its run, with the break
-abbrev pub of_seed : SeedBreak → Answer
-of_seed at = record { text = seed_text at; status = 1 }
+abbrev pub of_seed : Draws → SeedBreak → Answer
+of_seed draws at = record { text = seed_text draws at; status = 1 }
 
 -- how many traces were tried
 abbrev pub tries_text : (tries : ℕ) → List ℕ
@@ -90,118 +96,62 @@ abbrev pub shorter_text : Break → (tries : ℕ) → List ℕ
 shorter_text b tries = codes "shorter " ++ break_text b ++ tries_text tries
 
 -- these lines after that of the seed
-abbrev pub of_shorter : SeedBreak → Break → (tries : ℕ) → Answer
-of_shorter at b tries = record { text = seed_text at ++ shorter_text b tries; status = 1 }
+abbrev pub of_shorter : Draws → SeedBreak → Break → (tries : ℕ) → Answer
+of_shorter draws at b tries = record { text = seed_text draws at ++ shorter_text b tries; status = 1 }
 
 -- a broken seed with more steps than a trace may list
 abbrev pub of_too_long : SeedBreak → Said
-of_too_long at = OnBoth (of_seed at) (codes "error P3" ++ 10 ∷ [])
+of_too_long at = OnBoth (of_seed Uniform at) (codes "error P3" ++ 10 ∷ [])
 
--- what comes of the uniform draws of a search: seeds below one that are sound, or the least seed of all whose schedule breaks its run
-abbrev pub IsSoaked : LaidOut → Setup → Search → Soaked → Type 0
-IsSoaked p setup search (SoundBelow past) = AreTried search past × AreSoundFrom p setup search.steps search.first past
-IsSoaked p setup search (BrokenAt at) = IsLeastBreak p setup search.first (past_seed search) search.steps at
-
--- what `soak` says of them where draws are uniform. Before and after it these bytes are saved
-pub data OfUniform (search : Search) (shrink : Shrink) (wanted : Bool) (before after : List ℕ) (p : LaidOut) (t : Trace) : Said → Type 0 where
-  sound : (past : ℕ) → HasNoFault p t.setup → IsSoaked p t.setup search (SoundBelow past) → after ≡ before
-      → OfUniform search shrink wanted before after p t (OnOutput (of_sound (past - search.first)))
-  broken : (at : SeedBreak) → shrink ≡ AsDrawn → HasNoFault p t.setup → IsSoaked p t.setup search (BrokenAt at) → IsDrawnIf wanted p t at.broken before after
-      → OfUniform search shrink wanted before after p t (OnOutput (of_seed at))
-  shortened : (at : SeedBreak) (b : Break) (limit tries : ℕ) → shrink ≡ WithTries limit → tries ≤ limit → HasNoFault p t.setup → IsSoaked p t.setup search (BrokenAt at)
-      → kind_of b.cause ≡ kind_of at.broken.cause → IsShorter p wanted b before after → OfUniform search shrink wanted before after p t (OnOutput (of_shorter at b tries))
-  too_long : (at : SeedBreak) → HasNoFault p t.setup → IsSoaked p t.setup search (BrokenAt at) → 10000000 < at.broken.step → after ≡ before
-      → OfUniform search shrink wanted before after p t (of_too_long at)
-  not_started : (fault : SetupFault) → (fault ≢ setup.Memory → IsSetupFault p t.setup fault) → after ≡ before → OfUniform search shrink wanted before after p t (OnError (of_setup_fault fault))
-
--- some text is told, or none
-abbrev pub MayTell : (old new : Option (List ℕ)) → Type 0
-MayTell old new = (new ≡ old) ⊎ ((text : List ℕ) × Appends old new text)
-
--- ---- soak with few switches
-
--- of that number of seeds none had a schedule that broke its run
-abbrev pub of_biased_sound : (seeds : ℕ) → Answer
-of_biased_sound seeds = record { text = codes "sound " ++ decimal seeds ++ codes " biased seeds" ++ 10 ∷ []; status = 0 }
-
--- the line of a seed whose schedule breaks its run
-abbrev pub biased_text : SeedBreak → List ℕ
-biased_text at = codes "broken biased seed " ++ decimal at.seed ++ codes " " ++ break_text at.broken
-
--- this line
-abbrev pub of_biased : SeedBreak → Answer
-of_biased at = record { text = biased_text at; status = 1 }
-
--- the same, and then the lines of a shorter trace
-abbrev pub of_biased_shorter : SeedBreak → Break → (tries : ℕ) → Answer
-of_biased_shorter at b tries = record { text = biased_text at ++ shorter_text b tries; status = 1 }
-
--- a trace that begins as this one breaks its run at its last step; a seed of the search drew it
-pub record IsFound (search : Search) (p : LaidOut) (t : Trace) (at : SeedBreak) (trace : Trace) : Type 0 where
-  pub low : search.first ≤ at.seed
-  pub high : at.seed < past_seed search
-  pub begins : trace.setup ≡ t.setup
-  pub breaking : IsBreaking p trace at.broken
-
--- what comes of the draws with few switches: seeds below one that were tried, or a seed whose schedule breaks its run
-abbrev pub IsBiasedSoaked : LaidOut → Trace → Search → BiasedSoaked → Type 0
-IsBiasedSoaked p t search (few.SoundBelow past) = AreTried search past
-IsBiasedSoaked p t search (few.Found b) = IsFound search p t (record { seed = b.seed; broken = b.found.broken }) b.found.trace
-
--- what `soak` says of them where schedules have few switches. Before and after it these bytes are saved
-pub data OfBiased (search : Search) (shrink : Shrink) (wanted : Bool) (before after : List ℕ) (p : LaidOut) (t : Trace) : Said → Type 0 where
-  biased_sound : (past : ℕ) → HasNoFault p t.setup → AreTried search past → after ≡ before
-      → OfBiased search shrink wanted before after p t (OnOutput (of_biased_sound (past - search.first)))
-  biased_broken : (at : SeedBreak) (trace : Trace) → shrink ≡ AsDrawn → HasNoFault p t.setup → IsFound search p t at trace → IsAdded wanted (trace_shown p trace) before after
-      → OfBiased search shrink wanted before after p t (OnOutput (of_biased at))
-  biased_shortened : (at : SeedBreak) (trace : Trace) (b : Break) (limit tries : ℕ) → shrink ≡ WithTries limit → tries ≤ limit → HasNoFault p t.setup → IsFound search p t at trace
-      → kind_of b.cause ≡ kind_of at.broken.cause → IsShorter p wanted b before after → OfBiased search shrink wanted before after p t (OnOutput (of_biased_shorter at b tries))
-  biased_not_started : (fault : SetupFault) → (fault ≢ setup.Memory → IsSetupFault p t.setup fault) → after ≡ before → OfBiased search shrink wanted before after p t (OnError (of_setup_fault fault))
-
--- what `soak` says, by how a seed draws
-abbrev pub OfDraws : Draws → Search → (shrink : Shrink) → (wanted : Bool) → (before after : List ℕ) → LaidOut → Trace → Said → Type 0
-OfDraws Uniform search shrink wanted before after p t said = OfUniform search shrink wanted before after p t said
-OfDraws Biased search shrink wanted before after p t said = OfBiased search shrink wanted before after p t said
-
--- what `soak` says of the seeds of a search
-abbrev pub OfSeeds : Search → (shrink : Shrink) → (wanted : Bool) → (before after : List ℕ) → LaidOut → Trace → Said → Type 0
-OfSeeds search shrink wanted before after p t said = OfDraws search.draws search shrink wanted before after p t said
+-- what `soak` says of the seeds of a search. Before and after it these bytes are saved
+pub data OfSeeds (options : SoakOptions) (wanted : Bool) (p : LaidOut) (t : Trace) (before after : List ℕ) : Said → Type 0 where
+  sound : (past : ℕ) → HasNoFault p t.setup → AreTried options.search past → AreSoundBy options.search.draws (record { program = p; trace = t }) options.search.steps options.search.first past → after ≡ before
+      → OfSeeds options wanted p t before after (OnOutput (of_sound options.search.draws (past - options.search.first)))
+  broken : (at : SeedBreak) → options.shrink ≡ AsDrawn → HasNoFault p t.setup → IsBroken options.search p t at → IsDrawnIf wanted p t at.broken before after
+      → OfSeeds options wanted p t before after (OnOutput (of_seed options.search.draws at))
+  shortened : (at : SeedBreak) (b : Break) (limit tries : ℕ) → options.shrink ≡ WithTries limit → tries ≤ limit → HasNoFault p t.setup → IsBroken options.search p t at
+      → kind_of b.cause ≡ kind_of at.broken.cause → IsShorter p wanted b before after → OfSeeds options wanted p t before after (OnOutput (of_shorter options.search.draws at b tries))
+  too_long : (at : SeedBreak) → options.search.draws ≡ Uniform → HasNoFault p t.setup → IsBroken options.search p t at → 10000000 < at.broken.step → after ≡ before
+      → OfSeeds options wanted p t before after (of_too_long at)
+  not_started : (fault : SetupFault) → (fault ≢ setup.Memory → IsSetupFault p t.setup fault) → after ≡ before → OfSeeds options wanted p t before after (OnError (of_setup_fault fault))
 
 -- ---- hunt
 
+-- how many starts this number of seeds draws: of each 64 seeds the first one draws one
+abbrev pub starts_of : (seeds : ℕ) → ℕ
+starts_of seeds = (seeds + 63) / 64
+
 -- how many starts, seeds and shorter traces were tried
-abbrev pub tried_text : (starts seeds tries : ℕ) → List ℕ
-tried_text starts seeds tries = codes "starts " ++ decimal starts ++ codes " seeds " ++ decimal seeds ++ codes " tries " ++ decimal tries ++ 10 ∷ []
+abbrev pub tried_text : (seeds tries : ℕ) → List ℕ
+tried_text seeds tries = codes "starts " ++ decimal (starts_of seeds) ++ codes " seeds " ++ decimal seeds ++ codes " tries " ++ decimal tries ++ 10 ∷ []
 
 -- the break that a hunt found, with what was tried
-abbrev pub of_broken : Break → (starts seeds tries : ℕ) → Answer
-of_broken b starts seeds tries = record { text = codes "broken " ++ break_text b ++ tried_text starts seeds tries; status = 1 }
+abbrev pub of_broken : Break → (seeds tries : ℕ) → Answer
+of_broken b seeds tries = record { text = codes "broken " ++ break_text b ++ tried_text seeds tries; status = 1 }
 
--- nothing was found with that number of starts, and of seeds
-abbrev pub of_nothing : (starts seeds : ℕ) → Answer
-of_nothing starts seeds = record { text = codes "sound " ++ decimal seeds ++ codes " seeds" ++ 10 ∷ codes "starts " ++ decimal starts ++ 10 ∷ []; status = 0 }
+-- nothing was found with that number of seeds
+abbrev pub of_nothing : (seeds : ℕ) → Answer
+of_nothing seeds = record { text = codes "sound " ++ decimal seeds ++ codes " seeds" ++ 10 ∷ codes "starts " ++ decimal (starts_of seeds) ++ 10 ∷ []; status = 0 }
 
--- what `hunt` says of a program: a break that was replayed, what was tried, or out of memory
-pub data OfHunt (wanted : Bool) (before after : List ℕ) (p : LaidOut) : Said → Type 0 where
-  broke : (b : Break) (starts seeds tries : ℕ) → IsShorter p wanted b before after → OfHunt wanted before after p (OnOutput (of_broken b starts seeds tries))
-  nothing : (starts seeds : ℕ) → after ≡ before → OfHunt wanted before after p (OnOutput (of_nothing starts seeds))
-  not_hunted : after ≡ before → OfHunt wanted before after p (OnError no_memory)
+-- what `hunt` says of a program: a break that was replayed, what was tried, or out of memory. Before and after it these bytes are saved
+pub data OfHunt (wanted : Bool) (p : LaidOut) (before after : List ℕ) : Said → Type 0 where
+  broke : (b : Break) (seeds tries : ℕ) → IsShorter p wanted b before after → OfHunt wanted p before after (OnOutput (of_broken b seeds tries))
+  nothing : (seeds : ℕ) → after ≡ before → OfHunt wanted p before after (OnOutput (of_nothing seeds))
+  not_hunted : after ≡ before → OfHunt wanted p before after (OnError no_memory)
 
--- what it says of the files of a module and of its shapes, which have these paths
-pub data OfHuntShaped (wanted : Bool) (before after : List ℕ) (module_path : List ℕ) (shapes_path : Option (List ℕ)) (first second : Option (List ℕ)) : Said → Type 0 where
-  no_program : (unread : Unread) → IsNoProgram module_path shapes_path first second unread → after ≡ before
-      → OfHuntShaped wanted before after module_path shapes_path first second (OnError (of_unread unread))
-  of_program : (p : LaidOut) (said : Said) → HasProgram first shapes_path second p → OfHunt wanted before after p said
-      → OfHuntShaped wanted before after module_path shapes_path first second said
+-- what it says of the files of a module and of its shapes
+pub data OfHuntShaped (wanted : Bool) (first shapes : Option File) (before after : List ℕ) : Said → Type 0 where
+  no_program : (unread : Unread) → IsNoProgram first shapes unread → after ≡ before → OfHuntShaped wanted first shapes before after (OnError (of_unread unread))
+  of_program : (p : LaidOut) (said : Said) → HasProgram first shapes p → OfHunt wanted p before after said → OfHuntShaped wanted first shapes before after said
 
 -- what it says of a module with certificates, whose shapes it then has
-pub data OfHuntCerts (wanted : Bool) (before after : List ℕ) (m : Module) (certs : Certs) : Said → Type 0 where
+pub data OfHuntCerts (wanted : Bool) (m : Module) (certs : Certs) (before after : List ℕ) : Said → Type 0 where
   not_laid_out : (reason : Reason) → IsLayoutReason (shaped m certs) reason → after ≡ before
-      → OfHuntCerts wanted before after m certs (OnError (of_layout_reason m reason))
-  of_shaped : (p : LaidOut) (said : Said) → p.of_module ≡ shaped m certs → AreLayouts p.of_module p.layouts → OfHunt wanted before after p said
-      → OfHuntCerts wanted before after m certs said
+      → OfHuntCerts wanted m certs before after (OnError (of_layout_reason m reason))
+  of_shaped : (p : LaidOut) (said : Said) → p.of_module ≡ shaped m certs → AreLayouts p.of_module p.layouts → OfHunt wanted p before after said
+      → OfHuntCerts wanted m certs before after said
 
--- what it says of its files: of the module, and of its certificates where their path is given, or else of its shapes
-abbrev pub OfHuntFiles : (wanted : Bool) → (before after : List ℕ) → (module_path : List ℕ) → (shapes_path cert_path : Option (List ℕ)) → (first second : Option (List ℕ)) → Said → Type 0
-OfHuntFiles wanted before after module_path shapes_path None first second = OfHuntShaped wanted before after module_path shapes_path first second
-OfHuntFiles wanted before after module_path shapes_path (Some cert_path) first second = OfCertified (OfHuntCerts wanted before after) module_path cert_path first second
+-- what it says of its files: of the module, and of its certificates where they are given, or else of its shapes
+abbrev pub OfHuntFiles : (wanted : Bool) → (first certificate shapes : Option File) → (before after : List ℕ) → Said → Type 0
+OfHuntFiles wanted first None shapes before after = OfHuntShaped wanted first shapes before after
+OfHuntFiles wanted first (Some certificate) shapes before after = OfCertified (λ m certs. OfHuntCerts wanted m certs before after) first (Some certificate)

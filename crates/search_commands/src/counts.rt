@@ -1,13 +1,14 @@
 //! How much happens in the runs of sound seeds.
 ghost use Rattle.std.specs.Prelude.{OnOk};
-ghost use Rattle.search_commands.specs.Searches.{MayTell};
+ghost use Rattle.reports.specs.Said.{GivesText};
 ghost use Rattle.trace_text.specs.Traces.{IsTraceOf};
 
-use crate::chunks::past_seed;
-use command_line::{Draws, Search, SoakLine};
-use hunting::{Happened, counted, counted_biased};
+use crate::searching::past_seed;
+use command_line::{Draws, Search};
+use hunting::{Happened, Sample, counted};
 use layout::Program;
-use reports::{Traced, read_traced};
+use replay::Schedules;
+use reports::{Files, Traced, read_traced};
 use std::alloc::Global;
 use std::io;
 use std::io::Write;
@@ -19,14 +20,9 @@ const SEEDS: u32 = 16;
 /// After how many steps no further seeds are.
 const STEPS: u64 = 1_000_000;
 
-/// Writes what happened in the runs of some seeds from this one on.
-fn write_counts<E: Write>(
-    err: &mut E,
-    first: u32,
-    threads: u64,
-    happened: Happened,
-) -> io::Result<()>
-    ensures { OnOk result (MayTell (E.contents err.old) (E.contents err.new)) }
+/// Says what happened in the runs of some seeds from this one on, and where that shows little of the collector.
+fn tell_counts(err: &mut Vec<u8>, first: u32, threads: u64, happened: Happened) -> io::Result<()>
+    ensures { OnOk result (GivesText err.old.items err.new.items) }
 {
     let Happened {
         seeds,
@@ -35,42 +31,26 @@ fn write_counts<E: Write>(
         cycles,
         ends,
     } = happened;
-    writeln!(
+    let mend = if frees == 0 {
+        "  mend:  nothing was freed, so this shows nothing: make more steps\n"
+    } else {
+        ""
+    };
+    write!(
         err,
-        "the runs of {seeds} seeds from {first} on: {claims} cells claimed, {frees} freed, {cycles} cycles over, {ends} of {threads} threads ended"
+        "the runs of {seeds} seeds from {first} on: {claims} cells claimed, {frees} freed, {cycles} cycles over, {ends} of {threads} threads ended\n{mend}"
     )
 }
 
-/// Says that a search shows little of the collector.
-fn write_little<E: Write>(err: &mut E) -> io::Result<()>
-    ensures { OnOk result (MayTell (E.contents err.old) (E.contents err.new)) }
-{
-    writeln!(
-        err,
-        "  mend:  nothing was freed, so this shows nothing: make more steps"
-    )
-}
-
-/// Says what happened in the runs of some seeds from this one on.
-fn tell_counts<E: Write>(
-    err: &mut E,
-    first: u32,
-    threads: u64,
-    happened: Happened,
-) -> io::Result<()>
-    ensures { OnOk result (MayTell (E.contents err.old) (E.contents err.new)) }
-{
-    write_counts(err, first, threads, happened)?;
-    if happened.frees == 0 {
-        return write_little(err);
+/// How many steps are looked at: of biased seeds one in twenty, since they are drawn and made anew.
+fn budget_of(search: Search) -> u64 {
+    match search.draws {
+        Draws::Uniform => STEPS,
+        Draws::Biased => {
+            let all = u64::from(search.seeds).saturating_mul(u64::from(search.steps));
+            (all / 20).max(1).min(STEPS)
+        }
     }
-    Ok(())
-}
-
-/// How many steps of biased seeds are looked at: one in twenty, since they are drawn and made anew.
-fn biased_budget(search: Search) -> u64 {
-    let all = u64::from(search.seeds).saturating_mul(u64::from(search.steps));
-    (all / 20).max(1).min(STEPS)
 }
 
 /// What happens in the runs of the first seeds of a search, if memory is ample and the threads may begin.
@@ -78,30 +58,32 @@ fn counts_of(alloc: Global, program: &Program, start: &Trace, search: Search) ->
     requires { IsTraceOf program.now start.now }
 {
     let first = search.first;
-    let past = past_seed(search).min(first.saturating_add(SEEDS));
-    let counts = match &search.draws {
-        Draws::Uniform => counted(alloc, program, start, first, past, search.steps, STEPS),
-        Draws::Biased => {
-            let budget = biased_budget(search);
-            counted_biased(alloc, program, start, first, past, search.steps, budget)
-        }
+    let schedules = Schedules {
+        first,
+        past: past_seed(search).min(first.saturating_add(SEEDS)),
+        steps: search.steps,
     };
-    match counts {
+    let sample = Sample {
+        schedules,
+        biased: matches!(search.draws, Draws::Biased),
+        budget: budget_of(search),
+    };
+    match counted(alloc, program, start, sample) {
         Ok(happened) => Some(happened),
         Err(_) => None,
     }
 }
 
 /// Says what happens in the runs of the first seeds of a search, from the start of a trace.
-fn tell_traced<E: Write>(
+fn tell_traced(
     alloc: Global,
     program: &Program,
     start: &Trace,
     search: Search,
-    err: &mut E,
+    err: &mut Vec<u8>,
 ) -> io::Result<()>
     requires { IsTraceOf program.now start.now }
-    ensures { OnOk result (MayTell (E.contents err.old) (E.contents err.new)) }
+    ensures { OnOk result (GivesText err.old.items err.new.items) }
 {
     let threads = start.setup.starts.len() as u64;
     let Some(happened) = counts_of(alloc, program, start, search) else {
@@ -114,20 +96,19 @@ fn tell_traced<E: Write>(
     tell_counts(err, search.first, threads, happened)
 }
 
-/// Says how much happens in the runs of the first seeds of a line.
-pub fn tell_happened<E: Write>(
+/// Says how much happens in the runs of the first seeds of a search.
+pub fn tell_happened(
     alloc: Global,
-    asked: SoakLine<'_>,
-    files: &[Option<Vec<u8>>],
-    err: &mut E,
+    search: Search,
+    files: &Files<'_>,
+    err: &mut Vec<u8>,
 ) -> io::Result<()>
-    ensures { OnOk result (MayTell (E.contents err.old) (E.contents err.new)) }
+    ensures { OnOk result (GivesText err.old.items err.new.items) }
 {
-    let paths = (asked.module_path, asked.trace_path, asked.shapes_path);
-    match read_traced(alloc, paths, files) {
+    match read_traced(alloc, files) {
         Ok(traced) => {
             let Traced { program, trace } = traced;
-            let told = tell_traced(alloc, &program, &trace, asked.search, err);
+            let told = tell_traced(alloc, &program, &trace, search, err);
             drop(trace);
             drop(program);
             told

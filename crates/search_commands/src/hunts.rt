@@ -1,304 +1,210 @@
 //! The command `hunt`.
-ghost use Rattle.std.specs.Prelude.{◌≡◌, ◌≤◌, false, is_some, option_map, IfOk, IfErr, OnOk};
+ghost use Rattle.std.specs.Prelude.{◌≡◌, false, IfOk, OnOk};
 ghost use Rattle.std.specs.Io.KnownBytes.{Appends};
-ghost use Rattle.hunting.specs.Hunts.{IsHunted};
-ghost use Rattle.hunting.specs.declared.searching.Hunted.TheVariants.{Nothing};
-ghost use Rattle.hunting.specs.Shorter.{IsBreaking};
-ghost use Rattle.reports.specs.Files as spec;
-ghost use Rattle.reports.specs.Files.{HasProgram, IsNoProgram};
 ghost use Rattle.reports.specs.Report.{IsTold};
-ghost use Rattle.reports.specs.Said.{Says};
-ghost use Rattle.search_commands.specs.Searches.{OfHunt, OfHuntCerts, OfHuntFiles, OfHuntShaped, of_broken, of_nothing, tried_text};
+ghost use Rattle.reports.specs.Said.{Saves};
+ghost use Rattle.search_commands.specs.Searches.{OfHunt, OfHuntCerts, OfHuntFiles, OfHuntShaped, of_broken, of_nothing, starts_of, tried_text};
+ghost use Rattle.hunting.specs.Shorter.{IsBreaking};
 
-use crate::onlooker::{Onlooker, SoFar};
-use crate::pace::Pace;
-use crate::shorter::{ShorterBreak, save_shorter};
-use certs::Section;
-use command_line::HuntLine;
-use hunting::{ALIKE, HuntLimits, HuntReport, Hunted, ShorterTrace, hunt};
+use crate::onlooker::Onlooker;
+use crate::searching::search_for;
+use crate::shorter::{ShorterBreak, Wish, shorten};
+use crate::sources::{Hunt, Searched, Source};
+use command_line::{Draws, HuntOptions, Search};
+use hunting::{ALIKE, BrokenSeed};
 use layout::Program;
 use module_check::UnderCheck;
 use reports::{
-    Certified, STATUS_NO, STATUS_YES, Unread, memory, not_laid_out, read_certified, shaped_in,
-    unread, write_break,
+    Certified, Files, Results, STATUS_NO, STATUS_YES, memory, not_laid_out, program_in,
+    read_certified, unread, write_break,
 };
-use std::alloc::{AllocError, Global};
+use std::alloc::Global;
 use std::io;
 use std::io::Write;
-use std::ops::Range;
+use std::thread::Threads;
 use std::time::Clock;
 
-/// What was tried.
-fn write_tried<W: Write>(out: &mut W, starts: u32, seeds: u32, tries: u32) -> io::Result<()>
-    ensures { OnOk result (Appends (W.contents out.old) (W.contents out.new) (tried_text starts seeds tries)) }
+/// What is asked of a hunt, and whether the trace that it finds is saved.
+#[derive(Clone, Copy)]
+struct Asked {
+    options: HuntOptions,
+    saves: bool,
+}
+
+/// How many starts this number of seeds draws.
+fn starts_of(seeds: u32) -> u32
+    ensures { result ≡ starts_of seeds }
 {
+    seeds.div_ceil(ALIKE)
+}
+
+/// What was tried.
+fn write_tried<W: Write>(out: &mut W, seeds: u32, tries: u32) -> io::Result<()>
+    ensures { OnOk result (Appends (W.contents out.old) (W.contents out.new) (tried_text seeds tries)) }
+{
+    let starts = starts_of(seeds);
     writeln!(out, "starts {starts} seeds {seeds} tries {tries}")
 }
 
 /// A break that was found, and what was tried.
-fn broken<W: Write>(out: &mut W, shorter: ShorterBreak, starts: u32, seeds: u32) -> io::Result<u8>
-    ensures { IfOk result (λ status. IsTold (W.contents out.old) (W.contents out.new) status (of_broken shorter.broken starts seeds shorter.tries)) }
+fn broken<W: Write>(out: &mut W, shorter: ShorterBreak, seeds: u32) -> io::Result<u8>
+    ensures { IfOk result (λ status. IsTold (W.contents out.old) (W.contents out.new) status (of_broken shorter.broken seeds shorter.tries)) }
 {
     write!(out, "broken ")?;
     write_break(out, &shorter.broken)?;
-    write_tried(out, starts, seeds, shorter.tries)?;
+    write_tried(out, seeds, shorter.tries)?;
     Ok(STATUS_NO)
 }
 
 /// What was tried, where nothing was found.
-fn nothing<W: Write>(out: &mut W, starts: u32, seeds: u32) -> io::Result<u8>
-    ensures { IfOk result (λ status. IsTold (W.contents out.old) (W.contents out.new) status (of_nothing starts seeds)) }
+fn nothing<W: Write>(out: &mut W, seeds: u32) -> io::Result<u8>
+    ensures { IfOk result (λ status. IsTold (W.contents out.old) (W.contents out.new) status (of_nothing seeds)) }
 {
+    let starts = starts_of(seeds);
     writeln!(out, "sound {seeds} seeds")?;
     writeln!(out, "starts {starts}")?;
     Ok(STATUS_YES)
 }
 
-/// Saves the trace that was found, and says how it breaks its run and what was tried.
-fn tell_broken<O: Write, E: Write>(
+/// Makes the schedule of a broken seed shorter, saves it, and says how it breaks its run and what was tried.
+fn tell_shorter(
     alloc: Global,
     program: &Program,
-    shorter: ShorterTrace,
-    tried: (u32, u32),
-    wanted: bool,
-    saved: &mut Vec<u8>,
-    out: &mut O,
-    err: &mut E,
+    found: BrokenSeed,
+    asked: Asked,
+    results: &mut Results,
+    onlooker: &mut impl Onlooker,
 ) -> io::Result<u8>
-    requires { IsBreaking program.now shorter.found.trace shorter.found.broken }
-    ensures said { IfOk result (Says (OfHunt wanted saved.old.items saved.new.items program.now) (O.contents out.old) (O.contents out.new) (E.contents err.old) (E.contents err.new)) }
-    ensures kept { wanted ≡ false → saved.new.items ≡ saved.old.items }
+    requires { IsBreaking program.now found.found.trace found.found.broken }
+    ensures said { IfOk result (Saves (OfHunt asked.saves program.now) results.old results.new) }
+    ensures kept { asked.saves ≡ false → results.new.saved.items ≡ results.old.saved.items }
 {
-    match save_shorter(alloc, program, shorter, wanted, saved) {
-        Ok(shorter) => broken(out, shorter, tried.0, tried.1),
-        Err(_refused) => memory(err),
-    }
-}
-
-/// Says what came of a hunt, and saves the trace that was found where that is wanted.
-fn tell_report<O: Write, E: Write>(
-    alloc: Global,
-    program: &Program,
-    report: HuntReport,
-    wanted: bool,
-    saved: &mut Vec<u8>,
-    out: &mut O,
-    err: &mut E,
-) -> io::Result<u8>
-    requires { IsHunted program.now report.hunted }
-    ensures said { IfOk result (Says (OfHunt wanted saved.old.items saved.new.items program.now) (O.contents out.old) (O.contents out.new) (E.contents err.old) (E.contents err.new)) }
-    ensures kept { wanted ≡ false → saved.new.items ≡ saved.old.items }
-{
-    let HuntReport {
-        hunted,
-        starts,
-        past: seeds,
-    } = report;
-    match hunted {
-        Hunted::Broken(shorter) => tell_broken(
-            alloc,
-            program,
-            shorter,
-            (starts, seeds),
-            wanted,
-            saved,
-            out,
-            err,
-        ),
-        Hunted::Nothing => nothing(out, starts, seeds),
-    }
-}
-
-/// Hunts with some of the seeds of a line.
-fn hunt_some(
-    alloc: Global,
-    program: &Program,
-    sections: &[Section],
-    asked: HuntLine<'_>,
-    seeds: Range<u32>,
-) -> Result<HuntReport, AllocError>
-    requires { seeds.start ≤ seeds.end }
-    ensures { IfOk result (λ report. IsHunted program.now report.hunted) }
-{
-    let far = HuntLimits {
-        first: seeds.start,
-        past: seeds.end,
-        steps: asked.steps,
-        tries: asked.tries,
+    let seeds = found.seed.saturating_add(1);
+    let wish = Wish {
+        tries: asked.options.tries,
+        saves: asked.saves,
     };
-    hunt(alloc, program, sections, far)
-}
-
-/// Nothing was found by the seeds below this one.
-fn nothing_below(starts: u32, past: u32) -> HuntReport
-    ensures { result.hunted ≡ Nothing }
-{
-    HuntReport {
-        hunted: Hunted::Nothing,
-        starts,
-        past,
+    match shorten(alloc, program, found, wish, &mut results.saved, onlooker) {
+        Ok(shorter) => broken(&mut results.outputs.out, shorter, seeds),
+        Err(_refused) => memory(&mut results.outputs.err),
     }
 }
 
-/// Whether a hunt ends after what came of the seeds to below this one: a schedule broke its run, or no start could be drawn.
-fn ends_hunt(report: &HuntReport, past: u32) -> bool {
-    matches!(report.hunted, Hunted::Broken(_)) || report.past < past
-}
-
-/// Hunts with the seeds of a line, some at a time, until a schedule breaks its run, no start can be drawn, or the time is over.
-fn hunt_for<P: Onlooker>(
-    rt: &impl Clock,
+/// Searches for a schedule that breaks its run, and says what came of it.
+fn hunt_program(
+    rt: &(impl Threads + Clock + Sync),
     alloc: Global,
-    program: &Program,
-    sections: &[Section],
-    asked: HuntLine<'_>,
-    onlooker: &mut P,
-) -> Result<HuntReport, AllocError>
-    ensures { IfOk result (λ report. IsHunted program.now report.hunted) }
-{
-    let mut pace = Pace::start(rt, ALIKE);
-    let mut starts = 0u32;
-    let mut next = 0;
-    while next < asked.seeds {
-        if pace.is_over(asked.seconds) {
-            return Ok(nothing_below(starts, next));
-        }
-        let past = next + pace.size().min(asked.seeds - next);
-        let mut report = hunt_some(alloc, program, sections, asked, next..past)?;
-        starts = starts.saturating_add(report.starts);
-        if ends_hunt(&report, past) {
-            report.starts = starts;
-            return Ok(report);
-        }
-        next = past;
-        pace = pace.tried(rt);
-        onlooker.goes_on(SoFar {
-            tried: next,
-            seeds: asked.seeds,
-            elapsed: pace.elapsed(),
-            seconds: asked.seconds,
-        });
-    }
-    Ok(nothing_below(starts, next))
-}
-
-/// Searches for a schedule of a program that breaks its run, with arguments that these certificates allow.
-fn hunt_program<O: Write, E: Write>(
-    rt: &impl Clock,
-    alloc: Global,
-    program: &Program,
-    sections: &[Section],
-    asked: HuntLine<'_>,
-    saved: &mut Vec<u8>,
-    out: &mut O,
-    err: &mut E,
+    of: Hunt<'_>,
+    asked: Asked,
+    results: &mut Results,
     onlooker: &mut impl Onlooker,
 ) -> io::Result<u8>
-    ensures said { IfOk result (Says (OfHunt (is_some asked.entry.save_path) saved.old.items saved.new.items program.now) (O.contents out.old) (O.contents out.new) (E.contents err.old) (E.contents err.new)) }
-    ensures kept { is_some asked.entry.save_path ≡ false → saved.new.items ≡ saved.old.items }
+    ensures said { IfOk result (Saves (OfHunt asked.saves of.entry.program.now) results.old results.new) }
+    ensures kept { asked.saves ≡ false → results.new.saved.items ≡ results.old.saved.items }
 {
-    let wanted = asked.save_path.is_some();
-    let report = hunt_for(rt, alloc, program, sections, asked, onlooker);
+    let HuntOptions {
+        seeds,
+        steps,
+        seconds,
+        ..
+    } = asked.options;
+    let search = Search {
+        first: 0,
+        seeds,
+        steps,
+        draws: Draws::Biased,
+        seconds,
+    };
+    let searched = search_for(rt, alloc, Source::Hunt(of), search, onlooker);
     onlooker.ended();
-    match report {
-        Ok(report) => tell_report(alloc, program, report, wanted, saved, out, err),
-        Err(_refused) => memory(err),
-    }
-}
-
-/// The program of the first file, with the shapes of the second one, if its path is given.
-fn program_in<'a>(
-    alloc: Global,
-    paths: (&'a str, Option<&'a str>),
-    files: &[Option<Vec<u8>>],
-) -> Result<Program, Unread<'a>>
-    ensures ok { IfOk result (HasProgram (spec.file_at files.now 0) (option_map (λ path. path.now) paths.entry.1) (spec.file_at files.now 1)) }
-    ensures err { IfErr result (IsNoProgram paths.entry.0.now (option_map (λ path. path.now) paths.entry.1) (spec.file_at files.now 0) (spec.file_at files.now 1)) }
-{
-    let of_module = shaped_in(alloc, paths, files, 1)?;
-    match Program::new(alloc, of_module) {
-        Ok(program) => Ok(program),
-        Err(refused) => Err(Unread::NoLayouts(refused)),
-    }
-}
-
-/// Searches in a module, which has the shapes of the line where it writes `ptr`.
-fn hunt_shaped<O: Write, E: Write>(
-    rt: &impl Clock,
-    alloc: Global,
-    asked: HuntLine<'_>,
-    files: &[Option<Vec<u8>>],
-    saved: &mut Vec<u8>,
-    out: &mut O,
-    err: &mut E,
-    onlooker: &mut impl Onlooker,
-) -> io::Result<u8>
-    ensures said { IfOk result (Says (OfHuntShaped (is_some asked.entry.save_path) saved.old.items saved.new.items asked.entry.module_path.now (option_map (λ path. path.now) asked.entry.shapes_path) (spec.file_at files.now 0) (spec.file_at files.now 1)) (O.contents out.old) (O.contents out.new) (E.contents err.old) (E.contents err.new)) }
-    ensures kept { is_some asked.entry.save_path ≡ false → saved.new.items ≡ saved.old.items }
-{
-    match program_in(alloc, (asked.module_path, asked.shapes_path), files) {
-        Ok(program) => {
-            let status = hunt_program(rt, alloc, &program, &[], asked, saved, out, err, onlooker);
-            drop(program);
-            status
+    match searched {
+        Ok(Searched::Found(found)) => {
+            tell_shorter(alloc, of.program, found, asked, results, onlooker)
         }
-        Err(fault) => unread(err, fault),
+        Ok(Searched::SoundBelow(past)) => nothing(&mut results.outputs.out, past),
+        Ok(Searched::BrokenAt(_)) => unreachable!(),
+        Err(_refused) => memory(&mut results.outputs.err),
     }
 }
 
 /// Searches in a module with the shapes and the promises of its certificates.
-fn hunt_certified<O: Write, E: Write>(
-    rt: &impl Clock,
+fn hunt_certified(
+    rt: &(impl Threads + Clock + Sync),
     alloc: Global,
     certified: Certified,
-    asked: HuntLine<'_>,
-    saved: &mut Vec<u8>,
-    out: &mut O,
-    err: &mut E,
+    asked: Asked,
+    results: &mut Results,
     onlooker: &mut impl Onlooker,
 ) -> io::Result<u8>
-    ensures said { IfOk result (Says (OfHuntCerts (is_some asked.entry.save_path) saved.old.items saved.new.items certified.of_module certified.certs) (O.contents out.old) (O.contents out.new) (E.contents err.old) (E.contents err.new)) }
-    ensures kept { is_some asked.entry.save_path ≡ false → saved.new.items ≡ saved.old.items }
+    ensures said { IfOk result (Saves (OfHuntCerts asked.saves certified.of_module certified.certs) results.old results.new) }
+    ensures kept { asked.saves ≡ false → results.new.saved.items ≡ results.old.saved.items }
 {
-    let Certified { of_module, certs } = certified;
-    match UnderCheck::new(alloc, of_module, certs) {
+    match UnderCheck::new(alloc, certified.of_module, certified.certs) {
         Ok(under) => {
-            let sections = under.certs().sections.as_slice();
-            let program = under.program();
-            let status = hunt_program(
-                rt, alloc, program, sections, asked, saved, out, err, onlooker,
-            );
+            let of = Hunt {
+                program: under.program(),
+                sections: under.certs().sections.as_slice(),
+            };
+            let status = hunt_program(rt, alloc, of, asked, results, onlooker);
             drop(under);
             status
         }
         Err(refused) => {
-            let status = not_laid_out(err, &refused);
+            let status = not_laid_out(&mut results.outputs.err, &refused);
             drop(refused);
             status
         }
     }
 }
 
-/// Searches for a schedule of the module of a line that breaks its run. Where the line has a certificate, the module has its shapes and
-/// the arguments are below what it promises; otherwise the module has the shapes of the line.
-pub fn hunt_files<O: Write, E: Write>(
-    rt: &impl Clock,
+/// Searches in a module, which has the shapes where it writes `ptr`.
+fn hunt_shaped(
+    rt: &(impl Threads + Clock + Sync),
     alloc: Global,
-    asked: HuntLine<'_>,
-    files: &[Option<Vec<u8>>],
-    saved: &mut Vec<u8>,
-    out: &mut O,
-    err: &mut E,
+    asked: Asked,
+    files: &Files<'_>,
+    results: &mut Results,
     onlooker: &mut impl Onlooker,
 ) -> io::Result<u8>
-    ensures said { IfOk result (Says (OfHuntFiles (is_some asked.entry.save_path) saved.old.items saved.new.items asked.entry.module_path.now (option_map (λ path. path.now) asked.entry.shapes_path) (option_map (λ path. path.now) asked.entry.certificate_path) (spec.file_at files.now 0) (spec.file_at files.now 1)) (O.contents out.old) (O.contents out.new) (E.contents err.old) (E.contents err.new)) }
-    ensures kept { is_some asked.entry.save_path ≡ false → saved.new.items ≡ saved.old.items }
+    ensures said { IfOk result (Saves (OfHuntShaped asked.saves files.now.of_module files.now.shapes) results.old results.new) }
+    ensures kept { asked.saves ≡ false → results.new.saved.items ≡ results.old.saved.items }
 {
-    let Some(path) = asked.certificate_path else {
-        return hunt_shaped(rt, alloc, asked, files, saved, out, err, onlooker);
+    match program_in(alloc, files) {
+        Ok(program) => {
+            let of = Hunt {
+                program: &program,
+                sections: &[],
+            };
+            let status = hunt_program(rt, alloc, of, asked, results, onlooker);
+            drop(program);
+            status
+        }
+        Err(fault) => unread(&mut results.outputs.err, fault),
+    }
+}
+
+/// Searches for a schedule of the module that breaks its run. Where a certificate is given, the module has its shapes and the arguments
+/// are below what it promises; otherwise the module has the shapes that are given.
+pub fn hunt_files(
+    rt: &(impl Threads + Clock + Sync),
+    alloc: Global,
+    options: HuntOptions,
+    files: &Files<'_>,
+    results: &mut Results,
+    onlooker: &mut impl Onlooker,
+) -> io::Result<u8>
+    ensures said { IfOk result (Saves (OfHuntFiles files.now.saves files.now.of_module files.now.certificate files.now.shapes) results.old results.new) }
+    ensures kept { files.now.saves ≡ false → results.new.saved.items ≡ results.old.saved.items }
+{
+    let asked = Asked {
+        options,
+        saves: files.saves,
     };
-    match read_certified(alloc, (asked.module_path, path), files) {
-        Ok(certified) => hunt_certified(rt, alloc, certified, asked, saved, out, err, onlooker),
-        Err(fault) => unread(err, fault),
+    if files.certificate.is_none() {
+        return hunt_shaped(rt, alloc, asked, files, results, onlooker);
+    }
+    match read_certified(alloc, files) {
+        Ok(certified) => hunt_certified(rt, alloc, certified, asked, results, onlooker),
+        Err(fault) => unread(&mut results.outputs.err, fault),
     }
 }

@@ -1,14 +1,15 @@
 //! The commands `soak` and `hunt`, and the traces that they save.
 #![tactic(auto)]
 
-mod chunks;
 mod counts;
-mod few_switches;
+mod found_seeds;
 mod hunts;
 mod onlooker;
 mod pace;
+mod searching;
 mod shorter;
 mod soaking;
+mod sources;
 
 pub use counts::tell_happened;
 pub use hunts::hunt_files;

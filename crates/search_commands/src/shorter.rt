@@ -1,11 +1,12 @@
-//! Shorter traces: how they are saved, and what is printed of them.
-ghost use Rattle.std.specs.Prelude.{◌≡◌, ◌≤◌, IfOk, OnOk, OnErr};
+//! Shorter traces: how they are found and saved, and what is printed of them.
+ghost use Rattle.std.specs.Prelude.{◌≡◌, ◌≤◌, false, IfOk, OnOk, OnErr};
 ghost use Rattle.std.specs.Io.KnownBytes.{Appends};
 ghost use Rattle.hunting.specs.Shorter.{IsBreaking, kind_of};
 ghost use Rattle.trace_text.specs.Print.{trace_shown};
 ghost use Rattle.search_commands.specs.Searches.{IsAdded, IsShorter, shorter_text, tries_text};
 
-use hunting::{BrokenTrace, ShorterTrace, shortened};
+use crate::onlooker::Onlooker;
+use hunting::{BrokenSeed, BrokenTrace, ShorterTrace, shortened};
 use layout::Program;
 use replay::Break;
 use reports::write_break;
@@ -13,6 +14,13 @@ use std::alloc::{AllocError, Global};
 use std::io;
 use std::io::Write;
 use trace_text::{Trace, print_trace};
+
+/// How far a trace is made shorter, and whether what is found is saved.
+#[derive(Clone, Copy)]
+pub(crate) struct Wish {
+    pub tries: u32,
+    pub saves: bool,
+}
 
 /// The break of a shorter trace, and how many were tried.
 #[derive(Clone, Copy)]
@@ -31,6 +39,7 @@ pub(crate) fn add_trace(
 ) -> Result<(), AllocError>
     ensures added { OnOk result (IsAdded wanted (trace_shown program.now trace.now) saved.old.items saved.new.items) }
     ensures err { OnErr result (saved.new.items ≡ saved.old.items) }
+    ensures kept { wanted ≡ false → saved.new.items ≡ saved.old.items }
 {
     if wanted {
         let text = print_trace(alloc, trace, program)?;
@@ -39,8 +48,8 @@ pub(crate) fn add_trace(
     Ok(())
 }
 
-/// Saves the trace that a search found, if that is wanted.
-pub(crate) fn save_shorter(
+/// Saves the trace that was found, if that is wanted.
+fn save_shorter(
     alloc: Global,
     program: &Program,
     shorter: ShorterTrace,
@@ -52,6 +61,7 @@ pub(crate) fn save_shorter(
     ensures broken { IfOk result (λ b. b.broken ≡ shorter.found.broken) }
     ensures tries { IfOk result (λ b. b.tries ≡ shorter.tries) }
     ensures err { OnErr result (saved.new.items ≡ saved.old.items) }
+    ensures kept { wanted ≡ false → saved.new.items ≡ saved.old.items }
 {
     let ShorterTrace { found, tries } = shorter;
     let BrokenTrace { trace, broken } = found;
@@ -59,25 +69,48 @@ pub(crate) fn save_shorter(
     Ok(ShorterBreak { broken, tries })
 }
 
-/// Makes a trace that breaks its run shorter within this number of tries. Saves what is found, if that is wanted.
-pub(crate) fn make_shorter(
+/// Makes a trace that breaks its run shorter.
+fn make_shorter(
     alloc: Global,
     program: &Program,
     found: BrokenTrace,
-    limit: u32,
-    wanted: bool,
+    wish: Wish,
     saved: &mut Vec<u8>,
 ) -> Result<ShorterBreak, AllocError>
     requires { IsBreaking program.now found.trace found.broken }
-    ensures shorter { IfOk result (λ b. IsShorter program.now wanted b.broken saved.old.items saved.new.items) }
+    ensures shorter { IfOk result (λ b. IsShorter program.now wish.saves b.broken saved.old.items saved.new.items) }
     ensures kind { IfOk result (λ b. kind_of b.broken.cause ≡ kind_of found.broken.cause) }
-    ensures tries { IfOk result (λ b. b.tries ≤ limit) }
+    ensures tries { IfOk result (λ b. b.tries ≤ wish.tries) }
     ensures err { OnErr result (saved.new.items ≡ saved.old.items) }
+    ensures kept { wish.saves ≡ false → saved.new.items ≡ saved.old.items }
 {
-    match shortened(alloc, program, found, limit) {
-        Ok(shorter) => save_shorter(alloc, program, shorter, wanted, saved),
+    match shortened(alloc, program, found, wish.tries) {
+        Ok(shorter) => save_shorter(alloc, program, shorter, wish.saves, saved),
         Err(_refused) => Err(AllocError),
     }
+}
+
+/// Makes the schedule of a broken seed shorter, and tells the onlooker of it.
+pub(crate) fn shorten(
+    alloc: Global,
+    program: &Program,
+    broken: BrokenSeed,
+    wish: Wish,
+    saved: &mut Vec<u8>,
+    onlooker: &mut impl Onlooker,
+) -> Result<ShorterBreak, AllocError>
+    requires { IsBreaking program.now broken.found.trace broken.found.broken }
+    ensures shorter { IfOk result (λ b. IsShorter program.now wish.saves b.broken saved.old.items saved.new.items) }
+    ensures kind { IfOk result (λ b. kind_of b.broken.cause ≡ kind_of broken.found.broken.cause) }
+    ensures tries { IfOk result (λ b. b.tries ≤ wish.tries) }
+    ensures err { OnErr result (saved.new.items ≡ saved.old.items) }
+    ensures kept { wish.saves ≡ false → saved.new.items ≡ saved.old.items }
+{
+    let BrokenSeed { seed, found } = broken;
+    onlooker.shortens(seed);
+    let shorter = make_shorter(alloc, program, found, wish, saved);
+    onlooker.ended();
+    shorter
 }
 
 /// How many traces were tried.

@@ -33,6 +33,13 @@ pub struct Limits {
     pub steps: u32,
 }
 
+/// How threads are served: by which heap, and how far.
+#[derive(Clone, Copy)]
+pub struct Service<'h, 'a> {
+    pub heap: &'h Heap<'a>,
+    pub limits: Limits,
+}
+
 /// Serves each thread on a real thread of its own, beside the collector.
 ///
 /// No clause says the following. The collector makes turns until its limit, or until it
@@ -41,19 +48,18 @@ pub struct Limits {
 pub fn serve_beside<'a, T: Threads + Sync, R: Runner + Send, G: Gate + Sync>(
     rt: &T,
     alloc: Global,
-    heap: &Heap<'_>,
+    service: &Service,
     jobs: &mut [Job<R>],
     sweeper: &mut Sweeper<'a>,
-    limits: Limits,
     gate: &G,
 ) -> u32
-    requires jobs { AllByRecursion (MayBegin (machine_of R.action R.after_answer R.roots) R.fits heap.now) jobs.old }
-    requires sweeper { IsSweeperOf heap.now sweeper.old }
-    ensures jobs { (i : ℕ) (d : _) → i < length jobs.old → WasServed (machine_of R.action R.after_answer R.roots) limits.steps (slice_index_or jobs.old i d) (slice_index_or jobs.new i d) }
+    requires jobs { AllByRecursion (MayBegin (machine_of R.action R.after_answer R.roots) R.fits service.now.heap.now) jobs.old }
+    requires sweeper { IsSweeperOf service.now.heap.now sweeper.old }
+    ensures jobs { (i : ℕ) (d : _) → i < length jobs.old → WasServed (machine_of R.action R.after_answer R.roots) service.now.limits.steps (slice_index_or jobs.old i d) (slice_index_or jobs.new i d) }
     ensures token { IsNowAt sweeper.old sweeper.new.log sweeper.new }
     ensures turns { (turns : List Turn) × (sweeper.new.log ≡ turns ++ sweeper.old.log) × (length turns ≡ result) }
-    ensures limit { result ≤ limits.turns }
-    ensures first { 0 < limits.turns → MayTurn sweeper.old.setup sweeper.old.log → 0 < result }
+    ensures limit { result ≤ service.now.limits.turns }
+    ensures first { 0 < service.now.limits.turns → MayTurn sweeper.old.setup sweeper.old.log → 0 < result }
 {
     let ended = AtomicUsize::new(0);
     let threads = jobs.len();
@@ -61,9 +67,16 @@ pub fn serve_beside<'a, T: Threads + Sync, R: Runner + Send, G: Gate + Sync>(
         rt,
         &mut ||
             requires bounds { IsSync T.row × IsSend R.row × IsSync G.row }
-            requires jobs { AllByRecursion (MayBegin (machine_of R.action R.after_answer R.roots) R.fits heap.now) jobs.now }
-        { serve_all(rt, alloc, heap, limits.steps, &ended, gate, jobs) },
-        &mut || collect_gated(heap, sweeper, limits.turns, &ended, threads, gate),
+            requires jobs { AllByRecursion (MayBegin (machine_of R.action R.after_answer R.roots) R.fits service.now.heap.now) jobs.now }
+        { serve_all(rt, alloc, service, &ended, gate, jobs) },
+        &mut || collect_gated(
+            service.heap,
+            sweeper,
+            service.limits.turns,
+            &ended,
+            threads,
+            gate,
+        ),
     );
     turns
 }
@@ -72,40 +85,46 @@ pub fn serve_beside<'a, T: Threads + Sync, R: Runner + Send, G: Gate + Sync>(
 fn serve_all<T: Threads + Sync, R: Runner + Send, G: Gate + Sync>(
     rt: &T,
     alloc: Global,
-    heap: &Heap<'_>,
-    limit: u32,
+    service: &Service,
     ended: &AtomicUsize,
     gate: &G,
     jobs: &mut [Job<R>],
 )
-    requires { AllByRecursion (MayBegin (machine_of R.action R.after_answer R.roots) R.fits heap.now) jobs.old }
-    ensures { (i : ℕ) (d : _) → i < length jobs.old → WasServed (machine_of R.action R.after_answer R.roots) limit (slice_index_or jobs.old i d) (slice_index_or jobs.new i d) }
+    requires { AllByRecursion (MayBegin (machine_of R.action R.after_answer R.roots) R.fits service.now.heap.now) jobs.old }
+    ensures { (i : ℕ) (d : _) → i < length jobs.old → WasServed (machine_of R.action R.after_answer R.roots) service.now.limits.steps (slice_index_or jobs.old i d) (slice_index_or jobs.new i d) }
 {
     let threads = jobs.len().max(1);
     for_each_mut(
         rt,
         jobs,
         threads,
-        &|number, job| { serve_gated(alloc, heap, number, limit, ended, gate, job) },
+        &|number, job| { serve_gated(alloc, service, number, ended, gate, job) },
     );
 }
 
 /// Serves a thread between the gate's two calls, and counts it as ended.
 fn serve_gated<R: Runner, G: Gate>(
     alloc: Global,
-    heap: &Heap<'_>,
+    service: &Service,
     number: usize,
-    limit: u32,
     ended: &AtomicUsize,
     gate: &G,
     job: &mut Job<R>,
 )
-    requires { MayBegin (machine_of R.action R.after_answer R.roots) R.fits heap.now job.old }
-    ensures { WasServed (machine_of R.action R.after_answer R.roots) limit job.old job.new }
+    requires { MayBegin (machine_of R.action R.after_answer R.roots) R.fits service.now.heap.now job.old }
+    ensures { WasServed (machine_of R.action R.after_answer R.roots) service.now.limits.steps job.old job.new }
 {
     gate.before(number);
+    let Service { heap, limits } = *service;
     let is_late = job.is_late;
-    job.outcome = serve(alloc, heap, &mut job.me, &mut job.machine, is_late, limit);
+    job.outcome = serve(
+        alloc,
+        heap,
+        &mut job.me,
+        &mut job.machine,
+        is_late,
+        limits.steps,
+    );
     gate.after(number);
     ended.fetch_add(1, Ordering::SeqCst);
 }

@@ -8,7 +8,7 @@ mod collecting;
 mod root_cells;
 mod serving;
 
-pub use beside::{Job, Limits, serve_beside};
+pub use beside::{Job, Limits, Service, serve_beside};
 pub use calls::{alloc_for, read_for, safepoint_for, store_plain_for, write_for};
 pub use closing::close_after;
 pub use collecting::collect;

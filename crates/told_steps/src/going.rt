@@ -8,6 +8,13 @@ use step_log::StepLog;
 /// How many steps are logged at a time.
 const STRETCH: usize = 512;
 
+/// The numbers of the first and of the last one of some steps, counted from 1.
+#[derive(Clone, Copy)]
+pub struct Span {
+    pub first: usize,
+    pub last: usize,
+}
+
 /// How many steps are left up to the one with this number.
 fn steps_to(log: &StepLog, last: usize) -> usize {
     let made = log.before().saturating_add(log.steps().len());

@@ -1,29 +1,22 @@
 //! The lines of steps, after those that come before.
 use crate::events::Event;
-use crate::going::{go_on_to, go_to, stretches_to};
+use crate::going::{Span, go_on_to, go_to, stretches_to};
 use crate::heap_view::HeapView;
 use crate::json_frames::put_frames;
 use crate::json_heads::put_heads;
 use crate::json_lines::StepLine;
 use crate::json_state::put_state;
 use crate::json_texts::{place_name, put_line, text_in, thread_in};
-use crate::lines::{Texts, put_done};
+use crate::lines::{Made, Texts, put_done};
 use crate::listing::Listing;
 use crate::put_event::Names;
-use crate::told::{Steps, Told};
+use crate::told::{Listed, Steps, Told};
 use messages::Message;
 use std::alloc::{AllocError, Global};
 use step_log::{LogStep, StepLog};
 
 /// How many of the last steps are written where no others are asked for.
 const LAST_STEPS: usize = 100_000;
-
-/// The numbers of the first and of the last step that are written.
-#[derive(Clone, Copy)]
-struct Span {
-    first: usize,
-    last: usize,
-}
 
 /// Which steps of this number are written.
 fn span_of(steps: Steps, count: usize) -> Span {
@@ -46,15 +39,9 @@ fn place_of(names: &Names, listing: &Listing, step: &LogStep) -> Result<Vec<u8>,
 }
 
 /// What a step does, in words.
-fn told_of(
-    names: &Names,
-    log: &StepLog,
-    number: usize,
-    step: &LogStep,
-    event: &Event,
-) -> Result<Vec<u8>, AllocError> {
+fn told_of(names: &Names, log: &StepLog, made: Made) -> Result<Vec<u8>, AllocError> {
     let mut text = Message::new(names.alloc);
-    put_done(names, &mut text, log, number, step, event);
+    put_done(names, &mut text, log, made);
     text.finish()
 }
 
@@ -69,12 +56,15 @@ fn put_step_line<'a>(
     names: &Names,
     out: &mut Message,
     listing: &Listing,
-    number: usize,
-    step: &LogStep,
-    event: &Event,
+    made: Made,
     told: &'a str,
     place: &'a str,
 ) {
+    let Made {
+        number,
+        step,
+        event,
+    } = made;
     let (line, place) = match &step.place {
         Some(at) => (listing.line_of(at), Some(place)),
         None => (None, None),
@@ -97,35 +87,21 @@ fn put_step_line<'a>(
 }
 
 /// The line of a step.
-fn put_step(
-    names: &Names,
-    out: &mut Message,
-    texts: Texts,
-    number: usize,
-    step: &LogStep,
-    event: &Event,
-) {
-    let Ok(told) = told_of(names, texts.log, number, step, event) else {
+fn put_step(names: &Names, out: &mut Message, texts: Texts, made: Made) {
+    let Ok(told) = told_of(names, texts.log, made) else {
         return out.refuse();
     };
-    let Ok(place) = place_of(names, texts.listing, step) else {
+    let Ok(place) = place_of(names, texts.listing, made.step) else {
         return out.refuse();
     };
     let (told, place) = (text_in(told.as_slice()), text_in(place.as_slice()));
-    put_step_line(names, out, texts.listing, number, step, event, told, place)
+    put_step_line(names, out, texts.listing, made, told, place)
 }
 
 /// The lines of a step, and of the frames that it changes.
-fn put_step_lines(
-    names: &Names,
-    out: &mut Message,
-    texts: Texts,
-    number: usize,
-    step: &LogStep,
-    event: &Event,
-) {
-    put_step(names, out, texts, number, step, event);
-    put_frames(names, out, texts.log, step.notes, number)
+fn put_step_lines(names: &Names, out: &mut Message, texts: Texts, made: Made) {
+    put_step(names, out, texts, made);
+    put_frames(names, out, texts.log, made.step.notes, made.number)
 }
 
 /// The lines of the steps that are logged, each with those of the frames that it changes. The heap is as before them.
@@ -137,7 +113,12 @@ fn put_logged(alloc: Global, out: &mut Message, told: &Told, texts: Texts, heap:
             module: told.program.module(),
             heap,
         };
-        put_step_lines(&names, out, texts, texts.log.number_at(at), step, &event);
+        let made = Made {
+            number: texts.log.number_at(at),
+            step,
+            event: &event,
+        };
+        put_step_lines(&names, out, texts, made);
     }
 }
 
@@ -145,12 +126,12 @@ fn put_logged(alloc: Global, out: &mut Message, told: &Told, texts: Texts, heap:
 fn put_steps(
     alloc: Global,
     out: &mut Message,
-    told: &Told,
-    listing: &Listing,
+    listed: Listed,
     log: &mut StepLog,
     heap: &mut HeapView,
     last: usize,
 ) {
+    let Listed { told, listing } = listed;
     for _stretch in 0..stretches_to(log, last) {
         if go_on_to(log, last).is_err() {
             return out.refuse();
@@ -159,45 +140,31 @@ fn put_steps(
     }
 }
 
-/// The lines of these steps and those before, where the heap is as before the first step of the run. The path leads to the cell of its
-/// break.
-fn put_lines_from(
+/// The lines of these steps and those before them, of a run whose module is listed. The path leads to the cell of its break.
+fn put_lines(
     alloc: Global,
     out: &mut Message,
-    told: &Told,
-    listing: &Listing,
+    listed: Listed,
     path: &[u8],
     log: &mut StepLog,
-    heap: &mut HeapView,
     span: Span,
 ) {
-    let Ok(done) = go_to(log, heap, span.first) else {
+    let Listed { told, listing } = listed;
+    let Ok(mut heap) = HeapView::new(alloc, told.program, told.setup) else {
+        return out.refuse();
+    };
+    let Ok(done) = go_to(log, &mut heap, span.first) else {
+        drop(heap);
         return out.refuse();
     };
     let names = Names {
         alloc,
         module: told.program.module(),
-        heap,
+        heap: &heap,
     };
     put_heads(&names, out, told, listing, path, span.first);
     put_state(&names, out, told, log, span.first, done);
-    put_steps(alloc, out, told, listing, log, heap, span.last)
-}
-
-/// The same of a run whose module is listed.
-fn put_lines(
-    alloc: Global,
-    out: &mut Message,
-    told: &Told,
-    listing: &Listing,
-    path: &[u8],
-    log: &mut StepLog,
-    span: Span,
-) {
-    let Ok(mut heap) = HeapView::new(alloc, told.program, told.setup) else {
-        return out.refuse();
-    };
-    put_lines_from(alloc, out, told, listing, path, log, &mut heap, span);
+    put_steps(alloc, out, listed, log, &mut heap, span.last);
     drop(heap);
 }
 
@@ -214,6 +181,10 @@ pub fn put_json(
         return out.refuse();
     };
     let span = span_of(steps, told.steps);
-    put_lines(alloc, out, told, &listing, path, log, span);
+    let listed = Listed {
+        told,
+        listing: &listing,
+    };
+    put_lines(alloc, out, listed, path, log, span);
     drop(listing);
 }

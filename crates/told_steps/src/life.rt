@@ -1,7 +1,7 @@
 //! The steps that matter for a cell that is gone.
 use crate::events::Event;
 use crate::heap_view::HeapView;
-use crate::lines::{Texts, put_step};
+use crate::lines::{Made, Texts, put_step};
 use crate::put_event::Names;
 use crate::slot_changes::slot_changes;
 use items::Items;
@@ -123,19 +123,17 @@ impl Life {
         &mut self,
         names: &Names,
         texts: Texts,
-        number: usize,
-        step: &LogStep,
-        event: &Event,
+        made: Made,
         count: usize,
     ) -> Result<(), AllocError> {
-        if self.begins_with(event) {
+        if self.begins_with(made.event) {
             self.lines.clear();
             self.count = 0;
         }
-        let is_told = is_of_life(names.heap, event, self.lost.cell)
-            || changes_slot(texts.log, number, step, &self.lost);
-        if is_told || number == count {
-            let line = line_of(names, texts, number, step, event)?;
+        let is_told = is_of_life(names.heap, made.event, self.lost.cell)
+            || changes_slot(texts.log, made.number, made.step, &self.lost);
+        if is_told || made.number == count {
+            let line = line_of(names, texts, made)?;
             self.add_line(line)?;
         }
         Ok(())
@@ -184,15 +182,9 @@ fn place_of(number: usize) -> usize {
 }
 
 /// The line of a step.
-fn line_of(
-    names: &Names,
-    texts: Texts,
-    number: usize,
-    step: &LogStep,
-    event: &Event,
-) -> Result<Vec<u8>, AllocError> {
+fn line_of(names: &Names, texts: Texts, made: Made) -> Result<Vec<u8>, AllocError> {
     let mut line = Message::new(names.alloc);
-    put_step(names, &mut line, texts, number, step, event);
+    put_step(names, &mut line, texts, made);
     line.put("\n");
     line.finish()
 }

@@ -22,6 +22,14 @@ pub struct Texts<'a> {
     pub listing: &'a Listing,
 }
 
+/// A step that was made: its number, counted from 1, what is logged of it, and what it does.
+#[derive(Clone, Copy)]
+pub struct Made<'a> {
+    pub number: usize,
+    pub step: &'a LogStep,
+    pub event: &'a Event,
+}
+
 /// Blanks that fill a column in which this much stands.
 fn put_blanks(out: &mut Message, used: usize, width: usize) {
     for _blank in used..width {
@@ -64,36 +72,22 @@ fn put_instruction(names: &Names, out: &mut Message, listing: &Listing, place: &
 }
 
 /// What a step does, in words, with the root slots that it changes.
-pub fn put_done(
-    names: &Names,
-    out: &mut Message,
-    log: &StepLog,
-    number: usize,
-    step: &LogStep,
-    event: &Event,
-) {
-    put_event(names, out, event);
-    match slot_changes(log, number, step) {
+pub fn put_done(names: &Names, out: &mut Message, log: &StepLog, made: Made) {
+    put_event(names, out, made.event);
+    match slot_changes(log, made.number, made.step) {
         Some(changes) => changes.put(names, out),
         None => {}
     }
 }
 
-/// A step without the end of its line. Steps are counted from 1.
-pub fn put_step(
-    names: &Names,
-    out: &mut Message,
-    texts: Texts,
-    number: usize,
-    step: &LogStep,
-    event: &Event,
-) {
-    put_step_number(names.alloc, out, number);
-    put_actor(out, &step.actor);
-    if let Some(place) = &step.place {
+/// A step without the end of its line.
+pub fn put_step(names: &Names, out: &mut Message, texts: Texts, made: Made) {
+    put_step_number(names.alloc, out, made.number);
+    put_actor(out, &made.step.actor);
+    if let Some(place) = &made.step.place {
         put_instruction(names, out, texts.listing, place);
     }
-    put_done(names, out, texts.log, number, step, event)
+    put_done(names, out, texts.log, made)
 }
 
 /// The end of a line that stands for this many steps.

@@ -1,9 +1,9 @@
 //! The steps of a run as lines.
 use crate::events::{Event, Fold};
-use crate::going::{go_on_to, go_to, stretches_to};
+use crate::going::{Span, go_on_to, go_to, stretches_to};
 use crate::heap_view::HeapView;
 use crate::life::{Life, Lost, lost_by};
-use crate::lines::{Texts, end_line, is_same_actor, put_step};
+use crate::lines::{Made, Texts, end_line, is_same_actor, put_step};
 use crate::listing::Listing;
 use crate::paths::{path_to, put_path_to};
 use crate::put_event::Names;
@@ -39,6 +39,13 @@ pub struct Told<'a> {
     pub broken: Option<&'a Break>,
 }
 
+/// A run that is told, and the text of its module.
+#[derive(Clone, Copy)]
+pub(crate) struct Listed<'a> {
+    pub(crate) told: &'a Told<'a>,
+    pub(crate) listing: &'a Listing,
+}
+
 /// Steps that are told in one line.
 #[derive(Drop)]
 struct Folded {
@@ -58,10 +65,10 @@ impl Folded {
 }
 
 /// With which steps a step is folded. One that changes a root slot stands alone.
-fn fold_of(log: &StepLog, number: usize, step: &LogStep, event: &Event) -> Fold {
-    match slot_changes(log, number, step) {
+fn fold_of(log: &StepLog, made: Made) -> Fold {
+    match slot_changes(log, made.number, made.step) {
         Some(_) => Fold::Never,
-        None => event.fold(),
+        None => made.event.fold(),
     }
 }
 
@@ -96,23 +103,15 @@ impl Lines {
     }
 
     /// Adds a step.
-    fn add(
-        &mut self,
-        names: &Names,
-        out: &mut Message,
-        texts: Texts,
-        number: usize,
-        step: &LogStep,
-        event: &Event,
-    ) {
-        let fold = fold_of(texts.log, number, step, event);
-        if self.last.is_like(step, fold) {
+    fn add(&mut self, names: &Names, out: &mut Message, texts: Texts, made: Made) {
+        let fold = fold_of(texts.log, made);
+        if self.last.is_like(made.step, fold) {
             self.last.count = self.last.count.saturating_add(1);
             return;
         }
         self.end(out);
-        put_step(names, &mut self.last.line, texts, number, step, event);
-        self.last.actor = step.actor;
+        put_step(names, &mut self.last.line, texts, made);
+        self.last.actor = made.step.actor;
         self.last.fold = fold;
         self.last.count = 1;
     }
@@ -128,7 +127,12 @@ impl Lines {
                 module: told.program.module(),
                 heap,
             };
-            self.add(&names, out, texts, texts.log.number_at(at), step, &event);
+            let made = Made {
+                number: texts.log.number_at(at),
+                step,
+                event: &event,
+            };
+            self.add(&names, out, texts, made);
         }
     }
 
@@ -136,12 +140,12 @@ impl Lines {
     fn put_to(
         &mut self,
         out: &mut Message,
-        told: &Told,
-        listing: &Listing,
+        listed: Listed,
         log: &mut StepLog,
         heap: &mut HeapView,
         last: usize,
     ) {
+        let Listed { told, listing } = listed;
         for _stretch in 0..stretches_to(log, last) {
             if go_on_to(log, last).is_err() {
                 return out.refuse();
@@ -152,22 +156,21 @@ impl Lines {
     }
 }
 
-/// The steps whose numbers lie between these, where the heap is as before the first step of the run.
+/// The steps whose numbers lie in a span, where the heap is as before the first step of the run.
 fn put_between(
     alloc: Global,
     out: &mut Message,
-    told: &Told,
-    listing: &Listing,
+    listed: Listed,
     log: &mut StepLog,
     heap: &mut HeapView,
-    first: usize,
-    last: usize,
+    span: Span,
 ) {
-    if go_to(log, heap, first.min(told.steps.saturating_add(1))).is_err() {
+    let steps = listed.told.steps;
+    if go_to(log, heap, span.first.min(steps.saturating_add(1))).is_err() {
         return out.refuse();
     }
     let mut lines = Lines::new(alloc);
-    lines.put_to(out, told, listing, log, heap, last.min(told.steps));
+    lines.put_to(out, listed, log, heap, span.last.min(steps));
     drop(lines);
 }
 
@@ -194,15 +197,13 @@ impl LostLines {
         &mut self,
         names: &Names,
         texts: Texts,
-        number: usize,
-        step: &LogStep,
-        event: &Event,
+        made: Made,
         count: usize,
     ) -> Result<(), AllocError> {
-        self.life.add(names, texts, number, step, event, count)?;
-        if number > count.saturating_sub(LAST_STEPS) {
+        self.life.add(names, texts, made, count)?;
+        if made.number > count.saturating_sub(LAST_STEPS) {
             let last = &mut self.last;
-            self.lines.add(names, last, texts, number, step, event);
+            self.lines.add(names, last, texts, made);
         }
         Ok(())
     }
@@ -221,8 +222,12 @@ impl LostLines {
                 module: told.program.module(),
                 heap,
             };
-            let number = texts.log.number_at(at);
-            self.add(&names, texts, number, step, &event, told.steps)?;
+            let made = Made {
+                number: texts.log.number_at(at),
+                step,
+                event: &event,
+            };
+            self.add(&names, texts, made, told.steps)?;
         }
         Ok(())
     }
@@ -230,11 +235,11 @@ impl LostLines {
     /// Makes all steps of the run.
     fn go_through(
         &mut self,
-        told: &Told,
-        listing: &Listing,
+        listed: Listed,
         log: &mut StepLog,
         heap: &mut HeapView,
     ) -> Result<(), AllocError> {
+        let Listed { told, listing } = listed;
         for _stretch in 0..stretches_to(log, told.steps) {
             go_on_to(log, told.steps)?;
             self.add_logged(told, Texts { log, listing }, heap)?;
@@ -273,20 +278,19 @@ fn put_way(names: &Names, out: &mut Message, log: &StepLog, cell: u64) {
 fn put_lost(
     alloc: Global,
     out: &mut Message,
-    told: &Told,
-    listing: &Listing,
+    listed: Listed,
     log: &mut StepLog,
     heap: &mut HeapView,
     lost: Lost,
 ) {
     let mut lines = LostLines::new(alloc, lost);
-    if lines.go_through(told, listing, log, heap).is_err() {
+    if lines.go_through(listed, log, heap).is_err() {
         drop(lines);
         return out.refuse();
     }
     let names = Names {
         alloc,
-        module: told.program.module(),
+        module: listed.told.program.module(),
         heap,
     };
     lines.put(&names, out, log);
@@ -297,35 +301,28 @@ fn put_lost(
 fn put_last(
     alloc: Global,
     out: &mut Message,
-    told: &Told,
-    listing: &Listing,
+    listed: Listed,
     log: &mut StepLog,
     heap: &mut HeapView,
 ) {
-    if let Some(lost) = told.broken.and_then(lost_by) {
-        return put_lost(alloc, out, told, listing, log, heap, lost);
+    if let Some(lost) = listed.told.broken.and_then(lost_by) {
+        return put_lost(alloc, out, listed, log, heap, lost);
     }
     out.put(LAST_HEAD);
-    let first = told.steps.saturating_sub(LAST_STEPS).saturating_add(1);
-    put_between(alloc, out, told, listing, log, heap, first, told.steps)
+    let last = listed.told.steps;
+    let first = last.saturating_sub(LAST_STEPS).saturating_add(1);
+    put_between(alloc, out, listed, log, heap, Span { first, last })
 }
 
 /// Tells these steps of a run whose module is listed.
-fn put_steps(
-    alloc: Global,
-    out: &mut Message,
-    told: &Told,
-    listing: &Listing,
-    log: &mut StepLog,
-    steps: Steps,
-) {
-    let Ok(mut heap) = HeapView::new(alloc, told.program, told.setup) else {
+fn put_steps(alloc: Global, out: &mut Message, listed: Listed, log: &mut StepLog, steps: Steps) {
+    let Ok(mut heap) = HeapView::new(alloc, listed.told.program, listed.told.setup) else {
         return out.refuse();
     };
     match steps {
-        Steps::Last => put_last(alloc, out, told, listing, log, &mut heap),
+        Steps::Last => put_last(alloc, out, listed, log, &mut heap),
         Steps::Between(first, last) => {
-            put_between(alloc, out, told, listing, log, &mut heap, first, last)
+            put_between(alloc, out, listed, log, &mut heap, Span { first, last })
         }
     }
     drop(heap);
@@ -336,6 +333,10 @@ pub fn put_told(alloc: Global, out: &mut Message, told: &Told, log: &mut StepLog
     let Ok(listing) = Listing::new(alloc, told.program.module()) else {
         return out.refuse();
     };
-    put_steps(alloc, out, told, &listing, log, steps);
+    let listed = Listed {
+        told,
+        listing: &listing,
+    };
+    put_steps(alloc, out, listed, log, steps);
     drop(listing);
 }

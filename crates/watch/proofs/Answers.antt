@@ -2,7 +2,7 @@
 use Rattle.std.proofs.Common.{◌≡◌, ◌⊎◌, inl, inr, ℕ, zero, suc, ◌<◌, Bool, true, false, List, ◌∷◌, length, sym, subst, ◌∙◌, arith}
 use Rattle.std.specs.Prelude.{replicate}
 use Rattle.lemmas.specs.Lists.{IsIn, length_replicate}
-use Rattle.pools.specs.Heap.{Setup}
+use Rattle.pools.specs.Heap.{Setup, cells}
 use Rattle.colours.specs.Steps.{Step, StoreStage}
 use Rattle.colours.specs.Mutator.{Held, Fresh, MayUse}
 use Rattle.watch.specs.CellSets.{has, with_cells}
@@ -59,3 +59,8 @@ answered_known s log stage roots x y h f may k = record {
     null_new : Held s (StoreStage stage roots ∷ log) 0 → ⊥
     null_new (inl never) = false_true never
     null_new (inr kept) = k.null kept.1
+
+-- what is held is a cell of the heap, and not null
+pub held_cell : (s : Setup) (log : List Step) (known : Holdings) → Knows s log known → (cell : ℕ) → has known.held cell ≡ true → (0 < cell) × (cell < cells s)
+held_cell s log known k zero is = absurd (k.null ((k.held 0).0 is))
+held_cell s log known k (suc cell) is = let within : suc cell < length known.held = has_within known.held (suc cell) is in (omega arith, omega (arith, within, k.held_of))

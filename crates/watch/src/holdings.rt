@@ -26,9 +26,10 @@ impl Holdings {
         Ok(Holdings { held, fresh })
     }
 
-    /// Whether the thread holds the cell.
+    /// Whether the thread holds the cell, which is then one of the heap and not null.
     pub fn holds(&self, cell: u32) -> bool
-        ensures { (s : Setup) (log : List Step) → Knows s log self.now → IsTrue result ↔ Held s log cell }
+        ensures held { (s : Setup) (log : List Step) → Knows s log self.now → IsTrue result ↔ Held s log cell }
+        ensures cell { (s : Setup) (log : List Step) → Knows s log self.now → IsTrue result → (0 < cell) × (cell < cells s) }
     {
         self.held.has(cell)
     }

@@ -19,7 +19,7 @@ of_certs m opaque certs migrated bytes said is typed answer (inl e) =
 of_certs m opaque certs migrated bytes said is typed answer (inr e) = subst (OfMigrated bytes m certs) (sym e) not_migrated
 
 pub returns-then-is_typed_text : goal.returns-then-is_typed_text
-returns-then-is_typed_text g c =
+returns-then-is_typed_text c =
     let certified = c.args.certified.now in
     let typed = sym c.is_typed_text.ensures ∙ c.if-is_typed_text.true in
     IfOk-weaker c.print_certs.result _ _
@@ -27,7 +27,7 @@ returns-then-is_typed_text g c =
     c.print_certs.ensures
 
 pub returns-else-is_typed_text : goal.returns-else-is_typed_text
-returns-else-is_typed_text g c =
+returns-else-is_typed_text c =
     let certified = c.args.certified.now in
     let untyped = subst (λ (x : Module). is_typed_text certified.of_module x ≡ false) c.requires.made (sym c.is_typed_text.ensures ∙ c.if-is_typed_text.false) in
     IfOk-weaker c.print_text.result _ _ (λ status told. (OnOutput _, kept untyped, (told, refl))) c.print_text.ensures

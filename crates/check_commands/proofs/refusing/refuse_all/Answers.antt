@@ -7,7 +7,7 @@ use Rattle.check_commands.specs.Checks.{OfRefusals, all_not_checked, all_told}
 use Rattle.check_commands.proofs.refusing.refuse_all.Goals as goal
 
 pub returns-in-Ok : goal.returns-in-Ok
-returns-in-Ok g c =
+returns-in-Ok c =
     let under = c.in-Ok.ensures in
     let first = c.requires in
     IfOk-weaker c.print_refusals-status.result _ _
@@ -21,4 +21,4 @@ returns-in-Ok g c =
     c.print_refusals-status.ensures
 
 pub returns-in-Err : goal.returns-in-Err
-returns-in-Err g c = IfOk-weaker c.memory.result _ _ (λ status told. (OnError _, all_not_checked, (refl, told))) c.memory.ensures
+returns-in-Err c = IfOk-weaker c.memory.result _ _ (λ status told. (OnError _, all_not_checked, (refl, told))) c.memory.ensures

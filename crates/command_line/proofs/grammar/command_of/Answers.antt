@@ -10,6 +10,6 @@ loop-argument-preserved c =
     let was = c.loop-argument.invariant in
     record {
       app = added.shape c.arg_of.ensures.own ∙ ap₂ with_rule was.app c.arg_of.ensures.rule
-          ∙ ap (command_app c.args.name.now) (sym (map_more rule_of_argument c.args.arguments.now c.loop-argument.argument-index _ c.loop-argument-test.true));
+          ∙ ap (command_app c.args.row.now.name.now) (sym (map_more rule_of_argument c.args.row.now.arguments.now c.loop-argument.argument-index _ c.loop-argument-test.true));
       own = added.globals ∙ rw (was.own, c.arg_of.ensures.own) refl;
     }

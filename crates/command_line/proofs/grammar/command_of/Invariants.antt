@@ -6,6 +6,6 @@ use Rattle.command_line.proofs.grammar.command_of.Given as goal
 
 abbrev pub invariant-loop-argument : goal.invariant-loop-argument
 invariant-loop-argument l = record {
-  app : app_of l.command ≡ command_app l.name (map rule_of_argument (take l.argument-index l.arguments));
+  app : app_of l.command ≡ command_app l.row.name.now (map rule_of_argument (take l.argument-index l.row.arguments.now));
   own : (out-Command l.command).has_globals ≡ false;
 }

@@ -5,20 +5,18 @@ use Rattle.ir_ast.specs.declared.module.Module.{Module}
 use Rattle.module_check.specs.Accepted.{IsProgramCertified}
 use Rattle.reports.specs.TraceRuns.{OfTraceFile, no_program, of_program}
 use Rattle.reports.specs.Said.{OfVerdict}
-use Rattle.reports.specs.Files.{file_at}
 use Rattle.commands.proofs.running.run_certified.Goals as goal
 
 pub returns-in-Ok : goal.returns-in-Ok
 returns-in-Ok g c =
     let accepted = c.in-Ok.accepted in
     let kept = c.in-Ok.ensures.kept in
-    let file = file_at c.args.files.now 2 in
     IfOk-weaker c.run_accepted-status.result _ _
     (λ status told. (
       told.0,
       of_program accepted.program told.0 kept.0
           (subst (λ (certs : Certs). IsProgramCertified accepted.program certs.sections) kept.1 c.in-Ok.ensures.certified)
-          (subst (λ (certs : Certs). OfTraceFile c.args.limits accepted.program certs.sections c.args.path.now file told.0) kept.1 told.1),
+          (subst (λ (certs : Certs). OfTraceFile c.args.limits accepted.program certs.sections c.args.files.now.trace told.0) kept.1 told.1),
       told.2,
     ))
     c.run_accepted-status.ensures

@@ -17,6 +17,9 @@ returns-in-Ok-clause-is_trace c p is =
     let same = c.as_slice.ensures in
     same_trace p drawn drawn.setup c.in-Ok.steps refl traced (lines.actors ∙ ap actors_of same) (lines.either (length drawn.setup.starts) (subst (AllByRecursion (λ (s : Steps). IsActor (length drawn.setup.starts) s.actor)) (sym same) traced.actors))
 
+pub returns-in-Ok-clause-steps : goal.returns-in-Ok-clause-steps
+returns-in-Ok-clause-steps c = c.in-Ok.ensures.actors ∙ ap actors_of c.as_slice.ensures ∙ c.in_ok-drawn.ensures.steps
+
 pub returns-in-Ok-clause-breaks : goal.returns-in-Ok-clause-breaks
 returns-in-Ok-clause-breaks c p steps is =
     let drawn = c.in_ok-drawn.drawn in

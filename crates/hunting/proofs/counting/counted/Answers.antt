@@ -10,7 +10,7 @@ loop-seed-init c =
     let none = c.nothing-happened.ensures in
     let seeds = ap (λ (h : Happened). h.seeds) none in
     record {
-      counted = subst (λ (h : Happened). IsCounted c.args.program.now c.args.start.now.setup c.min-steps.result c.args.first h) (sym none) NoSeed;
+      counted = λ uniform. subst (λ (h : Happened). IsCounted c.args.program.now c.args.start.now.setup c.min-steps.result c.args.sample.schedules.first h) (sym none) NoSeed;
       seeds = omega (arith, seeds);
     }
 
@@ -19,14 +19,16 @@ loop-seed-preserved c =
     let p = c.args.program.now in
     let setup = c.args.start.now.setup in
     let steps = c.min-steps.result in
+    let first = c.args.sample.schedules.first in
     let before = c.loop-seed.happened in
     let r = c.in-Some.report in
     let more = c.in-Some-with.ensures in
-    let of_seed : IsReportOfSeed p setup steps c.loop-seed.seed r = subst (λ o. IfSome o (IsReportOfSeed p setup steps c.loop-seed.seed)) c.in-Some.is c.in_ok-report.ensures.report in
-    let report = subst (λ seed. IsReportOfSeed p setup steps seed r) (sym c.loop-seed.invariant.seeds) of_seed in
     let seeds = ap (λ (h : Happened). h.seeds) more in
     let same = c.loop-seed.invariant.seeds in
     record {
-      counted = subst (λ (h : Happened). IsCounted p setup steps c.args.first h) (sym more) (Further before r c.loop-seed.invariant.counted report);
+      counted = λ uniform.
+          (let of_seed : IsReportOfSeed p setup steps c.loop-seed.seed r = subst (λ o. IfSome o (IsReportOfSeed p setup steps c.loop-seed.seed)) c.in-Some.is (c.in_ok-report.ensures.report uniform) in
+          let report = subst (λ seed. IsReportOfSeed p setup steps seed r) (sym same) of_seed in
+          subst (λ (h : Happened). IsCounted p setup steps first h) (sym more) (Further before r (c.loop-seed.invariant.counted uniform) report));
       seeds = omega (arith, seeds, same);
     }

@@ -1,12 +1,9 @@
--- each start had a seed of its own
+-- some seeds were tried, and more come next
 use Rattle.std.proofs.Common.{◌≤◌, ◌-◌}
 use Rattle.hunting.proofs.searching.hunt.Given as goal
 
-abbrev pub invariant-loop-first : goal.invariant-loop-first
-invariant-loop-first l = record {
-  starts : l.starts ≤ l.first;
-  within : l.first ≤ l.far.past;
-}
+abbrev pub invariant-loop-next : goal.invariant-loop-next
+invariant-loop-next l = l.next ≤ l.past
 
-abbrev pub decreases-loop-first : goal.decreases-loop-first
-decreases-loop-first l = l.far.past - l.first
+abbrev pub decreases-loop-next : goal.decreases-loop-next
+decreases-loop-next l = l.past - l.next

@@ -13,16 +13,16 @@ returns-then-not-are_under-clause-fault c other =
       refl,
       inr (
         begins,
-        not_met_by c.args.accepted.now.certs c.args.begun.now c.certs.result.now (option_copied c.section-section.result) c.promises_in.result.now c.as_slice.result.now c.certs.ensures c.section-section.ensures c.promises_in.ensures c.as_slice.ensures
+        not_met_by c.args.of_setup.now.accepted.now.certs c.args.begun.now c.certs.result.now (option_copied c.section-section.result) c.promises_in.result.now c.as_slice.result.now c.certs.ensures c.section-section.ensures c.promises_in.ensures c.as_slice.ensures
             (sym c.are_under.ensures ∙ c.if-not-are_under.true),
       ),
     )
 
 pub returns-clause-ok : goal.returns-clause-ok
 returns-clause-ok c =
-    let p = c.args.accepted.now.program in
-    let certs = c.args.accepted.now.certs in
-    let setup = c.args.setup.now in
+    let p = c.args.of_setup.now.accepted.now.program in
+    let certs = c.args.of_setup.now.accepted.now.certs in
+    let setup = c.args.of_setup.now.setup.now in
     let begun = c.args.begun.now in
     let careful = subst (λ (q : LaidOut). IsCarefulProgram q certs.sections) c.program.ensures.program c.program.ensures.careful in
     let begins = subst (λ (q : LaidOut). MayBegin q begun) c.program.ensures.program c.in_ok-machine.ensures.no_fault in
@@ -33,7 +33,7 @@ returns-clause-ok c =
 
 pub returns-clause-no_fault : goal.returns-clause-no_fault
 returns-clause-no_fault c =
-    let certs = c.args.accepted.now.certs in
+    let certs = c.args.of_setup.now.accepted.now.certs in
     let begun = c.args.begun.now in
     record {
       begins = subst (λ (q : LaidOut). MayBegin q begun) c.program.ensures.program c.in_ok-machine.ensures.no_fault;

@@ -14,8 +14,8 @@ use Rattle.mutators.proofs.running.run_jobs.Goals as goal
 
 pub serve_programs-turns-requires : goal.serve_programs-turns-requires
 serve_programs-turns-requires g c =
-    let may = all_may c.args.accepted.now.program c.args.setup.now c.args.heap c.args.jobs.items c.requires.jobs in
-    (c.type_bounds.sync-T, (c.type_bounds.sync-G, (subst (AllByRecursion (MayBegin program_machine FitsThread c.args.heap)) (sym c.as_mut_slice.ensures.value) may, c.requires.sweeper)))
+    let may = all_may c.args.of_setup.now.accepted.now.program c.args.of_setup.now.setup.now c.args.begun.heap c.args.begun.jobs.items c.requires.jobs in
+    (c.type_bounds.sync-T, (c.type_bounds.sync-G, (subst (AllByRecursion (MayBegin program_machine FitsThread c.args.begun.heap)) (sym c.as_mut_slice.ensures.value) may, c.requires.sweeper)))
 
 pub close_after-requires-clause-jobs : goal.close_after-requires-clause-jobs
 close_after-requires-clause-jobs g c =
@@ -23,12 +23,12 @@ close_after-requires-clause-jobs g c =
     let after = c.serve_programs-turns.new.jobs in
     let value = c.as_mut_slice.ensures.value in
     let same : length after ≡ length before = omega (arith, c.serve_programs-turns.auto.jobs) in
-    let are = subst (AreJobs c.args.accepted.now.program c.args.setup.now c.args.heap) (sym value) c.requires.jobs in
-    subst (λ (all : List (Job ProgramThread)). AreOf c.args.heap (map token_of all)) (sym (written_over c.args.jobs.len after c.args.jobs.items (same ∙ ap length value) (omega (arith, c.args.jobs.ok.0))))
-    (are_of c.args.accepted.now.program c.args.setup.now c.args.heap c.args.limits.steps before after same c.serve_programs-turns.ensures.jobs are)
+    let are = subst (AreJobs c.args.of_setup.now.accepted.now.program c.args.of_setup.now.setup.now c.args.begun.heap) (sym value) c.requires.jobs in
+    subst (λ (all : List (Job ProgramThread)). AreOf c.args.begun.heap (map token_of all)) (sym (written_over c.args.begun.jobs.len after c.args.begun.jobs.items (same ∙ ap length value) (omega (arith, c.args.begun.jobs.ok.0))))
+    (are_of c.args.of_setup.now.accepted.now.program c.args.of_setup.now.setup.now c.args.begun.heap c.args.limits.steps before after same c.serve_programs-turns.ensures.jobs are)
 
 pub close_after-requires-clause-sweeper : goal.close_after-requires-clause-sweeper
-close_after-requires-clause-sweeper g c = subst (IsSweeperOf c.args.heap) (sym c.serve_programs-turns.ensures.token) (record { table = c.requires.sweeper.table; setup = c.requires.sweeper.setup })
+close_after-requires-clause-sweeper g c = subst (IsSweeperOf c.args.begun.heap) (sym c.serve_programs-turns.ensures.token) (record { table = c.requires.sweeper.table; setup = c.requires.sweeper.setup })
 
 pub returns : goal.returns
 returns g c =
@@ -36,9 +36,9 @@ returns g c =
     let after = c.serve_programs-turns.new.jobs in
     let value = c.as_mut_slice.ensures.value in
     let same : length after ≡ length before = omega (arith, c.serve_programs-turns.auto.jobs) in
-    let are = subst (AreJobs c.args.accepted.now.program c.args.setup.now c.args.heap) (sym value) c.requires.jobs in
-    report c.args.accepted.now.program c.args.setup.now c.args.heap c.args.limits before after _ c.args.sweeper c.serve_programs-turns.new.sweeper c.in_ok-close_after.field-0 c.in_ok-threads.threads
+    let are = subst (AreJobs c.args.of_setup.now.accepted.now.program c.args.of_setup.now.setup.now c.args.begun.heap) (sym value) c.requires.jobs in
+    report c.args.of_setup.now.accepted.now.program c.args.of_setup.now.setup.now c.args.begun.heap c.args.limits before after _ c.args.begun.sweeper c.serve_programs-turns.new.sweeper c.in_ok-close_after.field-0 c.in_ok-threads.threads
     c.serve_programs-turns.result c.cycles-cycles.result c.heap_law.ensures.kept c.heap_law.ensures.touched c.requires.heap are (ap length value ∙ c.requires.count) same
-    (written_over c.args.jobs.len after c.args.jobs.items (same ∙ ap length value) (omega (arith, c.args.jobs.ok.0))) c.serve_programs-turns.ensures.jobs c.requires.sweeper c.requires.fresh
+    (written_over c.args.begun.jobs.len after c.args.begun.jobs.items (same ∙ ap length value) (omega (arith, c.args.begun.jobs.ok.0))) c.serve_programs-turns.ensures.jobs c.requires.sweeper c.requires.fresh
     c.serve_programs-turns.ensures.token c.serve_programs-turns.ensures.turns c.serve_programs-turns.ensures.limit c.serve_programs-turns.ensures.first c.cycles-cycles.ensures c.in_ok-close_after.ensures.run
     (c.in_ok-threads.ensures ∙ ap (map end_of) c.as_slice.ensures.value)

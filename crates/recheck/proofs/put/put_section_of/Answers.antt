@@ -6,14 +6,14 @@ use Rattle.recheck.proofs.put.put_section_of.Goals as goal
 pub returns-clause-put : goal.returns-clause-put
 returns-clause-put c =
     c.put_section.ensures.put c.args.program.now
-    (with_itself c.args.program.now c.args.func c.function_at-old.result.now
-    (subst (λ (m : Module). slice_get m.functions c.args.func ≡ Some c.function_at-old.result.now) c.module.ensures.of_module c.function_at-old.ensures))
+    (with_itself c.args.program.now c.args.text.now.func c.function_at-old.result.now
+    (subst (λ (m : Module). slice_get m.functions c.args.text.now.func ≡ Some c.function_at-old.result.now) c.module.ensures.of_module c.function_at-old.ensures))
 
 pub returns-clause-answers : goal.returns-clause-answers
 returns-clause-answers c =
     c.put_section.ensures.answers c.args.program.now c.requires.answers
-    (with_itself c.args.program.now c.args.func c.function_at-old.result.now
-    (subst (λ (m : Module). slice_get m.functions c.args.func ≡ Some c.function_at-old.result.now) c.module.ensures.of_module c.function_at-old.ensures))
+    (with_itself c.args.program.now c.args.text.now.func c.function_at-old.result.now
+    (subst (λ (m : Module). slice_get m.functions c.args.text.now.func ≡ Some c.function_at-old.result.now) c.module.ensures.of_module c.function_at-old.ensures))
 
 pub put_section-requires-clause-rows : goal.put_section-requires-clause-rows
 put_section-requires-clause-rows c = c.forget.ensures.rows c.args.program.now c.args.certs.now.sections c.requires.rows

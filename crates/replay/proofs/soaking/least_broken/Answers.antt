@@ -20,8 +20,8 @@ returns-in-None-clause-least g c =
     let base = ap (λ it. it.base) c.map.ensures.base ∙ c.with_min_len.ensures.base in
     let places = all.2.1 ∙ (λ i. nat_range (base i).start (base i).end) ∙ (λ i. nat_range (ends.0 i) (ends.1 i)) in
     let told = subst (λ f. AllZip (λ (seed : ℕ) (end : SeedEnd). (end.seed ≡ seed) × IsTold f.1.now f.2.now f.3.now seed end.told) all.2.0 all.0) c.map.ensures.f all.2.2 in
-    let known = found p setup c.args.steps c.args.first c.args.past all.2.0 all.0 all.1 c.find_first-found.result c.requires.range places told all.3 all.4 in
-    all_passed p setup c.args.steps c.args.first c.args.past (subst (λ r. Found (Ends p setup c.args.steps) stops c.args.first c.args.past r) c.in-None.is known)
+    let known = found p setup c.args.schedules.steps c.args.schedules.first c.args.schedules.past all.2.0 all.0 all.1 c.find_first-found.result c.requires.range places told all.3 all.4 in
+    all_passed p setup c.args.schedules.steps c.args.schedules.first c.args.schedules.past (subst (λ r. Found (Ends p setup c.args.schedules.steps) stops c.args.schedules.first c.args.schedules.past r) c.in-None.is known)
 
 pub returns-in-Some-clause-least : goal.returns-in-Some-clause-least
 returns-in-Some-clause-least g c =
@@ -32,9 +32,9 @@ returns-in-Some-clause-least g c =
     let base = ap (λ it. it.base) c.map.ensures.base ∙ c.with_min_len.ensures.base in
     let places = all.2.1 ∙ (λ i. nat_range (base i).start (base i).end) ∙ (λ i. nat_range (ends.0 i) (ends.1 i)) in
     let told = subst (λ f. AllZip (λ (seed : ℕ) (end : SeedEnd). (end.seed ≡ seed) × IsTold f.1.now f.2.now f.3.now seed end.told) all.2.0 all.0) c.map.ensures.f all.2.2 in
-    let known = found p setup c.args.steps c.args.first c.args.past all.2.0 all.0 all.1 c.find_first-found.result c.requires.range places told all.3 all.4 in
-    let both = stopped p setup c.args.steps c.args.first c.args.past c.in-Some.end (subst (λ r. Found (Ends p setup c.args.steps) stops c.args.first c.args.past r) c.in-Some.is known) in
-    subst (λ r. IfOk r (IsLeastFrom p setup c.args.steps c.args.first c.args.past)) (sym c.answer.ensures) both.0
+    let known = found p setup c.args.schedules.steps c.args.schedules.first c.args.schedules.past all.2.0 all.0 all.1 c.find_first-found.result c.requires.range places told all.3 all.4 in
+    let both = stopped p setup c.args.schedules.steps c.args.schedules.first c.args.schedules.past c.in-Some.end (subst (λ r. Found (Ends p setup c.args.schedules.steps) stops c.args.schedules.first c.args.schedules.past r) c.in-Some.is known) in
+    subst (λ r. IfOk r (IsLeastFrom p setup c.args.schedules.steps c.args.schedules.first c.args.schedules.past)) (sym c.answer.ensures) both.0
 
 pub returns-in-Some-clause-fault : goal.returns-in-Some-clause-fault
 returns-in-Some-clause-fault g c =
@@ -45,6 +45,6 @@ returns-in-Some-clause-fault g c =
     let base = ap (λ it. it.base) c.map.ensures.base ∙ c.with_min_len.ensures.base in
     let places = all.2.1 ∙ (λ i. nat_range (base i).start (base i).end) ∙ (λ i. nat_range (ends.0 i) (ends.1 i)) in
     let told = subst (λ f. AllZip (λ (seed : ℕ) (end : SeedEnd). (end.seed ≡ seed) × IsTold f.1.now f.2.now f.3.now seed end.told) all.2.0 all.0) c.map.ensures.f all.2.2 in
-    let known = found p setup c.args.steps c.args.first c.args.past all.2.0 all.0 all.1 c.find_first-found.result c.requires.range places told all.3 all.4 in
-    let both = stopped p setup c.args.steps c.args.first c.args.past c.in-Some.end (subst (λ r. Found (Ends p setup c.args.steps) stops c.args.first c.args.past r) c.in-Some.is known) in
+    let known = found p setup c.args.schedules.steps c.args.schedules.first c.args.schedules.past all.2.0 all.0 all.1 c.find_first-found.result c.requires.range places told all.3 all.4 in
+    let both = stopped p setup c.args.schedules.steps c.args.schedules.first c.args.schedules.past c.in-Some.end (subst (λ r. Found (Ends p setup c.args.schedules.steps) stops c.args.schedules.first c.args.schedules.past r) c.in-Some.is known) in
     subst (λ r. IfErr r (λ e. e ≢ Memory → IsSetupFault p setup e)) (sym c.answer.ensures) both.1

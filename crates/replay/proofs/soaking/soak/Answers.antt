@@ -11,8 +11,8 @@ returns-in-Some-clause-outcome g c =
     let setup = c.args.setup.now in
     let next = c.loop-next.next in
     let end = next + c.min.result in
-    let least = subst (λ o. IsLeastFrom p setup c.args.steps next end o) c.in-Some.is c.in_ok-broken.ensures.least in
-    least_of_all p setup c.args.first c.args.past c.args.steps next end c.in-Some.broken c.loop-next.invariant.low c.loop-next.invariant.sound (chunk_ends c.args.past next 256 c.min.result c.loop-next.invariant.within c.min.ensures) least
+    let least = subst (λ o. IsLeastFrom p setup c.args.schedules.steps next end o) c.in-Some.is c.in_ok-broken.ensures.least in
+    least_of_all p setup c.args.schedules.first c.args.schedules.past c.args.schedules.steps next end c.in-Some.broken c.loop-next.invariant.low c.loop-next.invariant.sound (chunk_ends c.args.schedules.past next 256 c.min.result c.loop-next.invariant.within c.min.ensures) least
 
 -- No schedule of a safe setup breaks its run.
 pub returns-in-Some-clause-safe : goal.returns-in-Some-clause-safe
@@ -20,8 +20,8 @@ returns-in-Some-clause-safe g c certs certified =
     let p = c.args.program.now in
     let setup = c.args.setup.now in
     let b = c.in-Some.broken in
-    let least = subst (λ o. IsLeastFrom p setup c.args.steps c.loop-next.next (c.loop-next.next + c.min.result) o) c.in-Some.is c.in_ok-broken.ensures.least in
-    safe_breaks_none p setup (actors_drawn (length setup.starts) b.seed c.args.steps) b.broken (c.setup_law.ensures p setup certs c.requires.setup c.in_ok-may_begin.ensures.no_fault certified) least.3
+    let least = subst (λ o. IsLeastFrom p setup c.args.schedules.steps c.loop-next.next (c.loop-next.next + c.min.result) o) c.in-Some.is c.in_ok-broken.ensures.least in
+    safe_breaks_none p setup (actors_drawn (length setup.starts) b.seed c.args.schedules.steps) b.broken (c.setup_law.ensures p setup certs c.requires.setup c.in_ok-may_begin.ensures.no_fault certified) least.3
 
 -- No seed up to the end of the chunk breaks its run.
 pub loop-next-preserved : goal.loop-next-preserved
@@ -30,9 +30,9 @@ loop-next-preserved g c =
     let setup = c.args.setup.now in
     let next = c.loop-next.next in
     let end = next + c.min.result in
-    let more = subst (λ o. IsLeastFrom p setup c.args.steps next end o) c.in_default.is c.in_ok-broken.ensures.least in
+    let more = subst (λ o. IsLeastFrom p setup c.args.schedules.steps next end o) c.in_default.is c.in_ok-broken.ensures.least in
     record {
-      sound = sound_on p setup c.args.steps c.args.first next end c.loop-next.invariant.sound more;
-      low = let before : c.args.first ≤ next = c.loop-next.invariant.low in omega (arith, before);
-      within = chunk_ends c.args.past next 256 c.min.result c.loop-next.invariant.within c.min.ensures;
+      sound = sound_on p setup c.args.schedules.steps c.args.schedules.first next end c.loop-next.invariant.sound more;
+      low = let before : c.args.schedules.first ≤ next = c.loop-next.invariant.low in omega (arith, before);
+      within = chunk_ends c.args.schedules.past next 256 c.min.result c.loop-next.invariant.within c.min.ensures;
     }

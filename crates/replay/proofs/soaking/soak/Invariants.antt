@@ -4,10 +4,10 @@ use Rattle.replay.proofs.soaking.soak.Given as goal
 
 abbrev pub invariant-loop-next : goal.invariant-loop-next
 invariant-loop-next g l = record {
-  sound : AreSoundFrom l.program l.setup l.steps l.first l.next;
-  low : l.first ≤ l.next;
-  within : l.next ≤ l.past;
+  sound : AreSoundFrom l.program l.setup l.fn.schedules.steps l.fn.schedules.first l.next;
+  low : l.fn.schedules.first ≤ l.next;
+  within : l.next ≤ l.fn.schedules.past;
 }
 
 abbrev pub decreases-loop-next : goal.decreases-loop-next
-decreases-loop-next g l = l.past - l.next
+decreases-loop-next g l = l.fn.schedules.past - l.next

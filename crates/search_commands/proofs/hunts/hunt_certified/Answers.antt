@@ -1,5 +1,4 @@
-use Rattle.std.proofs.Common.{refl, subst, sym, ap}
-use Rattle.std.specs.Prelude.{is_some}
+use Rattle.std.proofs.Common.{Some, refl, subst, sym}
 use Rattle.std.proofs.lemmas.Result.{IfOk-weaker}
 use Rattle.ir_ast.specs.declared.module.Module.{Module}
 use Rattle.layout.specs.Layouts.{AreLayouts, LaidOut}
@@ -15,7 +14,7 @@ returns-in-Err-clause-said g c =
     (λ status told. (
       OnError _,
       not_laid_out reason c.in-Err.ensures.fault refl,
-      (refl, subst (λ (m : Module). IsTold (g.E.Write.contents c.args.err.now) (g.E.Write.contents c.not_laid_out-status.new.err) status (of_layout_reason m reason)) c.in-Err.ensures.given_back.0 told),
+      (refl, subst (λ (m : Module). IsTold (Some c.args.results.now.outputs.err.items) (Some c.not_laid_out-status.new.err.items) status (of_layout_reason m reason)) c.in-Err.ensures.given_back.0 told),
     ))
     c.not_laid_out-status.ensures
 
@@ -25,5 +24,5 @@ returns-in-Ok-clause-said g c =
     let shaped = c.in-Ok.ensures.of_module in
     let laid = subst (λ (m : Module). AreLayouts m under.program.layouts) (sym shaped) c.in-Ok.ensures.laid_out.0 in
     IfOk-weaker c.hunt_program-status.result _ _
-    (λ status told. (told.0, of_shaped under.program told.0 shaped laid (subst (λ (p : LaidOut). OfHunt (is_some c.args.asked.save_path) c.args.saved.now.items c.hunt_program-status.new.saved.items p told.0) c.program-program.ensures told.1), told.2))
+    (λ status told. (told.0, of_shaped under.program told.0 shaped laid (subst (λ (p : LaidOut). OfHunt c.args.asked.saves p c.args.results.now.saved.items c.hunt_program-status.new.results.saved.items told.0) c.program.ensures told.1), told.2))
     c.hunt_program-status.ensures.said

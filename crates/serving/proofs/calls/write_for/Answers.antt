@@ -14,4 +14,4 @@ write-requires-clause-new g c = (may_write _ _ _ _ _ c.requires.may.served.2 c.r
 
 pub returns : goal.returns
 returns g c = write_served (machine_of g.R.Machine.action g.R.Machine.after_answer g.R.Machine.roots) _ _ _ c.requires.may.ready _ _ _ _ _ _ c.cell_of-cell.ensures c.cell_of-new.ensures c.requires.asked
-    c.write.ensures.token.0 c.write.ensures.token.1 c.write.ensures.log
+    c.write.ensures.token.0 c.write.ensures.token.1 (c.write.result, c.write.ensures.log)

@@ -1,0 +1,193 @@
+//! Calls for callers of the library, which no command makes. Each is called where it has to answer, so a body that gives up is seen.
+use crate::texts::{FOUR, HEAD, joined};
+use block_check::{check_block, check_rows, rows};
+use cert_maker::make_with;
+use certificate::{Certs, read_cert, read_shapes};
+use ir_ast::{BlockId, FuncId, Module, Shapes};
+use ir_text::read;
+use layout::{Program, layouts};
+use pools::{LayoutId, Layouts};
+use std::alloc::{AllocError, Global};
+
+/// A module with opaque pointers. It keeps a cell in its slot.
+const OPAQUE: &str =
+    "%Node = type { i64, ptr }\n@g = global ptr null\ndeclare ptr @dg_alloc(i32)\ndeclare void @llvm.gcroot(ptr, ptr)\ndefine void @one() gc \"shadow-stack\" {\nentry:\n  %s = alloca ptr\n  call void @llvm.gcroot(ptr %s, ptr null)\n  %a = call ptr @dg_alloc(i32 0)\n  store ptr %a, ptr %s\n  ret void\n}\n";
+
+/// Its shapes.
+const SHAPES: &str =
+    "shapes 1\nlayout Node 1 ref Node\nglobal @g ref Node\nroot @one %s ref Node\n";
+
+/// Certificates of `FOUR`.
+const CERTIFICATES: &str =
+    "cert 1\nfunction @four may\nblock %no\nblock %ok\n%x ref Node nonnull fresh\nend\n";
+
+/// Those that say nothing of the cell that the last block stores.
+const SILENT: &str = "cert 1\nfunction @four may\nblock %no\nblock %ok\nend\n";
+
+/// Whether the first and the second word of the first struct are references.
+type References = (bool, bool);
+
+fn references(layouts: &Layouts) -> References {
+    let node = LayoutId::new(0);
+    (layouts.is_ref_word(node, 0), layouts.is_ref_word(node, 1))
+}
+
+/// `OPAQUE` and its shapes.
+fn opaque_and_shapes(alloc: Global) -> Option<(Module, Shapes)> {
+    let Ok(module) = read(alloc, OPAQUE.as_bytes()) else {
+        return None;
+    };
+    match read_shapes(alloc, SHAPES.as_bytes(), &module) {
+        Ok(shapes) => Some((module, shapes)),
+        Err(_) => {
+            drop(module);
+            None
+        }
+    }
+}
+
+fn references_with(alloc: Global, module: Module, shapes: Shapes) -> Option<References> {
+    if module.shapes.is_some() {
+        drop(module);
+        drop(shapes);
+        return None;
+    }
+    match Program::with_shapes(alloc, module, shapes) {
+        Ok(program) => {
+            let found = references(program.layouts());
+            drop(program);
+            Some(found)
+        }
+        Err(refused) => {
+            drop(refused);
+            None
+        }
+    }
+}
+
+/// What the words of `OPAQUE` are by its shapes.
+fn references_by_shapes(alloc: Global) -> Option<References> {
+    let (module, shapes) = opaque_and_shapes(alloc)?;
+    references_with(alloc, module, shapes)
+}
+
+#[test]
+fn lays_out_a_module_with_shapes_beside_it(rt: HostRuntime) {
+    assert_eq!(rt; references_by_shapes(rt.alloc()), Some((false, true)));
+}
+
+/// What the words of `HEAD` are by its types.
+fn references_by_types(alloc: Global) -> Option<References> {
+    let Ok(module) = read(alloc, HEAD.as_bytes()) else {
+        return None;
+    };
+    let laid_out = layouts(alloc, &module);
+    drop(module);
+    match laid_out {
+        Ok(laid_out) => Some(references(&laid_out)),
+        Err(_) => None,
+    }
+}
+
+#[test]
+fn finds_the_words_of_a_module_alone(rt: HostRuntime) {
+    assert_eq!(rt; references_by_types(rt.alloc()), Some((false, true)));
+}
+
+/// Whether certificates are made of `OPAQUE` with its shapes, and fit it.
+fn are_made_and_fit(alloc: Global) -> Option<bool> {
+    let (module, shapes) = opaque_and_shapes(alloc)?;
+    match make_with(alloc, module, shapes) {
+        Ok(accepted) => {
+            let fit = accepted.certs().fits(accepted.program().module());
+            drop(accepted);
+            Some(fit)
+        }
+        Err(unmade) => {
+            drop(unmade);
+            None
+        }
+    }
+}
+
+#[test]
+fn makes_certificates_with_shapes_beside_the_module(rt: HostRuntime) {
+    assert_eq!(rt; are_made_and_fit(rt.alloc()), Some(true));
+}
+
+/// Whether a block of `FOUR` is certified: by itself, and by what was found before.
+fn is_certified(
+    alloc: Global,
+    program: &Program,
+    certs: &Certs,
+    block: u32,
+) -> Result<(bool, bool), AllocError> {
+    if program.module().functions.as_slice().len() != 1 {
+        return Ok((false, false));
+    }
+    let func = FuncId::new(0);
+    let block = BlockId::new(block);
+    let alone = check_block(alloc, program, certs, func, block).is_ok();
+    let found = rows(alloc, program, certs, func)?;
+    let again = check_rows(alloc, program, certs, &found, func, block).is_ok();
+    drop(found);
+    Ok((alone, again))
+}
+
+/// How many blocks of `FOUR` are certified: each by itself, and by what was found before.
+fn count_certified(
+    alloc: Global,
+    program: &Program,
+    certs: &Certs,
+) -> Result<(u32, u32), AllocError> {
+    let mut alone = 0u32;
+    let mut again = 0u32;
+    for block in 0..3u32 {
+        let certified = is_certified(alloc, program, certs, block)?;
+        alone = alone.saturating_add(u32::from(certified.0));
+        again = again.saturating_add(u32::from(certified.1));
+    }
+    Ok((alone, again))
+}
+
+fn count_in(
+    alloc: Global,
+    module: Module,
+    certificates: &str,
+) -> Result<Option<(u32, u32)>, AllocError> {
+    let Ok(certs) = read_cert(alloc, certificates.as_bytes(), &module) else {
+        drop(module);
+        return Ok(None);
+    };
+    let Ok(program) = Program::new(alloc, module) else {
+        drop(certs);
+        return Ok(None);
+    };
+    let count = count_certified(alloc, &program, &certs);
+    drop(certs);
+    drop(program);
+    Ok(Some(count?))
+}
+
+/// How many of the three blocks of `FOUR` are certified by these certificates.
+fn count_of(alloc: Global, certificates: &str) -> Result<Option<(u32, u32)>, AllocError> {
+    let text = joined(alloc, [HEAD, FOUR].as_slice())?;
+    let module = read(alloc, text.as_slice());
+    drop(text);
+    match module {
+        Ok(module) => count_in(alloc, module, certificates),
+        Err(_) => Ok(None),
+    }
+}
+
+#[test]
+fn checks_single_blocks(rt: HostRuntime) -> Result<(), AllocError> {
+    assert_eq!(rt;
+        (
+            count_of(rt.alloc(), CERTIFICATES)?,
+            count_of(rt.alloc(), SILENT)?
+        ),
+        (Some((3, 3)), Some((2, 2)))
+    );
+    Ok(())
+}

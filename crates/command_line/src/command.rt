@@ -1,0 +1,78 @@
+//! What a command line asks for.
+ghost use Rattle.std.specs.Prelude.{◌≡◌};
+ghost use Rattle.command_line.specs.Asked.{is_wanted, on_terminal, when_on_terminal};
+
+use crate::options::What;
+
+/// The paths of a command's files, by what each file is. None is a file that the line does not give.
+#[derive(Clone, Copy)]
+pub struct Paths<'a> {
+    pub of_module: Option<&'a str>,
+    pub certificate: Option<&'a str>,
+    /// None beside a certificate too, which then has the shapes.
+    pub shapes: Option<&'a str>,
+    pub trace: Option<&'a str>,
+    pub edits: Option<&'a str>,
+    /// The file that the command writes: a trace, or steps as JSON.
+    pub saved: Option<&'a str>,
+}
+
+/// Whether a refusal is explained.
+#[derive(Clone, Copy)]
+pub enum Explained {
+    Always,
+    /// Where the standard error is a terminal.
+    OnTerminal,
+    Never,
+}
+
+/// A command, the paths of its files, and what all commands have.
+#[derive(Clone, Copy)]
+pub struct Command<'a> {
+    pub paths: Paths<'a>,
+    pub explained: Explained,
+    pub what: What<'a>,
+}
+
+impl Explained {
+    /// The same where the standard error is a terminal.
+    fn on_terminal(self) -> Explained
+        ensures { result ≡ when_on_terminal self }
+    {
+        match self {
+            Explained::OnTerminal => Explained::Always,
+            when => when,
+        }
+    }
+
+    /// Whether a refusal is explained where nothing is known of the standard error.
+    pub fn is_wanted(self) -> bool
+        ensures { result ≡ is_wanted self }
+    {
+        matches!(self, Explained::Always)
+    }
+}
+
+impl Paths<'_> {
+    /// No file is given.
+    pub const NONE: Paths<'static> = Paths {
+        of_module: None,
+        certificate: None,
+        shapes: None,
+        trace: None,
+        edits: None,
+        saved: None,
+    };
+}
+
+impl<'a> Command<'a> {
+    /// The command where the standard error is a terminal: what is left to that is explained.
+    pub fn on_terminal(self) -> Command<'a>
+        ensures { result ≡ on_terminal self.entry }
+    {
+        Command {
+            explained: self.explained.on_terminal(),
+            ..self
+        }
+    }
+}

@@ -1,0 +1,4 @@
+pub mod Bits
+pub mod Items
+pub mod Steps
+pub mod Words
