@@ -27,8 +27,12 @@ import abstraction_traps
 import agree
 
 TOP = os.path.dirname(os.path.dirname(os.path.abspath(__file__)))
-ABSTRACT = os.path.join(TOP, "examples", "pipeline", "abstract.py")
-SHAPES = os.path.join(TOP, "examples", "pipeline", "shapes.py")
+sys.path.insert(0, os.path.join(TOP, "examples", "pipeline"))
+
+import abstract  # noqa: E402
+import ir  # noqa: E402
+import shapes  # noqa: E402
+
 STEPS = 6000
 MOST = 63
 FUNCTIONS = 5
@@ -340,14 +344,11 @@ def run_of(llvm, base, text, starts):
 
 def abstracted(base, text):
     """What abstract.py writes of a module, and what it left."""
-    with open(base + ".ll", "w") as out:
-        out.write(text)
-    done = subprocess.run([sys.executable, ABSTRACT, base + ".ll"], capture_output=True, text=True)
-    if done.returncode:
-        raise Difference(done.stderr)
+    whole = abstract.Abstraction(ir.read(text))
+    found = whole.text()
     with open(base + ".any.ll", "w") as out:
-        out.write(done.stdout)
-    return done.stdout, done.stderr.splitlines()[1:]
+        out.write(found)
+    return found, whole.left
 
 
 class Replay:
@@ -432,14 +433,13 @@ def compare(dgc, llvm, base, module):
 
 def answer(dgc, base, text):
     """What abstract.py and dgc say of a module with opaque pointers."""
-    with open(base + ".ll", "w") as out:
-        out.write(text)
-    for script, end in ((ABSTRACT, ".any.ll"), (SHAPES, ".shapes")):
-        done = subprocess.run([sys.executable, script, base + (".ll" if script == ABSTRACT else ".any.ll")], capture_output=True, text=True)
-        if done.returncode:
-            return done.stderr.strip()
-        with open(base + end, "w") as out:
-            out.write(done.stdout)
+    try:
+        found, _ = abstracted(base, text)
+        lines = "\n".join(shapes.shapes_of(found)) + "\n"
+    except (ir.Fault, SystemExit) as fault:
+        return str(fault)
+    with open(base + ".shapes", "w") as out:
+        out.write(lines)
     made = subprocess.run([dgc, "make", base + ".any.ll", "--shapes", base + ".shapes", "--why"], capture_output=True, text=True)
     if made.returncode:
         return (made.stdout + made.stderr).strip().splitlines()[-1]
@@ -503,7 +503,7 @@ def main():
         folder = options.keep or scratch
         os.makedirs(folder, exist_ok=True)
         traps = spring(options.dgc, folder)
-        print(f"{traps} modules that break a rule: no yes; the same {traps} without the fault: yes")
+        print(f"{traps} modules that break a rule: no yes; the same {traps} without the fault: yes", flush=True)
         tasks = [(options.dgc, llvms, folder, number) for number in range(options.seed, options.seed + options.modules)]
         with concurrent.futures.ProcessPoolExecutor() as pool:
             try:

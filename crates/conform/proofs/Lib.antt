@@ -1,3 +1,6 @@
+mod Bits
+mod Items
 mod RuleLemmas
 mod DisciplineLemmas
 mod Steps
+mod Turns

@@ -1,10 +1,10 @@
 -- A step that meets the rules leads from one run to the next.
-use Rattle.std.proofs.Common.{◌≡◌, ◌≢◌, ◌⊎◌, inl, inr, ℕ, zero, suc, ◌+◌, ◌*◌, ◌^◌, ◌<◌, ◌≤◌, ◌==◌, Bool, true, false, List, [], ◌∷◌, length, Option, Some, None, refl, sym, ap, ◌∙◌, subst, if◌then◌else◌, arith, IsTrue, IsFalse}
-use Rattle.std.specs.Prelude.{slice_get, nat_lt}
+use Rattle.std.proofs.Common.{◌≡◌, ◌≢◌, ◌⊎◌, inl, inr, ℕ, zero, suc, ◌+◌, ◌*◌, ◌^◌, ◌<◌, ◌≤◌, ◌==◌, Bool, true, false, List, [], ◌∷◌, ◌++◌, length, length-append, Option, Some, None, refl, sym, ap, ◌∙◌, subst, if◌then◌else◌, arith, IsTrue, IsFalse}
+use Rattle.std.specs.Prelude.{slice_get, slice_set, nat_lt}
 use Rattle.std.proofs.lemmas.Option.{slice_get_past}
-use Rattle.lemmas.specs.Numbers.{test_same, test_no, test_true, lt_false, lt_true}
+use Rattle.lemmas.specs.Numbers.{test_same, test_no, test_true, test_false, lt_false, lt_true}
 use Rattle.lemmas.specs.Bools.{yes_or_no}
-use Rattle.lemmas.specs.Lists.{set_either, set_is, IsIn}
+use Rattle.lemmas.specs.Lists.{set_is, set_other, get_either, IsIn}
 use Rattle.pools.specs.declared.word_kind.WordKind.{WordKind}
 use Rattle.pools.specs.declared.word_kind.WordKind.TheVariants.{Integer, Reference}
 use Rattle.pools.specs.Heap.{Setup, cells, kind_of, words_of_cell, layout_of}
@@ -12,6 +12,7 @@ use Rattle.pools.specs.Layouts.{is_reference_kind}
 use Rattle.colours.specs.Colours.{cycle_of, done}
 use Rattle.colours.specs.Steps.{Step, ReadWord, ReadOldValue, Mark, StoreAfterBarrier, StorePlain, Claim, ReadPosted, StoreStage, ReadPostedFirst, EnterStage, ReadPostedAgain, Found, place_of, ask_of}
 use Rattle.colours.specs.Mutator.{Phase, Ready, MarkingOld, MarkingNew, Writing, Trying, Answering, Ended, Absent, Arriving, Entering, Leaving, stage_of, phase_of, MayFollow, MayTry, MayUse, MayStore, Held, IsDisciplined, HasBegun}
+use Rattle.colours.specs.Collector.{posted_of}
 use Rattle.colours.specs.Runs.{Event, ByThread, ByCollector, log_of, turns_of, word_after, ask_in, MayHappen, IsRun, IsHeapRun}
 use Rattle.colours.specs.Safety.{IsInStep}
 use Rattle.colours.specs.Stages.{Handshake, handshake, no_more}
@@ -21,7 +22,9 @@ use Rattle.watch.specs.CellSets.{has}
 use Rattle.watch.specs.Knows.{Knows}
 use Rattle.watch.specs.declared.holdings.Holdings.{Holdings}
 use Rattle.conform.specs.Rules.{ComesNext}
-use Rattle.conform.specs.Threads.{MayHold, IsMade}
+use Rattle.conform.specs.declared.thread_check.CheckedThread.{CheckedThread}
+use Rattle.conform.specs.Threads.{IsThreadAt, MayHold, IsMade}
+use Rattle.conform.specs.Checks.{AreThreadsAtStart}
 
 -- ---- cells that are held are cells of the heap
 
@@ -99,7 +102,7 @@ begun_low s run t step r lt m begun = go (hand.in_step t lt begun)
     hand : Handshake s run
     hand = handshake s run r
 
-    go : IsInStep _ (stage_of (log_of t run)) → stage_of (log_of t run) < 2 ^ 62
+    go : IsInStep (posted_of (turns_of run)) (stage_of (log_of t run)) → stage_of (log_of t run) < 2 ^ 62
     go (inl e) = let l = hand.low in omega (arith, e, l)
     go (inr (inl e)) = let l = hand.low in omega (arith, e, l)
     go (inr (inr e)) = absurd (no_more s (stage_of (log_of t run)) step (subst (λ (p : Phase). MayFollow s (stage_of (log_of t run)) p step) (hand.ended t lt begun e) m))
@@ -112,7 +115,7 @@ claim_low s run t cell won r lt m = begun_low s run t (Claim cell won) r lt m (b
 
 -- ---- what a step brings is in the heap
 
-fits_within : (s : Setup) (o : Option WordKind) (v : ℕ) → FitsKind s o v → IsTrue (is_reference_kind o) → v < cells s
+pub fits_within : (s : Setup) (o : Option WordKind) (v : ℕ) → FitsKind s o v → IsTrue (is_reference_kind o) → v < cells s
 fits_within s None v f t = absurd cc
 fits_within s (Some (Integer bits)) v f t = absurd cc
 fits_within s (Some (Reference layout)) v (inl e) t = omega (arith, e)
@@ -146,3 +149,27 @@ log_here t step run = rw (test_same t) refl
 
 pub log_else : (t u : ℕ) (step : Step) (run : List Event) → t ≢ u → log_of u (ByThread t step ∷ run) ≡ log_of u run
 log_else t u step run ne = rw (test_no t u ne) refl
+
+-- ---- the threads
+
+pub no_threads : (s : Setup) → AreThreadsAtStart s 0 []
+no_threads s = record { long = refl; each = λ t x e. absurd cc }
+
+pub more_threads : (s : Setup) (count : ℕ) (threads after : List CheckedThread) (last : CheckedThread) → AreThreadsAtStart s count threads → IsThreadAt s count [] last → after ≡ threads ++ last ∷ [] → AreThreadsAtStart s (count + 1) after
+more_threads s count threads after last are at e = rw e (record {
+  long = length-append threads (last ∷ []) ∙ (let l = are.long in omega (arith, l));
+  each = λ t x got. elim (get_either threads last t x got) [
+    | inl before ↦ are.each t x before
+    | inr here ↦ subst (λ y. IsThreadAt s t [] y) (sym here.1) (subst (λ n. IsThreadAt s n [] last) (sym (here.0 ∙ are.long)) at)
+  ];
+})
+
+-- with a thread in the place of another
+pub threads_after : (s : Setup) (run : List Event) (t : ℕ) (step : Step) (threads : List CheckedThread) (new : CheckedThread) → ((u : ℕ) (x : CheckedThread) → slice_get threads u ≡ Some x → IsThreadAt s u (log_of u run) x)
+    → IsThreadAt s t (step ∷ log_of t run) new → (u : ℕ) (x : CheckedThread) → slice_get (slice_set threads t new) u ≡ Some x → IsThreadAt s u (log_of u (ByThread t step ∷ run)) x
+threads_after s run t step threads new each at u x got = elim (yes_or_no (t == u)) [
+  | inl e ↦ let same : t ≡ u = test_true t u e in let here : slice_get (slice_set threads t new) t ≡ Some x = subst (λ n. slice_get (slice_set threads t new) n ≡ Some x) (sym same) got in
+      subst (λ n. IsThreadAt s n (log_of n (ByThread t step ∷ run)) x) same (subst (λ y. IsThreadAt s t (log_of t (ByThread t step ∷ run)) y) (set_is threads t new x here) (subst (λ (l : List Step). IsThreadAt s t l new) (sym (log_here t step run)) at))
+  | inr e ↦ let ne : t ≢ u = test_false t u e in let there : slice_get threads u ≡ Some x = sym (set_other threads t u new (λ y. ne (sym y))) ∙ got in
+      subst (λ (l : List Step). IsThreadAt s u l x) (sym (log_else t u step run ne)) (each u x there)
+]

@@ -1,5 +1,6 @@
 ghost use Rattle.std.specs.Prelude.{ℕ, ◌≡◌, ◌<◌, ◌^◌, ◌↔◌, Some, List, IsTrue, IfSome, IfNone};
-ghost use Rattle.pools.specs.Heap.{Setup};
+ghost use Rattle.pools.specs.Heap.{Setup, cells, IsOfLayout};
+ghost use Rattle.pools.specs.Layouts.{is_reference_kind};
 ghost use Rattle.pools.specs.declared.word_kind.WordKind.TheVariants.{Reference};
 ghost use Rattle.colours.specs.Steps.{Step};
 ghost use Rattle.colours.specs.Mutator.{MayUse, MayStore, IsDisciplined};
@@ -89,16 +90,16 @@ fn rule_of_barriered(
     if !may_use(holdings, cell) {
         return Some(Rule::NotHeld);
     }
-    match words.kind(cell, word) {
-        Some(WordKind::Reference(layout)) => {
-            if may_refer(plan, holdings, layout, value) {
-                None
-            } else {
-                Some(Rule::StoredValue)
-            }
-        }
-        _ => Some(Rule::Word),
+    let Some(kind) = words.kind(cell, word) else {
+        return Some(Rule::Word);
+    };
+    if !is_reference(&kind) {
+        return Some(Rule::Word);
     }
+    if !may_store(plan, holdings, &kind, value) {
+        return Some(Rule::StoredValue);
+    }
+    None
 }
 
 /// Of a plain store.
@@ -117,32 +118,41 @@ fn rule_of_plain(
     if !may_use(holdings, cell) {
         return Some(Rule::NotHeld);
     }
-    match words.kind(cell, word) {
-        None => Some(Rule::Word),
-        Some(WordKind::Integer(bits)) => {
-            if fits(value, bits) {
-                None
-            } else {
-                Some(Rule::StoredValue)
-            }
-        }
-        Some(WordKind::Reference(layout)) => {
-            if !holdings.is_fresh(cell) {
-                Some(Rule::NotFresh)
-            } else if may_refer(plan, holdings, layout, value) {
-                None
-            } else {
-                Some(Rule::StoredValue)
-            }
-        }
+    let Some(kind) = words.kind(cell, word) else {
+        return Some(Rule::Word);
+    };
+    if is_reference(&kind) && !holdings.is_fresh(cell) {
+        return Some(Rule::NotFresh);
+    }
+    if !may_store(plan, holdings, &kind, value) {
+        return Some(Rule::StoredValue);
+    }
+    None
+}
+
+/// Whether a word of this kind holds references.
+fn is_reference(kind: &WordKind) -> bool
+    ensures { result ≡ is_reference_kind (Some kind.now) }
+{
+    matches!(kind, WordKind::Reference(_))
+}
+
+/// Whether a value may be stored in a word of this kind.
+fn may_store(plan: &Plan<'_>, holdings: &Holdings, kind: &WordKind, value: u64) -> bool
+    requires { (log : List Step) × Knows plan.now log holdings.now }
+    ensures { (log : List Step) → Knows plan.now log holdings.now → IsTrue result ↔ MayStore plan.now log (Some kind.now) value }
+{
+    match kind {
+        WordKind::Integer(bits) => fits(*bits, value),
+        WordKind::Reference(layout) => may_refer(plan, holdings, *layout, value),
     }
 }
 
-/// Whether an integer fits its word.
-fn fits(value: u64, bits: u32) -> bool
-    ensures { IsTrue result ↔ (value < 2 ^ bits) }
+/// Whether a number fits a word of this many bits.
+fn fits(bits: u32, number: u64) -> bool
+    ensures { IsTrue result ↔ (number < 2 ^ bits) }
 {
-    bits >= 64 || value >> bits == 0
+    bits >= u64::BITS || number >> bits == 0
 }
 
 /// Whether a reference may be stored in a word for this layout: it is null, or the thread holds its cell, which is of that layout.
@@ -153,10 +163,21 @@ fn may_refer(plan: &Plan<'_>, holdings: &Holdings, layout: LayoutId, value: u64)
     if value == 0 {
         return true;
     }
-    let Ok(cell) = u32::try_from(value) else {
+    if value >= u64::from(plan.pools.cells()) {
         return false;
-    };
-    holdings.holds(cell) && plan.pools.pool_of(cell) == layout
+    }
+    let cell = value as u32;
+    holdings.holds(cell) && is_of(plan, layout, cell)
+}
+
+/// Whether a cell is one of this layout.
+#[tactic(auto, unfolding(pools::specs::Heap::layout_of))]
+fn is_of(plan: &Plan<'_>, layout: LayoutId, cell: u32) -> bool
+    requires some { 0 < cell }
+    requires cell { cell < cells plan.now }
+    ensures { IsTrue result ↔ IsOfLayout plan.now layout cell }
+{
+    plan.pools.pool_of(cell).number() == layout.number()
 }
 
 /// Of the roots that an answer names.

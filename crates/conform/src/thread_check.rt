@@ -1,6 +1,6 @@
 ghost use Rattle.std.specs.Prelude.{ℕ, ◌≡◌, ◌<◌, ◌^◌, List, [], ◌∷◌, IfOk, OnOk, IfSome, IfNone, IsTrue};
-ghost use Rattle.pools.specs.Heap.{Setup};
-ghost use Rattle.colours.specs.Steps.{Step};
+ghost use Rattle.pools.specs.Heap.{Setup, cells};
+ghost use Rattle.colours.specs.Steps.{Step, ReadWord, ReadOldValue, StorePlain};
 ghost use Rattle.colours.specs.Mutator.{IsDisciplined};
 ghost use Rattle.watch.specs.Knows.{Knows};
 ghost use Rattle.record_text.specs.Records.{step_with};
@@ -10,7 +10,6 @@ ghost use Rattle.conform.specs.Threads.{IsThreadAt, MayHold, IsMade};
 use crate::discipline::broken_rule;
 use crate::rule::Rule;
 use heap_rule::Plan;
-use pools::WordKind;
 use record_text::ThreadStep;
 use run_words::RunWords;
 use std::alloc::{AllocError, Global};
@@ -90,19 +89,55 @@ fn hold(holdings: &mut Holdings, words: &RunWords<'_>, step: ThreadStep, roots: 
 {
     others_law();
     match step {
-        ThreadStep::ReadWord(cell, word, value) | ThreadStep::ReadOldValue(cell, word, value) => {
-            if let Some(WordKind::Reference(_)) = words.kind(cell, word) {
-                holdings.found(value as u32);
-            }
-        }
-        ThreadStep::StoreAfterBarrier(cell, word, value)
-        | ThreadStep::StorePlain(cell, word, value) => {
-            if let Some(WordKind::Reference(_)) = words.kind(cell, word) {
-                holdings.stored(value as u32);
-            }
-        }
+        ThreadStep::ReadWord(cell, word, value) => hold_read(holdings, words, cell, word, value),
+        ThreadStep::ReadOldValue(cell, word, value) => hold_old(
+            holdings, words, cell, word, value,
+        ),
+        ThreadStep::StoreAfterBarrier(_, _, value) => holdings.stored(reference_in(words, value)),
+        ThreadStep::StorePlain(cell, word, value) => hold_stored(
+            holdings, words, cell, word, value,
+        ),
         ThreadStep::Claim(cell, true) => holdings.won(cell),
-        ThreadStep::StoreStage(_) => holdings.answered(roots),
+        ThreadStep::StoreStage(_stage) => holdings.answered(roots),
         _ => {}
     }
+}
+
+/// After a read: the thread holds the cell that it found in a word of references.
+fn hold_read(holdings: &mut Holdings, words: &RunWords<'_>, cell: u32, word: u32, value: u64)
+    requires { (log : List Step) × MayHold words.now.heap log (ReadWord cell word value) }
+    ensures { (log : List Step) → Knows words.now.heap log holdings.old → Knows words.now.heap (ReadWord cell word value ∷ log) holdings.new }
+{
+    others_law();
+    if words.is_reference(cell, word) {
+        holdings.found(reference_in(words, value));
+    }
+}
+
+/// After the read of what a barriered store will replace.
+fn hold_old(holdings: &mut Holdings, words: &RunWords<'_>, _cell: u32, _word: u32, value: u64)
+    requires { (log : List Step) × MayHold words.now.heap log (ReadOldValue _cell _word value) }
+    ensures { (log : List Step) → Knows words.now.heap log holdings.old → Knows words.now.heap (ReadOldValue _cell _word value ∷ log) holdings.new }
+{
+    holdings.found(reference_in(words, value));
+}
+
+/// After a plain store: a cell that was stored in a word of references is not fresh.
+fn hold_stored(holdings: &mut Holdings, words: &RunWords<'_>, cell: u32, word: u32, value: u64)
+    requires { (log : List Step) × MayHold words.now.heap log (StorePlain cell word value) }
+    ensures { (log : List Step) → Knows words.now.heap log holdings.old → Knows words.now.heap (StorePlain cell word value ∷ log) holdings.new }
+{
+    others_law();
+    if words.is_reference(cell, word) {
+        holdings.stored(reference_in(words, value));
+    }
+}
+
+/// A reference as the number of its cell.
+fn reference_in(words: &RunWords<'_>, value: u64) -> u32
+    requires { value < cells words.now.heap }
+    ensures { result ≡ value }
+{
+    let _cells = words.cells();
+    value as u32
 }

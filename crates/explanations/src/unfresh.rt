@@ -17,14 +17,15 @@ const CALLS: usize = 16;
 
 /// Where a reference lost `fresh` in the block of the refused instruction.
 fn unfresh_at(scene: &Scene, value: ValueId) -> Result<Option<Spot>, AllocError> {
+    let refusal = scene.refusal;
     let at = CodeAt {
-        func: scene.refusal.func,
-        block: scene.refusal.block,
-        place: scene.refusal.instr,
+        func: refusal.func,
+        block: refusal.block,
+        place: refusal.instr,
     };
     let index = last_change(scene.pen.alloc, &scene.context, at, value, Change::Unfresh)?;
     match index {
-        Some(index) => Ok(Some(scene.spot_in(at.block, index))),
+        Some(index) => Ok(Some(scene.spot_in(refusal.block, index))),
         None => Ok(None),
     }
 }

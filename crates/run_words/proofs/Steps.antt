@@ -1,5 +1,5 @@
 -- The words after a step are those that its operation leaves.
-use Rattle.std.proofs.Common.{◌≡◌, ℕ, ◌<◌, ◌==◌, Bool, true, false, List, ◌∷◌, length, get_or, max, if◌then◌else◌, inl, inr, refl, sym, ap, subst, ◌∙◌, true≢false}
+use Rattle.std.proofs.Common.{◌≡◌, ℕ, ◌<◌, ◌==◌, Bool, true, false, List, [], ◌∷◌, length, get_or, max, if◌then◌else◌, inl, inr, refl, sym, ap, subst, ◌∙◌, true≢false}
 use Rattle.std.specs.Prelude.{slice_set}
 use Rattle.std.proofs.lemmas.List.{get_or-set_same, get_or-set_other}
 use Rattle.lemmas.specs.Bools.{yes_or_no}
@@ -8,7 +8,7 @@ use Rattle.colours.specs.declared.place.Place.{Place}
 use Rattle.colours.specs.declared.ask.Ask.{Ask}
 use Rattle.colours.specs.declared.ask.Ask.TheVariants.{Load, Store, FetchMax, CompareExchange}
 use Rattle.colours.specs.Steps.{place_of, left_by, same_place}
-use Rattle.colours.specs.Runs.{Event, ask_in, word_after}
+use Rattle.colours.specs.Runs.{Event, ask_in, word_after, word_at_start}
 use Rattle.heap_rule.specs.Rule.{index, size, HasPlace}
 use Rattle.heap_rule.specs.Places.{within, same_self, same_true, one_place}
 use Rattle.heap_rule.specs.Stepping.{after_step}
@@ -52,3 +52,8 @@ extends ask old new sized here is s run event are operation = subst (AreAfter s 
     other : (q : Place) → HasPlace s q → same_place p q ≡ false → get_or (slice_set old.table (index h p) after) (index h q) 0 ≡ word_after s (event ∷ run) q
     other q ok e = get_or-set_other old.table (index h p) (index h q) after 0 (λ (x : index h q ≡ index h p). true≢false (sym (subst (λ w. same_place p w ≡ true) (one_place h p q here (subst (λ y. HasPlace y q) (sym are.heap) ok) (sym x)) (same_self p)) ∙ e))
         ∙ (are.words q ok ∙ sym (after_step s run event ask q operation ∙ left_else ask q (word_after s run q) e))
+
+-- the words before the first step
+pub at_start : (s : Setup) (p : Place) → word_at_start s p ≡ word_after s [] p
+unfolding word_after
+at_start s p = refl

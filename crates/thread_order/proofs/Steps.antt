@@ -15,8 +15,8 @@ use Rattle.colours.specs.Mutator.{MayFollow, MayTry, stage_of, phase_of, phase_a
 use Rattle.watch.specs.CellSets.{has}
 use Rattle.thread_order.specs.declared.at.At.{At}
 use Rattle.thread_order.specs.declared.at.At.TheVariants.{Ready, MarkingOld, MarkingNew, Writing, Trying, Answering, Ended, Absent, Arriving, Entering, Leaving}
-use Rattle.thread_order.specs.Standings.{Standing, phase_at, HasTried, IsInPhase, MayLose}
-use Rattle.thread_order.specs.Follows.{with_at, is_trying, with_request, tried_too, after_try, after_mark, after_store, stands_after}
+use Rattle.thread_order.specs.Standings.{Standing, phase_at, HasTried, IsInPhase}
+use Rattle.thread_order.specs.Follows.{with_at, is_trying, with_request, tried_too, after_try, after_mark, after_store, after_claim, stands_from, stands_after, MayLose}
 use Rattle.thread_order.specs.Orders.{Stands}
 
 -- ---- the tries
@@ -204,3 +204,33 @@ goes_on v new step s thread log is st m = subst (Stands s thread (step ∷ log))
   where
     may : MayFollow v.heap v.stage (phase_of s thread log) step
     may = subst (λ x. MayFollow x v.stage (phase_of s thread log) step) (sym st.heap) (subst (λ x. MayFollow s x (phase_of s thread log) step) (sym st.stage) m)
+
+-- a claim that comes next may be lost
+lose : (v : Standing) (at : At) (phase : order.Phase) (cell : ℕ) (won : Bool) → v.at ≡ at → IsInPhase v at phase → MayFollow v.heap v.stage phase (Claim cell won) → MayLose v cell
+lose v Ready phase cell won same e m = let k : (0 < cell) × (cell < cells v.heap) = rw e at m in record { first = k.0; within = k.1; more = λ t. absurd (let x : is_trying v.at ≡ false = ap is_trying same in cc); some = has_pool v.heap cell k.0 k.1 }
+lose v Trying phase cell won same e m = go e.0 e.2 (rw (e.1) at m)
+  where
+    go : (tried : List ℕ) → HasTried v tried → MayTry v.heap tried cell → MayLose v cell
+    go [] h k = absurd (h.some refl)
+    go (last ∷ rest) h k = record { first = k.0.0; within = k.0.1; more = λ t. h.more; some = has_pool v.heap cell k.0.0 k.0.1 }
+lose v (MarkingOld c w o) phase cell won same e m = absurd (rw e at m)
+lose v (MarkingNew c w o) phase cell won same e m = absurd (rw e at m)
+lose v (Writing c w o n) phase cell won same e m = absurd (rw e at m)
+lose v (Answering stage) phase cell won same e m = absurd (rw e at m)
+lose v Ended phase cell won same e m = absurd (rw e at m)
+lose v Absent phase cell won same e m = absurd (rw e at m)
+lose v (Arriving stage) phase cell won same e m = absurd (rw e at m)
+lose v Entering phase cell won same e m = absurd (rw e at m)
+lose v Leaving phase cell won same e m = absurd (rw e at m)
+
+pub may_lose : (v : Standing) (s : Setup) (thread : ℕ) (log : List Step) (cell : ℕ) (won : Bool) → Stands s thread log v → MayFollow s (stage_of log) (phase_of s thread log) (Claim cell won) → MayLose v cell
+may_lose v s thread log cell won st m = lose v v.at (phase_of s thread log) cell won refl st.phase
+    (subst (λ x. MayFollow x v.stage (phase_of s thread log) (Claim cell won)) (sym st.heap) (subst (λ x. MayFollow s x (phase_of s thread log) (Claim cell won)) (sym st.stage) m))
+
+-- before the first step
+pub starts : (s : Setup) (thread : ℕ) (v : Standing) → v.heap ≡ s → v.stage ≡ 0 → v.at ≡ (if is_late s thread then Absent else Ready) → length v.is_tried ≡ cells s → Stands s thread [] v
+starts s thread v heap stage at long = record { heap = heap; stage = stage; phase = subst (λ x. IsInPhase v x (phase_of s thread [])) (sym at) (go (is_late s thread)); set_of = long }
+  where
+    go : (b : Bool) → IsInPhase v (if b then Absent else Ready) (if b then order.Absent else order.Ready)
+    go true = refl
+    go false = refl

@@ -1,5 +1,5 @@
 -- The tests of the next step say what the order says.
-use Rattle.std.proofs.Common.{◌≡◌, ◌≢◌, ◌⊎◌, inl, inr, ℕ, zero, suc, ◌<◌, ◌==◌, ◌&&◌, ◌||◌, not, nat_lt, Bool, true, false, List, [], ◌∷◌, ◌++◌, length, refl, sym, ap, ◌∙◌, subst, if◌then◌else◌, arith, IsTrue}
+use Rattle.std.proofs.Common.{◌≡◌, ◌≢◌, ◌⊎◌, inl, inr, ℕ, zero, suc, ◌+◌, ◌<◌, ◌≤◌, ◌==◌, ◌&&◌, ◌||◌, not, nat_lt, Bool, true, false, List, [], ◌∷◌, ◌++◌, length, refl, sym, ap, ◌∙◌, subst, if◌then◌else◌, arith, IsTrue, drop, get_or, add-one, drop-cons}
 use Rattle.std.specs.Prelude.{◌↔◌, reverse, IsFalse}
 use Rattle.std.proofs.lemmas.List.{reverse-reverse, reverse-append}
 use Rattle.lemmas.specs.Numbers.{test_true, test_false, test_yes, test_no, lt_true, lt_false, lt_yes, lt_no}
@@ -165,3 +165,33 @@ at_tells v Leaving phase step e = rw e (leaving_tells v step)
 -- what the test says of each log that led here
 pub tells : (v : Standing) (step : Step) (s : Setup) (thread : ℕ) (log : List Step) → Stands s thread log v → IsTrue (may_follow v v.at step) ↔ MayFollow s (stage_of log) (phase_of s thread log) step
 tells v step s thread log st = subst (λ x. IsTrue (may_follow v v.at step) ↔ MayFollow x (stage_of log) (phase_of s thread log) step) st.heap (subst (λ x. IsTrue (may_follow v v.at step) ↔ MayFollow v.heap x (phase_of s thread log) step) st.stage (at_tells v v.at (phase_of s thread log) step st.phase))
+
+-- ---- the marks, one root after another
+
+pub root_next : (left rest marked roots : List ℕ) (i : ℕ) → i < length roots → are_marked left (drop i roots) ≡ are_marked marked roots → are_marked left (get_or roots i 0 ∷ drop (i + 1) roots) ≡ are_marked rest (drop (i + 1) roots)
+    → are_marked rest (drop (i + 1) roots) ≡ are_marked marked roots
+root_next left rest marked roots i lt inv step = sym step ∙ (ap (are_marked left) (let k : drop i roots ≡ get_or roots i 0 ∷ drop (suc i) roots = drop-cons roots i 0 lt in rw add-one (sym k)) ∙ inv)
+
+pub root_none : (left marked roots : List ℕ) (i : ℕ) → i < length roots → are_marked left (drop i roots) ≡ are_marked marked roots → are_marked left (get_or roots i 0 ∷ drop (i + 1) roots) ≡ false → false ≡ are_marked marked roots
+root_none left marked roots i lt inv step = sym step ∙ (ap (are_marked left) (let k : drop i roots ≡ get_or roots i 0 ∷ drop (suc i) roots = drop-cons roots i 0 lt in rw add-one (sym k)) ∙ inv)
+
+no_more : (left : List ℕ) → are_marked left [] ≡ is_none left
+no_more [] = refl
+no_more (x ∷ left) = refl
+
+pub roots_end : (left marked roots : List ℕ) (i : ℕ) → length roots ≤ i → are_marked left (drop i roots) ≡ are_marked marked roots → is_none left ≡ are_marked marked roots
+roots_end left marked roots i le inv = sym (no_more left) ∙ (ap (are_marked left) (sym (drop-past roots i le)) ∙ inv)
+  where
+    drop-past : (xs : List ℕ) (i : ℕ) → length xs ≤ i → drop i xs ≡ []
+    drop-past [] zero le = refl
+    drop-past [] (suc i) le = refl
+    drop-past (x ∷ xs) zero le = absurd (omega arith)
+    drop-past (x ∷ xs) (suc i) le = drop-past xs i (omega arith)
+
+pub zero_root : (marked : List ℕ) (root : ℕ) (more : List ℕ) → root ≡ 0 → are_marked marked (root ∷ more) ≡ are_marked marked more
+zero_root [] root more e = rw (test_yes root 0 e) refl
+zero_root (x ∷ marked) root more e = rw (test_yes root 0 e) refl
+
+pub empty_test : (xs : List ℕ) → (length xs == 0) ≡ is_none xs
+empty_test [] = refl
+empty_test (x ∷ xs) = test_no (suc (length xs)) 0 (λ (e : suc (length xs) ≡ 0). omega (arith, e))

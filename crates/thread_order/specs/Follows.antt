@@ -1,5 +1,5 @@
 -- Which step may come next, as tests; and where the thread stands after it.
-use Rattle.std.specs.Prelude.{ℕ, ◌-◌, ◌==◌, ◌&&◌, ◌||◌, not, nat_lt, Bool, true, false, List, [], ◌∷◌, ◌++◌, length, slice_index, slice_set, replicate, if◌then◌else◌}
+use Rattle.std.specs.Prelude.{ℕ, ◌-◌, ◌<◌, ◌==◌, ◌&&◌, ◌||◌, not, nat_lt, Bool, true, false, List, [], ◌∷◌, ◌++◌, length, slice_index, slice_set, replicate, IsTrue, if◌then◌else◌}
 use Rattle.pools.specs.Heap.{Setup, cells, layout_of}
 use Rattle.colours.specs.Colours.{is_async, done}
 use Rattle.colours.specs.Steps.{Step, ReadWord, ReadOldValue, Mark, StoreAfterBarrier, StorePlain, Claim, ReadPosted, StoreStage, ReadPostedFirst, EnterStage, ReadPostedAgain}
@@ -66,11 +66,27 @@ tried_too v false cell = let w = with_request v cell in record w { is_tried = sl
 abbrev pub after_try : Standing → Standing
 after_try v = with_at v (if v.left == 0 then Ready else Trying)
 
+-- after a try of a cell
+abbrev pub after_claim : Standing → At → (cell : ℕ) → (won : Bool) → Standing
+after_claim v at cell true = with_at v Ready
+after_claim v at cell false = after_try (tried_too v (is_trying at) cell)
+
+-- a try of the cell may be lost
+pub record MayLose (v : Standing) (cell : ℕ) : Type 0 where
+  pub first : 0 < cell
+  pub within : cell < cells v.heap
+  pub more : IsTrue (is_trying v.at) → 0 < v.left
+  pub some : 0 < slice_index v.heap.pools (layout_of v.heap cell)
+
+-- after a look at the posted stage
+abbrev pub after_poll : Standing → (posted : ℕ) → Standing
+after_poll v posted = if posted == v.stage then with_at v Ready else record v { at = Answering posted; marked = [] }
+
 -- after a mark
 abbrev pub after_mark : Standing → At → (cell : ℕ) → Standing
 after_mark v (MarkingOld cell word old) c = with_at v (MarkingNew cell word old)
 after_mark v (MarkingNew cell word old) c = with_at v (Writing cell word old c)
-after_mark v (Answering stage) c = record v { marked = v.marked ++ c ∷ [] }
+after_mark v (Answering stage) c = record v { at = Answering stage; marked = v.marked ++ c ∷ [] }
 after_mark v _ c = with_at v Ready
 
 -- after the store of the own stage
@@ -85,9 +101,8 @@ stands_from v at (ReadOldValue cell word value) = with_at v (if value == 0 then 
 stands_from v at (Mark c) = after_mark v at c
 stands_from v at (StoreAfterBarrier cell word value) = with_at v Ready
 stands_from v at (StorePlain cell word value) = with_at v Ready
-stands_from v at (Claim cell true) = with_at v Ready
-stands_from v at (Claim cell false) = after_try (tried_too v (is_trying at) cell)
-stands_from v at (ReadPosted posted) = if posted == v.stage then with_at v Ready else record v { at = Answering posted; marked = [] }
+stands_from v at (Claim cell won) = after_claim v at cell won
+stands_from v at (ReadPosted posted) = after_poll v posted
 stands_from v at (StoreStage next roots) = record v { stage = next; at = after_store at next }
 stands_from v at (ReadPostedFirst posted) = with_at v (Arriving posted)
 stands_from v at (EnterStage next) = record v { stage = next; at = Entering }

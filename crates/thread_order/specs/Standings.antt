@@ -44,8 +44,3 @@ pub record HasTried (v : Standing) (tried : List ℕ) : Type 0 where
 abbrev pub IsInPhase : Standing → At → order.Phase → Type 0
 IsInPhase v Trying phase = (tried : List ℕ) × (phase ≡ order.Trying tried) × HasTried v tried
 IsInPhase v at phase = phase ≡ phase_at at v.marked
-
--- a try of the cell may be lost
-pub record MayLose (v : Standing) (cell : ℕ) : Type 0 where
-  pub first : 0 < cell
-  pub within : cell < cells v.heap

@@ -1,11 +1,11 @@
-ghost use Rattle.std.specs.Prelude.{ℕ, ◌≡◌, ◌<◌, Bool, List, [], ◌∷◌, slice_index, IsTrue, IfOk, OnOk, OnErr};
-ghost use Rattle.pools.specs.Heap.{Setup, cells, layout_of};
+ghost use Rattle.std.specs.Prelude.{ℕ, ◌≡◌, ◌<◌, Bool, List, [], ◌∷◌, slice_index, if◌then◌else◌, IsTrue, IfOk, OnOk, OnErr};
+ghost use Rattle.pools.specs.Heap.{Setup, cells, layout_of, is_late};
 ghost use Rattle.colours.specs.Steps.{Step};
 ghost use Rattle.colours.specs.Mutator.{stage_of, phase_of, MayFollow};
 ghost use Rattle.record_text.specs.Records.{step_with};
-ghost use Rattle.thread_order.specs.Standings.{Standing, MayLose};
+ghost use Rattle.thread_order.specs.Standings.{Standing};
 ghost use Rattle.thread_order.specs.Follows as follows;
-ghost use Rattle.thread_order.specs.Follows.{may_follow, stands_after};
+ghost use Rattle.thread_order.specs.Follows.{may_follow, stands_after, MayLose};
 ghost use Rattle.thread_order.specs.Orders.{Stands, Tells, GoesOn};
 
 use crate::at::At;
@@ -48,12 +48,12 @@ impl<'a> ThreadOrder<'a> {
     pub fn new(alloc: Global, plan: &'a Plan<'a>, thread: usize) -> Result<Self, AllocError>
         ensures { IfOk result (Stands plan.now thread []) }
     {
-        let is_late = plan.late.get(thread).copied().unwrap_or(false);
+        let at = first_place(is_late(plan, thread));
         let is_tried = CellSet::new(alloc, plan.pools.cells())?;
         Ok(ThreadOrder {
             plan,
             stage: 0,
-            at: if is_late { At::Absent } else { At::Ready },
+            at,
             pool: LayoutId::new(0),
             left: 0,
             is_tried,
@@ -91,7 +91,8 @@ impl<'a> ThreadOrder<'a> {
         ensures ok { OnOk result (GoesOn self.old (step_with roots.now step) self.new) }
         ensures err { OnErr result (self.new ≡ self.old) }
     {
-        self.go_on(step)
+        self.go_on(step)?;
+        Ok(())
     }
 
     fn is_next(&self, step: ThreadStep, roots: &[u32]) -> bool
@@ -99,9 +100,9 @@ impl<'a> ThreadOrder<'a> {
     {
         match self.at {
             At::Ready => self.is_first(step, roots),
-            At::MarkingOld(_, _, old) => is_old(step, old),
-            At::MarkingNew(cell, word, _) => self.is_new(step, cell, word),
-            At::Writing(cell, word, _, new) => is_store(step, cell, word, new),
+            At::MarkingOld(_cell, _word, old) => is_old(step, old),
+            At::MarkingNew(cell, word, _old) => self.is_new(step, cell, word),
+            At::Writing(cell, word, _old, new) => is_store(step, cell, word, new),
             At::Trying => self.is_try(step),
             At::Answering(next) => self.is_answer(step, roots, next),
             At::Ended => false,
@@ -194,8 +195,7 @@ impl<'a> ThreadOrder<'a> {
         match step {
             ThreadStep::ReadWord(_, _, _)
             | ThreadStep::StoreAfterBarrier(_, _, _)
-            | ThreadStep::StorePlain(_, _, _)
-            | ThreadStep::Claim(_, true) => self.at = At::Ready,
+            | ThreadStep::StorePlain(_, _, _) => self.at = At::Ready,
             ThreadStep::ReadOldValue(cell, word, value) => {
                 self.at = if value == 0 {
                     At::MarkingNew(cell, word, value)
@@ -204,7 +204,7 @@ impl<'a> ThreadOrder<'a> {
                 };
             }
             ThreadStep::Mark(cell) => return self.mark(cell),
-            ThreadStep::Claim(cell, false) => self.lose(cell),
+            ThreadStep::Claim(cell, won) => self.claim(cell, won),
             ThreadStep::ReadPosted(posted) => self.look(posted),
             ThreadStep::StoreStage(next) => {
                 self.at = after_store(self.at, next);
@@ -244,13 +244,25 @@ impl<'a> ThreadOrder<'a> {
 
     /// The thread read the posted stage.
     fn look(&mut self, posted: u64)
-        ensures { (roots : List ℕ) → self.new ≡ stands_after self.old (step_with roots (ThreadStep.ReadPosted posted)) }
+        ensures { self.new ≡ follows.after_poll self.old posted }
     {
         if posted == self.stage {
             self.at = At::Ready;
         } else {
             self.at = At::Answering(posted);
             self.marked.clear();
+        }
+    }
+
+    /// The thread tried to take a cell.
+    fn claim(&mut self, cell: u32, won: bool)
+        requires { MayLose self.old cell }
+        ensures { self.new ≡ follows.after_claim self.old self.old.at cell won }
+    {
+        if won {
+            self.at = At::Ready;
+        } else {
+            self.lose(cell);
         }
     }
 
@@ -282,12 +294,36 @@ impl<'a> ThreadOrder<'a> {
         requires some { 0 < slice_index self.old.heap.pools (layout_of self.old.heap cell) }
         ensures { self.new ≡ follows.with_request self.old cell }
     {
-        let plan = self.plan;
         let pool = self.pool_of(cell);
+        let count = self.pool_size(cell);
         self.pool = pool;
-        self.left = plan.pools.count(pool) - 1;
+        self.left = count - 1;
         self.is_tried.clear();
     }
+
+    /// How many cells the pool of a cell has.
+    fn pool_size(&self, cell: u32) -> u32
+        requires first { 0 < cell }
+        requires cell { cell < cells self.now.heap }
+        ensures { result ≡ slice_index self.now.heap.pools (layout_of self.now.heap cell) }
+    {
+        let plan = self.plan;
+        plan.pools.count(self.pool_of(cell))
+    }
+}
+
+/// Whether a thread is absent at the start.
+fn is_late(plan: &Plan<'_>, thread: usize) -> bool
+    ensures { result ≡ is_late plan.now thread }
+{
+    plan.late.get(thread).copied().unwrap_or(false)
+}
+
+/// Where a thread is before its first step.
+fn first_place(is_late: bool) -> At
+    ensures { result ≡ (if is_late then At.Absent else At.Ready) }
+{
+    if is_late { At::Absent } else { At::Ready }
 }
 
 /// The old value is to be marked.
