@@ -2,7 +2,7 @@
 ghost use Rattle.std.specs.Prelude.{◌≡◌, false, IfOk, OnOk};
 ghost use Rattle.command_line.specs.Asked.{asks_for_steps, HasWorkers, is_wanted};
 ghost use Rattle.commands.specs.Commands.{OfCommand};
-ghost use Rattle.reports.specs.Said.{GivesText, SaysAndTells};
+ghost use Rattle.reports.specs.Said.{GivesText, GivesTextIf, SaysAndTells};
 
 use crate::conforming::conform_files;
 use crate::replaying::replay_files;
@@ -67,8 +67,8 @@ fn question_of(what: What<'_>, status: u8) -> Option<Question> {
     }
 }
 
-/// Explains what a command answered with this status, or says how much happens in the runs of sound seeds.
-fn explain_answer(
+/// Explains what was answered with this status, or says how much happens in the runs of sound seeds.
+fn explain_outcome(
     alloc: Global,
     look: Look,
     what: What<'_>,
@@ -85,6 +85,23 @@ fn explain_answer(
         Some(question) => explain(alloc, look, question, files, err),
         None => Ok(()),
     }
+}
+
+/// Explains what a command answered with this status, if its line asks for that.
+fn explain_answer(
+    alloc: Global,
+    look: Look,
+    command: &Command<'_>,
+    files: &Files<'_>,
+    status: u8,
+    err: &mut Vec<u8>,
+) -> io::Result<()>
+    ensures { OnOk result (GivesTextIf (is_wanted command.now.explained) err.old.items err.new.items) }
+{
+    if command.explained.is_wanted() {
+        return explain_outcome(alloc, look, command.what, files, status, err);
+    }
+    Ok(())
 }
 
 /// Does a command on its files. The bytes of the file that it writes are appended to `results.saved`; they are to be written where the
@@ -104,10 +121,7 @@ pub fn work(
     ensures kept { files.now.saves ≡ false → results.new.saved.items ≡ results.old.saved.items }
 {
     let status = answer(rt, command, files, results, onlooker)?;
-    if !command.explained.is_wanted() {
-        return Ok(status);
-    }
     let err = &mut results.outputs.err;
-    explain_answer(rt.alloc(), look, command.what, files, status, err)?;
+    explain_answer(rt.alloc(), look, command, files, status, err)?;
     Ok(status)
 }

@@ -200,9 +200,9 @@ pub fn hunt_files(
         options,
         saves: files.saves,
     };
-    if files.certificate.is_none() {
+    let Some(_) = files.certificate else {
         return hunt_shaped(rt, alloc, asked, files, results, onlooker);
-    }
+    };
     match read_certified(alloc, files) {
         Ok(certified) => hunt_certified(rt, alloc, certified, asked, results, onlooker),
         Err(fault) => unread(&mut results.outputs.err, fault),

@@ -1,5 +1,5 @@
 //! The command `soak`.
-ghost use Rattle.std.specs.Prelude.{◌≡◌, false, IfOk};
+ghost use Rattle.std.specs.Prelude.{◌≡◌, true, false, IfOk};
 ghost use Rattle.command_line.specs.declared.options.Draws.TheVariants as draws;
 ghost use Rattle.command_line.specs.declared.options.Shrink.TheVariants as shrink;
 ghost use Rattle.trace_text.specs.Traces.{IsTraceOf};
@@ -55,14 +55,14 @@ fn too_long(outputs: &mut Outputs, at: SeedBreak) -> io::Result<u8>
     broken_seed(&mut outputs.out, Draws::Uniform, at)
 }
 
-/// Whether the steps of a broken seed are wanted: to be made fewer, or to be saved.
-fn wants_steps(soak: Soak) -> bool
-    ensures shrink { result ≡ false → soak.options.shrink ≡ shrink.AsDrawn }
-    ensures saves { result ≡ false → soak.saves ≡ false }
+/// Whether of a broken seed its line is wanted alone: its steps are neither made fewer nor saved.
+fn wants_line_alone(soak: Soak) -> bool
+    ensures shrink { result ≡ true → soak.options.shrink ≡ shrink.AsDrawn }
+    ensures saves { result ≡ true → soak.saves ≡ false }
 {
     match soak.options.shrink {
-        Shrink::AsDrawn => soak.saves,
-        Shrink::WithTries(_) => true,
+        Shrink::AsDrawn => !soak.saves,
+        Shrink::WithTries(_) => false,
     }
 }
 
@@ -83,7 +83,7 @@ fn tell_drawn(
     ensures kept { soak.saves ≡ false → results.new.saved.items ≡ results.old.saved.items }
 {
     let Traced { program, trace } = traced;
-    if !wants_steps(soak) {
+    if wants_line_alone(soak) {
         drop(program);
         drop(trace);
         return broken_seed(&mut results.outputs.out, Draws::Uniform, at);

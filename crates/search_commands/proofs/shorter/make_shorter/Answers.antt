@@ -10,4 +10,4 @@ returns-in-Ok-clause-kind c =
 
 pub returns-in-Ok-clause-tries : goal.returns-in-Ok-clause-tries
 returns-in-Ok-clause-tries c =
-    IfOk-weaker c.save_shorter.result _ _ (λ b same. subst (λ tries. tries ≤ c.args.limit) (sym same) c.in-Ok.ensures.tries) c.save_shorter.ensures.tries
+    IfOk-weaker c.save_shorter.result _ _ (λ b same. subst (λ tries. tries ≤ c.args.wish.tries) (sym same) c.in-Ok.ensures.tries) c.save_shorter.ensures.tries

@@ -15,8 +15,8 @@ tell_found-status-requires g c = record {
   ends = c.in-Ok.ensures.ends;
 }
 
-pub returns-else-wants_steps-clause-said : goal.returns-else-wants_steps-clause-said
-returns-else-wants_steps-clause-said g c =
+pub returns-then-wants_line_alone-clause-said : goal.returns-then-wants_line_alone-clause-said
+returns-then-wants_line_alone-clause-said g c =
     let search = c.args.soak.options.search in
     let traced = c.args.traced in
     let at = c.args.at in
@@ -24,7 +24,7 @@ returns-else-wants_steps-clause-said g c =
     IfOk-weaker c.broken_seed.result _ _
     (λ status told. (
       OnOutput _,
-      broken at (c.wants_steps.ensures.shrink c.if-wants_steps.false) c.requires.no_fault is_broken (not_drawn _ _ _ _ _ (c.wants_steps.ensures.saves c.if-wants_steps.false)),
+      broken at (c.wants_line_alone.ensures.shrink c.if-wants_line_alone.true) c.requires.no_fault is_broken (not_drawn _ _ _ _ _ (c.wants_line_alone.ensures.saves c.if-wants_line_alone.true)),
       (subst (λ (draws : Draws). IsTold (Some c.args.results.now.outputs.out.items) (Some c.broken_seed.new.out.items) status (of_seed draws at)) (sym c.requires.uniform) told, refl),
     ))
     c.broken_seed.ensures
