@@ -1,5 +1,5 @@
 -- What `conform` says of its files: the lines that a record is told by.
-use Rattle.std.specs.Prelude.{◌≡◌, ◌≢◌, ◌⊎◌, ◌≤◌, ◌<◌, ◌^◌, ◌++◌, ℕ, List, [], ◌∷◌, Option, Some, codes, length}
+use Rattle.std.specs.Prelude.{◌≡◌, ◌≢◌, ◌≤◌, ◌^◌, ◌++◌, ℕ, List, [], ◌∷◌, Option, Some, codes, length}
 use Rattle.std.specs.Fmt.{decimal}
 use Rattle.layout.specs.Layouts.{LaidOut}
 use Rattle.trace_text.specs.declared.trace.Trace.{Trace}

@@ -62,7 +62,9 @@ fn question_of(what: What<'_>, status: u8) -> Option<Question> {
         (What::Make(_), STATUS_NO | STATUS_UNREADABLE) => Some(Question::Make),
         (What::Recheck, STATUS_NO | STATUS_UNREADABLE) => Some(Question::Recheck),
         (What::Run(_), STATUS_NO | STATUS_UNREADABLE) => Some(Question::Run),
-        (What::Replay(_) | What::Soak(_), STATUS_UNREADABLE) => Some(Question::Trace),
+        (What::Replay(_) | What::Soak(_) | What::Conform, STATUS_UNREADABLE) => {
+            Some(Question::Trace)
+        }
         _ => None,
     }
 }
