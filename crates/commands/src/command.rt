@@ -5,6 +5,7 @@ ghost use Rattle.commands.specs.Commands.{OfCommand};
 ghost use Rattle.reports.specs.Said.{GivesText, GivesTextIf, SaysAndTells};
 
 use crate::conforming::conform_files;
+use crate::record_told::explain_record;
 use crate::replaying::replay_files;
 use crate::running::run_files;
 use check_commands::{check_files, explain_code, make_file, migrate_files, recheck_files};
@@ -82,6 +83,9 @@ fn explain_outcome(
 {
     if let (What::Soak(options), STATUS_YES) = (what, status) {
         return tell_happened(alloc, options.search, files, err);
+    }
+    if let (What::Conform, STATUS_NO) = (what, status) {
+        return explain_record(alloc, look, files, err);
     }
     match question_of(what, status) {
         Some(question) => explain(alloc, look, question, files, err),

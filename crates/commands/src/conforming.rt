@@ -3,12 +3,14 @@ ghost use Rattle.std.specs.Prelude.{ℕ, ◌≡◌, List, IfOk, IfSome, IfNone, 
 ghost use Rattle.std.specs.Io.KnownBytes.{Appends};
 ghost use Rattle.commands.specs.Conforming as spec;
 ghost use Rattle.commands.specs.Conforming.{HasRecord, OfRecord};
+ghost use Rattle.explain.specs.Codes.{name_of};
 ghost use Rattle.reports.specs.Report.{IsTold};
 ghost use Rattle.reports.specs.Said.{Says};
 ghost use Rattle.reports.specs.TraceRuns.{OfRun};
 ghost use Rattle.trace_text.specs.Traces.{IsTraceOf};
 
 use conform::{Rule, Verdict};
+use explain::Code;
 use record_text::COLLECTOR;
 use recorded_runs::judge;
 use reports::{
@@ -23,26 +25,26 @@ use std::io::Write;
 const RECORD_LIMIT: usize = 1 << 30;
 
 /// The code of a rule.
-pub fn code_of(rule: Rule) -> &'static str
-    ensures { result.now ≡ spec.code_of rule }
+pub(crate) fn code_of(rule: Rule) -> Code
+    ensures { name_of result ≡ spec.code_of rule }
 {
     match rule {
-        Rule::NoStep => "H1",
-        Rule::Order => "H2",
-        Rule::Value => "H3",
-        Rule::UnmarkedStore => "H4",
-        Rule::UnmarkedRoots => "H5",
-        Rule::Stage => "H6",
-        Rule::NotHeld => "H7",
-        Rule::Word => "H8",
-        Rule::StoredValue => "H9",
-        Rule::NotFresh => "H10",
-        Rule::RootNotHeld => "H11",
-        Rule::Try => "H12",
-        Rule::Look => "H13",
-        Rule::Sweep => "H14",
-        Rule::Post => "H15",
-        Rule::Turn => "H16",
+        Rule::NoStep => Code::H1,
+        Rule::Order => Code::H2,
+        Rule::Value => Code::H3,
+        Rule::UnmarkedStore => Code::H4,
+        Rule::UnmarkedRoots => Code::H5,
+        Rule::Stage => Code::H6,
+        Rule::NotHeld => Code::H7,
+        Rule::Word => Code::H8,
+        Rule::StoredValue => Code::H9,
+        Rule::NotFresh => Code::H10,
+        Rule::RootNotHeld => Code::H11,
+        Rule::Try => Code::H12,
+        Rule::Look => Code::H13,
+        Rule::Sweep => Code::H14,
+        Rule::Post => Code::H15,
+        Rule::Turn => Code::H16,
     }
 }
 
@@ -68,14 +70,14 @@ fn judged<W: Write>(out: &mut W, verdict: Verdict) -> io::Result<u8>
         Verdict::Broken(step, actor, rule) => {
             write!(out, "no {step} ")?;
             write_actor(out, actor)?;
-            writeln!(out, " {}", code_of(rule))?;
+            writeln!(out, " {}", code_of(rule).name())?;
             Ok(STATUS_NO)
         }
     }
 }
 
 /// The bytes of a record, if the file can be read and is not too long.
-pub fn record_in<'a>(file: Option<File<'a>>) -> Option<&'a [u8]>
+pub(crate) fn record_in<'a>(file: Option<File<'a>>) -> Option<&'a [u8]>
     ensures some { IfSome result (λ bytes. HasRecord file.entry bytes.now) }
     ensures none { IfNone result ((bytes : List ℕ) → ¬ HasRecord file.entry bytes) }
 {

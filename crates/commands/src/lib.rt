@@ -4,6 +4,8 @@
 mod command;
 mod conforming;
 mod files;
+mod record_told;
+mod record_words;
 mod replaying;
 mod running;
 mod steps_told;
