@@ -324,7 +324,7 @@ paths_of given =
       shapes = shapes_beside certificate given;
       trace = first_of (codes "TRACE") given;
       edits = first_of (codes "EDITS") given;
-      record = first_of (codes "RECORD") given;
+      of_record = first_of (codes "RECORD") given;
       saved = either_of (codes "save") (codes "json") given;
     }
 

@@ -22,6 +22,6 @@ OfCommand (Soak options) files before after = OfRun (λ p t. OfSeeds options fil
 OfCommand (Hunt options) files before after = OfHuntFiles files.saves files.of_module files.certificate files.shapes before after
 OfCommand (Run options) files before after =
     OfCertified (OfRunCerts (record { turns = options.turns; steps = options.steps }) files.trace) files.of_module files.certificate
-OfCommand Conform files before after = OfRun (OfRecord files.record) files.of_module files.trace files.shapes
+OfCommand Conform files before after = OfRun (OfRecord files.of_record) files.of_module files.trace files.shapes
 OfCommand (Explain options) files before after = OfExplain (option_map (λ code. code.now) options.code)
 OfCommand Migrate files before after = OfMigrate files.of_module files.certificate

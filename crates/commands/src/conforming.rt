@@ -111,11 +111,11 @@ fn conform_traced(
 /// Judges a record by the module, which has the shapes where it writes `ptr`, and by the pools and the threads of the trace. After the
 /// faults of these files counts that the record cannot be read or has more than 2^30 bytes, and then the first thread that does not begin.
 pub fn conform_files(alloc: Global, files: &Files<'_>, outputs: &mut Outputs) -> io::Result<u8>
-    ensures { IfOk result (Says (OfRun (OfRecord files.now.record) files.now.of_module files.now.trace files.now.shapes) outputs.old outputs.new) }
+    ensures { IfOk result (Says (OfRun (OfRecord files.now.of_record) files.now.of_module files.now.trace files.now.shapes) outputs.old outputs.new) }
 {
     match read_traced(alloc, files) {
         Ok(traced) => {
-            let status = conform_traced(alloc, &traced, files.record, outputs);
+            let status = conform_traced(alloc, &traced, files.of_record, outputs);
             drop(traced);
             status
         }

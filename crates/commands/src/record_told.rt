@@ -118,12 +118,12 @@ fn put_step(out: &mut Message, record: &[u8], step: Step) {
 fn put_traced(pen: Pen, out: &mut Message, traced: &Traced, files: &Files<'_>)
     requires { IsTraceOf traced.now.program traced.now.trace }
 {
-    let Some(record) = record_in(files.record) else {
+    let Some(record) = record_in(files.of_record) else {
         return;
     };
     match judge(pen.alloc, &traced.program, &traced.trace.setup, record) {
         Ok(Verdict::Broken(number, _, rule)) => {
-            put_whole_fault(out, pen, path_of(files.record), code_of(rule));
+            put_whole_fault(out, pen, path_of(files.of_record), code_of(rule));
             if let Some(step) = step_numbered(record, number) {
                 put_step(out, record, step)
             }

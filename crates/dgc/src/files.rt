@@ -130,7 +130,7 @@ pub fn read_files(
         shapes: of_other(rt, paths.shapes, &mut is_refused),
         trace: of_other(rt, paths.trace, &mut is_refused),
         edits: of_other(rt, paths.edits, &mut is_refused),
-        record: of_record(rt, paths.record, &mut is_refused),
+        of_record: of_record(rt, paths.of_record, &mut is_refused),
     };
     if is_refused {
         drop(contents);

@@ -51,7 +51,7 @@ pub fn checked_texts(of_module: Option<Vec<u8>>, certificate: Option<Vec<u8>>) -
         shapes: None,
         trace: None,
         edits: None,
-        record: None,
+        of_record: None,
     }
 }
 
@@ -150,7 +150,7 @@ fn made(
         shapes,
         trace: None,
         edits: None,
-        record: None,
+        of_record: None,
     };
     let printed = printed_of(rt, &command, &contents);
     drop(contents);

@@ -59,7 +59,7 @@ fn contents_of(
         shapes: bytes_if(rt, folder, paths.shapes)?,
         trace: bytes_if(rt, folder, paths.trace)?,
         edits: bytes_if(rt, folder, paths.edits)?,
-        record: bytes_if(rt, folder, paths.record)?,
+        of_record: bytes_if(rt, folder, paths.of_record)?,
     })
 }
 

@@ -19,17 +19,17 @@ pub fn judge(
     alloc: Global,
     program: &Program,
     setup: &Setup,
-    record: &[u8],
+    bytes: &[u8],
 ) -> Result<Verdict, SetupFault>
     requires setup { IsSetupOf program.now setup.now }
-    requires long { length record.now ≤ 2 ^ 30 }
-    ensures verdict { IfOk result (IsVerdict (heap_of program.now setup.now) (entries_of record.now)) }
+    requires long { length bytes.now ≤ 2 ^ 30 }
+    ensures verdict { IfOk result (IsVerdict (heap_of program.now setup.now) (entries_of bytes.now)) }
     ensures no_fault { IfOk result (λ _. HasNoFault program.now setup.now) }
     ensures fault { IfErr result (λ e. e ≢ fault.Memory → IsSetupFault program.now setup.now e) }
 {
     let threads = begun_threads(alloc, program, setup)?;
     drop(threads);
-    Ok(conform_setup(alloc, program, setup, record)?)
+    Ok(conform_setup(alloc, program, setup, bytes)?)
 }
 
 /// What is told of a record of a run of this setup: of the pools and the threads, whatever functions the threads begin at.
@@ -37,11 +37,11 @@ fn conform_setup(
     alloc: Global,
     program: &Program,
     setup: &Setup,
-    record: &[u8],
+    bytes: &[u8],
 ) -> Result<Verdict, AllocError>
     requires setup { IsSetupOf program.now setup.now }
-    requires long { length record.now ≤ 2 ^ 30 }
-    ensures { IfOk result (IsVerdict (heap_of program.now setup.now) (entries_of record.now)) }
+    requires long { length bytes.now ≤ 2 ^ 30 }
+    ensures { IfOk result (IsVerdict (heap_of program.now setup.now) (entries_of bytes.now)) }
 {
     let globals = program.globals();
     if u32::try_from(globals.len()).is_err() {
@@ -57,7 +57,7 @@ fn conform_setup(
         threads: setup.starts.len(),
         late: late.as_slice(),
     };
-    conform(alloc, &plan, record)
+    conform(alloc, &plan, bytes)
 }
 
 /// For each thread of a setup, whether it begins late.
