@@ -4,3 +4,5 @@ mod RuleLemmas
 mod DisciplineLemmas
 mod Steps
 mod Turns
+mod Threads
+mod Records

@@ -1,4 +1,5 @@
-ghost use Rattle.std.specs.Prelude.{ℕ, ◌≡◌, ◌+◌, ◌<◌, ◌^◌, List, [], ◌∷◌, length, IfOk, IfSome, IfNone, All};
+ghost use Rattle.std.specs.Prelude.{ℕ, ◌≡◌, ◌+◌, ◌<◌, ◌^◌, List, [], ◌∷◌, length, IfOk, IfSome, IfNone, All, slice_get};
+ghost use Rattle.std.specs.Option.{option_copied};
 ghost use Rattle.pools.specs.Heap.{Setup, IsSetup};
 ghost use Rattle.colours.specs.Runs.{Event, ByThread, ByCollector, turns_of};
 ghost use Rattle.record_text.specs.Records.{step_with};
@@ -62,7 +63,7 @@ impl<'a> RunCheck<'a> {
     {
         word_law();
         let index = thread as usize;
-        let Some(checked) = self.threads.get(index) else {
+        let Some(checked) = thread_at(&self.threads, index) else {
             return Ok(Some(Rule::NoStep));
         };
         if let Some(rule) = checked.broken_rule(self.plan, &self.words, step, roots) {
@@ -101,6 +102,16 @@ impl<'a> RunCheck<'a> {
         self.words.perform(ask);
         Ok(None)
     }
+}
+
+/// The thread with this number.
+fn thread_at<'a, 'b>(
+    threads: &'b Vec<CheckedThread<'a>>,
+    thread: usize,
+) -> Option<&'b CheckedThread<'a>>
+    ensures { option_copied result ≡ slice_get threads.now.items thread }
+{
+    threads.get(thread)
 }
 
 /// The threads before their first steps.

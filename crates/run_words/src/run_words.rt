@@ -1,5 +1,6 @@
-ghost use Rattle.std.specs.Prelude.{◌≡◌, ◌<◌, ◌^◌, ◌↔◌, [], length, slice_get, IfOk, IsTrue, All};
+ghost use Rattle.std.specs.Prelude.{◌≡◌, ◌<◌, ◌≤◌, ◌^◌, ◌↔◌, [], length, slice_get, IfOk, IsTrue, All};
 ghost use Rattle.pools.specs.Heap.{IsSetup, cells, kind_of, words_of_cell};
+ghost use Rattle.pools.specs.Layouts.{is_reference_kind};
 ghost use Rattle.colours.specs.Steps.{place_of};
 ghost use Rattle.heap_rule.specs.Rule.{HasPlace, index, size};
 ghost use Rattle.heap_words.specs.Places.{AreStarts};
@@ -113,6 +114,23 @@ impl<'a> RunWords<'a> {
         let at = index_of(self.plan, &self.starts, place_of(ask));
         let word = left_in(ask, self.table[at]);
         self.table[at] = word;
+    }
+
+    /// How many cells there are, that of the globals among them.
+    pub fn cells(&self) -> u32
+        ensures cells { result ≡ cells self.now.heap }
+        ensures limit { cells self.now.heap ≤ 2 ^ 20 }
+    {
+        let plan = self.plan;
+        plan.pools.cells()
+    }
+
+    /// Whether a word of a cell is there and holds references.
+    pub fn is_reference(&self, cell: u32, word: u32) -> bool
+        requires { cell < cells self.now.heap }
+        ensures { result ≡ is_reference_kind (kind_of self.now.heap cell word) }
+    {
+        matches!(self.kind(cell, word), Some(WordKind::Reference(_)))
     }
 
     /// What a word of a cell holds; None outside the cell.

@@ -2,7 +2,7 @@ use Rattle.std.proofs.Common.{◌≡◌, ◌∷◌, true, IsTrue, List, sym, ap,
 use Rattle.pools.specs.Heap.{Setup}
 use Rattle.colours.specs.declared.place.Place.{Place}
 use Rattle.colours.specs.declared.ask.Ask.{Ask}
-use Rattle.colours.specs.Steps.{FoundBy, place_of}
+use Rattle.colours.specs.Steps.{FoundBy, place_of, turn_of}
 use Rattle.colours.specs.Runs.{Event, ByCollector, turns_of, word_after, ask_in}
 use Rattle.heap_rule.specs.Rule.{HasPlace}
 use Rattle.conform.specs.Checks.{IsCheckAfter}
@@ -14,7 +14,7 @@ pub returns-then-not-has-clause-some : goal.returns-then-not-has-clause-some
 returns-then-not-has-clause-some c = λ s run k asks.
     let x = c.rule_of_turn.ensures s run asks in
     let h = c.words_law.ensures s (turns_of run) c.args.turn x.0 c.cycle_of.result k.collector x.1 in
-    let there : HasPlace c.args.self.now.words.heap c.place_of.result = subst (λ (p : Place). HasPlace c.args.self.now.words.heap p) (sym (c.place_of.ensures ∙ ap place_of c.turn_of-ask.ensures)) (subst (λ (y : Setup). HasPlace y _) (sym k.words.heap) h) in
+    let there : HasPlace c.args.self.now.words.heap c.place_of.result = subst (λ (p : Place). HasPlace c.args.self.now.words.heap p) (sym (c.place_of.ensures ∙ ap place_of c.turn_of-ask.ensures)) (subst (λ (y : Setup). HasPlace y (place_of (turn_of c.cycle_of.result c.args.turn))) (sym k.words.heap) h) in
     let t : c.has.result ≡ true = c.has.ensures.1 there in
     absurd (cc (t, c.if-not-has.true))
 
