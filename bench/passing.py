@@ -19,6 +19,7 @@ import sys
 import tempfile
 
 Ref = collections.namedtuple("Ref", "name layout nonnull")
+Loop = collections.namedtuple("Loop", "before head body left at onward place known")
 
 
 class Typed:
@@ -192,8 +193,9 @@ class Body:
     def claim(self, layout=None):
         layout = layout or self.draw.choice(list(self.module.fields))
         number = list(self.module.fields).index(layout)
-        self.told.add("%" + f"v{self.count + 1}")
-        return self.learn(self.made(f"call {self.form.ref} @dg_alloc(i32 {number})"), layout)
+        cell = self.learn(self.made(f"call {self.form.ref} @dg_alloc(i32 {number})"), layout)
+        self.told.add(cell.name)
+        return cell
 
     def call(self, *_):
         names = [name for name, (_, _, mark) in self.module.signatures.items() if mark == "none" or self.mark == "may"]
@@ -364,53 +366,46 @@ class Body:
         self.known.append(cell)
         self.begin(met)
 
-    def counted(self, cell, more):
-        """A loop of four turns, in which the cell is known, but not as fresh: where it is left, and what goes back to its head."""
-        before, head, body, left = self.label, self.fresh_name(), self.fresh_name(), self.fresh_name()
-        at, onward = "%" + self.fresh_name(), "%" + self.fresh_name()
+    def enter_loop(self, *known):
+        """Begins a loop of four turns and its body. These references are known in it, but not as fresh."""
+        names = [self.fresh_name() for _ in range(5)]
+        head, body, _, at, _ = names
+        before = self.label
         self.add(f"br label %{head}")
-        self.known.append(cell)
-        come = more(before)
-        self.begin(head, [f"{at} i64"])
-        phis = len(self.lines)
-        self.add(f"br i1 {self.made(f'icmp ult i64 {at}, 4')}, label %{body}, label %{left}")
-        self.begin(body, [f"{at} i64 below 4"])
-        lines = come(f"{at} i64 below 4")
-        self.add(f"{onward} = add i64 {at}, 1")
-        self.add(f"br label %{head}")
-        self.lines[phis:phis] = [f"  {at} = phi i64 [ 0, %{before} ], [ {onward}, %{self.label} ]"] + [line.replace("BACK", self.label) for line in lines]
-        self.known = [ref for ref in self.known if ref in self.at_head]
-        self.begin(left)
+        self.known += known
+        self.begin(head, [f"%{at} i64"])
+        loop = Loop(before, *names, len(self.lines), list(self.known))
+        self.add(f"br i1 {self.made(f'icmp ult i64 %{at}, 4')}, label %{body}, label %{loop.left}")
+        self.begin(body, [f"%{at} i64 below 4"])
+        return loop
+
+    def leave_loop(self, loop, *phis):
+        """Ends the body, and begins what comes after the loop. Its head has these phis besides its counter."""
+        self.add(f"%{loop.onward} = add i64 %{loop.at}, 1")
+        self.add(f"br label %{loop.head}")
+        counter = f"%{loop.at} = phi i64 [ 0, %{loop.before} ], [ %{loop.onward}, %{self.label} ]"
+        self.lines[loop.place:loop.place] = ["  " + line for line in (counter, *phis)]
+        self.known = loop.known
+        self.begin(loop.left)
 
     def lose_in_a_loop(self, slot, cell, _):
         """A loop writes the slot again."""
-        def more(_):
-            self.at_head = list(self.known)
+        loop = self.enter_loop(cell)
+        self.write_slot(slot, cell.layout)
+        self.leave_loop(loop)
 
-            def come(_):
-                self.write_slot(slot, cell.layout)
-                return []
-            return come
-        self.counted(cell, more)
-
-    def lose_by_a_phi(self, slot, cell, _):
+    def lose_by_a_phi(self, _, cell, __):
         """A phi is the cell at first, and then another one that a loop claims."""
-        def more(before):
-            phi = Ref("%" + self.fresh_name(), cell.layout, True)
-            self.known.append(phi)
-            self.at_head = list(self.known)
-
-            def come(counted):
-                new = self.claim(cell.layout)
-                test, none, some = self.made(f"icmp eq {self.form.ref} {new.name}, null"), self.fresh_name(), self.fresh_name()
-                self.add(f"br i1 {test}, label %{none}, label %{some}")
-                self.begin(none)
-                self.give_back()
-                self.known = [ref._replace(nonnull=True) if ref.name == new.name else ref for ref in self.known]
-                self.begin(some, [counted])
-                return [f"  {phi.name} = phi {self.form.ref} [ {cell.name}, %{before} ], [ {new.name}, %BACK ]"]
-            return come
-        self.counted(cell, more)
+        phi = Ref("%" + self.fresh_name(), cell.layout, True)
+        loop = self.enter_loop(cell, phi)
+        new = self.claim(cell.layout)
+        test, none, some = self.made(f"icmp eq {self.form.ref} {new.name}, null"), self.fresh_name(), self.fresh_name()
+        self.add(f"br i1 {test}, label %{none}, label %{some}")
+        self.begin(none)
+        self.give_back()
+        self.known = [ref._replace(nonnull=True) if ref.name == new.name else ref for ref in self.known]
+        self.begin(some, [f"%{loop.at} i64 below 4"])
+        self.leave_loop(loop, f"{phi.name} = phi {self.form.ref} [ {cell.name}, %{loop.before} ], [ {new.name}, %{self.label} ]")
 
     def write_lost(self):
         """A fresh cell is kept in a slot until it is fresh no more, and is used after that."""

@@ -1,4 +1,6 @@
 //! A module and its certificate, of which further commands are made.
+ghost use Rattle.command_line.specs.Asked.{HasWorkers};
+
 use crate::done::{done, printed_of};
 use crate::printed::{Printed, bytes_of};
 use crate::row_failure::RowFailure;
@@ -118,7 +120,9 @@ fn module_of(
 }
 
 /// The making of a certificate of the module, with shapes if there are some.
-fn making<'a>(row: Certified<'a>, shapes: &Option<Vec<u8>>) -> Command<'a> {
+fn making<'a>(row: Certified<'a>, shapes: &Option<Vec<u8>>) -> Command<'a>
+    ensures { HasWorkers result.what }
+{
     let shapes_path = if shapes.is_some() {
         Some("module.shapes")
     } else {
