@@ -24,9 +24,12 @@ module _ (s : Setup) (log : List Turn) (p : Pass) (cell colour : ℕ) where
 
   in_place : (c : Collection) → IsAt IsSame s log (Passing p) c → cell ≡ p.next → Follows IsSame s log c (ReadColour cell colour) (looked s (posted_of log) (in_turn p) cell colour)
   in_place c at e = let q = at.0 in let here : cell ≡ q.next = e ∙ sym at.2.next in
-      rw (at.1) (order.looked s (posted_of log) (order.in_turn q) cell colour, inl (here, refl),
-          looked_at IsSame same_near s (ReadColour cell colour ∷ log) (posted_of log) (in_turn p) (order.in_turn q) cell colour
-          (record { next = ap suc at.2.next; met = at.2.met; told = in_told s log p.rounds cell colour q at.2.told here (subst (λ n. n < cells s) (sym at.2.next) at.3) }))
+      rw (at.1) (
+        order.looked s (posted_of log) (order.in_turn q) cell colour,
+        inl (here, refl),
+        looked_at IsSame same_near s (ReadColour cell colour ∷ log) (posted_of log) (in_turn p) (order.in_turn q) cell colour
+            (record { next = ap suc at.2.next; met = at.2.met; told = in_told s log p.rounds cell colour q at.2.told here (subst (λ n. n < cells s) (sym at.2.next) at.3) }),
+      )
 
   pub looks_in : (next : Spot) (c : Collection) → after_turn s (posted_of log) (Passing p) (ReadColour cell colour) ≡ Some next → IsAt IsSame s log (Passing p) c → Follows IsSame s log c (ReadColour cell colour) next
   looks_in next c e at = let x = passed (cell == p.next) (looked s (posted_of log) (in_turn p) cell colour) next e in
@@ -39,9 +42,12 @@ module _ (s : Setup) (log : List Turn) (p : Pass) (cell colour : ℕ) where
   out_place : (c : Collection) → IsAt IsSame s log (Passing p) c → nat_lt 0 p.next ≡ true → nat_lt cell (cells s) ≡ true → is_shaded (looks_at log cell) (shades_of log cell) p cell ≡ true
       → Follows IsSame s log c (ReadColour cell colour) (looked s (posted_of log) p cell colour)
   out_place c at first within is = let q = at.0 in let more = has q at.2.told at.2.next (lt_true _ _ within) is in
-      rw (at.1) (order.looked s (posted_of log) (order.out_of_turn q cell) cell colour, inr (subst (λ n. 0 < n) (sym at.2.next) (lt_true _ _ first), in-count cell q.shaded more, refl),
-          looked_at IsSame same_near s (ReadColour cell colour ∷ log) (posted_of log) p (order.out_of_turn q cell) cell colour
-          (record { next = at.2.next; met = at.2.met; told = out_told s log p.rounds cell colour q at.2.told more }))
+      rw (at.1) (
+        order.looked s (posted_of log) (order.out_of_turn q cell) cell colour,
+        inr (subst (λ n. 0 < n) (sym at.2.next) (lt_true _ _ first), in-count cell q.shaded more, refl),
+        looked_at IsSame same_near s (ReadColour cell colour ∷ log) (posted_of log) p (order.out_of_turn q cell) cell colour
+            (record { next = at.2.next; met = at.2.met; told = out_told s log p.rounds cell colour q at.2.told more }),
+      )
 
   pub looks_out : (next : Spot) (c : Collection) → after_look s (posted_of log) (looks_at log cell) (shades_of log cell) (Passing p) (ReadColour cell colour) ≡ Some next → IsAt IsSame s log (Passing p) c → Follows IsSame s log c (ReadColour cell colour) next
   looks_out next c e at =
@@ -73,12 +79,12 @@ module _ (s : Setup) (log : List Turn) (p : Pass) (cell colour : ℕ) where
     | inl same ↦ inl (by_turn _ (here ∙ same) (looked_at IsBehind behind_near s (ReadColour cell colour ∷ log) (posted_of log) (in_turn p) (order.in_turn q) cell colour
         (record { next = inl (ap suc same); met = at.met; told = in_told s log p.rounds cell colour q at.told here (omega (arith, same)) })))
     | inr far ↦
-      let b = at.told.balance cell (omega (arith, far.1, far.2)) in
-      let none : looks_in_turn p.rounds q.next cell ≡ p.rounds + 0 = rw (lt_no cell q.next (omega arith)) refl in
-      let one : looks_in_turn p.rounds p.next cell ≡ p.rounds + 1 = rw (lt_yes cell p.next (omega (arith, far.1))) refl in
-      inr (by_look _ (omega (arith, far.0, far.1)) (omega (arith, far.1, far.2)) (omega (arith, b, none, one)) (other_needed (λ (x : cell ≡ p.next). omega (arith, far.1)))
-          (looked_at IsBehind behind_near s (ReadColour cell colour ∷ log) (posted_of log) p (order.in_turn q) cell colour
-          (record { next = nearer far; met = at.met; told = in_told s log p.rounds cell colour q at.told here (omega (arith, far.1, far.2)) })))
+        let b = at.told.balance cell (omega (arith, far.1, far.2)) in
+        let none : looks_in_turn p.rounds q.next cell ≡ p.rounds + 0 = rw (lt_no cell q.next (omega arith)) refl in
+        let one : looks_in_turn p.rounds p.next cell ≡ p.rounds + 1 = rw (lt_yes cell p.next (omega (arith, far.1))) refl in
+        inr (by_look _ (omega (arith, far.0, far.1)) (omega (arith, far.1, far.2)) (omega (arith, b, none, one)) (other_needed (λ (x : cell ≡ p.next). omega (arith, far.1)))
+        (looked_at IsBehind behind_near s (ReadColour cell colour ∷ log) (posted_of log) p (order.in_turn q) cell colour
+        (record { next = nearer far; met = at.met; told = in_told s log p.rounds cell colour q at.told here (omega (arith, far.1, far.2)) })))
   ]
     where
       nearer : (0 < q.next) × (q.next < p.next) × (p.next < cells s) → IsBehind s (suc q.next) p.next

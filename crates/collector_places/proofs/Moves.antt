@@ -124,7 +124,7 @@ module _ (near : Setup → ℕ → ℕ → Type 0) (is : IsNear near) (s : Setup
   follows (Scanning cell word p) (ScanWord d w value) next c free n e at = let q = at.0 in rw (at.1) (onward (ScanWord d w value) (order.Scanning cell word q) (if value == 0 then order.Scanning cell (suc w) q else order.Shading value cell (suc w) q) _ _ next e
       (λ x. let a = and_parts _ _ x in let b = and_parts _ _ a.1 in (test_true _ _ a.0, test_true _ _ b.0, lt_true _ _ b.1, refl))
       (λ x. let a = and_parts _ _ x in let b = and_parts _ _ a.1 in let same : d ≡ cell = test_true _ _ a.0 in
-          rw same (scans cell w value p q at.2 (λ y. names cell word w value (rw same at n) (test_true _ _ b.0) (lt_true _ _ b.1)))))
+      rw same (scans cell w value p q at.2 (λ y. names cell word w value (rw same at n) (test_true _ _ b.0) (lt_true _ _ b.1)))))
   follows (Scanning cell word p) (Blacken d) next c free n e at = let q = at.0 in rw (at.1) (onward (Blacken d) (order.Scanning cell word q) (order.pass_from s q) _ _ next e
       (λ x. let a = and_parts _ _ x in (test_true _ _ a.0, le_true _ _ a.1, refl))
       (λ x. pass_at near is s (Blacken d ∷ log) p q (pass_told (Blacken d) p q at.2 (blacken_told s log p.rounds d q at.2.told))))

@@ -195,8 +195,8 @@ turn_placed s n stage (Clearing cell word) next _ p e = absurd cc
 look_placed : (s : Setup) (n stage looks shades : ℕ) (spot next : Spot) (turn : Turn) → IsPlaced s n spot → after_look s stage looks shades spot turn ≡ Some next → IsPlaced s (n + 1) next
 look_placed s n stage looks shades (Passing x) next (ReadColour cell colour) p e =
     let_through s (n + 1) (nat_lt 0 x.next && ((nat_lt cell (cells s) && is_shaded looks shades x cell) && is_needed s x cell)) (looked s stage x cell colour) next e (λ t.
-      let a = and_parts (nat_lt 0 x.next) _ t in let b = and_parts (nat_lt cell (cells s) && is_shaded looks shades x cell) _ a.1 in let d = and_parts (nat_lt cell (cells s)) _ b.0 in
-      looked_placed s n stage x cell colour p.rounds p.next (lt_true _ _ d.0))
+    let a = and_parts (nat_lt 0 x.next) _ t in let b = and_parts (nat_lt cell (cells s) && is_shaded looks shades x cell) _ a.1 in let d = and_parts (nat_lt cell (cells s)) _ b.0 in
+    looked_placed s n stage x cell colour p.rounds p.next (lt_true _ _ d.0))
 look_placed s n stage looks shades spot next turn p e = absurd cc
 
 leads_placed : (s : Setup) (n stage looks shades : ℕ) (spot next : Spot) (turn : Turn) → IsPlaced s n spot → Leads s stage looks shades turn spot next → IsPlaced s (n + 1) next

@@ -162,7 +162,10 @@ impl<'a> CollectorPlaces<'a> {
                 clear(self.shades.as_mut_slice());
             }
             Turn::ReadColour(cell, _) => add_one(self.looks.as_mut_slice(), cell),
-            Turn::MarkFound(cell, colour) if colour < mark_value(cycle_of(self.posted)) => add_one(self.shades.as_mut_slice(), cell),
+            Turn::MarkFound(cell, colour) if colour < mark_value(cycle_of(self.posted)) => add_one(
+                self.shades.as_mut_slice(),
+                cell,
+            ),
             _ => {}
         }
     }
@@ -249,9 +252,9 @@ impl<'a> CollectorPlaces<'a> {
                     Some(Spot::Shading(value, cell, at + 1, pass))
                 }
             }
-            Turn::Blacken(of) if of == cell && words <= reference as usize => Some(
-                self.pass_from(pass),
-            ),
+            Turn::Blacken(of) if of == cell && words <= reference as usize => Some(self.pass_from(
+                pass,
+            )),
             _ => None,
         }
     }
@@ -283,9 +286,9 @@ impl<'a> CollectorPlaces<'a> {
             Turn::ClearWord(of, at) if of == cell && at == word && (at as usize) < words => Some(
                 Spot::Clearing(cell, word + 1),
             ),
-            Turn::Free(of) if of == cell && words <= word as usize => Some(
-                self.sweep_from(cell + 1),
-            ),
+            Turn::Free(of) if of == cell && words <= word as usize => Some(self.sweep_from(
+                cell + 1,
+            )),
             _ => None,
         }
     }
@@ -303,8 +306,9 @@ impl<'a> CollectorPlaces<'a> {
                     if pass.next > 0
                         && cell < self.cells
                         && self.is_shaded(pass, cell)
-                        && !(cell == pass.next && pass.next + 1 < self.cells) =>
-                    Some(self.looked(pass, cell, colour)),
+                        && !(cell == pass.next && pass.next + 1 < self.cells) => Some(self.looked(
+                    pass, cell, colour,
+                )),
                 _ => None,
             },
             _ => None,

@@ -102,9 +102,9 @@ module _ (s : Setup) (entries : List Entry) (roots : List (List ℕ)) (are : Are
         (λ lt. ap (λ (l : List ℕ). l ++ cell ∷ []) (named_at t lt) ∙ sym (named_too t cell t entry entries e ∙ rw (test_same t) refl))
         (λ u ne. named_too t cell u entry entries e ∙ rw (test_no t u ne) refl))
     | inr not_there ↦ rw not_there (record {
-        long = are.long;
-        each = λ u x got. are.each u x got ∙ sym (named_too t cell u entry entries e ∙ rw (test_no t u (λ same. let lt = slice_get_within roots u x got in let ge = lt_false t (length roots) not_there in absurd (omega (arith, lt, ge, same)))) refl);
-      })
+      long = are.long;
+      each = λ u x got. are.each u x got ∙ sym (named_too t cell u entry entries e ∙ rw (test_no t u (λ same. let lt = slice_get_within roots u x got in let ge = lt_false t (length roots) not_there in absurd (omega (arith, lt, ge, same)))) refl);
+    })
   ]
 
   pub named_turn : (entry : Entry) (turn : Turn) → recorded_of entry ≡ Collector turn → AreNamed s (entry ∷ entries) roots

@@ -32,11 +32,17 @@ pub fn broken_rule(
     match step {
         ThreadStep::ReadWord(cell, word, _) => rule_of_word(words, holdings, cell, word, false),
         ThreadStep::ReadOldValue(cell, word, _) => rule_of_word(words, holdings, cell, word, true),
-        ThreadStep::Mark(cell) => if holdings.holds(cell) { None } else { Some(Rule::NotHeld) },
-        ThreadStep::StoreAfterBarrier(cell, word, value) =>
-            rule_of_barriered(plan, words, holdings, cell, word, value),
-        ThreadStep::StorePlain(cell, word, value) =>
-            rule_of_plain(plan, words, holdings, cell, word, value),
+        ThreadStep::Mark(cell) => if holdings.holds(cell) {
+            None
+        } else {
+            Some(Rule::NotHeld)
+        },
+        ThreadStep::StoreAfterBarrier(cell, word, value) => rule_of_barriered(
+            plan, words, holdings, cell, word, value,
+        ),
+        ThreadStep::StorePlain(cell, word, value) => rule_of_plain(
+            plan, words, holdings, cell, word, value,
+        ),
         ThreadStep::StoreStage(_) => rule_of_roots(holdings, roots),
         ThreadStep::Claim(_, _)
         | ThreadStep::ReadPosted(_)

@@ -18,11 +18,7 @@ pub fn ask_of(thread: usize, stage: u64, step: ThreadStep) -> Ask
         ThreadStep::Mark(cell) => Ask::FetchMax(Place::Colour(cell), mark_at(stage)),
         ThreadStep::StoreAfterBarrier(cell, word, value)
         | ThreadStep::StorePlain(cell, word, value) => Ask::Store(Place::Word(cell, word), value),
-        ThreadStep::Claim(cell, _) => Ask::CompareExchange(
-            Place::Colour(cell),
-            0,
-            claim_at(stage),
-        ),
+        ThreadStep::Claim(cell, _) => Ask::CompareExchange(Place::Colour(cell), 0, claim_at(stage)),
         ThreadStep::ReadPosted(_)
         | ThreadStep::ReadPostedFirst(_)
         | ThreadStep::ReadPostedAgain(_) => Ask::Load(Place::Posted),

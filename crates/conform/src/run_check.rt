@@ -115,10 +115,7 @@ fn thread_at<'a, 'b>(
 }
 
 /// The threads before their first steps.
-fn threads_of<'a>(
-    alloc: Global,
-    plan: &'a Plan<'a>,
-) -> Result<Vec<CheckedThread<'a>>, AllocError>
+fn threads_of<'a>(alloc: Global, plan: &'a Plan<'a>) -> Result<Vec<CheckedThread<'a>>, AllocError>
     ensures { IfOk result (λ threads. AreThreadsAtStart plan.now plan.now.threads threads.items) }
 {
     let mut threads = Vec::new(alloc);

@@ -90,9 +90,7 @@ fn hold(holdings: &mut Holdings, words: &RunWords<'_>, step: ThreadStep, roots: 
     others_law();
     match step {
         ThreadStep::ReadWord(cell, word, value) => hold_read(holdings, words, cell, word, value),
-        ThreadStep::ReadOldValue(cell, word, value) => hold_old(
-            holdings, words, cell, word, value,
-        ),
+        ThreadStep::ReadOldValue(cell, word, value) => hold_old(holdings, words, cell, word, value),
         ThreadStep::StoreAfterBarrier(_, _, value) => holdings.stored(reference_in(words, value)),
         ThreadStep::StorePlain(cell, word, value) => hold_stored(
             holdings, words, cell, word, value,

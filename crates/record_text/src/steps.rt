@@ -75,11 +75,7 @@ fn thread_step(entry: Entry) -> Option<ThreadStep>
         1 => Some(ThreadStep::ReadWord(entry.cell, word, entry.value)),
         2 => Some(ThreadStep::ReadOldValue(entry.cell, word, entry.value)),
         3 => Some(ThreadStep::Mark(entry.cell)),
-        4 => Some(ThreadStep::StoreAfterBarrier(
-            entry.cell,
-            word,
-            entry.value,
-        )),
+        4 => Some(ThreadStep::StoreAfterBarrier(entry.cell, word, entry.value)),
         5 => Some(ThreadStep::StorePlain(entry.cell, word, entry.value)),
         6 => Some(ThreadStep::Claim(entry.cell, true)),
         7 => Some(ThreadStep::Claim(entry.cell, false)),

@@ -47,7 +47,11 @@ fn count_words(plan: &Plan<'_>, cell: u32) -> usize
 }
 
 /// The words of the table at the start.
-pub(crate) fn opening_words(alloc: Global, plan: &Plan<'_>, count: usize) -> Result<Vec<u64>, AllocError>
+pub(crate) fn opening_words(
+    alloc: Global,
+    plan: &Plan<'_>,
+    count: usize,
+) -> Result<Vec<u64>, AllocError>
     ensures count { IfOk result (λ words. length words.items ≡ count) }
     ensures words { IfOk result (λ words. (at : ℕ) → at < count → slice_index words.items at ≡ opening_word plan.now at) }
 {

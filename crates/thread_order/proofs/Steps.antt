@@ -38,8 +38,9 @@ more_set : (set : List Bool) (cell : ℕ) (tried : List ℕ) → cell < length s
 more_set set cell tried lt h c = elim (yes_or_no (c == cell)) [
   | inl e ↦ let same : c ≡ cell = test_true c cell e in (λ t. inl same, λ x. rw same (get_or-set_same set cell true false lt))
   | inr e ↦ let ne = test_false c cell e in let other : has (slice_set set cell true) c ≡ has set c = get_or-set_other set cell c true false ne in (
-      λ t. inr ((h c).0 (sym other ∙ t)),
-      λ x. elim x [ inl same ↦ absurd (ne same) | inr later ↦ other ∙ (h c).1 later ])
+    λ t. inr ((h c).0 (sym other ∙ t)),
+    λ x. elim x [ inl same ↦ absurd (ne same) | inr later ↦ other ∙ (h c).1 later ],
+  )
 ]
 
 no_cell : (n c : ℕ) → has (replicate n false) c ≡ false
@@ -57,13 +58,17 @@ tries : (v : Standing) (tried : List ℕ) (cell : ℕ) → length v.is_tried ≡
 tries v tried cell long is set here pool left more w e = rw e (elim (yes_or_no (v.left - 1 == 0)) [
   | inl z ↦ let k = test_true _ _ z in let all : (length (cell ∷ tried) == slice_index v.heap.pools (layout_of v.heap cell)) ≡ true = rw here (test_yes _ _ (omega (arith, left, k, more))) in rw (z, all) refl
   | inr z ↦ let k = test_false _ _ z in let not_all : (length (cell ∷ tried) == slice_index v.heap.pools (layout_of v.heap cell)) ≡ false = rw here (test_no _ _ (λ (x : suc (length tried) ≡ slice_index v.heap.pools v.pool). omega (arith, left, k, more))) in
-      rw (z, not_all) (cell ∷ tried, refl, record {
-        left = omega (arith, left, more);
-        more = omega (arith, k);
-        some = λ x. absurd cc;
-        pool = λ c x. elim x [ inl same ↦ rw same here | inr later ↦ pool c later ];
-        set = more_set v.is_tried cell tried (omega (arith, long, is.1)) set;
-      })
+      rw (z, not_all) (
+        cell ∷ tried,
+        refl,
+        record {
+          left = omega (arith, left, more);
+          more = omega (arith, k);
+          some = λ x. absurd cc;
+          pool = λ c x. elim x [ inl same ↦ rw same here | inr later ↦ pool c later ];
+          set = more_set v.is_tried cell tried (omega (arith, long, is.1)) set;
+        },
+      )
 ])
 
 loses : (v : Standing) (at : At) (phase : order.Phase) (cell : ℕ) → length v.is_tried ≡ cells v.heap → IsInPhase v at phase → MayFollow v.heap v.stage phase (Claim cell false)
@@ -71,7 +76,7 @@ loses : (v : Standing) (at : At) (phase : order.Phase) (cell : ℕ) → length v
 loses v Ready phase cell long e m =
     let k : (0 < cell) × (cell < cells v.heap) = rw e at m in
     rw e (tries (record v { pool = layout_of v.heap cell; left = slice_index v.heap.pools (layout_of v.heap cell); is_tried = replicate (length v.is_tried) false }) [] cell (length_replicate (length v.is_tried) false ∙ long) k
-        (empty_set (length v.is_tried)) refl (λ c x. absurd x) (omega arith) (has_pool v.heap cell k.0 k.1) (tried_too v false cell) refl)
+    (empty_set (length v.is_tried)) refl (λ c x. absurd x) (omega arith) (has_pool v.heap cell k.0 k.1) (tried_too v false cell) refl)
 loses v Trying phase cell long e m = rw (e.1) (go e.0 e.2 (rw (e.1) at m))
   where
     go : (tried : List ℕ) → HasTried v tried → MayTry v.heap tried cell → IsInPhase (after_try (tried_too v true cell)) (after_try (tried_too v true cell)).at (after_loss v.heap tried cell)

@@ -68,8 +68,9 @@ marked_test [] (root ∷ roots) = elim (yes_or_no (root == 0)) [
 marked_test (mark ∷ marked) (root ∷ roots) = elim (yes_or_no (root == 0)) [
   | inl z ↦ rw z (marked_test (mark ∷ marked) roots)
   | inr n ↦ let k = marked_test marked roots in rw n (
-      λ t. let p = and_parts (mark == root) (are_marked marked roots) t in let e : mark ≡ root = test_true _ _ p.0 in let f : marked ≡ non_null roots = k.0 p.1 in cc,
-      λ e. let a : mark ≡ root = cc in let b : marked ≡ non_null roots = cc in and_true _ _ (test_yes _ _ a) (k.1 b))
+    λ t. let p = and_parts (mark == root) (are_marked marked roots) t in let e : mark ≡ root = test_true _ _ p.0 in let f : marked ≡ non_null roots = k.0 p.1 in cc,
+    λ e. let a : mark ≡ root = cc in let b : marked ≡ non_null roots = cc in and_true _ _ (test_yes _ _ a) (k.1 b),
+  )
 ]
 
 cell_test : (s : Setup) (cell : ℕ) → IsTrue (is_cell s cell) ↔ ((0 < cell) × (cell < cells s))
@@ -80,9 +81,9 @@ cell_test s cell = both_test (nat_lt 0 cell) (nat_lt cell (cells s)) (0 < cell) 
 try_test : (v : Standing) (tried : List ℕ) (cell : ℕ) → HasTried v tried → IsTrue (may_try v cell) ↔ MayTry v.heap tried cell
 try_test v [] cell h = absurd (h.some refl)
 try_test v (last ∷ tried) cell h = let same : layout_of v.heap last ≡ v.pool = h.pool last (inl refl) in (
-    λ t. let a = and_parts (is_cell v.heap cell) _ t in let b = and_parts (layout_of v.heap cell == v.pool) _ a.1 in let k = (cell_test v.heap cell).0 a.0 in
-        ((k.0, k.1, test_true _ _ b.0 ∙ sym same), λ (is : IsIn cell (last ∷ tried)). absurd (let e : has v.is_tried cell ≡ true = (h.set cell).1 is in let f : has v.is_tried cell ≡ false = not_true _ b.1 in cc)),
-    λ m. and_true _ _ ((cell_test v.heap cell).1 (m.0.0, m.0.1)) (and_true _ _ (test_yes _ _ (m.0.2 ∙ same)) (untried (has v.is_tried cell) (λ e. m.1 ((h.set cell).0 e)))),
+  λ t. let a = and_parts (is_cell v.heap cell) _ t in let b = and_parts (layout_of v.heap cell == v.pool) _ a.1 in let k = (cell_test v.heap cell).0 a.0 in
+      ((k.0, k.1, test_true _ _ b.0 ∙ sym same), λ (is : IsIn cell (last ∷ tried)). absurd (let e : has v.is_tried cell ≡ true = (h.set cell).1 is in let f : has v.is_tried cell ≡ false = not_true _ b.1 in cc)),
+  λ m. and_true _ _ ((cell_test v.heap cell).1 (m.0.0, m.0.1)) (and_true _ _ (test_yes _ _ (m.0.2 ∙ same)) (untried (has v.is_tried cell) (λ e. m.1 ((h.set cell).0 e)))),
 )
   where
     untried : (b : Bool) → (b ≡ true → ⊥) → not b ≡ true

@@ -5,7 +5,6 @@ use Rattle.colours.specs.Steps.{Step}
 use Rattle.colours.specs.Mutator.{stage_of, phase_of, MayFollow}
 use Rattle.thread_order.specs.Standings.{Standing, IsInPhase}
 
-
 -- the thread stands where it is after this log
 pub record Stands (s : Setup) (thread : ℕ) (log : List Step) (v : Standing) : Type 0 where
   pub heap : v.heap ≡ s

@@ -134,8 +134,9 @@ impl<'a> ThreadOrder<'a> {
     {
         match step {
             ThreadStep::Mark(marked) => !is_async(self.stage) && marked != 0,
-            ThreadStep::StoreAfterBarrier(to, at, value) =>
-                to == cell && at == word && (is_async(self.stage) || value == 0),
+            ThreadStep::StoreAfterBarrier(to, at, value) => to == cell
+                && at == word
+                && (is_async(self.stage) || value == 0),
             _ => false,
         }
     }
@@ -156,8 +157,8 @@ impl<'a> ThreadOrder<'a> {
     {
         match step {
             ThreadStep::Mark(marked) => is_async(next) && marked != 0,
-            ThreadStep::StoreStage(to) =>
-                to == next && (!is_async(next) || are_marked(self.marked.as_slice(), roots)),
+            ThreadStep::StoreStage(to) => to == next
+                && (!is_async(next) || are_marked(self.marked.as_slice(), roots)),
             _ => false,
         }
     }

@@ -14,7 +14,7 @@ loop-number-preserved c = let entries = reverse (first_entries c.loop-number.num
     let rest = drop (c.loop-number.number * 16) c.args.bytes.now in
     let whole : c.of.result ≡ entry_at rest = c.of.ensures ∙ ap entry_at (take_all (length c.args.bytes.now - c.loop-number.number * 16) rest (let l = length-drop (c.loop-number.number * 16) c.args.bytes.now in omega (arith, l))) in
     subst (λ (l : List Entry). IsChecked c.args.plan.now l c.read.new.self) (sym (back_more c.loop-number.number c.args.bytes.now ∙ ap (λ (e : Entry). e ∷ entries) (sym whole)))
-      (c.in_ok-read.ensures c.args.plan.now entries c.loop-number.invariant)
+    (c.in_ok-read.ensures c.args.plan.now entries c.loop-number.invariant)
 
 pub read-requires : goal.read-requires
 read-requires c = let entries = reverse (first_entries c.loop-number.number c.args.bytes.now) in
@@ -25,4 +25,4 @@ pub returns : goal.returns
 returns c = let entries = first_entries c.loop-number.number c.args.bytes.now in
     let same : c.loop-number.number ≡ length c.args.bytes.now / 16 = omega (arith, c.loop-number-test.false, c.loop-number.auto.number-end) in
     subst (λ (l : List Entry). IsVerdict c.args.plan.now l c.verdict.result) (reverse-reverse entries ∙ ap (λ (n : ℕ). first_entries n c.args.bytes.now) same)
-      (c.verdict.ensures c.args.plan.now (reverse entries) c.loop-number.invariant)
+    (c.verdict.ensures c.args.plan.now (reverse entries) c.loop-number.invariant)

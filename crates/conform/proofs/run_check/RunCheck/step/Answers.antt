@@ -19,7 +19,7 @@ pub returns-in-Some-broken_rule-clause-some : goal.returns-in-Some-broken_rule-c
 returns-in-Some-broken_rule-clause-some c = λ s run k.
     let got : slice_get c.args.self.now.threads.items c.args.thread ≡ Some c.in-Some.checked.now = sym c.in-Some.ensures in
     at.not_asked s run c.args.self.now c.args.thread c.in-Some.checked.now k got c.in-Some-broken_rule.rule (step_with c.args.roots.now c.args.step)
-      (c.in-Some-broken_rule.ensures.some c.args.thread (log_of c.args.thread run) (at.thread_in_plan s run c.args.self.now c.args.thread c.in-Some.checked.now k got))
+    (c.in-Some-broken_rule.ensures.some c.args.thread (log_of c.args.thread run) (at.thread_in_plan s run c.args.self.now c.args.thread c.in-Some.checked.now k got))
 
 pub ask_of-ask-requires : goal.ask_of-ask-requires
 ask_of-ask-requires c = let r = c.requires in let s = r.0 in let run = r.1 in let k = r.2 in
@@ -56,9 +56,12 @@ follow-requires c = let r = c.requires in let s = r.0 in let run = r.1 in let k 
     let here = at.place_here s run c.args.self.now c.args.thread c.in-Some.checked.now k got step c.ask_of-ask.result e n.0 n.1 in
     let is = at.word_here s run c.args.self.now c.args.thread c.in-Some.checked.now k got step c.ask_of-ask.result c.place_of.result c.word.result e c.place_of.ensures here c.word.ensures in
     let f = subst (Found step) is ((c.is_found.ensures c.args.roots.now).0 c.if-not-is_found.false) in
-    let got2 : slice_get c.args.self.now.threads.items c.args.thread ≡ Some c.index_mut.result.now = slice_get-get_or c.args.self.now.threads.items c.args.thread _ (slice_get_within c.args.self.now.threads.items c.args.thread c.in-Some.checked.now got) ∙ ap Some (sym c.index_mut.ensures.value) in
-    (c.args.thread, log_of c.args.thread run, at.thread_in_words s run c.args.self.now c.args.thread c.index_mut.result.now k got2,
-      at.made_in_words s run c.args.self.now c.args.thread c.in-Some.checked.now k got step (at.made_here s run c.args.self.now c.args.thread c.in-Some.checked.now k got step (c.word_law.ensures s run k.is_run) n.0 n.1 f))
+    let got2 : slice_get c.args.self.now.threads.items c.args.thread ≡ Some c.index_mut.result.now = slice_get-get_or c.args.self.now.threads.items c.args.thread _ (slice_get_within c.args.self.now.threads.items c.args.thread c.in-Some.checked.now got) ∙ ap Some (sym c.index_mut.ensures.value) in (
+      c.args.thread,
+      log_of c.args.thread run,
+      at.thread_in_words s run c.args.self.now c.args.thread c.index_mut.result.now k got2,
+      at.made_in_words s run c.args.self.now c.args.thread c.in-Some.checked.now k got step (at.made_here s run c.args.self.now c.args.thread c.in-Some.checked.now k got step (c.word_law.ensures s run k.is_run) n.0 n.1 f),
+    )
 
 pub perform-requires : goal.perform-requires
 perform-requires c = let r = c.requires in let s = r.0 in let run = r.1 in let k = r.2 in
@@ -80,4 +83,4 @@ returns-clause-none c = λ s run k.
     let got2 : slice_get c.args.self.now.threads.items c.args.thread ≡ Some c.index_mut.result.now = slice_get-get_or c.args.self.now.threads.items c.args.thread _ (slice_get_within c.args.self.now.threads.items c.args.thread c.in-Some.checked.now got) ∙ ap Some (sym c.index_mut.ensures.value) in
     let made = at.made_in_words s run c.args.self.now c.args.thread c.in-Some.checked.now k got step (at.made_here s run c.args.self.now c.args.thread c.in-Some.checked.now k got step (c.word_law.ensures s run k.is_run) n.0 n.1 f) in
     at.step_longer s run c.args.self.now c.args.thread c.in-Some.checked.now k got step c.ask_of-ask.result c.perform.new.self c.follow.new.self e n.0 n.1 f c.perform.ensures.extends
-      (c.in_ok-follow.ensures c.args.thread (log_of c.args.thread run) (at.thread_in_words s run c.args.self.now c.args.thread c.index_mut.result.now k got2) made)
+    (c.in_ok-follow.ensures c.args.thread (log_of c.args.thread run) (at.thread_in_words s run c.args.self.now c.args.thread c.index_mut.result.now k got2) made)
