@@ -1,4 +1,5 @@
 //! The codes that are printed of refusals and faults.
+ghost use Rattle.std.specs.Str.{str_eq_ignore_ascii_case};
 ghost use Rattle.std.specs.Prelude.{◌≡◌};
 ghost use Rattle.std.specs.Array.Iter.{array_into_iter_items};
 ghost use Rattle.explain.specs.Codes.{all_codes, code_named, name_of, text_of};
@@ -280,12 +281,19 @@ impl Code {
         }
     }
 
+    /// Whether this is its name, in upper or lower case.
+    fn is_named(self, name: &str) -> bool
+        ensures { result ≡ str_eq_ignore_ascii_case (name_of self) name.now }
+    {
+        self.name().eq_ignore_ascii_case(name)
+    }
+
     /// The code of this name, in upper or lower case.
     pub fn named(name: &str) -> Option<Code>
         ensures { result ≡ code_named name.now }
     {
         for code in Code::all() {
-            if code.name().eq_ignore_ascii_case(name) {
+            if code.is_named(name) {
                 return Some(code);
             }
         }
