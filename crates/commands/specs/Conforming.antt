@@ -1,5 +1,5 @@
 -- What `conform` says of its files: the lines that a record is told by.
-use Rattle.std.specs.Prelude.{◌≡◌, ◌≢◌, ◌≤◌, ◌^◌, ◌++◌, ℕ, List, [], ◌∷◌, Option, Some, codes, length}
+use Rattle.std.specs.Prelude.{◌≡◌, ◌≢◌, ◌≤◌, ◌^◌, ◌++◌, if◌then◌else◌, nat_eq, ℕ, List, [], ◌∷◌, Option, Some, codes, length}
 use Rattle.std.specs.Fmt.{decimal}
 use Rattle.layout.specs.Layouts.{LaidOut}
 use Rattle.trace_text.specs.declared.trace.Trace.{Trace}
@@ -42,14 +42,16 @@ code_of rule.Turn = codes "H16"
 
 -- an actor as a record has it: 255 is the collector
 abbrev pub actor_text : ℕ → List ℕ
-actor_text 255 = codes "c"
-actor_text thread = codes "t " ++ decimal thread
+actor_text actor = if nat_eq actor 255 then codes "c" else (codes "t " ++ decimal actor)
 
--- how many steps conform, or the first step that does not: its number, its actor, and the rule that it breaks
+-- the first step that does not conform: its number, its actor, and the code of the rule that it breaks
+abbrev pub of_broken : (step actor : ℕ) → (code : List ℕ) → Answer
+of_broken step actor code = record { text = codes "no " ++ decimal step ++ 32 ∷ actor_text actor ++ 32 ∷ code ++ 10 ∷ []; status = 1 }
+
+-- how many steps conform, or the first step that does not
 abbrev pub of_verdict : Verdict → Answer
 of_verdict (Conforms steps) = record { text = codes "conforms " ++ decimal steps ++ 10 ∷ []; status = 0 }
-of_verdict (Broken step actor rule) =
-    record { text = codes "no " ++ decimal step ++ 32 ∷ actor_text actor ++ 32 ∷ code_of rule ++ 10 ∷ []; status = 1 }
+of_verdict (Broken step actor rule) = of_broken step actor (code_of rule)
 
 -- ---- the file
 

@@ -1,6 +1,5 @@
 //! The command `conform`: a recorded run against the collector's profile.
-ghost use Rattle.std.specs.Prelude.{ℕ, ◌≡◌, List, IfOk, IfSome, IfNone, OnOk};
-ghost use Rattle.std.specs.Io.KnownBytes.{Appends};
+ghost use Rattle.std.specs.Prelude.{ℕ, ◌≡◌, List, IfOk, IfSome, IfNone};
 ghost use Rattle.commands.specs.Conforming as spec;
 ghost use Rattle.commands.specs.Conforming.{HasRecord, OfRecord};
 ghost use Rattle.explain.specs.Codes.{name_of};
@@ -48,17 +47,19 @@ pub(crate) fn code_of(rule: Rule) -> Code
     }
 }
 
-/// An actor as a record has it: `c` or `t 1`.
-fn write_actor<W: Write>(out: &mut W, actor: u8) -> io::Result<()>
-    ensures { OnOk result (Appends (W.contents out.old) (W.contents out.new) (spec.actor_text actor)) }
+/// Says which step of an actor does not conform, by the code of the rule that it breaks: `no 41 t 1 H4`, of the collector `no 41 c H13`.
+fn broken<W: Write>(out: &mut W, step: u32, actor: u8, code: &str) -> io::Result<u8>
+    ensures { IfOk result (λ status. IsTold (W.contents out.old) (W.contents out.new) status (spec.of_broken step actor code.now)) }
 {
     if actor == COLLECTOR {
-        return write!(out, "c");
+        writeln!(out, "no {step} c {code}")?;
+    } else {
+        writeln!(out, "no {step} t {actor} {code}")?;
     }
-    write!(out, "t {actor}")
+    Ok(STATUS_NO)
 }
 
-/// The line of a record: `conforms 5317`, or the first step that does not conform, as `no 41 t 1 H4`.
+/// The line of a record: `conforms 5317`, or the first step that does not conform.
 fn judged<W: Write>(out: &mut W, verdict: Verdict) -> io::Result<u8>
     ensures { IfOk result (λ status. IsTold (W.contents out.old) (W.contents out.new) status (spec.of_verdict verdict)) }
 {
@@ -67,12 +68,7 @@ fn judged<W: Write>(out: &mut W, verdict: Verdict) -> io::Result<u8>
             writeln!(out, "conforms {steps}")?;
             Ok(STATUS_YES)
         }
-        Verdict::Broken(step, actor, rule) => {
-            write!(out, "no {step} ")?;
-            write_actor(out, actor)?;
-            writeln!(out, " {}", code_of(rule).name())?;
-            Ok(STATUS_NO)
-        }
+        Verdict::Broken(step, actor, rule) => broken(out, step, actor, code_of(rule).name()),
     }
 }
 
