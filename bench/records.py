@@ -29,7 +29,7 @@ ROOT = "    each_root(frame->next, visit);\n"
 # what is changed, the text and what stands in its place, and what has to be said of the runs
 CHANGES = [
     ("nothing is changed", "", "", ALLOWED, ""),
-    ("the old value is not marked", "    if (old) mark(old);\n", "", NAMED, "H4"),
+    ("the old value is not marked", "    if (old) mark(old);\n", "", NAMED, "H2 H4"),
     ("the new value is not marked at sync stages", "    if (!is_async(me.stage) && new) mark(new);\n", "", NAMED, "H4"),
     ("the store comes before the marks", MARKS + STORE, STORE + MARKS, NAMED, "H4 H2"),
     ("claims are white at Async", "is_async(stage) ? 2 * k + 1 : 2 * k - 1", "2 * k - (k > 0)", NAMED, "H3"),

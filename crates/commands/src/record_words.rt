@@ -14,7 +14,7 @@ fn put_stage(out: &mut Message, stage: u64) {
         1 => " (Sync1 of cycle ",
         _ => " (Sync2 of cycle ",
     });
-    out.put_number(stage / 3 + u64::from(stage % 3 != 0));
+    out.put_number((stage / 3).wrapping_add(u64::from(stage % 3 != 0)));
     out.put(")")
 }
 
