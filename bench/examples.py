@@ -45,9 +45,9 @@ def text_of(path):
 
 
 def read_row(name):
-    """The row of this name."""
+    """The row of this name. A record is no text, and left out."""
     folder = os.path.join(DATA, "rows", name)
-    names = sorted(entry.name for entry in os.scandir(os.path.join(TOP, folder)) if entry.is_file())
+    names = sorted(entry.name for entry in os.scandir(os.path.join(TOP, folder)) if entry.is_file() and entry.name != "record")
     files = {name: text_of(os.path.join(folder, name)) for name in names}
     args, status, out, err = (files.pop(file) for file in ("args", "status", "stdout", "stderr"))
     return Row(args.splitlines(), status.strip(), out, err, files)

@@ -17,11 +17,13 @@ The other lines are `field: text`, and a text goes on to the next field:
     again               words before a further example; docs/RULES.md has these and `dgc explain` has not
     see                 what else to read
 
-So each example is a row, which the gate runs. A page has at most 80 columns and 60 lines.
+So each example is a row, which the gate runs. A record stands in an example as its last steps in words (examples/records/show.py). A page
+has at most 80 columns and 60 lines.
 """
 import argparse
 import collections
 import os
+import subprocess
 import sys
 import textwrap
 
@@ -30,6 +32,9 @@ CODES = os.path.join("crates", "explain", "codes")
 TEXTS = os.path.join("crates", "explain", "src")
 DATA = os.path.join("crates", "dgc_tests", "data")
 COLUMNS, LINES = 80, 60
+
+# How many steps of a record an example shows.
+STEPS = 12
 
 FIELDS = ("short", "rule", "more", "why", "again", "refused", "accepted", "explained", "see")
 
@@ -47,6 +52,7 @@ FAMILIES = [
     Family("C", "certificate_texts", "Faults of a certificate's text", [(1, "Faults of a certificate's text")]),
     Family("Y", "layout_texts", "Faults of layouts and pools", [(1, "Faults of layouts and pools")]),
     Family("P", "trace_texts", "Faults of a trace's text", [(1, "Faults of a trace's text")]),
+    Family("H", "record_texts", "Rules of recorded runs", [(1, "Recorded runs")]),
 ]
 
 HEAD = """# The rules, and the other codes
@@ -129,6 +135,18 @@ def entries_of(family):
     return entries
 
 
+def steps_of(path):
+    """The last steps of a record in words, each with its number."""
+    show = os.path.join(TOP, "examples", "records", "show.py")
+    lines = subprocess.run([sys.executable, show, os.path.join(TOP, path)], check=True, capture_output=True, text=True).stdout.splitlines()
+    return "\n".join([".."] * (len(lines) > STEPS) + lines[-STEPS:]) + "\n"
+
+
+def file_of(path):
+    """The text that stands for a file of an example."""
+    return steps_of(path) if os.path.basename(path) == "record" else text_of(path)
+
+
 def row_of(name):
     """A row: the command, the texts of its files, and what it prints."""
     folder = os.path.join(DATA, "rows", name)
@@ -136,7 +154,7 @@ def row_of(name):
         fail(f"no row {name}")
     words = text_of(os.path.join(folder, "args")).split()
     command = " ".join(["dgc", words[0]] + [word for word in words if word.startswith("--")])
-    files = [text_of(os.path.join(folder, word)) for word in words[1:] if not word.startswith("--")]
+    files = [file_of(os.path.join(folder, word)) for word in words[1:] if not word.startswith("--")]
     printed = text_of(os.path.join(folder, "stdout")) or text_of(os.path.join(folder, "stderr"))
     lines = printed.rstrip("\n").split("\n")
     return Row(command, files, lines[0], len(lines) == 1)
@@ -147,7 +165,7 @@ KINDS = {"cert": "certificate", "trace": "trace", "shapes": "shapes"}
 
 def kind_of(files, place):
     """What a file of an example is, in a word."""
-    return KINDS[files[place].split()[0]] if place else "module"
+    return KINDS.get(files[place].split()[0], "record") if place else "module"
 
 
 def same_places(row, before):

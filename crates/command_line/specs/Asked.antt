@@ -31,6 +31,7 @@ pub record PathTexts : Type 0 where
   pub shapes : Option Text
   pub trace : Option Text
   pub edits : Option Text
+  pub of_record : Option Text
   pub saved : Option Text
 
 -- these paths
@@ -41,6 +42,7 @@ texts_of paths = record {
   shapes = option_map (λ path. path.now) paths.shapes;
   trace = option_map (λ path. path.now) paths.trace;
   edits = option_map (λ path. path.now) paths.edits;
+  of_record = option_map (λ path. path.now) paths.of_record;
   saved = option_map (λ path. path.now) paths.saved;
 }
 

@@ -128,6 +128,10 @@ command_apps =
     (file_rule (codes "MODULE") ∷ file_rule (codes "CERT") ∷ file_rule (codes "TRACE")
     ∷ default_rule (codes "turns") (codes "1000000") ∷ default_rule (codes "steps") (codes "1000000") ∷ explain_rule ∷ [])
     ∷
+    -- conform MODULE TRACE RECORD [--shapes FILE] [--explain WHEN]
+    command_app (codes "conform")
+    (file_rule (codes "MODULE") ∷ file_rule (codes "TRACE") ∷ file_rule (codes "RECORD") ∷ valued_rule (codes "shapes") ∷ explain_rule ∷ [])
+    ∷
     -- explain [CODE]
     command_app (codes "explain") (new_rule (codes "CODE") ∷ [])
     ∷
@@ -178,6 +182,7 @@ pub data Asked : Type 0 where
   soak : SoakOptions → Asked
   hunt : HuntOptions → Asked
   run : RunOptions → Asked
+  conform : Asked
   explain : (code : Option Text) → Asked
   migrate : Asked
 
@@ -190,6 +195,7 @@ asked_by (what.Replay options) = replay options
 asked_by (what.Soak options) = soak options
 asked_by (what.Hunt options) = hunt options
 asked_by (what.Run options) = run options
+asked_by what.Conform = conform
 asked_by (what.Explain options) = explain (option_map (λ code. code.now) options.code)
 asked_by what.Migrate = migrate
 
@@ -296,6 +302,7 @@ asked_of name given =
     else if bytes_eq name (codes "soak") then soak_of given
     else if bytes_eq name (codes "hunt") then hunt_of given
     else if bytes_eq name (codes "run") then run_of given
+    else if bytes_eq name (codes "conform") then Some conform
     else if bytes_eq name (codes "explain") then Some (explain_of given)
     else if bytes_eq name (codes "migrate") then Some migrate
     else None
@@ -317,6 +324,7 @@ paths_of given =
       shapes = shapes_beside certificate given;
       trace = first_of (codes "TRACE") given;
       edits = first_of (codes "EDITS") given;
+      of_record = first_of (codes "RECORD") given;
       saved = either_of (codes "save") (codes "json") given;
     }
 

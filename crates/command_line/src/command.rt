@@ -13,6 +13,7 @@ pub struct Paths<'a> {
     pub shapes: Option<&'a str>,
     pub trace: Option<&'a str>,
     pub edits: Option<&'a str>,
+    pub of_record: Option<&'a str>,
     /// The file that the command writes: a trace, or steps as JSON.
     pub saved: Option<&'a str>,
 }
@@ -61,6 +62,7 @@ impl Paths<'_> {
         shapes: None,
         trace: None,
         edits: None,
+        of_record: None,
         saved: None,
     };
 }

@@ -128,6 +128,8 @@ pub enum What<'a> {
     Soak(SoakOptions),
     Hunt(HuntOptions),
     Run(RunOptions),
+    /// Say whether a recorded run is one of the collector's profile.
+    Conform,
     Explain(ExplainOptions<'a>),
     /// Turn a module into opaque text, or a certificate of it into one of the opaque text.
     Migrate,
@@ -151,6 +153,7 @@ impl What<'_> {
             What::Recheck => Some("recheck"),
             What::Replay(_) => Some("replay"),
             What::Run(_) => Some("run"),
+            What::Conform => Some("conform"),
             What::Migrate => Some("migrate"),
             What::Soak(_) | What::Hunt(_) | What::Explain(_) => None,
         }
@@ -367,6 +370,7 @@ pub(crate) fn what_given<'a>(name: &str, given: &ArgMatches<'a>) -> Option<What<
         "soak" => soak_given(given),
         "hunt" => hunt_given(given),
         "run" => run_given(given),
+        "conform" => Some(What::Conform),
         "explain" => Some(explain_given(given)),
         "migrate" => Some(What::Migrate),
         _ => None,

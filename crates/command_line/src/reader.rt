@@ -33,6 +33,7 @@ fn paths_given<'a>(given: &ArgMatches<'a>) -> Paths<'a>
         shapes: shapes_given(given, certificate),
         trace: text_given(given, "TRACE"),
         edits: text_given(given, "EDITS"),
+        of_record: text_given(given, "RECORD"),
         saved: either_given(given, "save", "json"),
     }
 }

@@ -71,8 +71,8 @@ Also runs that code beside the collector, one atomic step at a time or on real t
 /// The exit statuses of the program.
 pub(crate) const STATUSES: &str = "\
 Exit status:
-  0  yes or sound, a certificate was made, the threads were run, a code was explained, a text
-     was migrated, or help or the version was asked for
+  0  yes or sound, a certificate was made, the threads were run, a record conforms, a code
+     was explained, a text was migrated, or help or the version was asked for
   1  no, no answer, or broken
   2  a text is not read, the module has no layouts, or a thread may not begin
   3  memory was refused
@@ -369,6 +369,40 @@ Exit status:
   4  the command line is refused, a file cannot be read, or a write failed",
 };
 
+const CONFORM: CommandRow = CommandRow {
+    name: "conform",
+    about: "Says which step of a recorded run is none of the collector's profile",
+    arguments: &[
+        MODULE,
+        Argument::File(
+            "TRACE",
+            "A trace: the pools and the threads; its steps are ignored (docs/TRACES.md)",
+        ),
+        Argument::File(
+            "RECORD",
+            "A record: the steps that a runtime made, 16 bytes for each (docs/RECORDS.md)",
+        ),
+        SHAPES,
+        EXPLAIN,
+    ],
+    after: "\
+Prints `conforms N`: each of the N steps of the record is one of the profile that
+docs/COLLECTOR.md has. Or prints the first step that no run of it makes, who made it, and the
+rule that it breaks, as `no 41 t 1 H4` (docs/RULES.md). A record that was cut within its last
+step is judged by its whole steps. A record may be a pipe.
+
+Of a text that is not read, one line goes to standard error, as `error L4 23:13` (a line
+and a column) or `error C6 @g`. A module that writes `ptr` needs its shapes: without --shapes
+that line is `error Y5`.
+
+Exit status:
+  0  the record conforms
+  1  no
+  2  a text is not read, the module has no layouts, or a thread may not begin
+  3  memory was refused
+  4  the command line is refused, a file cannot be read, or a write failed",
+};
+
 const EXPLAIN_CODE: CommandRow = CommandRow {
     name: "explain",
     about: "Tells of a code that is printed of a refusal or a fault",
@@ -413,7 +447,7 @@ Exit status:
 };
 
 /// All commands, in the order of the help.
-pub(crate) fn commands() -> [&'static CommandRow; 9]
+pub(crate) fn commands() -> [&'static CommandRow; 10]
     ensures { map (λ row. app_of_row row.now) result ≡ command_apps }
 {
     [
@@ -424,6 +458,7 @@ pub(crate) fn commands() -> [&'static CommandRow; 9]
         &SOAK,
         &HUNT,
         &RUN,
+        &CONFORM,
         &EXPLAIN_CODE,
         &MIGRATE,
     ]

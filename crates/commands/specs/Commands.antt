@@ -1,7 +1,7 @@
 -- What each command says of its files.
 use Rattle.std.specs.Prelude.{ℕ, List, option_map}
 use Rattle.command_line.specs.declared.options.What.{What}
-use Rattle.command_line.specs.declared.options.What.TheVariants.{Check, Make, Recheck, Replay, Soak, Hunt, Run, Explain, Migrate}
+use Rattle.command_line.specs.declared.options.What.TheVariants.{Check, Make, Recheck, Replay, Soak, Hunt, Run, Conform, Explain, Migrate}
 use Rattle.reports.specs.Said.{Said, OfCertified}
 use Rattle.reports.specs.declared.files.Files.{Files}
 use Rattle.check_commands.specs.Checks.{OfCerts, OfMake}
@@ -10,6 +10,7 @@ use Rattle.check_commands.specs.Migrating.{OfMigrate}
 use Rattle.check_commands.specs.EditedFiles.{OfEditsFile}
 use Rattle.reports.specs.TraceRuns.{OfRun, OfRunCerts, OfTrace}
 use Rattle.search_commands.specs.Searches.{OfHuntFiles, OfSeeds}
+use Rattle.commands.specs.Conforming.{OfRecord}
 
 -- what a command says of its files; before and after it these bytes are saved
 abbrev pub OfCommand : What → Files → (before after : List ℕ) → Said → Type 0
@@ -21,5 +22,6 @@ OfCommand (Soak options) files before after = OfRun (λ p t. OfSeeds options fil
 OfCommand (Hunt options) files before after = OfHuntFiles files.saves files.of_module files.certificate files.shapes before after
 OfCommand (Run options) files before after =
     OfCertified (OfRunCerts (record { turns = options.turns; steps = options.steps }) files.trace) files.of_module files.certificate
+OfCommand Conform files before after = OfRun (OfRecord files.of_record) files.of_module files.trace files.shapes
 OfCommand (Explain options) files before after = OfExplain (option_map (λ code. code.now) options.code)
 OfCommand Migrate files before after = OfMigrate files.of_module files.certificate

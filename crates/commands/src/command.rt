@@ -4,6 +4,8 @@ ghost use Rattle.command_line.specs.Asked.{asks_for_steps, HasWorkers, is_wanted
 ghost use Rattle.commands.specs.Commands.{OfCommand};
 ghost use Rattle.reports.specs.Said.{GivesText, GivesTextIf, SaysAndTells};
 
+use crate::conforming::conform_files;
+use crate::record_told::explain_record;
 use crate::replaying::replay_files;
 use crate::running::run_files;
 use check_commands::{check_files, explain_code, make_file, migrate_files, recheck_files};
@@ -38,6 +40,7 @@ fn answer(
         What::Soak(options) => soak_files(rt, alloc, options, files, results, onlooker),
         What::Hunt(options) => hunt_files(rt, alloc, options, files, results, onlooker),
         What::Run(options) => run_files(rt, alloc, options, files, outputs),
+        What::Conform => conform_files(alloc, files, outputs),
         What::Explain(options) => explain_code(options, outputs),
         What::Migrate => migrate_files(alloc, files, outputs),
     }
@@ -60,7 +63,9 @@ fn question_of(what: What<'_>, status: u8) -> Option<Question> {
         (What::Make(_), STATUS_NO | STATUS_UNREADABLE) => Some(Question::Make),
         (What::Recheck, STATUS_NO | STATUS_UNREADABLE) => Some(Question::Recheck),
         (What::Run(_), STATUS_NO | STATUS_UNREADABLE) => Some(Question::Run),
-        (What::Replay(_) | What::Soak(_), STATUS_UNREADABLE) => Some(Question::Trace),
+        (What::Replay(_) | What::Soak(_) | What::Conform, STATUS_UNREADABLE) => {
+            Some(Question::Trace)
+        }
         _ => None,
     }
 }
@@ -78,6 +83,9 @@ fn explain_outcome(
 {
     if let (What::Soak(options), STATUS_YES) = (what, status) {
         return tell_happened(alloc, options.search, files, err);
+    }
+    if let (What::Conform, STATUS_NO) = (what, status) {
+        return explain_record(alloc, look, files, err);
     }
     match question_of(what, status) {
         Some(question) => explain(alloc, look, question, files, err),

@@ -10,6 +10,7 @@ pub struct Contents {
     pub shapes: Option<Vec<u8>>,
     pub trace: Option<Vec<u8>>,
     pub edits: Option<Vec<u8>>,
+    pub of_record: Option<Vec<u8>>,
 }
 
 /// A file that is given, with what was read of it.
@@ -31,6 +32,7 @@ impl Contents {
             shapes: file_of(paths.shapes, &self.shapes),
             trace: file_of(paths.trace, &self.trace),
             edits: file_of(paths.edits, &self.edits),
+            of_record: file_of(paths.of_record, &self.of_record),
             saves: paths.saved.is_some(),
         }
     }

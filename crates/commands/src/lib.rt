@@ -1,8 +1,11 @@
-//! The commands, from a command and its files to the printed lines and the status: `replay` and `run`, and those of the crates below.
+//! The commands, from a command and its files to the printed lines and the status: `replay`, `run` and `conform`, and those of the crates below.
 #![tactic(auto)]
 
 mod command;
+mod conforming;
 mod files;
+mod record_told;
+mod record_words;
 mod replaying;
 mod running;
 mod steps_told;

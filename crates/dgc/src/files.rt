@@ -32,12 +32,8 @@ fn append_all(source: &mut impl Read, bytes: &mut Vec<u8>) -> io::Result<()> {
     Err(io::Error::from(io::ErrorKind::TimedOut))
 }
 
-/// The first bytes of a file, at most this many. A pipe is no file: nobody may write to it, or one who ends too early. A file that
-/// becomes shorter meanwhile is not read.
+/// The first bytes of a file or a pipe, at most this many. A file that becomes shorter meanwhile is not read.
 fn first_bytes(rt: &(impl Runtime + AllocGlobal), path: &str, most: u64) -> io::Result<Vec<u8>> {
-    if fs::metadata(rt, path)?.file_type().is_fifo() {
-        return Err(io::Error::from(io::ErrorKind::Unsupported));
-    }
     let file = fs::open(rt, path)?;
     let length = file.metadata()?.len().min(most);
     let mut bytes = Vec::new(rt.alloc());
@@ -48,18 +44,38 @@ fn first_bytes(rt: &(impl Runtime + AllocGlobal), path: &str, most: u64) -> io::
     Ok(bytes)
 }
 
-/// The bytes of a module's file. Of one that is too long these are the first ones, and the reader refuses it.
-fn module_bytes(rt: &(impl Runtime + AllocGlobal), path: &str) -> io::Result<Vec<u8>> {
-    first_bytes(rt, path, TEXT_LIMIT as u64 + 1)
+/// The first bytes of a file that holds a text. A pipe is no such file: nobody may write to it, or one who ends too early.
+fn first_of_text(rt: &(impl Runtime + AllocGlobal), path: &str, most: u64) -> io::Result<Vec<u8>> {
+    if fs::metadata(rt, path)?.file_type().is_fifo() {
+        return Err(io::Error::from(io::ErrorKind::Unsupported));
+    }
+    first_bytes(rt, path, most)
 }
 
-/// The bytes of another file, if it is within the limit.
-fn other_bytes(rt: &(impl Runtime + AllocGlobal), path: &str) -> io::Result<Vec<u8>> {
-    let bytes = first_bytes(rt, path, FILE_LIMIT + 1)?;
+/// The bytes of a module's file. Of one that is too long these are the first ones, and the reader refuses it.
+fn module_bytes(rt: &(impl Runtime + AllocGlobal), path: &str) -> io::Result<Vec<u8>> {
+    first_of_text(rt, path, TEXT_LIMIT as u64 + 1)
+}
+
+/// These bytes of a file, if they are within the limit.
+fn within_limit(bytes: Vec<u8>) -> io::Result<Vec<u8>> {
     if bytes.len() as u64 > FILE_LIMIT {
+        drop(bytes);
         return Err(io::Error::from(io::ErrorKind::FileTooLarge));
     }
     Ok(bytes)
+}
+
+/// The bytes of another text, if it is within the limit.
+fn other_bytes(rt: &(impl Runtime + AllocGlobal), path: &str) -> io::Result<Vec<u8>> {
+    let bytes = first_of_text(rt, path, FILE_LIMIT + 1)?;
+    within_limit(bytes)
+}
+
+/// The bytes of a record, if it is within the limit. It may be a pipe: as much of a run as was written to it is a run.
+fn record_bytes(rt: &(impl Runtime + AllocGlobal), path: &str) -> io::Result<Vec<u8>> {
+    let bytes = first_bytes(rt, path, FILE_LIMIT + 1)?;
+    within_limit(bytes)
 }
 
 /// The bytes that were read of a file, if it could be read. That memory was refused is remembered.
@@ -93,6 +109,15 @@ fn of_other(
     if_read(other_bytes(rt, path?), is_refused)
 }
 
+/// What is read of a record, if it is given.
+fn of_record(
+    rt: &(impl Runtime + AllocGlobal),
+    path: Option<&str>,
+    is_refused: &mut bool,
+) -> Option<Vec<u8>> {
+    if_read(record_bytes(rt, path?), is_refused)
+}
+
 /// Reads the files of these paths.
 pub fn read_files(
     rt: &(impl Runtime + AllocGlobal),
@@ -105,6 +130,7 @@ pub fn read_files(
         shapes: of_other(rt, paths.shapes, &mut is_refused),
         trace: of_other(rt, paths.trace, &mut is_refused),
         edits: of_other(rt, paths.edits, &mut is_refused),
+        of_record: of_record(rt, paths.of_record, &mut is_refused),
     };
     if is_refused {
         drop(contents);

@@ -53,6 +53,7 @@ pub fn checked_texts(of_module: Option<Vec<u8>>, certificate: Option<Vec<u8>>) -
         shapes: None,
         trace: None,
         edits: None,
+        of_record: None,
     }
 }
 
@@ -153,6 +154,7 @@ fn made(
         shapes,
         trace: None,
         edits: None,
+        of_record: None,
     };
     let printed = printed_of(rt, &command, &contents);
     drop(contents);

@@ -59,6 +59,7 @@ fn contents_of(
         shapes: bytes_if(rt, folder, paths.shapes)?,
         trace: bytes_if(rt, folder, paths.trace)?,
         edits: bytes_if(rt, folder, paths.edits)?,
+        of_record: bytes_if(rt, folder, paths.of_record)?,
     })
 }
 

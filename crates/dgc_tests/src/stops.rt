@@ -102,6 +102,7 @@ fn is_sound(
         shapes: None,
         trace: Some(trace),
         edits: None,
+        of_record: None,
     };
     let is_sound = is_replayed(rt, &contents);
     drop(contents);

@@ -9,6 +9,8 @@ use Rattle.explain.specs.declared.module_texts.TheConstants as of_module
 use Rattle.explain.specs.declared.certificate_texts.TheConstants as of_certificate
 use Rattle.explain.specs.declared.layout_texts.TheConstants as of_layout
 use Rattle.explain.specs.declared.trace_texts.TheConstants as of_trace
+use Rattle.explain.specs.declared.record_texts_from_1.TheConstants as first_of_records
+use Rattle.explain.specs.declared.record_texts_from_11.TheConstants as further_of_records
 
 -- all codes
 abbrev pub all_codes : List Code
@@ -19,6 +21,8 @@ all_codes =
     code.C1 ∷ code.C2 ∷ code.C3 ∷ code.C4 ∷ code.C5 ∷ code.C6 ∷
     code.Y1 ∷ code.Y2 ∷ code.Y3 ∷ code.Y4 ∷ code.Y5 ∷
     code.P1 ∷ code.P2 ∷ code.P3 ∷
+    code.H1 ∷ code.H2 ∷ code.H3 ∷ code.H4 ∷ code.H5 ∷ code.H6 ∷ code.H7 ∷ code.H8 ∷ code.H9 ∷ code.H10 ∷
+    code.H11 ∷ code.H12 ∷ code.H13 ∷ code.H14 ∷ code.H15 ∷ code.H16 ∷
     []
 
 -- a code as it is printed
@@ -67,6 +71,22 @@ name_of code.Y5 = codes "Y5"
 name_of code.P1 = codes "P1"
 name_of code.P2 = codes "P2"
 name_of code.P3 = codes "P3"
+name_of code.H1 = codes "H1"
+name_of code.H2 = codes "H2"
+name_of code.H3 = codes "H3"
+name_of code.H4 = codes "H4"
+name_of code.H5 = codes "H5"
+name_of code.H6 = codes "H6"
+name_of code.H7 = codes "H7"
+name_of code.H8 = codes "H8"
+name_of code.H9 = codes "H9"
+name_of code.H10 = codes "H10"
+name_of code.H11 = codes "H11"
+name_of code.H12 = codes "H12"
+name_of code.H13 = codes "H13"
+name_of code.H14 = codes "H14"
+name_of code.H15 = codes "H15"
+name_of code.H16 = codes "H16"
 
 -- the page of text about a code
 abbrev pub text_of : Code → List ℕ
@@ -114,6 +134,22 @@ text_of code.Y5 = of_layout.Y5.now
 text_of code.P1 = of_trace.P1.now
 text_of code.P2 = of_trace.P2.now
 text_of code.P3 = of_trace.P3.now
+text_of code.H1 = first_of_records.H1.now
+text_of code.H2 = first_of_records.H2.now
+text_of code.H3 = first_of_records.H3.now
+text_of code.H4 = first_of_records.H4.now
+text_of code.H5 = first_of_records.H5.now
+text_of code.H6 = first_of_records.H6.now
+text_of code.H7 = first_of_records.H7.now
+text_of code.H8 = first_of_records.H8.now
+text_of code.H9 = first_of_records.H9.now
+text_of code.H10 = first_of_records.H10.now
+text_of code.H11 = further_of_records.H11.now
+text_of code.H12 = further_of_records.H12.now
+text_of code.H13 = further_of_records.H13.now
+text_of code.H14 = further_of_records.H14.now
+text_of code.H15 = further_of_records.H15.now
+text_of code.H16 = further_of_records.H16.now
 
 -- the code of this name, in upper or lower case
 unfoldable pub code_named : (name : List ℕ) → Option Code

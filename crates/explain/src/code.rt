@@ -1,11 +1,12 @@
 //! The codes that are printed of refusals and faults.
+ghost use Rattle.std.specs.Str.{str_eq_ignore_ascii_case};
 ghost use Rattle.std.specs.Prelude.{◌≡◌};
 ghost use Rattle.std.specs.Array.Iter.{array_into_iter_items};
 ghost use Rattle.explain.specs.Codes.{all_codes, code_named, name_of, text_of};
 
 use crate::{
-    certificate_texts, layout_texts, module_texts, rule_texts_from_1, rule_texts_from_11,
-    trace_texts,
+    certificate_texts, layout_texts, module_texts, record_texts_from_1, record_texts_from_11,
+    rule_texts_from_1, rule_texts_from_11, trace_texts,
 };
 use std::array;
 
@@ -56,11 +57,27 @@ pub enum Code {
     P1,
     P2,
     P3,
+    H1,
+    H2,
+    H3,
+    H4,
+    H5,
+    H6,
+    H7,
+    H8,
+    H9,
+    H10,
+    H11,
+    H12,
+    H13,
+    H14,
+    H15,
+    H16,
 }
 
 impl Code {
     /// All codes.
-    fn all() -> array::IntoIter<Code, 44>
+    fn all() -> array::IntoIter<Code, 60>
         ensures { array_into_iter_items result ≡ all_codes }
     {
         [
@@ -108,6 +125,22 @@ impl Code {
             Code::P1,
             Code::P2,
             Code::P3,
+            Code::H1,
+            Code::H2,
+            Code::H3,
+            Code::H4,
+            Code::H5,
+            Code::H6,
+            Code::H7,
+            Code::H8,
+            Code::H9,
+            Code::H10,
+            Code::H11,
+            Code::H12,
+            Code::H13,
+            Code::H14,
+            Code::H15,
+            Code::H16,
         ]
         .into_iter()
     }
@@ -161,6 +194,22 @@ impl Code {
             Code::P1 => "P1",
             Code::P2 => "P2",
             Code::P3 => "P3",
+            Code::H1 => "H1",
+            Code::H2 => "H2",
+            Code::H3 => "H3",
+            Code::H4 => "H4",
+            Code::H5 => "H5",
+            Code::H6 => "H6",
+            Code::H7 => "H7",
+            Code::H8 => "H8",
+            Code::H9 => "H9",
+            Code::H10 => "H10",
+            Code::H11 => "H11",
+            Code::H12 => "H12",
+            Code::H13 => "H13",
+            Code::H14 => "H14",
+            Code::H15 => "H15",
+            Code::H16 => "H16",
         }
     }
 
@@ -213,7 +262,30 @@ impl Code {
             Code::P1 => trace_texts::P1,
             Code::P2 => trace_texts::P2,
             Code::P3 => trace_texts::P3,
+            Code::H1 => record_texts_from_1::H1,
+            Code::H2 => record_texts_from_1::H2,
+            Code::H3 => record_texts_from_1::H3,
+            Code::H4 => record_texts_from_1::H4,
+            Code::H5 => record_texts_from_1::H5,
+            Code::H6 => record_texts_from_1::H6,
+            Code::H7 => record_texts_from_1::H7,
+            Code::H8 => record_texts_from_1::H8,
+            Code::H9 => record_texts_from_1::H9,
+            Code::H10 => record_texts_from_1::H10,
+            Code::H11 => record_texts_from_11::H11,
+            Code::H12 => record_texts_from_11::H12,
+            Code::H13 => record_texts_from_11::H13,
+            Code::H14 => record_texts_from_11::H14,
+            Code::H15 => record_texts_from_11::H15,
+            Code::H16 => record_texts_from_11::H16,
         }
+    }
+
+    /// Whether this is its name, in upper or lower case.
+    fn is_named(self, name: &str) -> bool
+        ensures { result ≡ str_eq_ignore_ascii_case (name_of self) name.now }
+    {
+        self.name().eq_ignore_ascii_case(name)
     }
 
     /// The code of this name, in upper or lower case.
@@ -221,7 +293,7 @@ impl Code {
         ensures { result ≡ code_named name.now }
     {
         for code in Code::all() {
-            if code.name().eq_ignore_ascii_case(name) {
+            if code.is_named(name) {
                 return Some(code);
             }
         }

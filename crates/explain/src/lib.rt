@@ -6,6 +6,8 @@ mod code;
 mod layout_texts;
 mod list_texts;
 mod module_texts;
+mod record_texts_from_1;
+mod record_texts_from_11;
 mod rule_texts_from_1;
 mod rule_texts_from_11;
 mod trace_texts;

@@ -57,4 +57,22 @@ Faults of a trace's text:
   P1   a word of a trace with which no form goes on
   P2   a step of a thread that does not begin
   P3   more steps than the limit
+
+Rules of recorded runs:
+  H1   no such actor, or no step of it is of this kind
+  H2   the thread's call does not go on by such a step
+  H3   the word held another value than is recorded
+  H4   a store after the barrier comes too early, or is not that of its barrier
+  H5   the roots of an answer are not those that were marked
+  H6   a stage is stored that is not the one to store
+  H7   a cell is used that the thread does not hold
+  H8   the cell has no such word, or it holds no references
+  H9   a value is stored that may not stand in the word
+  H10  a reference is stored plainly into a cell that is not fresh
+  H11  a root is named that the thread does not hold
+  H12  a cell is tried that may not be tried now
+  H13  a look at a colour that no place of the collector allows
+  H14  a cell is cleared or freed that may not be
+  H15  a stage is posted that may not be posted now
+  H16  a step of the collector out of its order
 ";

@@ -276,8 +276,8 @@ pub fn put_read_fault(pen: Pen, out: &mut Message, named: NamedText, fault: &Rea
     }
 }
 
-/// A fault of a text as a whole.
-pub(crate) fn put_whole_fault(out: &mut Message, pen: Pen, path: &str, code: Code) {
+/// A fault of a file as a whole: its path, and the rule.
+pub fn put_whole_fault(out: &mut Message, pen: Pen, path: &str, code: Code) {
     out.put_inked(pen.look, Ink::Place, path);
     put_rule(out, pen, code)
 }

@@ -12,5 +12,6 @@ mod unrooted;
 
 pub use faults::{
     CheckedTexts, put_cert_fault, put_edits_fault, put_fault_of, put_layout_fault, put_read_fault,
+    put_whole_fault,
 };
 pub use traces::{TracedTexts, put_trace_fault};

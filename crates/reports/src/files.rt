@@ -33,6 +33,7 @@ pub struct Files<'a> {
     pub shapes: Option<File<'a>>,
     pub trace: Option<File<'a>>,
     pub edits: Option<File<'a>>,
+    pub of_record: Option<File<'a>>,
     /// Whether the command is to write a file of its own.
     pub saves: bool,
 }

@@ -6,7 +6,7 @@ use std::marker::Model;
 
 /// A set of cells that is emptied in one step. A cell is in the set if it has the stamp of the present round.
 #[derive(Drop)]
-pub(crate) struct CellSet {
+pub struct CellSet {
     stamps: Vec<u32>,
     round: u32,
 }
@@ -24,7 +24,7 @@ impl Model for CellSet {
 
 impl CellSet {
     /// The empty set, of this number of cells.
-    pub(crate) fn new(alloc: Global, cells: u32) -> Result<Self, AllocError>
+    pub fn new(alloc: Global, cells: u32) -> Result<Self, AllocError>
         ensures { IfOk result (λ set. set ≡ replicate cells false) }
     {
         let stamps = Vec::from_elem(alloc, 0, cells as usize)?;
@@ -32,7 +32,7 @@ impl CellSet {
     }
 
     /// Whether the cell is in the set; one without a stamp never is.
-    pub(crate) fn has(&self, cell: u32) -> bool
+    pub fn has(&self, cell: u32) -> bool
         ensures { result ≡ has self.now cell }
     {
         match self.stamps.get(cell as usize) {
@@ -42,7 +42,7 @@ impl CellSet {
     }
 
     /// The set with this cell too; one without a stamp is left out.
-    pub(crate) fn add(&mut self, cell: u32)
+    pub fn add(&mut self, cell: u32)
         ensures { self.new ≡ slice_set self.old cell true }
     {
         let place = cell as usize;
@@ -52,7 +52,7 @@ impl CellSet {
     }
 
     /// The set with these cells too, null left out.
-    pub(crate) fn add_all(&mut self, cells: &[u32])
+    pub fn add_all(&mut self, cells: &[u32])
         ensures { self.new ≡ with_cells self.old cells.now }
     {
         for cell in cells {
@@ -70,7 +70,7 @@ impl CellSet {
     }
 
     /// The set without this cell.
-    pub(crate) fn remove(&mut self, cell: u32)
+    pub fn remove(&mut self, cell: u32)
         ensures { self.new ≡ slice_set self.old cell false }
     {
         let place = cell as usize;
@@ -82,7 +82,7 @@ impl CellSet {
     /// The empty set: a new round begins. At the last number of a round each cell gets the stamp of no round, and the rounds
     /// begin anew.
     #[tactic(auto, using(crate::proofs::Rounds::emptied))]
-    pub(crate) fn clear(&mut self)
+    pub fn clear(&mut self)
         ensures { self.new ≡ replicate (length self.old) false }
     {
         if self.round == u32::MAX {

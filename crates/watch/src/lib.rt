@@ -5,4 +5,5 @@
 mod cell_set;
 mod holdings;
 
+pub use cell_set::CellSet;
 pub use holdings::{Holdings, others_law};

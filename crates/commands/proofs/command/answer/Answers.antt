@@ -28,3 +28,6 @@ returns-in-Migrate-clause-said g c = rw c.in-Migrate.is (IfOk-weaker c.migrate_f
 
 pub returns-in-Replay-clause-said : goal.returns-in-Replay-clause-said
 returns-in-Replay-clause-said g c = rw c.in-Replay.is c.replay_files.ensures.said
+
+pub returns-in-Conform-clause-said : goal.returns-in-Conform-clause-said
+returns-in-Conform-clause-said g c = rw c.in-Conform.is (IfOk-weaker c.conform_files.result _ _ (λ status says. (_, says, refl, refl)) c.conform_files.ensures)

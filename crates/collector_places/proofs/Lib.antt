@@ -1,0 +1,7 @@
+mod WordPlaces
+mod CountLemmas
+mod PassLemmas
+mod Moves
+mod Looks
+mod Spotted
+mod WordsThere

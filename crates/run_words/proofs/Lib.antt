@@ -1,0 +1,3 @@
+mod Beginning
+mod Indexing
+mod Steps

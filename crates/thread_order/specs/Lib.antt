@@ -1,0 +1,5 @@
+pub mod Marks
+pub mod Standings
+pub mod Follows
+pub mod Orders
+pub mod View
