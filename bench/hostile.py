@@ -57,13 +57,14 @@ PRINTED = {
     "soak": {0: rb"sound \d+ (?:biased )?seeds\n",
              1: rb"broken (?:biased )?seed \d+ \d+ " + CAUSE + rb"(?:shorter \d+ " + CAUSE + rb"tries \d+\n)?"},
     "run": {0: rb"(?:" + THREAD + rb")*collector turns \d+ cycles \d+\n", 1: REFUSED},
+    "conform": {0: rb"conforms \d+\n", 1: rb"no \d+ (?:t \d+|c) H\d+\n"},
 }
 # what it may print on the standard error where there is no answer; an explanation may come after it
 FAULTS = {2: FAULT, 3: rb"error memory\n", 4: rb"(?s:error.*)\n"}
 PRINTED = {command: {status: re.compile(text) for status, text in by_status.items()} for command, by_status in PRINTED.items()}
 FAULTS = {status: re.compile(text) for status, text in FAULTS.items()}
 # of how many cases in a hundred this is the command
-SHARES = {"check": 42, "recheck": 14, "replay": 14, "make": 10, "run": 8, "soak": 6, "migrate": 6}
+SHARES = {"check": 40, "recheck": 13, "replay": 13, "make": 9, "run": 8, "conform": 6, "soak": 6, "migrate": 5}
 # options that a case may have beside those of its row
 OPTIONS = {
     "check": [["--explain", "always"], ["--explain", "always"], ["--workers", "4"], ["--all"]],
@@ -72,6 +73,7 @@ OPTIONS = {
     "replay": [["--explain", "always"], ["--steps"], ["--json", "steps.json"]],
     "soak": [["--save", "saved.trace"], ["--bias"], ["--shrink", "--tries", "20"]],
     "run": [["--explain", "always"]],
+    "conform": [["--explain", "always"]],
 }
 
 

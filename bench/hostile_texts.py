@@ -4,13 +4,15 @@ import os
 import re
 from dataclasses import dataclass
 
-COMMANDS = ("check", "make", "recheck", "replay", "soak", "run", "migrate")
+COMMANDS = ("check", "make", "recheck", "replay", "soak", "run", "conform", "migrate")
 TOKEN = re.compile(rb'"[^"\n]*"|[%@!#]?[-a-zA-Z$._0-9]+|\s+|.', re.S)
 NUMBER, NAME = re.compile(rb"(?<![-a-zA-Z$._0-9])-?\d+"), re.compile(rb"[%@][-a-zA-Z$._0-9]+")
 WORD = re.compile(rb"(?<![-%@!#$._0-9a-zA-Z])[a-z][a-z0-9]*\*{0,2}")
 NUMBERS = [b"0", b"1", b"2", b"63", b"64", b"65", b"255", b"65535", b"65536", b"1048576", b"2147483647", b"2147483648", b"4294967295",
            b"4294967296", b"9223372036854775807", b"9223372036854775808", b"-9223372036854775808", b"18446744073709551615",
            b"18446744073709551616", b"99999999999999999999999999", b"-1", b"00", b"10000001"]
+# how many bytes an entry of a record has
+ENTRY = 16
 MOST = {"--seeds": 5, "--steps": 1000, "--turns": 1000}
 BYTES = [0, 9, 10, 13, 32, 34, 37, 40, 41, 44, 58, 59, 64, 91, 92, 93, 123, 125, 127, 128, 255]
 
@@ -211,12 +213,34 @@ def with_many(draw, text, _name, _tokens):
     return b"".join(parts[:at]) + parts[at] * times + b"".join(parts[at + 1:])
 
 
+def with_entries(draw, text, _name, _tokens):
+    """Entries of a record are left out, written again or swapped, or one byte of an entry is another one."""
+    entries = [text[at:at + ENTRY] for at in range(0, len(text), ENTRY)]
+    for _ in range(draw.randrange(1, 4)):
+        if not entries:
+            break
+        here, there, how = draw.randrange(len(entries)), draw.randrange(len(entries)), draw.randrange(5)
+        if how == 0:
+            del entries[here]
+        elif how == 1:
+            entries.insert(there, entries[here])
+        elif how == 2:
+            entries[here], entries[there] = entries[there], entries[here]
+        else:
+            at, byte = draw.choice([0, 1, 2, 4, 5, 8, 9, 15]), draw.choice([0, 1, 2, 3, 7, 9, 13, 21, 24, 128, 254, 255])
+            entries[here] = entries[here][:at] + bytes([byte]) + entries[here][at + 1:]
+    return b"".join(entries)
+
+
+# how a record is changed
+RECORD_WAYS = [with_bytes, with_cut] + 4 * [with_entries]
 # how a text is changed, and how often in this way; the last ones leave the most texts that are read
 WAYS = [with_bytes, with_cut, with_tokens, with_other, with_many] + 2 * [with_lines] + 3 * [with_numbers, with_words] + 6 * [with_names, with_steps]
 
 
 def changed(draw, text, name, tokens):
     """A text with one change, or a few."""
+    ways = RECORD_WAYS if end_of(name) == "record" else WAYS
     for _ in range(draw.choice([1, 1, 1, 1, 2, 3])):
-        text = draw.choice(WAYS)(draw, text, name, tokens)
+        text = draw.choice(ways)(draw, text, name, tokens)
     return text

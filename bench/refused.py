@@ -29,6 +29,7 @@ SWAP = f"{TOP}/examples/swap/typed"
 ROWS = f"{TOP}/crates/dgc_tests/data/rows"
 KEPT = f"{ROWS}/register_kept_for_ever"
 SAFE, RACE = f"{SWAP}/barrier.ll {SWAP}/two.trace", f"{SWAP}/plain.ll {SWAP}/race.trace"
+RECORDED = ("module.ll", "trace", "record")
 SECONDS, BATCH, SHORT_EVERY = 60, 200, 7
 # how many wrong runs of a command are told
 MOST_TOLD = 3
@@ -53,6 +54,9 @@ COMMANDS = {
     "hunt, broken": f"hunt --tries 9 {ROWS}/hunted_stores_without_the_barrier/module.ll",
     "soak, saved": f"soak {KEPT}/module.ll {KEPT}/module.trace --seeds 60 --steps 45 --save saved",
     "run": f"run {SWAP}/barrier.ll {SWAP}/swap.cert {SWAP}/two.trace --steps 50 --turns 1000",
+    "conform": "conform " + " ".join(f"{ROWS}/record_of_a_cycle/{name}" for name in RECORDED),
+    "conform, no": "conform " + " ".join(f"{ROWS}/record_explained_of_a_look/{name}" for name in RECORDED),
+    "conform, explained": "conform " + " ".join(f"{ROWS}/record_explained_of_a_look/{name}" for name in RECORDED) + " --explain always",
     "explain": "explain",
     "explain K6": "explain K6",
     "help": "--help",
