@@ -1,2 +1,3 @@
 pub mod SlotRoots
 pub mod WordSets
+pub mod ClaimRuns

@@ -5,3 +5,4 @@ pub mod Fits
 pub mod Families
 pub mod ShapesFit
 pub mod Plain
+pub mod Runs

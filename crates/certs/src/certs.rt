@@ -52,8 +52,8 @@ impl Certs {
         self.shapes.as_ref()
     }
 
-    /// Whether the sections are those of this module. It takes no memory: of each block the claims are compared with one
-    /// another, and for each slot the function's instructions are gone over once for each bitcast between an alloca and a gcroot call.
+    /// Whether the sections are those of this module. It takes no memory. Of each block the claims that come in the order of their values are
+    /// searched by halves, and others are compared with one another. For each slot the function's instructions are gone over once for each bitcast between an alloca and a gcroot call.
     pub fn sections_fit(&self, module: &Module) -> bool
         ensures { result ≡ spec.fits «module».now self.now.sections }
     {

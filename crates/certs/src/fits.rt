@@ -1,11 +1,12 @@
 //! Which certificates are certificates of a module.
-ghost use Rattle.std.specs.Prelude.{◌≡◌, ◌&&◌, drop};
+ghost use Rattle.std.specs.Prelude.{◌≡◌, ◌&&◌};
 ghost use Rattle.std.specs.List.{list_all, list_any, range_with_len, zip};
 ghost use Rattle.pools.specs.WordSets.{has_word};
 ghost use Rattle.certs.specs.Fits as spec;
 
 use crate::family::{Family, family_of_type, family_of_value};
 use crate::roots::is_root_found;
+use crate::runs::{all_named_listed, lists_once};
 use crate::section::{Claim, Fact, Promise, Section};
 use ir_ast::{Function, LocalSort, Module, Parameter, ValueId};
 use items::Items;
@@ -184,7 +185,7 @@ fn claim_fits(module: &Module, function: &Function, claim: &Claim) -> bool
     }
 }
 
-fn lists(value: ValueId, claim: &Claim) -> bool
+pub(crate) fn lists(value: ValueId, claim: &Claim) -> bool
     ensures { result ≡ spec.lists value claim.now }
 {
     match claim {
@@ -193,7 +194,7 @@ fn lists(value: ValueId, claim: &Claim) -> bool
     }
 }
 
-fn lists_slot(slot: ValueId, claim: &Claim) -> bool
+pub(crate) fn lists_slot(slot: ValueId, claim: &Claim) -> bool
     ensures { result ≡ spec.lists_slot slot claim.now }
 {
     match claim {
@@ -202,40 +203,10 @@ fn lists_slot(slot: ValueId, claim: &Claim) -> bool
     }
 }
 
-fn some_lists(claims: &[Claim], value: ValueId) -> bool
+pub(crate) fn some_lists(claims: &[Claim], value: ValueId) -> bool
     ensures { result ≡ list_any (spec.lists value) claims.now }
 {
     claims.iter().any(|claim| lists(value, claim))
-}
-
-fn some_lists_slot(claims: &[Claim], slot: ValueId) -> bool
-    ensures { result ≡ list_any (spec.lists_slot slot) claims.now }
-{
-    claims.iter().any(|claim| lists_slot(slot, claim))
-}
-
-/// Whether some claim lists what this one lists.
-fn is_listed(claims: &[Claim], claim: &Claim) -> bool
-    ensures { result ≡ spec.is_listed claims.now claim.now }
-{
-    match claim {
-        Claim::Value { value, .. } => some_lists(claims, *value),
-        Claim::Slot { slot, .. } => some_lists_slot(claims, *slot),
-    }
-}
-
-/// Whether no value and no slot is listed twice.
-fn lists_once(claims: &[Claim]) -> bool
-    ensures { result ≡ spec.lists_once claims.now }
-{
-    let mut rest = claims;
-    while let [claim, afterwards @ ..] = rest {
-        if is_listed(afterwards, claim) {
-            return false;
-        }
-        rest = afterwards;
-    }
-    true
 }
 
 fn named_in_fact(fact: &Fact) -> Option<ValueId>
@@ -249,21 +220,12 @@ fn named_in_fact(fact: &Fact) -> Option<ValueId>
 }
 
 /// The value that a claim names besides the one that it lists.
-fn named_in(claim: &Claim) -> Option<ValueId>
+pub(crate) fn named_in(claim: &Claim) -> Option<ValueId>
     ensures { result ≡ spec.named_in claim.now }
 {
     match claim {
         Claim::Value { fact, .. } => named_in_fact(fact),
         Claim::Slot { holds, .. } => *holds,
-    }
-}
-
-fn lists_named(claims: &[Claim], value: Option<ValueId>) -> bool
-    ensures { result ≡ spec.lists_named claims.now value }
-{
-    match value {
-        None => true,
-        Some(value) => some_lists(claims, value),
     }
 }
 
@@ -273,14 +235,6 @@ fn each_claim_fits(module: &Module, function: &Function, claims: &[Claim]) -> bo
     claims
         .iter()
         .all(|claim| claim_fits(module, function, claim))
-}
-
-fn all_named_listed(claims: &[Claim]) -> bool
-    ensures { result ≡ spec.all_named_listed claims.now }
-{
-    claims
-        .iter()
-        .all(|claim| lists_named(claims, named_in(claim)))
 }
 
 /// Whether they may be the claims of a block.

@@ -5,6 +5,7 @@ mod certs;
 mod family;
 mod fits;
 mod roots;
+mod runs;
 mod section;
 mod shapes;
 

@@ -308,5 +308,8 @@ pub fn word_kind(word: &[u8]) -> Kind
     if is_integer_type(word) {
         return Kind::IntegerType;
     }
-    keyword(word).unwrap_or(other_word(word))
+    match keyword(word) {
+        Some(kind) => kind,
+        None => other_word(word),
+    }
 }

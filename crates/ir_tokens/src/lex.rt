@@ -1,9 +1,9 @@
 //! Bytes to tokens.
-ghost use Rattle.std.specs.Prelude.{◌≡◌, ◌≤◌, ◌<◌, ◌-◌, ◌||◌, [], length, true, false, IfOk};
+ghost use Rattle.std.specs.Prelude.{◌≡◌, ◌≤◌, ◌<◌, ◌-◌, ◌==◌, ◌||◌, [], length, true, false, IfOk};
 ghost use Rattle.ir_tokens.specs.Bytes.{shown};
 ghost use Rattle.ir_tokens.specs.Form as form;
 ghost use Rattle.ir_tokens.specs.Tokens as spec;
-ghost use Rattle.ir_tokens.specs.Tokens.{IsLexed, lexed_of, ends_line, before};
+ghost use Rattle.ir_tokens.specs.Tokens.{IsLexed, lexed_of, ends_line, before, is_blank};
 ghost use Rattle.ir_tokens.specs.declared.lexed.Lexed.{Lexed as ALexed};
 
 use crate::bytes::{digit_len, name_len, past_quoted};
@@ -172,29 +172,55 @@ fn token(bytes: &[u8]) -> Spelled<'_>
     }
 }
 
-/// The bytes from the next one on that is neither blank nor in a comment.
-#[tactic(auto, unfolding(crate::specs::Tokens::past_gap))]
-fn past_gap(bytes: &[u8]) -> &[u8]
-    ensures value { result.now ≡ spec.past_gap false bytes.now }
-    ensures within { length result.now ≤ length bytes.now }
+/// Whether a byte is blank, or begins a comment.
+fn is_gap(byte: u8) -> bool
+    ensures { result ≡ (byte == 59 || is_blank byte) }
 {
-    let mut is_comment = false;
-    for (i, byte) in bytes.iter().enumerate() {
-        if is_comment {
-            is_comment = *byte != b'\n';
-        } else if *byte == b';' {
-            is_comment = true;
-        } else if !matches!(*byte, b' ' | b'\t' | b'\n' | b'\r') {
-            return &bytes[i..];
-        }
-    }
-    &[]
+    byte <= b';' && matches!(byte, b';' | b' ' | b'\t' | b'\n' | b'\r')
 }
 
-fn ends_line(gap: &[u8]) -> bool
-    ensures { result ≡ ends_line gap.now }
+/// The bytes from the next one on that is neither blank nor in a comment, and whether a line ends before it. Mostly no byte or one
+/// space is before it.
+#[inline(always)]
+#[tactic(auto, unfolding(crate::specs::Tokens::past_gap))]
+fn past_gap(bytes: &[u8]) -> (&[u8], bool)
+    ensures value { result.0.now ≡ spec.past_gap false bytes.now }
+    ensures within { length result.0.now ≤ length bytes.now }
+    ensures ends { result.1 ≡ ends_line (before bytes.now (spec.past_gap false bytes.now)) }
 {
-    gap.iter().any(|byte| *byte == b'\n')
+    match bytes {
+        [b' ', rest @ ..] => match rest {
+            [second, ..] if !is_gap(*second) => (rest, false),
+            _ => past_long_gap(bytes),
+        },
+        [first, ..] if !is_gap(*first) => (bytes, false),
+        _ => past_long_gap(bytes),
+    }
+}
+
+/// The same, byte by byte.
+#[inline(never)]
+#[tactic(auto, unfolding(crate::specs::Tokens::past_gap))]
+fn past_long_gap(bytes: &[u8]) -> (&[u8], bool)
+    ensures value { result.0.now ≡ spec.past_gap false bytes.now }
+    ensures within { length result.0.now ≤ length bytes.now }
+    ensures ends { result.1 ≡ ends_line (before bytes.now (spec.past_gap false bytes.now)) }
+{
+    let mut is_comment = false;
+    let mut ends = false;
+    for (i, byte) in bytes.iter().enumerate() {
+        if *byte == b'\n' {
+            ends = true;
+            is_comment = false;
+        } else if !is_comment {
+            if *byte == b';' {
+                is_comment = true;
+            } else if !matches!(*byte, b' ' | b'\t' | b'\r') {
+                return (&bytes[i..], ends);
+            }
+        }
+    }
+    (&[], ends)
 }
 
 fn lex(alloc: Global, bytes: &[u8]) -> Result<Lexed, AllocError>
@@ -205,11 +231,11 @@ fn lex(alloc: Global, bytes: &[u8]) -> Result<Lexed, AllocError>
     let mut rest = bytes;
     let mut is_first = true;
     for _turn in 0..bytes.len() {
-        let at = past_gap(rest);
+        let (at, ends) = past_gap(rest);
         if at.is_empty() {
             return Ok(Lexed { tokens, bad: None });
         }
-        let begins_line = is_first || ends_line(&rest[..rest.len() - at.len()]);
+        let begins_line = is_first || ends;
         let start = bytes.len().saturating_sub(at.len()) as u32;
         let Some((kind, after)) = token(at) else {
             return Ok(Lexed {
@@ -227,7 +253,7 @@ fn lex(alloc: Global, bytes: &[u8]) -> Result<Lexed, AllocError>
         rest = after;
         is_first = false;
     }
-    let at = past_gap(rest);
+    let (at, _) = past_gap(rest);
     let bad = if at.is_empty() {
         None
     } else {
