@@ -7,6 +7,7 @@ It runs the checks of the pages that are made (crates.py, rules.py, names.py) an
 docs/ARCHITECTURE.md, docs/GLOSSARY.md, docs/ASSURANCE.md and the others say of files and crates:
 
     layers      each crate of crates.txt is in one layer, and the layers are in its order
+    picture     each layer's arrows lead to the layers that it uses, but for those that another of them stands on
     shared      which crates of text and rules use one of the collector's, and what they name of it
     touched     how many files a change touches, by the lists below the table, and by the words that it names
     links       each link of a document leads to a file, and each heading of it that is named is there
@@ -79,6 +80,30 @@ def check_layers():
             yield f"{crate} is in {held.count(crate)} layers"
     if held != order and sorted(held) == sorted(order):
         yield "the layers are not in the order of crates.txt"
+
+
+def uses_of_layers():
+    """For each layer the layers of the crates that its crates use."""
+    of = {crate: layer for layer, crates in layers() for crate in crates}
+    found = {layer: set() for layer, _ in layers()}
+    for name, _, used in listed():
+        found[of[name]] |= {of[use] for use in used if use in of} - {of[name]}
+    return found
+
+
+def below(layer, uses):
+    """All layers that a layer stands on."""
+    return uses[layer] | {low for use in uses[layer] for low in below(use, uses)}
+
+
+def check_picture():
+    text = section("ARCHITECTURE.md", "The layers")
+    drawn = {tuple(name.replace("_", " ") for name in arrow) for arrow in re.findall(r"^  (\w+)(?:\[.*?\])? --> (\w+)", text, re.M)}
+    dotted = {tuple(name.replace("_", " ") for name in arrow) for arrow in re.findall(r"^  (\w+) -\. \w+ \.-> (\w+)", text, re.M)}
+    uses = {layer: used - {low for high, low in dotted if high == layer} for layer, used in uses_of_layers().items()}
+    wanted = {(layer, use) for layer in uses for use in uses[layer] if not any(use in below(other, uses) for other in uses[layer] - {use})}
+    for high, low in sorted(drawn ^ wanted):
+        yield f"the picture {'has' if (high, low) in drawn else 'lacks'} the arrow from {high} to {low}"
 
 
 def check_shared():
@@ -198,7 +223,7 @@ def check_page(*words):
 
 
 CHECKS = {
-    "crates": check_page("crates.py", "--check"), "rules": check_page("rules.py", "--check"), "names": check_page("names.py", "--check"), "examples": check_page("examples.py"), "layers": check_layers,
+    "crates": check_page("crates.py", "--check"), "rules": check_page("rules.py", "--check"), "names": check_page("names.py", "--check"), "examples": check_page("examples.py"), "layers": check_layers, "picture": check_picture,
     "shared": check_shared, "touched": check_touched, "links": check_links, "glossary": check_glossary, "counts": check_counts,
 }
 

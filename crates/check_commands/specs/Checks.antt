@@ -9,7 +9,7 @@ use Rattle.certs.specs.Fits.{fits}
 use Rattle.certs.specs.declared.certs.Certs.{Certs}
 use Rattle.certs.specs.declared.section.Section.{Section}
 use Rattle.certificate.specs.Print.{cert_text}
-use Rattle.certs.specs.Plain.{plain}
+use Rattle.cert_maker.specs.Made.{IsPlainlyRefused}
 use Rattle.block_rules.specs.declared.block_fault.Refusal.{Refusal}
 use Rattle.module_check.specs.Accepted.{IsAccepted, IsFirstRefusal, shaped}
 use Rattle.command_line.specs.declared.options.Refusals.{Refusals}
@@ -71,8 +71,8 @@ pub data OfCerts (refusals : Refusals) (m : Module) (certs : Certs) : Said → T
 -- plain ones are refused, and if asked for the first refusal with some that fit it; the fault of the layouts; or that memory was refused
 pub data OfMade (why : Why) (m : Module) : Said → Type 0 where
   made : (certs : Certs) → fits m certs.sections ≡ true → certs.shapes ≡ m.shapes → IsAccepted m certs.sections → OfMade why m (OnOutput (made_text (cert_text certs m)))
-  none_made : (IsAccepted m (plain m) → ⊥) → OfMade why m (OnOutput no_answer)
-  none_made_why : (certs : List Section) (refusal : Refusal) → why ≡ Wanted → (IsAccepted m (plain m) → ⊥) → fits m certs ≡ true → IsFirstRefusal m certs refusal
+  none_made : IsPlainlyRefused m → OfMade why m (OnOutput no_answer)
+  none_made_why : (certs : List Section) (refusal : Refusal) → why ≡ Wanted → IsPlainlyRefused m → fits m certs ≡ true → IsFirstRefusal m certs refusal
       → OfMade why m (OnBoth no_answer (no m (line_of certs m refusal.func refusal.detail) refusal).text)
   without_layouts : (fault : LayoutFault) → IsLayoutFault m fault → OfMade why m (OnError (of_layout_fault m fault))
   not_made : OfMade why m (OnError no_memory)

@@ -3,8 +3,7 @@ ghost use Rattle.std.specs.Prelude.{◌≡◌, IfOk, IfSome, true};
 ghost use Rattle.certs.specs.Fits.{fits};
 ghost use Rattle.module_check.specs.Accepted.{IsAccepted};
 ghost use Rattle.layout.specs.Layouts.{IsLayoutFault};
-ghost use Rattle.cert_maker.specs.Made.{IfLayout, IsRefusedWith};
-ghost use Rattle.certs.specs.Plain.{plain};
+ghost use Rattle.cert_maker.specs.Made.{IfLayout, IsPlainlyRefused, IsRefusedWith};
 ghost use Rattle.cert_maker.specs.declared.made.MakeFault.TheVariants as fault;
 ghost use Rattle.check_commands.specs.Checks.{OfMade, OfMake};
 ghost use Rattle.reports.specs.Said.{Says};
@@ -60,7 +59,7 @@ fn print_refused(
     tried: &Refused,
     outputs: &mut Outputs,
 ) -> io::Result<u8>
-    requires plain { IsAccepted of_module.now (plain of_module.now) → ⊥ }
+    requires plain { IsPlainlyRefused of_module.now }
     requires refused { IsRefusedWith of_module.now tried.now }
     ensures { IfOk result (Says (OfMade Wanted of_module.now) outputs.old outputs.new) }
 {
@@ -82,7 +81,7 @@ fn print_tried(
     why: Why,
     outputs: &mut Outputs,
 ) -> io::Result<u8>
-    requires plain { IsAccepted of_module.now (plain of_module.now) → ⊥ }
+    requires plain { IsPlainlyRefused of_module.now }
     requires refused { IsRefusedWith of_module.now tried.now }
     ensures { IfOk result (Says (OfMade why of_module.now) outputs.old outputs.new) }
 {
@@ -94,7 +93,7 @@ fn print_tried(
 
 /// Prints why no certificates are made.
 fn print_unmade(alloc: Global, unmade: &NotMade, why: Why, outputs: &mut Outputs) -> io::Result<u8>
-    requires none { unmade.now.fault ≡ fault.NoAnswer → IsAccepted unmade.now.of_module (plain unmade.now.of_module) → ⊥ }
+    requires plain { unmade.now.fault ≡ fault.NoAnswer → IsPlainlyRefused unmade.now.of_module }
     requires layout { IfLayout unmade.now.fault (IsLayoutFault unmade.now.of_module) }
     requires refused { IfSome unmade.now.refused (IsRefusedWith unmade.now.of_module) }
     ensures { IfOk result (Says (OfMade why unmade.now.of_module) outputs.old outputs.new) }

@@ -111,7 +111,7 @@ pub data OfSeeds (options : SoakOptions) (wanted : Bool) (p : LaidOut) (t : Trac
       → OfSeeds options wanted p t before after (OnOutput (of_seed options.search.draws at))
   shortened : (at : SeedBreak) (b : Break) (limit tries : ℕ) → options.shrink ≡ WithTries limit → tries ≤ limit → HasNoFault p t.setup → IsBroken options.search p t at
       → kind_of b.cause ≡ kind_of at.broken.cause → IsShorter p wanted b before after → OfSeeds options wanted p t before after (OnOutput (of_shorter options.search.draws at b tries))
-  too_long : (at : SeedBreak) → options.search.draws ≡ Uniform → HasNoFault p t.setup → IsBroken options.search p t at → 10000000 < at.broken.step → after ≡ before
+  too_long : (at : SeedBreak) → (options.shrink ≡ AsDrawn → wanted ≡ true) → options.search.draws ≡ Uniform → HasNoFault p t.setup → IsBroken options.search p t at → 10000000 < at.broken.step → after ≡ before
       → OfSeeds options wanted p t before after (of_too_long at)
   not_started : (fault : SetupFault) → (fault ≢ setup.Memory → IsSetupFault p t.setup fault) → after ≡ before → OfSeeds options wanted p t before after (OnError (of_setup_fault fault))
 

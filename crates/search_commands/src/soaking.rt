@@ -59,6 +59,7 @@ fn too_long(outputs: &mut Outputs, at: SeedBreak) -> io::Result<u8>
 fn wants_line_alone(soak: Soak) -> bool
     ensures shrink { result ≡ true → soak.options.shrink ≡ shrink.AsDrawn }
     ensures saves { result ≡ true → soak.saves ≡ false }
+    ensures wants { result ≡ false → soak.options.shrink ≡ shrink.AsDrawn → soak.saves ≡ true }
 {
     match soak.options.shrink {
         Shrink::AsDrawn => !soak.saves,

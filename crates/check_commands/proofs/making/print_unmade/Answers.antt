@@ -18,5 +18,5 @@ returns-in-Memory-default c = IfOk-weaker c.memory.result _ _ (λ status told. (
 pub returns-in-NoAnswer-default : goal.returns-in-NoAnswer-default
 returns-in-NoAnswer-default c =
     IfOk-weaker c.print_no_answer.result _ _
-    (λ status told. (OnOutput _, none_made (c.requires.none c.in-NoAnswer-default.is-0), (told, refl)))
+    (λ status told. (OnOutput _, none_made (c.requires.plain c.in-NoAnswer-default.is-0), (told, refl)))
     c.print_no_answer.ensures

@@ -36,7 +36,7 @@ returns-then-at-gt-STEP_LIMIT-clause-said g c =
     let at = c.args.at in
     let is_broken = subst (λ (draws : Draws). IsBrokenBy draws search traced.program traced.trace at) (sym c.requires.uniform) c.requires.least in
     IfOk-weaker c.too_long.result _ _
-    (λ status told. (of_too_long at, too_long at c.requires.uniform c.requires.no_fault is_broken c.if-at-gt-STEP_LIMIT.true refl, told))
+    (λ status told. (of_too_long at, too_long at (c.wants_line_alone.ensures.wants c.if-wants_line_alone.false) c.requires.uniform c.requires.no_fault is_broken c.if-at-gt-STEP_LIMIT.true refl, told))
     c.too_long.ensures
 
 pub returns-in-Ok-clause-said : goal.returns-in-Ok-clause-said
