@@ -15,11 +15,13 @@ looks_counted (PostStage stage) looks = replicate (length looks) 0
 looks_counted (ReadColour cell colour) looks = with_one_more looks cell
 looks_counted turn looks = looks
 
+-- how often each cell was found below grey by a mark since the last post, after a step of the collector
 abbrev pub shades_counted : (stage : ℕ) → Turn → List ℕ → List ℕ
 shades_counted stage (PostStage to) shades = replicate (length shades) 0
 shades_counted stage (MarkFound cell colour) shades = if is_below_grey stage colour then with_one_more shades cell else shades
 shades_counted stage turn shades = shades
 
+-- the stage that is posted after a step of the collector
 abbrev pub posted_by : Turn → (stage : ℕ) → ℕ
 posted_by (PostStage to) stage = to
 posted_by turn stage = stage

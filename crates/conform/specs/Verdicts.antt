@@ -84,5 +84,6 @@ abbrev pub IsCheckedTo : Setup → List Entry → RecordCheck → Option Verdict
 IsCheckedTo s entries v None = IsReadTo s entries v
 IsCheckedTo s entries v (Some told) = IsMet s (reverse entries) told
 
+-- the record is checked as far as these entries, with the verdict that the check holds
 abbrev pub IsChecked : Setup → List Entry → RecordCheck → Type 0
 IsChecked s entries v = IsCheckedTo s entries v v.broken

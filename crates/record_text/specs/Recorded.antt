@@ -36,10 +36,12 @@ turn_recorded e =
     else (if e.kind == 27 then Some (turn.ClearWord e.cell e.word)
     else (if e.kind == 28 then Some (turn.Free e.cell) else None)))))))
 
+-- what an entry of a thread says, if its kind is one of a thread's steps
 abbrev pub of_thread : (thread : ℕ) → Option ThreadStep → Recorded
 of_thread thread None = Unknown
 of_thread thread (Some step) = Thread thread step
 
+-- what an entry of the collector says, if its kind is one of the collector's steps
 abbrev pub of_collector : Option Turn → Recorded
 of_collector None = Unknown
 of_collector (Some turn) = Collector turn
