@@ -5,13 +5,11 @@ ghost use Rattle.block_check.specs.FunctionUnderCheck.{IsReady};
 ghost use Rattle.block_check.specs.RefusedBlocks.{AreOfBlocks};
 
 use crate::check::answer;
-use crate::edges::EdgeScratch;
-use crate::entry_facts::blank_facts;
 use crate::function_tables::FunctionTables;
+use crate::rooms::CheckRooms;
 use crate::under_check::{FunctionUnderCheck, function_of};
 use block_rules::{BlockFault, Refusal, RuleContext};
 use certs::Certs;
-use facts::Facts;
 use ir_ast::{BlockId, FuncId};
 use layout::Program;
 use std::alloc::{AllocError, Global};
@@ -53,23 +51,17 @@ fn refused_of(
     requires { IsReady under_check.now }
     ensures { IfOk result (λ found. AreOfBlocks under_check.now.context.program.now under_check.now.context.certs.now.sections under_check.now.func count found.items) }
 {
-    let mut facts = blank_facts(alloc, under_check)?;
-    let Ok(mut scratch) = EdgeScratch::new(alloc, under_check) else {
-        drop(facts);
-        return Err(AllocError);
-    };
-    let found = refused_with(alloc, under_check, &mut facts, &mut scratch, count);
-    drop(scratch);
-    drop(facts);
+    let mut rooms = CheckRooms::new(alloc)?;
+    let found = refused_with(alloc, under_check, &mut rooms, count);
+    drop(rooms);
     found
 }
 
-/// The same, with facts and scratch that are written anew for each block.
+/// The same in a room, which is written anew for each block.
 fn refused_with(
     alloc: Global,
     under_check: &FunctionUnderCheck,
-    facts: &mut Facts,
-    scratch: &mut EdgeScratch,
+    rooms: &mut CheckRooms,
     count: u32,
 ) -> Result<Vec<Refusal>, AllocError>
     requires { IsReady under_check.now }
@@ -77,14 +69,7 @@ fn refused_with(
 {
     let mut found = Vec::new(alloc);
     for number in 0..count {
-        add_block(
-            alloc,
-            under_check,
-            facts,
-            scratch,
-            BlockId::new(number),
-            &mut found,
-        )?;
+        add_block(alloc, under_check, rooms, BlockId::new(number), &mut found)?;
     }
     Ok(found)
 }
@@ -93,8 +78,7 @@ fn refused_with(
 fn add_block(
     alloc: Global,
     under_check: &FunctionUnderCheck,
-    facts: &mut Facts,
-    scratch: &mut EdgeScratch,
+    rooms: &mut CheckRooms,
     block: BlockId,
     found: &mut Vec<Refusal>,
 ) -> Result<(), AllocError>
@@ -102,7 +86,7 @@ fn add_block(
     requires before { AreOfBlocks under_check.now.context.program.now under_check.now.context.certs.now.sections under_check.now.func block found.old.items }
     ensures { OnOk result (AreOfBlocks under_check.now.context.program.now under_check.now.context.certs.now.sections under_check.now.func (block + 1) found.new.items) }
 {
-    match answer(alloc, under_check, facts, scratch, block) {
+    match answer(alloc, under_check, rooms, block) {
         Ok(()) => Ok(()),
         Err(BlockFault::Refused(refusal)) => {
             found.push(refusal)?;

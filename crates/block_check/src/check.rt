@@ -6,14 +6,13 @@ ghost use Rattle.block_check.specs.FunctionUnderCheck.{IsReady};
 ghost use Rattle.block_rules.specs.Functions.{blocks_in, AreBlocksCertified, IsFunctionCertified, IsFirstInFunction, IsFunctionFault};
 
 use crate::block_walk::BlockWalk;
-use crate::edges::EdgeScratch;
-use crate::entry_facts::blank_facts;
 use crate::function_tables::FunctionTables;
 use crate::kept_rows::Rows;
+use crate::rooms::CheckRooms;
 use crate::under_check::{FunctionUnderCheck, function_of};
 use block_rules::{BlockFault, Refusal, RuleContext};
 use certs::Certs;
-use facts::{Facts, KeptFacts};
+use facts::KeptFacts;
 use ir_ast::{BlockId, FuncId};
 use layout::Program;
 use std::alloc::Global;
@@ -64,7 +63,26 @@ pub fn check_function(
     ensures certified { IsFunctionCertified program.now certs.now.sections func → IsOkUnless result Memory }
     ensures refused { (refusal : Refusal) → IsFirstInFunction program.now certs.now.sections func (blocks_in program.now func) refusal → (result ≡ Err (Refused refusal)) ⊎ (result ≡ Err Memory) }
 {
-    answer_function(alloc, program, certs, &[], func)
+    let mut rooms = CheckRooms::new(alloc)?;
+    let answer = answer_function(alloc, &mut rooms, program, certs, &[], func);
+    drop(rooms);
+    answer
+}
+
+/// The same in a room that was made before.
+pub fn check_function_in(
+    alloc: Global,
+    rooms: &mut CheckRooms,
+    program: &Program,
+    certs: &Certs,
+    func: FuncId,
+) -> Result<(), BlockFault>
+    requires func { func < length program.now.of_module.functions }
+    ensures answer { MatchResult result (λ _. IsFunctionCertified program.now certs.now.sections func) (IsFunctionFault program.now certs.now.sections func (blocks_in program.now func)) }
+    ensures certified { IsFunctionCertified program.now certs.now.sections func → IsOkUnless result Memory }
+    ensures refused { (refusal : Refusal) → IsFirstInFunction program.now certs.now.sections func (blocks_in program.now func) refusal → (result ≡ Err (Refused refusal)) ⊎ (result ≡ Err Memory) }
+{
+    answer_function(alloc, rooms, program, certs, &[], func)
 }
 
 /// The same, where it was found before what the blocks of the function begin with.
@@ -81,7 +99,10 @@ pub fn check_function_rows(
     ensures certified { IsFunctionCertified program.now certs.now.sections func → IsOkUnless result Memory }
     ensures refused { (refusal : Refusal) → IsFirstInFunction program.now certs.now.sections func (blocks_in program.now func) refusal → (result ≡ Err (Refused refusal)) ⊎ (result ≡ Err Memory) }
 {
-    answer_function(alloc, program, certs, rows.blocks(), func)
+    let mut rooms = CheckRooms::new(alloc)?;
+    let answer = answer_function(alloc, &mut rooms, program, certs, rows.blocks(), func);
+    drop(rooms);
+    answer
 }
 
 fn answer_block(
@@ -117,19 +138,15 @@ fn answer_alone(
     requires { IsReady under_check.now }
     ensures { MatchResult result (λ _. BlockCertified under_check.now.context.program.now under_check.now.context.certs.now.sections under_check.now.func block) (λ fault. IfRefused fault (FirstRefusal under_check.now.context.program.now under_check.now.context.certs.now.sections under_check.now.func block)) }
 {
-    let mut facts = blank_facts(alloc, under_check)?;
-    let Ok(mut scratch) = EdgeScratch::new(alloc, under_check) else {
-        drop(facts);
-        return Err(BlockFault::Memory);
-    };
-    let answer = answer(alloc, under_check, &mut facts, &mut scratch, block);
-    drop(scratch);
-    drop(facts);
+    let mut rooms = CheckRooms::new(alloc)?;
+    let answer = answer(alloc, under_check, &mut rooms, block);
+    drop(rooms);
     answer
 }
 
 fn answer_function(
     alloc: Global,
+    rooms: &mut CheckRooms,
     program: &Program,
     certs: &Certs,
     rows: &[KeptFacts],
@@ -151,28 +168,27 @@ fn answer_function(
         function,
         slots: &tables.slots,
     };
-    let answer = answer_blocks(alloc, &tables.under_check(context, func, rows), count);
+    let answer = answer_blocks(
+        alloc,
+        rooms,
+        &tables.under_check(context, func, rows),
+        count,
+    );
     drop(tables);
     answer
 }
 
 fn answer_blocks(
     alloc: Global,
+    rooms: &mut CheckRooms,
     under_check: &FunctionUnderCheck,
     count: u32,
 ) -> Result<(), BlockFault>
     requires { IsReady under_check.now }
     ensures { MatchResult result (λ _. AreBlocksCertified under_check.now.context.program.now under_check.now.context.certs.now.sections under_check.now.func count) (IsFunctionFault under_check.now.context.program.now under_check.now.context.certs.now.sections under_check.now.func count) }
 {
-    let mut facts = blank_facts(alloc, under_check)?;
-    let Ok(mut scratch) = EdgeScratch::new(alloc, under_check) else {
-        drop(facts);
-        return Err(BlockFault::Memory);
-    };
-    let fault = first_fault(alloc, under_check, &mut facts, &mut scratch, count);
-    drop(scratch);
-    drop(facts);
-    match fault {
+    rooms.scratch.make_room(alloc, under_check)?;
+    match first_fault(alloc, rooms, under_check, count) {
         Some(fault) => Err(fault),
         None => Ok(()),
     }
@@ -181,34 +197,33 @@ fn answer_blocks(
 /// The first fault in the first `count` blocks, in text order.
 fn first_fault(
     alloc: Global,
+    rooms: &mut CheckRooms,
     under_check: &FunctionUnderCheck,
-    facts: &mut Facts,
-    scratch: &mut EdgeScratch,
     count: u32,
 ) -> Option<BlockFault>
     requires { IsReady under_check.now }
     ensures { MatchOption result (AreBlocksCertified under_check.now.context.program.now under_check.now.context.certs.now.sections under_check.now.func count) (IsFunctionFault under_check.now.context.program.now under_check.now.context.certs.now.sections under_check.now.func count) }
 {
     for number in 0..count {
-        if let Err(fault) = answer(alloc, under_check, facts, scratch, BlockId::new(number)) {
+        if let Err(fault) = answer(alloc, under_check, rooms, BlockId::new(number)) {
             return Some(fault);
         }
     }
     None
 }
 
-/// Whether a block of the function obeys the rules. The facts and the scratch are written anew.
+/// Whether a block of the function obeys the rules. What is in the room is written anew.
 pub(crate) fn answer(
     alloc: Global,
     under_check: &FunctionUnderCheck,
-    facts: &mut Facts,
-    scratch: &mut EdgeScratch,
+    rooms: &mut CheckRooms,
     block: BlockId,
 ) -> Result<(), BlockFault>
     requires { IsReady under_check.now }
     ensures { MatchResult result (λ _. BlockCertified under_check.now.context.program.now under_check.now.context.certs.now.sections under_check.now.func block) (λ fault. IfRefused fault (FirstRefusal under_check.now.context.program.now under_check.now.context.certs.now.sections under_check.now.func block)) }
 {
-    match BlockWalk::over(under_check, block).first_breach(alloc, facts, scratch)? {
+    let walk = BlockWalk::over(under_check, block);
+    match walk.first_breach(alloc, &mut rooms.facts, &mut rooms.scratch)? {
         None => Ok(()),
         Some((instr, broken)) => Err(BlockFault::Refused(Refusal {
             func: under_check.func,

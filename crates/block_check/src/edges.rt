@@ -10,7 +10,7 @@ ghost use Rattle.block_check.specs.Implied.{AreImplied};
 ghost use Rattle.block_check.specs.Refills.{CanRefill, refill_after};
 
 use crate::block_set::BlockSet;
-use crate::entry_facts::{begin_claims, blank_facts};
+use crate::entry_facts::{begin_claims, reset_facts};
 use crate::phis::record_entries;
 use crate::under_check::{FunctionUnderCheck, phis_of};
 use block_rules::Detail;
@@ -54,14 +54,14 @@ pub struct EdgeScratch {
 }
 
 impl EdgeScratch {
-    /// Scratch in which nothing is known of the values and slots of the function, and nothing is recorded.
-    pub fn new(alloc: Global, under_check: &FunctionUnderCheck) -> Result<EdgeScratch, AllocError>
-        ensures edge { IfOk result (λ scratch. scratch.edge ≡ nothing_known (length under_check.now.context.function.now.locals) (length under_check.now.context.slots.now.held)) }
-        ensures there { IfOk result (λ scratch. scratch.there ≡ nothing_known (length under_check.now.context.function.now.locals) (length under_check.now.context.slots.now.held)) }
+    /// Scratch without rows, in which nothing is recorded. It gets the rows that the functions need for which it is used.
+    pub fn new(alloc: Global) -> Result<EdgeScratch, AllocError>
+        ensures edge { IfOk result (λ scratch. scratch.edge ≡ nothing_known 0 0) }
+        ensures there { IfOk result (λ scratch. scratch.there ≡ nothing_known 0 0) }
         ensures entries { IfOk result (λ scratch. scratch.entries ≡ []) }
     {
-        let edge = blank_facts(alloc, under_check)?;
-        let there = blank_facts(alloc, under_check)?;
+        let edge = Facts::new(alloc, 0, 0)?;
+        let there = Facts::new(alloc, 0, 0)?;
         Ok(EdgeScratch {
             edge,
             refill: Refill::Copy,
@@ -69,6 +69,17 @@ impl EdgeScratch {
             entries: Items::new(alloc),
             spare: SpareRows::none(),
         })
+    }
+
+    /// There are rows for an edge of this function, in which nothing is known.
+    pub fn make_room(
+        &mut self,
+        alloc: Global,
+        under_check: &FunctionUnderCheck,
+    ) -> Result<(), AllocError>
+        ensures { OnOk result (self.new.edge ≡ nothing_known (length under_check.now.context.function.now.locals) (length under_check.now.context.slots.now.held)) }
+    {
+        reset_facts(alloc, under_check, &mut self.edge)
     }
 
     /// The first claim that is not implied, on the first edge where one is not.

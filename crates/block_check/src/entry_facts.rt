@@ -1,5 +1,5 @@
 //! What a block begins with.
-ghost use Rattle.std.specs.Prelude.{◌≡◌, length, IfOk, OnOk};
+ghost use Rattle.std.specs.Prelude.{◌≡◌, length, IfOk, OnOk, OnErr};
 ghost use Rattle.facts.specs.Facts.{nothing_known};
 ghost use Rattle.facts.specs.Claims.{receive_all};
 ghost use Rattle.block_rules.specs.Edges.{parameters_given, claim_facts, entry_facts_at};
@@ -41,11 +41,7 @@ fn find_entry_facts(
     ensures { OnOk result (facts.new ≡ entry_facts_at (seen under_check.now) block) }
 {
     if block.number() == 0 {
-        facts.reset(
-            alloc,
-            values_of(under_check),
-            under_check.context.slots.count(),
-        )?;
+        reset_facts(alloc, under_check, facts)?;
         receive_parameters(
             under_check.context.module(),
             facts,
@@ -99,6 +95,22 @@ fn values_of(under_check: &FunctionUnderCheck) -> usize
     ensures { result ≡ length under_check.now.context.function.now.locals }
 {
     under_check.context.function.locals.count()
+}
+
+/// Nothing is known of the values and slots of the function, in place of what is known.
+pub fn reset_facts(
+    alloc: Global,
+    under_check: &FunctionUnderCheck,
+    facts: &mut Facts,
+) -> Result<(), AllocError>
+    ensures ok { OnOk result (facts.new ≡ nothing_known (length under_check.now.context.function.now.locals) (length under_check.now.context.slots.now.held)) }
+    ensures err { OnErr result (facts.new ≡ facts.old) }
+{
+    facts.reset(
+        alloc,
+        values_of(under_check),
+        under_check.context.slots.count(),
+    )
 }
 
 /// Facts where nothing is known of the values and slots of the function.

@@ -44,9 +44,15 @@ abbrev pub weaker_bound : Option ℕ → Option ℕ → Option ℕ
 weaker_bound (Some n) (Some m) = if nat_lt n m then Some m else Some n
 weaker_bound _ _ = None
 
--- what the result of arithmetic is known to be below: `and` is no more than each constant
+-- what a remainder is known to be below, by what it is divided by
+abbrev pub remainder_bound : Option ℕ → Option ℕ
+remainder_bound None = None
+remainder_bound (Some n) = if nat_lt 0 n then Some n else None
+
+-- what the result of arithmetic is known to be below: `and` is no more than each constant, and a remainder by a constant less than that
 abbrev pub arithmetic_below : Arithmetic → (first second : Operand) → Option ℕ
 arithmetic_below arithmetic.And first second = smaller (constant_below (number_of first)) (constant_below (number_of second))
+arithmetic_below arithmetic.Remainder first second = remainder_bound (number_of second)
 arithmetic_below _ first second = None
 
 -- v is an integer of a type of this kind

@@ -1,7 +1,7 @@
 ghost use Rattle.std.specs.Prelude.{◌≡◌, OnOk};
 ghost use Rattle.block_rules.specs.Bounds.{below_next};
 ghost use Rattle.block_rules.specs.FirstFailing.{first_failing};
-ghost use Rattle.block_rules.specs.Integers.{below_known, constant_below, below_of, smaller, weaker_bound, arithmetic_below, define_number, changes_width, may_resize, resized_below, is_equality, may_compare, after_compare};
+ghost use Rattle.block_rules.specs.Integers.{below_known, constant_below, below_of, smaller, weaker_bound, remainder_bound, arithmetic_below, define_number, changes_width, may_resize, resized_below, is_equality, may_compare, after_compare};
 ghost use Rattle.block_rules.specs.Rules.{number_conditions, after_number};
 ghost use Rattle.ir_ast.specs.declared.numbers.Arithmetic.{Arithmetic};
 
@@ -77,6 +77,16 @@ pub fn weaker_bound(one: Option<u64>, other: Option<u64>) -> Option<u64>
     }
 }
 
+/// What a remainder is known to be below, by what it is divided by.
+fn remainder_bound(divisor: Option<u64>) -> Option<u64>
+    ensures { result ≡ remainder_bound divisor }
+{
+    match divisor {
+        Some(number) if number > 0 => Some(number),
+        _ => None,
+    }
+}
+
 /// What the result of arithmetic is known to be below.
 pub fn arithmetic_below(kind: Arithmetic, first: &Operand, second: &Operand) -> Option<u64>
     ensures { result ≡ arithmetic_below kind first.now second.now }
@@ -86,6 +96,7 @@ pub fn arithmetic_below(kind: Arithmetic, first: &Operand, second: &Operand) -> 
             constant_below(number_of(first)),
             constant_below(number_of(second)),
         ),
+        Arithmetic::Remainder => remainder_bound(number_of(second)),
         _ => None,
     }
 }

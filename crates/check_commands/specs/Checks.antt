@@ -21,6 +21,7 @@ use Rattle.reports.specs.Report.{Answer, line_of, made_text, no, no_answer, no_m
 use Rattle.reports.specs.Files.{HasShaped, IsNoShaped, of_unread}
 use Rattle.reports.specs.Said.{Said, OnOutput, OnError, OnBoth, OfVerdict}
 use Rattle.reports.specs.declared.files.File.{File}
+use Rattle.reports.specs.declared.files.ModuleFile.{ModuleFile}
 use Rattle.reports.specs.declared.files.Unread.{Unread}
 
 -- ---- check
@@ -78,6 +79,6 @@ pub data OfMade (why : Why) (m : Module) : Said → Type 0 where
   not_made : OfMade why m (OnError no_memory)
 
 -- what is said of the files of a module and its shapes
-pub data OfMake (why : Why) (first shapes : Option File) : Said → Type 0 where
+pub data OfMake (why : Why) (first : Option ModuleFile) (shapes : Option File) : Said → Type 0 where
   no_module : (unread : Unread) → IsNoShaped first shapes unread → OfMake why first shapes (OnError (of_unread unread))
   of_module : (m : Module) (said : Said) → HasShaped first shapes m → OfMade why m said → OfMake why first shapes said

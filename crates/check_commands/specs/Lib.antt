@@ -1,5 +1,6 @@
 pub mod Checks
 pub mod Explained
+pub mod Lowering
 pub mod Migrating
 pub mod Rechecks
 pub mod EditedFiles

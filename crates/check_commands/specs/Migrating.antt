@@ -9,9 +9,10 @@ use Rattle.certificate.specs.Print.{cert_text}
 use Rattle.certificate.specs.declared.fault.CertFault.{CertFault}
 use Rattle.certificate.specs.declared.fault.CertFault.TheVariants as cert
 use Rattle.reports.specs.Report.{made_text, no_memory, of_cert_fault}
-use Rattle.reports.specs.Files.{HasModule, IsNoModule, bytes_of, of_unread}
+use Rattle.reports.specs.Files.{HasModule, IsNoModule, bytes_of, file_of, of_unread}
 use Rattle.reports.specs.Said.{Said, OnOutput, OnError, OfCertified}
 use Rattle.reports.specs.declared.files.File.{File}
+use Rattle.reports.specs.declared.files.ModuleFile.{ModuleFile}
 use Rattle.reports.specs.declared.files.Unread.{Unread}
 
 -- the bytes of a file, none where it is not given or cannot be read
@@ -30,9 +31,9 @@ pub data OfText (m : Module) (bytes : List ℕ) : Said → Type 0 where
   not_printed : OfText m bytes (OnError no_memory)
 
 -- what is said of the file of a module
-pub data OfModule (file : Option File) : Said → Type 0 where
-  no_module : (unread : Unread) → IsNoModule file unread → OfModule file (OnError (of_unread unread))
-  of_module : (m : Module) (said : Said) → HasModule file m → OfText m (known_bytes file) said → OfModule file said
+pub data OfModule (first : Option ModuleFile) : Said → Type 0 where
+  no_module : (unread : Unread) → IsNoModule first unread → OfModule first (OnError (of_unread unread))
+  of_module : (m : Module) (said : Said) → HasModule first m → OfText m (known_bytes (file_of first)) said → OfModule first said
 
 -- ---- its certificates
 
@@ -50,6 +51,6 @@ pub data OfMigrated (bytes : List ℕ) (m : Module) (certs : Certs) : Said → T
   not_migrated : OfMigrated bytes m certs (OnError no_memory)
 
 -- what is said of the files of a module and, where it is given, of its certificates
-abbrev pub OfMigrate : (first certificate : Option File) → Said → Type 0
+abbrev pub OfMigrate : (first : Option ModuleFile) → (certificate : Option File) → Said → Type 0
 OfMigrate first None = OfModule first
 OfMigrate first (Some certificate) = OfCertified (OfMigrated (known_bytes (Some certificate))) first (Some certificate)

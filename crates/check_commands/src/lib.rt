@@ -1,9 +1,10 @@
-//! The commands on a module and its certificate: `check`, `make`, `recheck` and `migrate`; and `explain`.
+//! The commands on a module and its certificate: `check`, `make`, `recheck`, `migrate` and `lower`; and `explain`.
 #![tactic(auto)]
 
 mod checking;
 mod codes;
 mod explaining;
+mod lower;
 mod making;
 mod migrating;
 mod rechecking;
@@ -11,6 +12,7 @@ mod refusing;
 
 pub use checking::check_files;
 pub use explaining::explain_code;
+pub use lower::lower_files;
 pub use making::make_file;
 pub use migrating::migrate_files;
 pub use rechecking::recheck_files;

@@ -12,8 +12,8 @@ use copies::opaque;
 use ir_ast::Module;
 use ir_print::print;
 use reports::{
-    Certified, File, Files, Outputs, STATUS_YES, bytes_of, memory, module_in, no_certificate,
-    read_certified, unread,
+    Certified, File, Files, Outputs, STATUS_YES, bytes_of, file_of, memory, module_in,
+    no_certificate, read_certified, unread,
 };
 use std::alloc::{AllocError, Global};
 use std::io;
@@ -93,7 +93,12 @@ fn migrate_module(alloc: Global, files: &Files<'_>, outputs: &mut Outputs) -> io
 {
     match module_in(alloc, files) {
         Ok(of_module) => {
-            let status = print_module(alloc, &of_module, known_bytes(files.of_module), outputs);
+            let status = print_module(
+                alloc,
+                &of_module,
+                known_bytes(file_of(files.of_module)),
+                outputs,
+            );
             drop(of_module);
             status
         }

@@ -18,3 +18,5 @@ mod library_tests;
 mod section_tests;
 #[cfg(test)]
 mod texts;
+#[cfg(test)]
+mod wide_tests;

@@ -7,6 +7,8 @@ use Rattle.clap.specs.declared.error.kind.ErrorKind.TheVariants.{OutOfMemory}
 use Rattle.command_line.specs.declared.command.Command.{Command}
 use Rattle.command_line.specs.declared.command.Explained.{Explained}
 use Rattle.command_line.specs.declared.command.Explained.TheVariants as when
+use Rattle.command_line.specs.declared.command.Forms.{Forms}
+use Rattle.command_line.specs.declared.command.Forms.TheVariants.{Wide}
 use Rattle.command_line.specs.declared.command.Paths.{Paths}
 use Rattle.command_line.specs.declared.fault.LineFault.{LineFault}
 use Rattle.command_line.specs.declared.fault.LineFault.TheVariants.{Memory, Words}
@@ -55,6 +57,11 @@ HasWorkers _ = Unit {0}
 abbrev pub is_wanted : Explained → Bool
 is_wanted when.Always = true
 is_wanted _ = false
+
+-- whether more than the forms of core may stand in a module
+abbrev pub is_wide : Forms → Bool
+is_wide Wide = true
+is_wide _ = false
 
 -- the same where the standard error is a terminal
 abbrev pub when_on_terminal : Explained → Explained

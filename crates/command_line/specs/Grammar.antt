@@ -10,6 +10,8 @@ use Rattle.command_line.specs.Asked.{PathTexts, texts_of}
 use Rattle.command_line.specs.declared.command.Command.{Command}
 use Rattle.command_line.specs.declared.command.Explained.{Explained}
 use Rattle.command_line.specs.declared.command.Explained.TheVariants.{Always, OnTerminal, Never}
+use Rattle.command_line.specs.declared.command.Forms.{Forms}
+use Rattle.command_line.specs.declared.command.Forms.TheVariants.{Core, Wide}
 use Rattle.command_line.specs.declared.fault.LineFault.{LineFault}
 use Rattle.command_line.specs.declared.fault.LineFault.TheVariants.{Memory, NoCommand, Words}
 use Rattle.command_line.specs.declared.options.CheckOptions.{CheckOptions}
@@ -18,6 +20,7 @@ use Rattle.command_line.specs.declared.options.ReplayOptions.{ReplayOptions}
 use Rattle.command_line.specs.declared.options.SoakOptions.{SoakOptions}
 use Rattle.command_line.specs.declared.options.HuntOptions.{HuntOptions}
 use Rattle.command_line.specs.declared.options.RunOptions.{RunOptions}
+use Rattle.command_line.specs.declared.options.LowerOptions.{LowerOptions}
 use Rattle.command_line.specs.declared.options.Draws.{Draws}
 use Rattle.command_line.specs.declared.options.Draws.TheVariants.{Uniform, Biased}
 use Rattle.command_line.specs.declared.options.Refusals.{Refusals}
@@ -32,7 +35,7 @@ use Rattle.command_line.specs.declared.options.What.TheVariants as what
 use Rattle.command_line.specs.declared.options.Why.{Why}
 use Rattle.command_line.specs.declared.options.Why.TheVariants.{Wanted, NotWanted}
 use Rattle.command_line.specs.declared.table.Argument.{Argument}
-use Rattle.command_line.specs.declared.table.Argument.TheVariants.{File, MayBeGiven, Number, Workers, ExplainWhen, Optional, NumberOr, Flag, Path}
+use Rattle.command_line.specs.declared.table.Argument.TheVariants.{File, MayBeGiven, Number, Workers, ExplainWhen, WhichForms, Optional, NumberOr, Flag, Path}
 use Rattle.command_line.specs.declared.table.CommandRow.{CommandRow}
 
 -- a word that has to be given: a file's path
@@ -69,6 +72,10 @@ workers_rule = record (valued_rule (codes "workers")) {
 abbrev pub explain_rule : Rule
 explain_rule = record (valued_rule (codes "explain")) { defaults = codes "auto" ∷ [] }
 
+-- an option whose value says which forms a module may have, and which may be left out
+abbrev pub forms_rule : Rule
+forms_rule = record (valued_rule (codes "forms")) { defaults = codes "core" ∷ [] }
+
 -- an option without a value, which may be left out
 abbrev pub flag_rule : Text → Rule
 flag_rule name = record (new_rule name) {
@@ -83,6 +90,7 @@ rule_of_argument (MayBeGiven name help) = new_rule name.now
 rule_of_argument (Number name shown help) = number_rule name.now
 rule_of_argument (Workers help) = workers_rule
 rule_of_argument (ExplainWhen help) = explain_rule
+rule_of_argument (WhichForms help) = forms_rule
 rule_of_argument (Optional name shown help) = optional_rule name.now
 rule_of_argument (NumberOr name default shown help) = default_rule name.now default.now
 rule_of_argument (Flag name help) = flag_rule name.now
@@ -99,44 +107,47 @@ app_of_row row = command_app row.name.now (map rule_of_argument row.arguments.no
 -- all commands, each with its files and options
 abbrev pub command_apps : List App
 command_apps =
-    -- check MODULE CERT [--workers N] [--explain WHEN] [--all] [--limit N]
-    command_app (codes "check") (file_rule (codes "MODULE") ∷ file_rule (codes "CERT") ∷ workers_rule ∷ explain_rule ∷ flag_rule (codes "all") ∷ optional_rule (codes "limit") ∷ [])
+    -- check MODULE CERT [--workers N] [--explain WHEN] [--all] [--limit N] [--forms FORMS]
+    command_app (codes "check") (file_rule (codes "MODULE") ∷ file_rule (codes "CERT") ∷ workers_rule ∷ explain_rule ∷ flag_rule (codes "all") ∷ optional_rule (codes "limit") ∷ forms_rule ∷ [])
     ∷
-    -- make MODULE [--shapes FILE] [--why] [--explain WHEN]
-    command_app (codes "make") (file_rule (codes "MODULE") ∷ valued_rule (codes "shapes") ∷ flag_rule (codes "why") ∷ explain_rule ∷ [])
+    -- make MODULE [--shapes FILE] [--why] [--explain WHEN] [--forms FORMS]
+    command_app (codes "make") (file_rule (codes "MODULE") ∷ valued_rule (codes "shapes") ∷ flag_rule (codes "why") ∷ explain_rule ∷ forms_rule ∷ [])
     ∷
-    -- recheck MODULE CERT EDITS [--explain WHEN]
-    command_app (codes "recheck") (file_rule (codes "MODULE") ∷ file_rule (codes "CERT") ∷ file_rule (codes "EDITS") ∷ explain_rule ∷ [])
+    -- recheck MODULE CERT EDITS [--explain WHEN] [--forms FORMS]
+    command_app (codes "recheck") (file_rule (codes "MODULE") ∷ file_rule (codes "CERT") ∷ file_rule (codes "EDITS") ∷ explain_rule ∷ forms_rule ∷ [])
     ∷
-    -- replay MODULE TRACE [--shapes FILE] [--steps] [--from N] [--to M] [--json FILE] [--explain WHEN]
+    -- replay MODULE TRACE [--shapes FILE] [--steps] [--from N] [--to M] [--json FILE] [--explain WHEN] [--forms FORMS]
     command_app (codes "replay")
     (file_rule (codes "MODULE") ∷ file_rule (codes "TRACE") ∷ valued_rule (codes "shapes") ∷ flag_rule (codes "steps")
-    ∷ optional_rule (codes "from") ∷ optional_rule (codes "to") ∷ valued_rule (codes "json") ∷ explain_rule ∷ [])
+    ∷ optional_rule (codes "from") ∷ optional_rule (codes "to") ∷ valued_rule (codes "json") ∷ explain_rule ∷ forms_rule ∷ [])
     ∷
-    -- soak MODULE TRACE [--shapes FILE] --seeds N --steps S [--first F] [--save FILE] [--bias] [--seconds N] [--shrink] [--tries N] [--explain WHEN]
+    -- soak MODULE TRACE [--shapes FILE] --seeds N --steps S [--first F] [--save FILE] [--bias] [--seconds N] [--shrink] [--tries N] [--explain WHEN] [--forms FORMS]
     command_app (codes "soak")
     (file_rule (codes "MODULE") ∷ file_rule (codes "TRACE") ∷ valued_rule (codes "shapes") ∷ number_rule (codes "seeds") ∷ number_rule (codes "steps") ∷ default_rule (codes "first") (codes "0")
-    ∷ valued_rule (codes "save") ∷ flag_rule (codes "bias") ∷ optional_rule (codes "seconds") ∷ flag_rule (codes "shrink") ∷ optional_rule (codes "tries") ∷ explain_rule ∷ [])
+    ∷ valued_rule (codes "save") ∷ flag_rule (codes "bias") ∷ optional_rule (codes "seconds") ∷ flag_rule (codes "shrink") ∷ optional_rule (codes "tries") ∷ explain_rule ∷ forms_rule ∷ [])
     ∷
-    -- hunt MODULE [--shapes FILE] [--cert FILE] [--seeds N] [--steps S] [--tries N] [--seconds N] [--save FILE]
+    -- hunt MODULE [--shapes FILE] [--cert FILE] [--seeds N] [--steps S] [--tries N] [--seconds N] [--save FILE] [--forms FORMS]
     command_app (codes "hunt")
     (file_rule (codes "MODULE") ∷ valued_rule (codes "shapes") ∷ valued_rule (codes "cert") ∷ default_rule (codes "seeds") (codes "10000")
-    ∷ default_rule (codes "steps") (codes "1000") ∷ default_rule (codes "tries") (codes "10000") ∷ optional_rule (codes "seconds") ∷ valued_rule (codes "save") ∷ [])
+    ∷ default_rule (codes "steps") (codes "1000") ∷ default_rule (codes "tries") (codes "10000") ∷ optional_rule (codes "seconds") ∷ valued_rule (codes "save") ∷ forms_rule ∷ [])
     ∷
-    -- run MODULE CERT TRACE [--turns N] [--steps S] [--explain WHEN]
+    -- run MODULE CERT TRACE [--turns N] [--steps S] [--explain WHEN] [--forms FORMS]
     command_app (codes "run")
     (file_rule (codes "MODULE") ∷ file_rule (codes "CERT") ∷ file_rule (codes "TRACE")
-    ∷ default_rule (codes "turns") (codes "1000000") ∷ default_rule (codes "steps") (codes "1000000") ∷ explain_rule ∷ [])
+    ∷ default_rule (codes "turns") (codes "1000000") ∷ default_rule (codes "steps") (codes "1000000") ∷ explain_rule ∷ forms_rule ∷ [])
     ∷
-    -- conform MODULE TRACE RECORD [--shapes FILE] [--explain WHEN]
+    -- conform MODULE TRACE RECORD [--shapes FILE] [--explain WHEN] [--forms FORMS]
     command_app (codes "conform")
-    (file_rule (codes "MODULE") ∷ file_rule (codes "TRACE") ∷ file_rule (codes "RECORD") ∷ valued_rule (codes "shapes") ∷ explain_rule ∷ [])
+    (file_rule (codes "MODULE") ∷ file_rule (codes "TRACE") ∷ file_rule (codes "RECORD") ∷ valued_rule (codes "shapes") ∷ explain_rule ∷ forms_rule ∷ [])
     ∷
     -- explain [CODE]
     command_app (codes "explain") (new_rule (codes "CODE") ∷ [])
     ∷
-    -- migrate MODULE [CERT]
-    command_app (codes "migrate") (file_rule (codes "MODULE") ∷ new_rule (codes "CERT") ∷ [])
+    -- migrate MODULE [CERT] [--forms FORMS]
+    command_app (codes "migrate") (file_rule (codes "MODULE") ∷ new_rule (codes "CERT") ∷ forms_rule ∷ [])
+    ∷
+    -- lower MODULE [CERT] [--shapes FILE] [--record] [--forms FORMS]
+    command_app (codes "lower") (file_rule (codes "MODULE") ∷ new_rule (codes "CERT") ∷ valued_rule (codes "shapes") ∷ flag_rule (codes "record") ∷ forms_rule ∷ [])
     ∷ []
 
 -- the program's own line, without its commands
@@ -185,6 +196,7 @@ pub data Asked : Type 0 where
   conform : Asked
   explain : (code : Option Text) → Asked
   migrate : Asked
+  lower : LowerOptions → Asked
 
 -- what this command is to do
 abbrev pub asked_by : What → Asked
@@ -198,6 +210,7 @@ asked_by (what.Run options) = run options
 asked_by what.Conform = conform
 asked_by (what.Explain options) = explain (option_map (λ code. code.now) options.code)
 asked_by what.Migrate = migrate
+asked_by (what.Lower options) = lower options
 
 -- how many workers were given, from 1 to 64
 abbrev pub workers_of : List Row → Option ℕ
@@ -292,6 +305,10 @@ run_of given =
 abbrev pub explain_of : List Row → Asked
 explain_of given = explain (first_of (codes "CODE") given)
 
+-- the options of `lower`: whether the text calls a recorder
+abbrev pub lower_of : List Row → Asked
+lower_of given = lower (record { recorded = flag_of (codes "record") given })
+
 -- what the command of this name is to do, by what was given to it
 abbrev pub asked_of : (name : Text) → List Row → Option Asked
 asked_of name given =
@@ -305,6 +322,7 @@ asked_of name given =
     else if bytes_eq name (codes "conform") then Some conform
     else if bytes_eq name (codes "explain") then Some (explain_of given)
     else if bytes_eq name (codes "migrate") then Some migrate
+    else if bytes_eq name (codes "lower") then Some (lower_of given)
     else None
 
 -- ---- what all commands have
@@ -340,21 +358,33 @@ explained_by word =
 abbrev pub explained_of : List Row → Option Explained
 explained_of given = option_map_or explained_by (first_of (codes "explain") given) (Some Never)
 
+-- which forms a module may have, by their word
+abbrev pub forms_by : Text → Option Forms
+forms_by word =
+    if bytes_eq word (codes "core") then Some Core
+    else if bytes_eq word (codes "wide") then Some Wide
+    else None
+
+-- which forms a module may have, by the option `forms`: those of core for a command that has no such option
+abbrev pub forms_of : List Row → Option Forms
+forms_of given = option_map_or forms_by (first_of (codes "forms") given) (Some Core)
+
 -- what a line asks for
 pub record AskedLine : Type 0 where
   pub paths : PathTexts
   pub explained : Explained
+  pub forms : Forms
   pub asked : Asked
 
 -- what this command asks for
 abbrev pub line_by : Command → AskedLine
-line_by command = record { paths = texts_of command.paths; explained = command.explained; asked = asked_by command.what }
+line_by command = record { paths = texts_of command.paths; explained = command.explained; forms = command.forms; asked = asked_by command.what }
 
 -- what the command of this name asks for, by what was given to it
 abbrev pub line_of : (name : Text) → List Row → Option AskedLine
 line_of name given =
-    option_and_then (λ explained. option_map (λ asked. record { paths = paths_of given; explained = explained; asked = asked })
-    (asked_of name given)) (explained_of given)
+    option_and_then (λ explained. option_and_then (λ forms. option_map (λ asked. record { paths = paths_of given; explained = explained; forms = forms; asked = asked })
+    (asked_of name given)) (forms_of given)) (explained_of given)
 
 -- what a command's name with what was given to it asks for
 abbrev pub line_found : Option (Text × List Row) → Option AskedLine

@@ -1,6 +1,6 @@
 //! What a command line asks for.
 ghost use Rattle.std.specs.Prelude.{◌≡◌};
-ghost use Rattle.command_line.specs.Asked.{is_wanted, on_terminal, when_on_terminal};
+ghost use Rattle.command_line.specs.Asked.{is_wanted, is_wide, on_terminal, when_on_terminal};
 
 use crate::options::What;
 
@@ -27,11 +27,20 @@ pub enum Explained {
     Never,
 }
 
+/// Which forms the text of a module may have.
+#[derive(Clone, Copy)]
+pub enum Forms {
+    Core,
+    /// Those of `Core`, and shifts, division and more.
+    Wide,
+}
+
 /// A command, the paths of its files, and what all commands have.
 #[derive(Clone, Copy)]
 pub struct Command<'a> {
     pub paths: Paths<'a>,
     pub explained: Explained,
+    pub forms: Forms,
     pub what: What<'a>,
 }
 
@@ -51,6 +60,15 @@ impl Explained {
         ensures { result ≡ is_wanted self }
     {
         matches!(self, Explained::Always)
+    }
+}
+
+impl Forms {
+    /// Whether more than the forms of `Core` may stand.
+    pub fn is_wide(self) -> bool
+        ensures { result ≡ is_wide self }
+    {
+        matches!(self, Forms::Wide)
     }
 }
 

@@ -3,7 +3,7 @@ ghost use Rattle.std.specs.Prelude.{◌≡◌, IfOk, false, codes, map};
 ghost use Rattle.clap.specs.Words.{app_of, new_app, new_rule, rule_of};
 ghost use Rattle.clap.specs.declared.builder.command.Command.TheViews.{out-Command};
 ghost use Rattle.command_line.specs.Grammar as spec;
-ghost use Rattle.command_line.specs.Grammar.{app_of_row, bare_app, default_rule, dgc_app, explain_rule, file_rule, flag_rule, number_rule, optional_rule, rule_of_argument, valued_rule, workers_rule};
+ghost use Rattle.command_line.specs.Grammar.{app_of_row, bare_app, default_rule, dgc_app, explain_rule, file_rule, flag_rule, forms_rule, number_rule, optional_rule, rule_of_argument, valued_rule, workers_rule};
 
 use crate::table::{ABOUT, Argument, CommandRow, STATUSES, commands};
 use clap::{Arg, ArgAction, Command, value_parser};
@@ -84,6 +84,14 @@ fn explain_when<'a>(alloc: Global, help: &'a str) -> Arg<'a>
     valued(alloc, "explain", "WHEN", help).default_value("auto")
 }
 
+/// Which forms the text of the module may have, which may be given.
+fn which_forms<'a>(alloc: Global, help: &'a str) -> Arg<'a>
+    ensures rule { rule_of result ≡ forms_rule }
+    ensures own { result.global ≡ false }
+{
+    valued(alloc, "forms", "FORMS", help).default_value("core")
+}
+
 /// An option without a value, which may be given.
 fn flag<'a>(alloc: Global, name: &'a str, help: &'a str) -> Arg<'a>
     ensures rule { rule_of result ≡ flag_rule name.entry.now }
@@ -106,6 +114,7 @@ fn arg_of<'a>(alloc: Global, argument: Argument) -> Arg<'a>
         Argument::Number(name, shown, help) => number(alloc, name, shown, help),
         Argument::Workers(help) => workers(alloc, help),
         Argument::ExplainWhen(help) => explain_when(alloc, help),
+        Argument::WhichForms(help) => which_forms(alloc, help),
         Argument::Optional(name, shown, help) => optional(alloc, name, shown, help),
         Argument::NumberOr(name, default, shown, help) => {
             number_or(alloc, name, default, shown, help)

@@ -2,7 +2,7 @@
 ghost use Rattle.std.specs.Prelude.{◌≡◌, ◌≤◌, IfSome, option_map};
 ghost use Rattle.clap.specs.Words.{found_of, rows_of};
 ghost use Rattle.command_line.specs.Asked.{are_told, HasWorkers};
-ghost use Rattle.command_line.specs.Grammar.{asked_by, asked_of, check_of, draws_of, explain_of, hunt_of, make_of, refusals_of, replay_of, run_of, search_of, shrink_of, soak_of, steps_between, steps_of, why_of, workers_of, written_between};
+ghost use Rattle.command_line.specs.Grammar.{asked_by, asked_of, check_of, draws_of, explain_of, hunt_of, lower_of, make_of, refusals_of, replay_of, run_of, search_of, shrink_of, soak_of, steps_between, steps_of, why_of, workers_of, written_between};
 
 use crate::given::{flag_given, number_given, text_given};
 use clap::ArgMatches;
@@ -117,6 +117,12 @@ pub struct ExplainOptions<'a> {
     pub code: Option<&'a str>,
 }
 
+/// Print the text that LLVM gets of a module, which may call a recorder.
+#[derive(Clone, Copy)]
+pub struct LowerOptions {
+    pub recorded: bool,
+}
+
 /// What is to be done, with the options of that command alone.
 #[derive(Clone, Copy)]
 pub enum What<'a> {
@@ -133,6 +139,7 @@ pub enum What<'a> {
     Explain(ExplainOptions<'a>),
     /// Turn a module into opaque text, or a certificate of it into one of the opaque text.
     Migrate,
+    Lower(LowerOptions),
 }
 
 impl StepsTold {
@@ -155,6 +162,7 @@ impl What<'_> {
             What::Run(_) => Some("run"),
             What::Conform => Some("conform"),
             What::Migrate => Some("migrate"),
+            What::Lower(_) => Some("lower"),
             What::Soak(_) | What::Hunt(_) | What::Explain(_) => None,
         }
     }
@@ -357,6 +365,16 @@ fn explain_given<'a>(given: &ArgMatches<'a>) -> What<'a>
     })
 }
 
+/// The options of `lower`.
+fn lower_given<'a>(given: &ArgMatches<'a>) -> What<'a>
+    ensures asked { asked_by result ≡ lower_of (rows_of (found_of given.now)) }
+    ensures workers { HasWorkers result }
+{
+    What::Lower(LowerOptions {
+        recorded: flag_given(given, "record"),
+    })
+}
+
 /// What the command of this name is to do, from what was given to it.
 pub(crate) fn what_given<'a>(name: &str, given: &ArgMatches<'a>) -> Option<What<'a>>
     ensures asked { option_map asked_by result ≡ asked_of name.now (rows_of (found_of given.now)) }
@@ -373,6 +391,7 @@ pub(crate) fn what_given<'a>(name: &str, given: &ArgMatches<'a>) -> Option<What<
         "conform" => Some(What::Conform),
         "explain" => Some(explain_given(given)),
         "migrate" => Some(What::Migrate),
+        "lower" => Some(lower_given(given)),
         _ => None,
     }
 }

@@ -2,9 +2,9 @@
 ghost use Rattle.std.specs.Prelude.{◌≡◌, IfOk, IfErr, IfSome, IsOk, [], map, option_map};
 ghost use Rattle.clap.specs.Words.{fault_of, found_of, rows_of, subcommand_rows_of};
 ghost use Rattle.command_line.specs.Asked.{HasWorkers, texts_of};
-ghost use Rattle.command_line.specs.Grammar.{dgc_app, explained_by, explained_of, IsRefusalOf, line_by, line_found, line_in, line_of, paths_of, shapes_beside};
+ghost use Rattle.command_line.specs.Grammar.{dgc_app, explained_by, explained_of, forms_by, forms_of, IsRefusalOf, line_by, line_found, line_in, line_of, paths_of, shapes_beside};
 
-use crate::command::{Command, Explained, Paths};
+use crate::command::{Command, Explained, Forms, Paths};
 use crate::fault::LineFault;
 use crate::given::{either_given, text_given};
 use crate::grammar::dgc_command;
@@ -60,22 +60,48 @@ fn explained_given(given: &ArgMatches<'_>) -> Option<Explained>
     }
 }
 
+/// Which forms a module may have, by their word.
+fn forms_by(word: &str) -> Option<Forms>
+    ensures { result ≡ forms_by word.now }
+{
+    match word {
+        "core" => Some(Forms::Core),
+        "wide" => Some(Forms::Wide),
+        _ => None,
+    }
+}
+
+/// Which forms a module may have, by the option `forms`: those of `Core` for a command that has no such option.
+fn forms_given(given: &ArgMatches<'_>) -> Option<Forms>
+    ensures { result ≡ forms_of (rows_of (found_of given.now)) }
+{
+    match text_given(given, "forms") {
+        Some(word) => forms_by(word),
+        None => Some(Forms::Core),
+    }
+}
+
 /// The command of this name, from what was given to it.
 fn command_given<'a>(name: &str, given: &ArgMatches<'a>) -> Option<Command<'a>>
     ensures asked { option_map line_by result ≡ line_of name.now (rows_of (found_of given.now)) }
     ensures workers { IfSome result (λ command. HasWorkers command.what) }
 {
     let explained = explained_given(given)?;
+    let forms = forms_given(given)?;
     let what = what_given(name, given)?;
     Some(Command {
         paths: paths_given(given),
         explained,
+        forms,
         what,
     })
 }
 
 /// What a command lacks that asks for nothing though `clap` takes its words.
 fn hint_of(name: &str, given: &ArgMatches<'_>) -> &'static str {
+    if forms_given(given).is_none() {
+        return "--forms takes core or wide";
+    }
     lack_of(name, given).unwrap_or("--explain takes always, auto or never")
 }
 

@@ -15,6 +15,8 @@ pub(crate) enum Argument {
     Workers(&'static str),
     /// When a refusal is explained, which may be given; otherwise it is `auto`.
     ExplainWhen(&'static str),
+    /// Which forms the text of the module may have, which may be given; otherwise they are those of `core`.
+    WhichForms(&'static str),
     /// A number that may be given.
     Optional(&'static str, &'static str, &'static str),
     /// A number that may be given. Before what the help calls the value comes the number that it is otherwise.
@@ -55,6 +57,10 @@ const EXPLAIN: Argument = Argument::ExplainWhen(
     "Explain a refusal on standard error: always, never, or auto, where that is a terminal",
 );
 
+const FORMS: Argument = Argument::WhichForms(
+    "Which forms the module may have: core, or wide, with shifts, division and more (docs/TEXT.md)",
+);
+
 const SECONDS: Argument = Argument::Optional(
     "seconds",
     "N",
@@ -72,7 +78,7 @@ Also runs that code beside the collector, one atomic step at a time or on real t
 pub(crate) const STATUSES: &str = "\
 Exit status:
   0  yes or sound, a certificate was made, the threads were run, a record conforms, a code
-     was explained, a text was migrated, or help or the version was asked for
+     was explained, a text was migrated or lowered, or help or the version was asked for
   1  no, no answer, or broken
   2  a text is not read, the module has no layouts, or a thread may not begin
   3  memory was refused
@@ -92,6 +98,7 @@ const CHECK: CommandRow = CommandRow {
             "N",
             "With --all: how many refusals are printed at most [default: 20]",
         ),
+        FORMS,
     ],
     after: "\
 Prints `yes F`, where F is the number of defined functions. Or prints `no @f %b I Kn`:
@@ -122,6 +129,7 @@ const MAKE: CommandRow = CommandRow {
             "Where there is no answer, also prints what is refused",
         ),
         EXPLAIN,
+        FORMS,
     ],
     after: "\
 Prints a certificate with which `dgc check` says yes. Or prints `no answer`: none of those
@@ -151,6 +159,7 @@ const RECHECK: CommandRow = CommandRow {
             "Edits: functions and sections in the place of others (docs/EDITS.md)",
         ),
         EXPLAIN,
+        FORMS,
     ],
     after: "\
 Prints what `dgc check` does. Then puts the texts of each edit in the place of what is there,
@@ -200,6 +209,7 @@ const REPLAY: CommandRow = CommandRow {
             "The file to which the steps are written as JSON, a line for each: the last 100000, or those that --from and --to say",
         ),
         EXPLAIN,
+        FORMS,
     ],
     after: "\
 Each step is one atomic step of a thread or of the collector. Prints the first step after
@@ -256,6 +266,7 @@ const SOAK: CommandRow = CommandRow {
             "With --shrink: how many traces are replayed for that at most [default: 10000]",
         ),
         EXPLAIN,
+        FORMS,
     ],
     after: "\
 Each seed draws who makes the next step: a thread or the collector. Prints `sound N seeds`.
@@ -304,6 +315,7 @@ const HUNT: CommandRow = CommandRow {
         ),
         SECONDS,
         Argument::Path("save", "The file to which a broken trace is written"),
+        FORMS,
     ],
     after: "\
 Needs no trace. Every 64 seeds the next one draws a start: one to three threads at functions
@@ -350,6 +362,7 @@ const RUN: CommandRow = CommandRow {
             "After how many of its steps a thread is stopped",
         ),
         EXPLAIN,
+        FORMS,
     ],
     after: "\
 Checks the module against the certificate. Where that says no, prints what `dgc check` does.
@@ -384,6 +397,7 @@ const CONFORM: CommandRow = CommandRow {
         ),
         SHAPES,
         EXPLAIN,
+        FORMS,
     ],
     after: "\
 Prints `conforms N`: each of the N steps of the record is one of the profile that
@@ -428,6 +442,7 @@ const MIGRATE: CommandRow = CommandRow {
             "CERT",
             "A certificate of the module; without it the module is printed",
         ),
+        FORMS,
     ],
     after: "\
 Without CERT prints the module with `ptr` for each typed pointer, and with the global for each
@@ -446,8 +461,41 @@ Exit status:
   4  the command line is refused, a file cannot be read, or a write failed",
 };
 
+const LOWER: CommandRow = CommandRow {
+    name: "lower",
+    about: "Prints the text that LLVM gets of a module, beside a collector",
+    arguments: &[
+        MODULE,
+        Argument::MayBeGiven(
+            "CERT",
+            "A certificate of the module; without it the module is not checked",
+        ),
+        SHAPES,
+        Argument::Flag(
+            "record",
+            "Call the recorder at each step on a word and at each other instruction",
+        ),
+        FORMS,
+    ],
+    after: "\
+With CERT prints the text for LLVM of a module that `dgc check` accepts (docs/LOWERING.md), or
+the line of `dgc check` that says why it does not. Without CERT prints the text of any module
+that is read, and `nothing was checked` on standard error; a module that writes `ptr` needs
+its shapes then. Typed pointers become `ptr`, as `dgc migrate` prints them.
+
+Of a text that is not read, one line goes to standard error, as `error L4 23:13` (a line
+and a column) or `error C5 @f`.
+
+Exit status:
+  0  the text is printed
+  1  no
+  2  a text is not read, or the module has no layouts
+  3  memory was refused
+  4  the command line is refused, a file cannot be read, or a write failed",
+};
+
 /// All commands, in the order of the help.
-pub(crate) fn commands() -> [&'static CommandRow; 10]
+pub(crate) fn commands() -> [&'static CommandRow; 11]
     ensures { map (λ row. app_of_row row.now) result ≡ command_apps }
 {
     [
@@ -461,5 +509,6 @@ pub(crate) fn commands() -> [&'static CommandRow; 10]
         &CONFORM,
         &EXPLAIN_CODE,
         &MIGRATE,
+        &LOWER,
     ]
 }

@@ -1,11 +1,12 @@
 -- What each command says of its files.
 use Rattle.std.specs.Prelude.{ℕ, List, option_map}
 use Rattle.command_line.specs.declared.options.What.{What}
-use Rattle.command_line.specs.declared.options.What.TheVariants.{Check, Make, Recheck, Replay, Soak, Hunt, Run, Conform, Explain, Migrate}
+use Rattle.command_line.specs.declared.options.What.TheVariants.{Check, Make, Recheck, Replay, Soak, Hunt, Run, Conform, Explain, Migrate, Lower}
 use Rattle.reports.specs.Said.{Said, OfCertified}
 use Rattle.reports.specs.declared.files.Files.{Files}
 use Rattle.check_commands.specs.Checks.{OfCerts, OfMake}
 use Rattle.check_commands.specs.Explained.{OfExplain}
+use Rattle.check_commands.specs.Lowering.{OfLower}
 use Rattle.check_commands.specs.Migrating.{OfMigrate}
 use Rattle.check_commands.specs.EditedFiles.{OfEditsFile}
 use Rattle.reports.specs.TraceRuns.{OfRun, OfRunCerts, OfTrace}
@@ -25,3 +26,4 @@ OfCommand (Run options) files before after =
 OfCommand Conform files before after = OfRun (OfRecord files.of_record) files.of_module files.trace files.shapes
 OfCommand (Explain options) files before after = OfExplain (option_map (λ code. code.now) options.code)
 OfCommand Migrate files before after = OfMigrate files.of_module files.certificate
+OfCommand (Lower options) files before after = OfLower options.recorded files.of_module files.certificate files.shapes

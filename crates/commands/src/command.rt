@@ -8,7 +8,9 @@ use crate::conforming::conform_files;
 use crate::record_told::explain_record;
 use crate::replaying::replay_files;
 use crate::running::run_files;
-use check_commands::{check_files, explain_code, make_file, migrate_files, recheck_files};
+use check_commands::{
+    check_files, explain_code, lower_files, make_file, migrate_files, recheck_files,
+};
 use command_line::{Command, Refusals, What};
 use explained_checks::{Look, Question, explain};
 use reports::{Files, Results, STATUS_NO, STATUS_UNREADABLE, STATUS_YES};
@@ -43,6 +45,7 @@ fn answer(
         What::Conform => conform_files(alloc, files, outputs),
         What::Explain(options) => explain_code(options, outputs),
         What::Migrate => migrate_files(alloc, files, outputs),
+        What::Lower(options) => lower_files(alloc, options, files, outputs),
     }
 }
 

@@ -1,6 +1,6 @@
 //! The files of a command, as they were read.
-use command_line::Paths;
-use reports::{File, Files};
+use command_line::Command;
+use reports::{File, Files, ModuleFile};
 
 /// The bytes of the files of a command, by what each file is. None is a file that cannot be read, or is not given.
 #[derive(Drop)]
@@ -23,11 +23,23 @@ fn file_of<'a>(path: Option<&'a str>, bytes: &'a Option<Vec<u8>>) -> Option<File
     Some(File { path, bytes })
 }
 
+/// The file of a module that is given, in whose text the wide forms may stand or not.
+fn module_file_of<'a>(
+    path: Option<&'a str>,
+    bytes: &'a Option<Vec<u8>>,
+    wide: bool,
+) -> Option<ModuleFile<'a>> {
+    let file = file_of(path, bytes)?;
+    Some(ModuleFile { file, wide })
+}
+
 impl Contents {
-    /// The files of these paths with these contents.
-    pub fn of_paths<'a>(&'a self, paths: Paths<'a>) -> Files<'a> {
+    /// The files of a command with these contents.
+    pub fn of_command<'a>(&'a self, command: &Command<'a>) -> Files<'a> {
+        let paths = command.paths;
+        let wide = command.forms.is_wide();
         Files {
-            of_module: file_of(paths.of_module, &self.of_module),
+            of_module: module_file_of(paths.of_module, &self.of_module, wide),
             certificate: file_of(paths.certificate, &self.certificate),
             shapes: file_of(paths.shapes, &self.shapes),
             trace: file_of(paths.trace, &self.trace),

@@ -1,10 +1,11 @@
 -- What each rule asks of a step, and that a step goes on exactly where it meets all of it.
-use Rattle.std.specs.Prelude.{ℕ, ◌≡◌, ◌≢◌, ◌<◌, None, List, ◌∷◌, IsTrue}
+use Rattle.std.specs.Prelude.{ℕ, ◌≡◌, ◌≢◌, ◌<◌, Bool, true, false, None, List, ◌∷◌, IsTrue}
 use Rattle.lemmas.specs.Lists.{IsIn}
 use Rattle.pools.specs.Heap.{Setup, kind_of}
 use Rattle.pools.specs.Layouts.{is_reference_kind}
 use Rattle.colours.specs.declared.turn.Turn.{Turn}
-use Rattle.colours.specs.Steps.{Step, ReadWord, ReadOldValue, Mark, StoreAfterBarrier, StorePlain, StoreStage, Found, FoundBy, place_of}
+use Rattle.colours.specs.declared.turn.Turn.TheVariants as kind
+use Rattle.colours.specs.Steps.{Step, ReadWord, ReadOldValue, Mark, StoreAfterBarrier, StorePlain, Claim, ReadPosted, StoreStage, ReadPostedFirst, EnterStage, ReadPostedAgain, Found, FoundBy, place_of}
 use Rattle.colours.specs.Mutator.{stage_of, phase_of, MayFollow, Held, Fresh, MayUse, MayStore, IsDisciplined}
 use Rattle.colours.specs.Collector.{Collection, Collects}
 use Rattle.colours.specs.Runs.{Event, ByThread, ByCollector, log_of, turns_of, word_after, ask_in, MayHappen}
@@ -52,13 +53,41 @@ NamesHeld s log step = Unit {0}
 abbrev pub ComesNext : Setup → (thread : ℕ) → List Step → Step → Type 0
 ComesNext s t log step = MayFollow s (stage_of log) (phase_of s t log) step
 
+-- the rule is the one that tells of a step of this kind that its thread's order does not allow; of a stage that is stored it may be either of two
+abbrev pub is_order_rule : Rule → Step → Bool
+is_order_rule rule.UnmarkedStore (StoreAfterBarrier cell word value) = true
+is_order_rule rule.Try (Claim cell won) = true
+is_order_rule rule.UnmarkedRoots (StoreStage stage roots) = true
+is_order_rule rule.Stage (StoreStage stage roots) = true
+is_order_rule rule.Stage (EnterStage stage) = true
+is_order_rule rule.Order (ReadWord cell word value) = true
+is_order_rule rule.Order (ReadOldValue cell word value) = true
+is_order_rule rule.Order (Mark cell) = true
+is_order_rule rule.Order (StorePlain cell word value) = true
+is_order_rule rule.Order (ReadPosted stage) = true
+is_order_rule rule.Order (ReadPostedFirst stage) = true
+is_order_rule rule.Order (ReadPostedAgain stage) = true
+is_order_rule _ _ = false
+
+-- the rule is the one that tells of a step of this kind that no place of the collector allows
+abbrev pub is_turn_rule : Rule → Turn → Bool
+is_turn_rule rule.Look (kind.ReadColour cell colour) = true
+is_turn_rule rule.Sweep (kind.ClearWord cell word) = true
+is_turn_rule rule.Sweep (kind.Free cell) = true
+is_turn_rule rule.Post (kind.PostStage stage) = true
+is_turn_rule rule.Turn (kind.ReadStage thread stage) = true
+is_turn_rule rule.Turn (kind.MarkFound cell colour) = true
+is_turn_rule rule.Turn (kind.ScanWord cell word value) = true
+is_turn_rule rule.Turn (kind.Blacken cell) = true
+is_turn_rule _ _ = false
+
 -- what a rule asks of a thread's step after its log
 abbrev pub AsksOfStep : Rule → Setup → (thread : ℕ) → List Step → Step → Type 0
-AsksOfStep rule.Order s t log step = ComesNext s t log step
-AsksOfStep rule.UnmarkedStore s t log step = ComesNext s t log step
-AsksOfStep rule.UnmarkedRoots s t log step = ComesNext s t log step
-AsksOfStep rule.Stage s t log step = ComesNext s t log step
-AsksOfStep rule.Try s t log step = ComesNext s t log step
+AsksOfStep rule.Order s t log step = IsTrue (is_order_rule rule.Order step) → ComesNext s t log step
+AsksOfStep rule.UnmarkedStore s t log step = IsTrue (is_order_rule rule.UnmarkedStore step) → ComesNext s t log step
+AsksOfStep rule.UnmarkedRoots s t log step = IsTrue (is_order_rule rule.UnmarkedRoots step) → ComesNext s t log step
+AsksOfStep rule.Stage s t log step = IsTrue (is_order_rule rule.Stage step) → ComesNext s t log step
+AsksOfStep rule.Try s t log step = IsTrue (is_order_rule rule.Try step) → ComesNext s t log step
 AsksOfStep rule.NotHeld s t log step = UsesHeld s log step
 AsksOfStep rule.Word s t log step = NamesWord s step
 AsksOfStep rule.StoredValue s t log step = StoresHeld s log step
@@ -73,7 +102,7 @@ Asks rule.Value s run (ByThread t step) = Found step (word_after s run (place_of
 Asks rule s run (ByThread t step) = AsksOfStep rule s t (log_of t run) step
 Asks rule.Value s run (ByCollector turn) = FoundBy turn (word_after s run (place_of (ask_in run (ByCollector turn))))
 Asks rule.NoStep s run (ByCollector turn) = Unit {0}
-Asks rule s run (ByCollector turn) = (c : Collection) × Collects s (turn ∷ turns_of run) c
+Asks rule s run (ByCollector turn) = IsTrue (is_turn_rule rule turn) → (c : Collection) × Collects s (turn ∷ turns_of run) c
 
 -- the step keeps the discipline, if it is a thread's
 abbrev pub KeepsIt : Setup → List Event → Event → Type 0

@@ -1,10 +1,9 @@
-ghost use Rattle.std.specs.Prelude.{ℕ, ◌≡◌, ◌+◌, ◌<◌, ◌^◌, List, [], ◌∷◌, length, IfOk, IfSome, IfNone, All, slice_get};
+ghost use Rattle.std.specs.Prelude.{ℕ, ◌≡◌, ◌+◌, ◌<◌, ◌^◌, List, [], ◌∷◌, length, IfOk, IfSome, IfNone, IsTrue, All, slice_get};
 ghost use Rattle.std.specs.Option.{option_copied};
 ghost use Rattle.pools.specs.Heap.{Setup, IsSetup};
 ghost use Rattle.colours.specs.Runs.{Event, ByThread, ByCollector, turns_of};
 ghost use Rattle.record_text.specs.Records.{step_with};
-ghost use Rattle.colours.specs.Collector.{Collection, Collects};
-ghost use Rattle.conform.specs.Rules.{Asks, Breaks};
+ghost use Rattle.conform.specs.Rules.{Breaks, is_turn_rule};
 ghost use Rattle.conform.specs.Checks.{AreThreadsAtStart, IsCheckAfter};
 
 use crate::operations::{ask_of, is_found, is_found_by, place_of, turn_of};
@@ -127,12 +126,15 @@ fn threads_of<'a>(alloc: Global, plan: &'a Plan<'a>) -> Result<Vec<CheckedThread
 
 /// The rule that a step of the collector breaks which its order does not allow.
 fn rule_of_turn(turn: Turn) -> Rule
-    ensures { (s : Setup) (run : List Event) → Asks result s run (ByCollector turn) → (c : Collection) × Collects s (turn ∷ turns_of run) c }
+    ensures { IsTrue (is_turn_rule result turn) }
 {
     match turn {
         Turn::ReadColour(_, _) => Rule::Look,
         Turn::ClearWord(_, _) | Turn::Free(_) => Rule::Sweep,
         Turn::PostStage(_) => Rule::Post,
-        _ => Rule::Turn,
+        Turn::ReadStage(_, _)
+        | Turn::MarkFound(_, _)
+        | Turn::ScanWord(_, _, _)
+        | Turn::Blacken(_) => Rule::Turn,
     }
 }

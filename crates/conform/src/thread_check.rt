@@ -4,7 +4,7 @@ ghost use Rattle.colours.specs.Steps.{Step, ReadWord, ReadOldValue, StorePlain};
 ghost use Rattle.colours.specs.Mutator.{IsDisciplined};
 ghost use Rattle.watch.specs.Knows.{Knows};
 ghost use Rattle.record_text.specs.Records.{step_with};
-ghost use Rattle.conform.specs.Rules.{ComesNext, AsksOfStep};
+ghost use Rattle.conform.specs.Rules.{ComesNext, AsksOfStep, is_order_rule};
 ghost use Rattle.conform.specs.Threads.{IsThreadAt, MayHold, IsMade};
 
 use crate::discipline::broken_rule;
@@ -71,14 +71,20 @@ impl<'a> CheckedThread<'a> {
 
 /// The rule that a step breaks which its thread's order does not allow.
 fn rule_of_order(step: ThreadStep, is_answer: bool) -> Rule
-    ensures { (s : Setup) (thread : ℕ) (log : List Step) (roots : List ℕ) → AsksOfStep result s thread log (step_with roots step) → ComesNext s thread log (step_with roots step) }
+    ensures { (roots : List ℕ) → IsTrue (is_order_rule result (step_with roots step)) }
 {
     match step {
         ThreadStep::StoreAfterBarrier(_, _, _) => Rule::UnmarkedStore,
         ThreadStep::Claim(_, _) => Rule::Try,
         ThreadStep::StoreStage(_) if is_answer => Rule::UnmarkedRoots,
         ThreadStep::StoreStage(_) | ThreadStep::EnterStage(_) => Rule::Stage,
-        _ => Rule::Order,
+        ThreadStep::ReadWord(_, _, _)
+        | ThreadStep::ReadOldValue(_, _, _)
+        | ThreadStep::Mark(_)
+        | ThreadStep::StorePlain(_, _, _)
+        | ThreadStep::ReadPosted(_)
+        | ThreadStep::ReadPostedFirst(_)
+        | ThreadStep::ReadPostedAgain(_) => Rule::Order,
     }
 }
 

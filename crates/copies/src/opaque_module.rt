@@ -97,6 +97,7 @@ fn with_types(alloc: Global, of_module: &Module, made: Renumbered) -> Result<Tab
         struct_of: tables.struct_of,
         symbols: tables.symbols,
         sorts: tables.sorts,
+        wide: tables.wide,
     })
 }
 

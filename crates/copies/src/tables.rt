@@ -15,6 +15,8 @@ pub struct Tables {
     pub struct_of: Items<Option<LayoutId>>,
     pub symbols: Names,
     pub sorts: Items<SymbolSort>,
+    /// Whether the wide forms may stand in the text of the module.
+    pub wide: bool,
 }
 
 /// The same names. A table holds no name twice, so each name is new where its turn comes; another table would be refused.
@@ -80,5 +82,6 @@ pub fn copy_tables(alloc: Global, of_module: &Module) -> Result<Tables, AllocErr
         struct_of: structs.each,
         symbols: symbols.names,
         sorts: symbols.each,
+        wide: of_module.wide,
     })
 }

@@ -59,7 +59,7 @@ fn answer<O: Write, E: Write>(
     requires { HasWorkers command.now.what }
 {
     let contents = read_files(rt, command.paths)?;
-    let answer = answer_on(rt, errors, command, &contents.of_paths(command.paths));
+    let answer = answer_on(rt, errors, command, &contents.of_command(command));
     drop(contents);
     answer?.write(rt, command.paths, out, err)
 }

@@ -4,10 +4,12 @@ ghost use Rattle.command_line.specs.Asked.{HasWorkers};
 use crate::done::{done, printed_of};
 use crate::printed::{Printed, bytes_of};
 use crate::row_failure::RowFailure;
-use command_line::{CheckOptions, Command, Explained, MakeOptions, Paths, Refusals, What, Why};
+use command_line::{
+    CheckOptions, Command, Explained, Forms, MakeOptions, Paths, Refusals, What, Why,
+};
 use commands::{Contents, STATUS_YES};
 use ir_print::print;
-use ir_text::read;
+use ir_text::read_in;
 use std::alloc::{AllocError, Global};
 use std::rt::Runtime;
 use std::thread::Threads;
@@ -20,18 +22,27 @@ pub const CHECK: Command<'static> = Command {
         ..Paths::NONE
     },
     explained: Explained::Never,
+    forms: Forms::Core,
     what: What::Check(CheckOptions {
         workers: 1,
         refusals: Refusals::First,
     }),
 };
 
-/// A folder with a module and its certificate.
+/// The same of a module that may have these forms.
+fn check_in(forms: Forms) -> Command<'static>
+    ensures { HasWorkers result.what }
+{
+    Command { forms, ..CHECK }
+}
+
+/// A folder with a module, its certificate, and the forms that the module may have.
 #[derive(Clone, Copy)]
 pub struct Certified<'a> {
     pub folder: &'a str,
     pub module_path: &'a str,
     pub certificate_path: &'a str,
+    pub forms: Forms,
 }
 
 impl<'a> Certified<'a> {
@@ -65,6 +76,7 @@ pub fn checked_by_three(
     let command = Command {
         paths: row.paths(),
         explained: Explained::Never,
+        forms: row.forms,
         what: What::Check(CheckOptions {
             workers: 3,
             refusals: Refusals::First,
@@ -135,6 +147,7 @@ fn making<'a>(row: Certified<'a>, shapes: &Option<Vec<u8>>) -> Command<'a>
             ..Paths::NONE
         },
         explained: Explained::Never,
+        forms: row.forms,
         what: What::Make(MakeOptions {
             why: Why::NotWanted,
         }),
@@ -168,7 +181,7 @@ fn checked_with(
     certificate: Vec<u8>,
 ) -> Result<Printed, RowFailure> {
     let contents = checked_texts(module_of(rt, row)?, Some(certificate));
-    let printed = printed_of(rt, &CHECK, &contents);
+    let printed = printed_of(rt, &check_in(row.forms), &contents);
     drop(contents);
     Ok(printed)
 }
@@ -193,18 +206,19 @@ fn text_in(printed: Printed) -> Result<Vec<u8>, Printed> {
     }
 }
 
-/// What `migrate` prints of the files of these paths.
+/// What `migrate` prints of the files of these paths in a row.
 fn migrated(
     rt: &(impl Runtime + AllocGlobal + Threads + Sync),
-    folder: &str,
+    row: Certified<'_>,
     paths: Paths<'_>,
 ) -> Result<Printed, RowFailure> {
     let command = Command {
         paths,
         explained: Explained::Never,
+        forms: row.forms,
         what: What::Migrate,
     };
-    done(rt, folder, &command)
+    done(rt, row.folder, &command)
 }
 
 /// What `migrate` prints of the module.
@@ -216,7 +230,7 @@ pub fn migrated_module(
         of_module: Some(row.module_path),
         ..Paths::NONE
     };
-    migrated(rt, row.folder, paths)
+    migrated(rt, row, paths)
 }
 
 /// What `migrate` prints of the certificate.
@@ -224,17 +238,18 @@ fn migrated_certificate(
     rt: &(impl Runtime + AllocGlobal + Threads + Sync),
     row: Certified<'_>,
 ) -> Result<Printed, RowFailure> {
-    migrated(rt, row.folder, row.paths())
+    migrated(rt, row, row.paths())
 }
 
 /// What a check prints of these two texts.
 fn checked(
     rt: &(impl Runtime + AllocGlobal + Threads + Sync),
+    forms: Forms,
     of_module: Vec<u8>,
     certificate: Vec<u8>,
 ) -> Printed {
     let contents = checked_texts(Some(of_module), Some(certificate));
-    let printed = printed_of(rt, &CHECK, &contents);
+    let printed = printed_of(rt, &check_in(forms), &contents);
     drop(contents);
     printed
 }
@@ -249,14 +264,14 @@ pub fn checked_as_migrated(
         return Ok(migrated);
     }
     match text_in(migrated_certificate(rt, row)?) {
-        Ok(certificate) => Ok(checked(rt, migrated.out, certificate)),
+        Ok(certificate) => Ok(checked(rt, row.forms, migrated.out, certificate)),
         Err(printed) => Ok(printed),
     }
 }
 
 /// Whether a text of a module is printed as it is, once it is read.
-fn is_printed_again(alloc: Global, text: &[u8]) -> Result<bool, AllocError> {
-    match read(alloc, text) {
+fn is_printed_again(alloc: Global, forms: Forms, text: &[u8]) -> Result<bool, AllocError> {
+    match read_in(alloc, text, forms.is_wide()) {
         Ok(of_module) => {
             let printed = print(alloc, &of_module);
             drop(of_module);
@@ -284,7 +299,7 @@ pub fn is_opaque_text(
     row: Certified<'_>,
     text: &[u8],
 ) -> Result<bool, RowFailure> {
-    if is_printed_again(rt.alloc(), text)? {
+    if is_printed_again(rt.alloc(), row.forms, text)? {
         return Ok(true);
     }
     is_module(rt, row, text)

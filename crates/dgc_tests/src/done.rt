@@ -18,7 +18,7 @@ pub fn status_with(
 ) -> u8
     requires { HasWorkers command.now.what }
 {
-    let files = contents.of_paths(command.paths);
+    let files = contents.of_command(command);
     status_of(work(rt, Look::Plain, command, &files, results, &mut Nobody))
 }
 

@@ -6,6 +6,7 @@ use crate::accepted::{
 use crate::done::done_by;
 use crate::printed::{Printed, needed};
 use crate::row_failure::RowFailure;
+use command_line::Forms;
 use commands::STATUS_YES;
 use std::alloc::{AllocError, Global};
 use std::io::Write;
@@ -119,7 +120,16 @@ fn compare_check(
     compare_opaque(rt, row, certified, wanted, lines)
 }
 
-/// Compares what these words print, and further checks where they ask for one with no options. Writes what differs.
+/// The forms that these words after the files of a check say, if they say nothing else.
+fn forms_in(words: &[&str]) -> Option<Forms> {
+    match words {
+        [] => Some(Forms::Core),
+        [option, forms] if *option == "--forms" && *forms == "wide" => Some(Forms::Wide),
+        _ => None,
+    }
+}
+
+/// Compares what these words print, and further checks where they ask for one with no options but the forms. Writes what differs.
 fn compare_words(
     rt: &(impl Runtime + AllocGlobal + Threads + Sync),
     row: Row<'_>,
@@ -128,16 +138,20 @@ fn compare_words(
     lines: &mut Vec<u8>,
 ) -> Result<(), RowFailure> {
     compare(done_by(rt, row.folder, words)?, wanted, row, lines)?;
-    let [_, command, module_path, certificate_path] = words else {
+    let [_, command, module_path, certificate_path, rest @ ..] = words else {
         return Ok(());
     };
     if *command != "check" {
         return Ok(());
     }
+    let Some(forms) = forms_in(rest) else {
+        return Ok(());
+    };
     let certified = Certified {
         folder: row.folder,
         module_path,
         certificate_path,
+        forms,
     };
     compare_check(rt, row, certified, wanted, lines)
 }

@@ -1,7 +1,7 @@
 //! Replays of traces in which an actor stops for good.
 use crate::done::printed_of;
 use crate::texts::{CLAIMER, FOUR, PUBLISHER_AND_CLEARER, module_of};
-use command_line::{Command, Explained, Paths, ReplayOptions, StepsTold, What};
+use command_line::{Command, Explained, Forms, Paths, ReplayOptions, StepsTold, What};
 use commands::{Contents, STATUS_YES};
 use std::alloc::{AllocError, Global};
 use std::io;
@@ -16,6 +16,7 @@ const REPLAY: Command<'static> = Command {
         ..Paths::NONE
     },
     explained: Explained::Never,
+    forms: Forms::Core,
     what: What::Replay(ReplayOptions {
         steps: StepsTold::NotTold,
     }),

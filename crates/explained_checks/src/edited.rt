@@ -12,7 +12,7 @@ use ir_print::print;
 use messages::{Message, NamedText, Pen};
 use module_check::Reason;
 use recheck::{Edit, EditFault, Session};
-use reports::{Certified, Files, Unread, edits_in, read_certified};
+use reports::{Certified, Files, Unread, edits_in, file_of, is_wide, read_certified};
 use std::alloc::{AllocError, Global};
 
 /// How a module is named that stands in no file.
@@ -140,7 +140,8 @@ fn put_edit_fault(
     match fault {
         EditFault::Code(fault) => {
             let text = code_in(edit);
-            put_read_fault(pen, out, NamedText { path, text }, fault)
+            let wide = session.program().module().wide;
+            put_read_fault(pen, out, NamedText { path, text }, wide, fault)
         }
         EditFault::Cert(fault) => put_cert_fault_of(pen, out, session, path, edit, fault),
         fault => match whole_fault_of(fault) {
@@ -287,13 +288,13 @@ fn put_with_edits(
 /// What is told of the files: a module, a certificate and edits.
 pub(crate) fn put_recheck(pen: Pen, out: &mut Message, files: &Files<'_>) {
     let texts = CheckedTexts {
-        of_module: named(files.of_module),
+        of_module: named(file_of(files.of_module)),
         of_certs: named(files.certificate),
     };
     match read_certified(pen.alloc, files) {
         Ok(certified) => put_with_edits(pen, out, texts, certified, files),
         Err(unread) => {
-            put_unread(pen, out, texts, &unread);
+            put_unread(pen, out, texts, is_wide(files.of_module), &unread);
             drop(unread);
         }
     }

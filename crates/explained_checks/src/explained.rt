@@ -8,7 +8,9 @@ use ir_tokens::{TEXT_LIMIT, read_tokens};
 use layout::Program;
 use messages::{Message, NamedText, Pen};
 use module_check::{Reason, UnderCheck, fault_in_module, first_refusals};
-use reports::{Certified, File, Files, Unread, bytes_of, path_of, read_certified};
+use reports::{
+    Certified, File, Files, Unread, bytes_of, file_of, is_wide, path_of, read_certified,
+};
 
 /// The texts of a check, and what is done after it.
 #[derive(Clone, Copy)]
@@ -179,10 +181,16 @@ fn put_checked(pen: Pen, out: &mut Message, texts: AskedTexts, certified: Certif
     }
 }
 
-/// Explains the first fault of the texts of the files.
-pub(crate) fn put_unread(pen: Pen, out: &mut Message, texts: CheckedTexts, unread: &Unread) {
+/// Explains the first fault of the texts of the files. The wide forms may stand in the module or not.
+pub(crate) fn put_unread(
+    pen: Pen,
+    out: &mut Message,
+    texts: CheckedTexts,
+    wide: bool,
+    unread: &Unread,
+) {
     match unread {
-        Unread::NoModule(fault) => put_read_fault(pen, out, texts.of_module, fault),
+        Unread::NoModule(fault) => put_read_fault(pen, out, texts.of_module, wide, fault),
         Unread::NoCertificate(of_module, fault) => {
             put_cert_fault(pen, out, texts, of_module, *fault)
         }
@@ -193,13 +201,13 @@ pub(crate) fn put_unread(pen: Pen, out: &mut Message, texts: CheckedTexts, unrea
 /// What is told of the files: a module and a certificate, and a trace where that is asked for.
 pub(crate) fn put_check(pen: Pen, out: &mut Message, asked: Asked, files: &Files<'_>) {
     let checked = CheckedTexts {
-        of_module: named(files.of_module),
+        of_module: named(file_of(files.of_module)),
         of_certs: named(files.certificate),
     };
     match read_certified(pen.alloc, files) {
         Ok(certified) => put_checked(pen, out, AskedTexts { checked, asked }, certified),
         Err(unread) => {
-            put_unread(pen, out, checked, &unread);
+            put_unread(pen, out, checked, is_wide(files.of_module), &unread);
             drop(unread);
         }
     }

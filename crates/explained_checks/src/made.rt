@@ -7,7 +7,7 @@ use fault_texts::{CheckedTexts, put_layout_fault};
 use ir_ast::{Module, Shapes};
 use messages::{Message, NamedText, Pen};
 use module_check::UnderCheck;
-use reports::{Files, shaped_in};
+use reports::{Files, file_of, is_wide, shaped_in};
 
 /// How the certificate is named that stands in no file.
 const TRIED: &str = "certificate";
@@ -102,7 +102,7 @@ fn put_made(pen: Pen, out: &mut Message, of_file: NamedText, of_module: Module) 
 
 /// What is told of the files: a module and its shapes.
 pub(crate) fn put_make(pen: Pen, out: &mut Message, files: &Files<'_>) {
-    let of_file = named(files.of_module);
+    let of_file = named(file_of(files.of_module));
     match shaped_in(pen.alloc, files) {
         Ok(of_module) => put_made(pen, out, of_file, of_module),
         Err(unread) => {
@@ -110,7 +110,7 @@ pub(crate) fn put_make(pen: Pen, out: &mut Message, files: &Files<'_>) {
                 of_module: of_file,
                 of_certs: named(files.shapes),
             };
-            put_unread(pen, out, texts, &unread);
+            put_unread(pen, out, texts, is_wide(files.of_module), &unread);
             drop(unread);
         }
     }

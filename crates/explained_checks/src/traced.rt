@@ -3,7 +3,7 @@ use crate::explained::{named, put_unread};
 use fault_texts::{CheckedTexts, TracedTexts, put_layout_fault, put_trace_fault};
 use layout::Program;
 use messages::{Message, Pen};
-use reports::{Files, Unread, read_traced};
+use reports::{Files, Unread, file_of, is_wide, read_traced};
 use trace_text::read_trace;
 
 /// Reads a trace again, and explains its first fault.
@@ -22,18 +22,19 @@ fn put_untraced(
     out: &mut Message,
     texts: TracedTexts,
     of_shapes: CheckedTexts,
+    wide: bool,
     unread: &Unread,
 ) {
     match unread {
         Unread::NoTrace(fault) => put_trace_fault(pen, out, texts, fault),
         Unread::NoLayouts(refused) => { put_layout_fault(pen, out, texts.of_module, refused.fault) }
-        unread => put_unread(pen, out, of_shapes, unread),
+        unread => put_unread(pen, out, of_shapes, wide, unread),
     }
 }
 
 /// What is told of the files: a module, a trace and shapes.
 pub(crate) fn put_traced(pen: Pen, out: &mut Message, files: &Files<'_>) {
-    let of_module = named(files.of_module);
+    let of_module = named(file_of(files.of_module));
     let texts = TracedTexts {
         of_module,
         of_trace: named(files.trace),
@@ -47,7 +48,14 @@ pub(crate) fn put_traced(pen: Pen, out: &mut Message, files: &Files<'_>) {
             drop(traced);
         }
         Err(unread) => {
-            put_untraced(pen, out, texts, of_shapes, &unread);
+            put_untraced(
+                pen,
+                out,
+                texts,
+                of_shapes,
+                is_wide(files.of_module),
+                &unread,
+            );
             drop(unread);
         }
     }

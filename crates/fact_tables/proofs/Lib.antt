@@ -1,5 +1,6 @@
 mod Sets
 mod EachListed
+mod Resized
 mod Sheets
 mod Listed
 mod Current

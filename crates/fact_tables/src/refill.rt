@@ -1,5 +1,5 @@
 //! Lists that are filled again, in the room that they have.
-ghost use Rattle.std.specs.Prelude.{◌≡◌, ◌≤◌, length, vec_capacity, OnOk};
+ghost use Rattle.std.specs.Prelude.{◌≡◌, ◌≤◌, ◌++◌, ◌-◌, length, replicate, take, vec_capacity, OnOk, OnErr};
 
 use std::alloc::AllocError;
 
@@ -21,4 +21,12 @@ pub fn refill<T: Copy>(list: &mut Vec<T>, other: &[T])
     if list.extend_from_slice(other).is_err() {
         unreachable!();
     }
+}
+
+/// The first `count` elements of a list, and this one where there are fewer.
+pub fn resize<T: Copy>(list: &mut Vec<T>, count: usize, filler: T) -> Result<(), AllocError>
+    ensures ok { OnOk result (list.new.items ≡ take count list.old.items ++ replicate (count - length list.old.items) filler) }
+    ensures err { OnErr result (list.new.items ≡ list.old.items) }
+{
+    list.resize(count, filler)
 }

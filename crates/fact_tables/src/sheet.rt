@@ -12,7 +12,7 @@ use crate::kept::KeptSheet;
 use crate::known::Class;
 use crate::numbered::{number_rows, numbers_of, write_rows};
 use crate::owners::{self, Owners};
-use crate::refill::{make_room, refill};
+use crate::refill::{make_room, refill, resize};
 use crate::row::Row;
 use crate::sweeps::{self, Change};
 use crate::uses::Use;
@@ -147,6 +147,20 @@ impl Sheet {
         self.current.clear();
         self.class_owners.clear();
         self.non_owners.clear();
+    }
+
+    /// `count` blank rows, in the room of these.
+    pub fn resize(&mut self, count: usize) -> Result<(), AllocError>
+        ensures ok { OnOk result (self.new ≡ replicate count blank) }
+        ensures err { OnErr result (self.new ≡ self.old) }
+    {
+        resize(&mut self.rows, count, Row::blank())?;
+        sweeps::copy(&mut self.rows, &self.marked, &[]);
+        self.marked.clear();
+        self.current.clear();
+        self.class_owners.clear();
+        self.non_owners.clear();
+        Ok(())
     }
 
     /// The rows are those of a sheet of the same length.

@@ -116,6 +116,17 @@ impl Values {
         self.uses.clear();
     }
 
+    /// Nothing is known of `count` values, in the room of these.
+    pub fn resize(&mut self, count: usize) -> Result<(), AllocError>
+        ensures ok { OnOk result (self.new ≡ no_values count) }
+        ensures err { OnErr result (self.new ≡ self.old) }
+    {
+        self.sheet.resize(count)?;
+        self.added.clear();
+        self.uses.clear();
+        Ok(())
+    }
+
     /// What is known elsewhere of as many values, in place of what is known here.
     pub fn set_from(&mut self, other: &Values) -> Result<(), AllocError>
         requires { length self.old.values ≡ length other.now.values }

@@ -125,6 +125,24 @@ impl Contents {
         self.slots.slot(s)
     }
 
+    /// Nothing is known of this number of values and slots. The rows of values are sized anew in the room that they have.
+    pub fn resize(&mut self, alloc: Global, values: usize, slots: usize) -> Result<(), AllocError>
+        ensures ok { OnOk result (set_of self.new ≡ nothing_known values slots) }
+        ensures err { OnErr result (set_of self.new ≡ set_of self.old) }
+    {
+        let new_slots = SlotRows::new(alloc, slots)?;
+        match self.values.resize(values) {
+            Ok(()) => {
+                self.slots = new_slots;
+                Ok(())
+            }
+            Err(refused) => {
+                drop(new_slots);
+                Err(refused)
+            }
+        }
+    }
+
     /// Nothing is known any more.
     pub fn clear(&mut self)
         ensures { set_of self.new ≡ nothing_known (length self.old.values.values) (length self.old.slots) }

@@ -14,6 +14,9 @@ use ir_ast::ValueId;
 use shadow_stack::Slots;
 use std::alloc::Global;
 
+/// Up to so many claims each is looked at by itself.
+const FEW: usize = 8;
+
 impl Facts {
     /// The first claim of a target that is not implied; `there` is what the target begins with.
     pub fn first_unmet(
@@ -25,9 +28,21 @@ impl Facts {
     ) -> Option<usize>
         ensures { result ≡ position (λ claim. not (implies_claim table.now self.now there.now claim)) claims.now }
     {
+        if claims.len() <= FEW {
+            return self.first_unmet_of_few(table, there, claims);
+        }
         let mut recorded = IndexMap::new(alloc);
         self.record_claims(there, claims, &mut recorded);
         self.first_unmet_by(table, there, &recorded, claims)
+    }
+
+    /// The same of claims that are few: what is found of a class is not recorded.
+    fn first_unmet_of_few(&self, table: &Slots, there: &Facts, claims: &[Claim]) -> Option<usize>
+        ensures { result ≡ position (λ claim. not (implies_claim table.now self.now there.now claim)) claims.now }
+    {
+        claims
+            .iter()
+            .position(|claim| !self.implies(table, there, *claim))
     }
 
     /// Records the classes that claims list as fresh, up to the first that may not be.

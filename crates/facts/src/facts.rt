@@ -94,12 +94,14 @@ impl Facts {
         ensures ok { OnOk result (self.new ≡ nothing_known values slots) }
         ensures err { OnErr result (self.new ≡ self.old) }
     {
-        if self.has(values, slots) {
-            Rc::make_mut(&mut self.contents)?.clear();
+        let has = self.has(values, slots);
+        let contents = Rc::make_mut(&mut self.contents)?;
+        if has {
+            contents.clear();
+            Ok(())
         } else {
-            self.replace(Contents::blank(alloc, values, slots)?);
+            contents.resize(alloc, values, slots)
         }
-        Ok(())
     }
 
     /// What a block with these claims begins with, in a function of this number of values and with these slots, in place of

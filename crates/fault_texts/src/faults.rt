@@ -111,13 +111,20 @@ fn other_text(text: &[u8]) -> &'static str {
 }
 
 /// A form that is left out.
-fn put_left_out(pen: Pen, out: &mut Message, named: NamedText, position: Position, word: &[u8]) {
+fn put_left_out(
+    pen: Pen,
+    out: &mut Message,
+    named: NamedText,
+    wide: bool,
+    position: Position,
+    word: &[u8],
+) {
     put_fault_at(pen, out, named, position, Code::L7);
     out.put_inked(pen.look, Ink::Note, "  here:  ");
     out.put("`");
     out.put_bytes(word);
     out.put("` begins a form that is not read; docs/TEXT.md lists these\n");
-    put_told(out, pen, Ink::Mend, "  mend:  ", advice_on(word))
+    put_told(out, pen, Ink::Mend, "  mend:  ", advice_on(word, wide))
 }
 
 /// The place of a fault of a module's text, with its code.
@@ -262,10 +269,16 @@ fn put_expected(pen: Pen, out: &mut Message, named: NamedText, position: Positio
     }
 }
 
-/// What is told of a text that is no module.
-pub fn put_read_fault(pen: Pen, out: &mut Message, named: NamedText, fault: &ReadFault) {
+/// What is told of a text that is no module, in which the wide forms may stand or not.
+pub fn put_read_fault(
+    pen: Pen,
+    out: &mut Message,
+    named: NamedText,
+    wide: bool,
+    fault: &ReadFault,
+) {
     if let ReadFault::LeftOut { place, word } = fault {
-        return put_left_out(pen, out, named, *place, word.as_slice());
+        return put_left_out(pen, out, named, wide, *place, word.as_slice());
     }
     match place_of(fault) {
         Some((position, code)) => {

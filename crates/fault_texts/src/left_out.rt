@@ -112,9 +112,19 @@ fn of_word(word: &str) -> &'static str {
     }
 }
 
-/// How a form that begins with this token is left out; nothing where no option does that.
-pub fn advice_on(word: &[u8]) -> &'static str {
+/// Whether an instruction of the wide forms begins with this word.
+fn is_wide(word: &str) -> bool {
+    matches!(
+        word,
+        "sdiv" | "udiv" | "srem" | "urem" | "shl" | "lshr" | "ashr" | "freeze"
+    )
+}
+
+/// How a form that begins with this token is left out of a text in which the wide forms may stand or not; nothing where no option does
+/// that.
+pub fn advice_on(word: &[u8], wide: bool) -> &'static str {
     match str::from_utf8(word) {
+        Ok(word) if wide && is_wide(word) => CONSTANTS,
         Ok(word) => of_word(word),
         Err(_) => "",
     }

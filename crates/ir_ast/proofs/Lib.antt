@@ -2,3 +2,4 @@ mod Jumps
 mod Coefficients
 mod KeysAgain
 mod TypedPointers
+mod HintsStay

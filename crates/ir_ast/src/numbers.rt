@@ -2,7 +2,8 @@
 use crate::operand::Operand;
 use crate::type_id::TypeId;
 
-/// Integer instructions of two operands, which are taken modulo 2 to the bits.
+/// Integer instructions of two operands, which are taken modulo 2 to the bits. Those from the first shift on are read in the wide forms
+/// alone.
 #[derive(Clone, Copy)]
 pub enum Arithmetic {
     Add,
@@ -11,6 +12,20 @@ pub enum Arithmetic {
     And,
     Or,
     Xor,
+    /// shl
+    ShiftLeft,
+    /// lshr
+    ShiftRight,
+    /// ashr
+    ShiftRightSigned,
+    /// udiv
+    Divide,
+    /// sdiv
+    DivideSigned,
+    /// urem
+    Remainder,
+    /// srem
+    RemainderSigned,
 }
 
 /// Changes of an integer's width.

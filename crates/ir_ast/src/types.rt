@@ -1,8 +1,10 @@
 ghost use Rattle.std.specs.Prelude.{◌≡◌, ◌<◌, ◌≤◌, ◌^◌, ◌++◌, ◌∷◌, ℕ, suc, [], Some, None, length, slice_get, OnOk, OnErr, IfOk, IfSome};
 ghost use Rattle.ir_ast.specs.Types.{place_of_type, number_of_type, numbered_type};
 ghost use Rattle.ir_ast.specs.Fields.{after_fields, IsJump};
+ghost use Rattle.ir_ast.specs.Hints.{IsHint};
 
 use crate::hash_key::HashKey;
+use crate::hint::{HINTS, Hint, hint_in, place_in_hints};
 use crate::ir_type::IrType;
 use crate::jump::Jump;
 use crate::names::TABLE_LIMIT;
@@ -18,6 +20,8 @@ use std::marker::Model;
 pub struct Types {
     each: IndexSet<IrType, HashKey>,
     jumps: Vec<Jump>,
+    /// Types that were found last, with their numbers, so that most are found without a hash.
+    hints: Vec<Option<Hint>>,
     /// The key to hash by from the next new type on, where it is another one.
     next_key: Option<HashKey>,
 }
@@ -25,13 +29,14 @@ pub struct Types {
 impl Model for Types {
     ghost use Rattle.std.specs.Prelude.{◌≡◌, ◌≤◌, ◌^◌, List, length};
     ghost use Rattle.ir_ast.specs.Fields.{AreJumps};
+    ghost use Rattle.ir_ast.specs.Hints.{AreHints};
     ghost use Rattle.ir_ast.specs.declared.ir_type.IrType.{IrType};
 
     ghost Value = { List IrType };
 
     ghost view = { λ types. types.each.keys };
 
-    ghost invariant = { λ types. (length types.each.keys ≤ 2 ^ 32) × (length types.jumps.items ≡ length types.each.keys) × AreJumps types.each.keys types.jumps.items };
+    ghost invariant = { λ types. (length types.each.keys ≤ 2 ^ 32) × (length types.jumps.items ≡ length types.each.keys) × AreJumps types.each.keys types.jumps.items × AreHints types.each.keys types.hints.items };
 }
 
 impl Types {
@@ -41,6 +46,7 @@ impl Types {
         Types {
             each: IndexSet::with_hasher(alloc, key),
             jumps: Vec::new(alloc),
+            hints: Vec::new(alloc),
             next_key: None,
         }
     }
@@ -80,12 +86,33 @@ impl Types {
         self.each.len()
     }
 
-    /// The number of a type, if it is there. It is looked up by its hash.
+    /// The number of a type, if it is there.
     pub fn find(&self, sought: IrType) -> Option<TypeId>
+        ensures { result ≡ place_of_type sought self.now }
+    {
+        match hint_in(&self.hints, &sought) {
+            Some(number) => Some(number),
+            None => self.find_by_hash(sought),
+        }
+    }
+
+    /// The number of a type, if it is there. It is looked up by its hash.
+    fn find_by_hash(&self, sought: IrType) -> Option<TypeId>
         ensures { result ≡ place_of_type sought self.now }
     {
         let number = self.each.get_index_of(&sought)?;
         Some(TypeId::new(number as u32))
+    }
+
+    /// A type that is there is found without a hash from now on, until another one takes its place among the hints.
+    fn note(&mut self, written: IrType, number: TypeId)
+        requires { place_of_type written self.old ≡ Some number }
+        ensures { self.new ≡ self.old }
+    {
+        let place = place_in_hints(&written);
+        if place < self.hints.len() {
+            self.hints[place] = Some(Hint { written, number });
+        }
     }
 
     /// The type with this number.
@@ -113,7 +140,19 @@ impl Types {
         }
         let jump = self.jump_from(&written);
         self.add(written, jump)?;
-        Ok(TypeId::new(number as u32))
+        let number = TypeId::new(number as u32);
+        self.note(written, number);
+        Ok(number)
+    }
+
+    /// There is room for hints.
+    fn make_hints(&mut self) -> Result<(), AllocError>
+        ensures { self.new ≡ self.old }
+    {
+        if self.hints.is_empty() {
+            self.hints = vec![in *self.each.allocator(); None; HINTS]?;
+        }
+        Ok(())
     }
 
     fn add(&mut self, written: IrType, jump: Jump) -> Result<(), AllocError>
@@ -124,6 +163,7 @@ impl Types {
         ensures err { OnErr result (self.new ≡ self.old) }
     {
         self.take_key()?;
+        self.make_hints()?;
         self.jumps.push(jump)?;
         match self.each.insert(written) {
             Ok(_) => Ok(()),

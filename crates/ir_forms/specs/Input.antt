@@ -50,6 +50,7 @@ start_of place = record {
   globals = [];
   declares = [];
   functions = [];
+  wide = false;
 }
 
 -- ---- faults at the next token

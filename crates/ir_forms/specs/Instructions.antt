@@ -1,5 +1,5 @@
 -- The instructions of the body of a block.
-use Rattle.std.specs.Prelude.{◌≢◌, ℕ, nat_lt, Bool, List}
+use Rattle.std.specs.Prelude.{◌≢◌, ℕ, nat_lt, Bool, true, false, List}
 use Rattle.grammar.specs.Grammar.{pure, checked, refuse, look, ◌>>=◌, ◌>>◌}
 use Rattle.grammar.specs.Takes.{Takes, TakesWhere, first_takes_where, second_takes, look_takes}
 use Rattle.ir_tokens.specs.declared.token.Kind.{Kind}
@@ -14,7 +14,7 @@ use Rattle.ir_forms.specs.Names.{new_value, new_value_takes, numbered_value, num
 use Rattle.ir_forms.specs.declared.site.Site.{Site}
 use Rattle.ir_forms.specs.Ends.{ends_block}
 use Rattle.ir_forms.specs.Calls.{call, tail_call, valued, unnamed, call_statement, call_statement_after, tail_call_statement, sees_call}
-use Rattle.ir_forms.specs.Casts.{bitcast}
+use Rattle.ir_forms.specs.Casts.{bitcast, freezes, freeze}
 use Rattle.ir_forms.specs.Choices.{select}
 use Rattle.ir_forms.specs.Elements.{element}
 use Rattle.ir_forms.specs.ManyWith.{many_with}
@@ -22,6 +22,15 @@ use Rattle.ir_forms.specs.Memory.{alloca, load, store, stored_here}
 use Rattle.ir_forms.specs.Numbers.{compare, integer_op}
 use Rattle.ir_forms.specs.Ops.{as_op}
 use Rattle.ir_forms.specs.Sites.{first_of, afterwards}
+
+-- an instruction that begins with a word that is left out where the wide forms may not stand
+abbrev pub wide_op_by : ℕ → Bool → Form Op
+wide_op_by value true = as_op op.Cast (freeze value)
+wide_op_by value false = as_op op.Number (integer_op value)
+
+-- the value under another name, or an operation on integers
+unfoldable pub wide_op : ℕ → Form Op
+wide_op value = look freezes (wide_op_by value)
 
 -- an instruction that gives a value, by the word with which it begins after `=`
 abbrev pub named_op_by : Site → ℕ → Kind → Form Op
@@ -34,6 +43,7 @@ named_op_by site value k.Select = as_op op.Choice (select value)
 named_op_by site value k.Call = as_op op.Call (call value)
 named_op_by site value k.Tail = as_op op.Call (tail_call value)
 named_op_by site value k.Notail = as_op op.Call (tail_call value)
+named_op_by site value k.LeftOut = wide_op value
 named_op_by site value _ = as_op op.Number (integer_op value)
 
 -- what follows `%v =`

@@ -1,8 +1,10 @@
 -- Operations on integers.
-use Rattle.std.specs.Prelude.{ℕ, Bool, true, false, Option, Some, None}
+use Rattle.std.specs.Prelude.{ℕ, Bool, true, false, ◌&&◌, if◌then◌else◌, Option, Some, None, codes}
+use Rattle.std.specs.Str.{bytes_eq}
 use Rattle.grammar.specs.Grammar.{pure, refuse, look, ◌>>=◌, ◌>>◌}
 use Rattle.ir_tokens.specs.declared.token.Kind.{Kind}
 use Rattle.ir_tokens.specs.declared.token.Kind.TheVariants as k
+use Rattle.ir_tokens.specs.Bytes.{Text}
 use Rattle.ir_ast.specs.declared.ir_type.IrType.TheVariants as type
 use Rattle.ir_ast.specs.declared.argument.Argument.{Argument}
 use Rattle.ir_ast.specs.declared.numbers.Arithmetic.{Arithmetic}
@@ -15,14 +17,15 @@ use Rattle.ir_ast.specs.declared.numbers.NumberOp.{NumberOp}
 use Rattle.ir_ast.specs.declared.numbers.NumberOp.TheVariants as number
 use Rattle.ir_forms.specs.declared.written.Base.TheVariants.{Integer}
 use Rattle.ir_forms.specs.declared.written.WrittenType.{WrittenType}
-use Rattle.ir_forms.specs.Cursor.{kind}
+use Rattle.ir_forms.specs.Cursor.{kind, sees, spelling}
+use Rattle.ir_forms.specs.declared.input.Input.{Input}
 use Rattle.ir_forms.specs.Input.{Form, unexpected, skip, expect}
 use Rattle.ir_forms.specs.Names.{set_type}
 use Rattle.ir_forms.specs.Written.{scalar, intern, again, bits_of}
 use Rattle.ir_forms.specs.Operand.{operand}
 use Rattle.ir_forms.specs.declared.numbers.TwoOperands.{TwoOperands}
 use Rattle.ir_forms.specs.Lists.{typed}
-use Rattle.ir_forms.specs.Decorations.{flagged_word}
+use Rattle.ir_forms.specs.Decorations.{flagged_word, either}
 
 -- `T V, W`
 unfoldable pub pair : Form TwoOperands
@@ -49,6 +52,41 @@ arithmetic_of _ = None
 unfoldable pub arithmetic : Arithmetic → ℕ → Form NumberOp
 arithmetic x value = do
   flagged_word
+  p ← pair
+  set_type value p.written
+  pure (number.Arithmetic x p.written p.first p.second)
+
+-- ---- shifts, division and remainder, of the wide forms
+
+-- the operation that a word of the wide forms names
+abbrev pub wide_of : Text → Option Arithmetic
+wide_of word =
+    if bytes_eq word (codes "shl") then Some a.ShiftLeft
+    else (if bytes_eq word (codes "lshr") then Some a.ShiftRight
+    else (if bytes_eq word (codes "ashr") then Some a.ShiftRightSigned
+    else (if bytes_eq word (codes "udiv") then Some a.Divide
+    else (if bytes_eq word (codes "sdiv") then Some a.DivideSigned
+    else (if bytes_eq word (codes "urem") then Some a.Remainder
+    else (if bytes_eq word (codes "srem") then Some a.RemainderSigned
+    else None))))))
+
+-- the operation that the next token names, where the wide forms may stand
+unfoldable pub wide_here : Input → Option Arithmetic
+wide_here i = if i.wide && sees k.LeftOut i.cursor then wide_of (spelling i.cursor) else None
+
+-- the next token is the word `exact`
+unfoldable pub is_exact : Input → Bool
+is_exact i = sees k.LowercaseWord i.cursor && bytes_eq (spelling i.cursor) (codes "exact")
+
+-- the word `exact`, or nothing
+unfoldable pub exact : Form (Unit {0})
+exact = look is_exact (either skip (pure tt))
+
+-- `sdiv T V, W`, and so for the other six
+unfoldable pub wide_arithmetic : Arithmetic → ℕ → Form NumberOp
+wide_arithmetic x value = do
+  flagged_word
+  exact
   p ← pair
   set_type value p.written
   pure (number.Arithmetic x p.written p.first p.second)
@@ -132,9 +170,18 @@ resize_by value (Some x) = resize x value
 unfoldable pub resized : ℕ → Form NumberOp
 resized value = look (λ i. resize_of (kind i.cursor)) (resize_by value)
 
--- an operation of two integers, if the word names one, or else a change of width
+-- an operation of the wide forms, if the word names one, or else a change of width
+abbrev pub wide_by : ℕ → Option Arithmetic → Form NumberOp
+wide_by value None = resized value
+wide_by value (Some x) = wide_arithmetic x value
+
+-- an operation of the wide forms or a change of width, with what follows it
+unfoldable pub wide_or_resized : ℕ → Form NumberOp
+wide_or_resized value = look wide_here (wide_by value)
+
+-- an operation of two integers, if the word names one, or else one of the others
 abbrev pub arithmetic_by : ℕ → Option Arithmetic → Form NumberOp
-arithmetic_by value None = resized value
+arithmetic_by value None = wide_or_resized value
 arithmetic_by value (Some x) = arithmetic x value
 
 -- an operation on integers

@@ -46,6 +46,7 @@ may_wrap k.Add = true
 may_wrap k.Sub = true
 may_wrap k.Mul = true
 may_wrap k.Trunc = true
+may_wrap k.LeftOut = true
 may_wrap _ = false
 
 -- a flag of the instruction with the word x: it says when the result is poison

@@ -4,7 +4,7 @@ ghost use Rattle.ir_forms.specs.Input.{Reads};
 ghost use Rattle.ir_forms.specs.Instructions as form;
 
 use crate::calls::{call, call_statement, tail_call, tail_call_statement, unnamed, valued};
-use crate::casts::bitcast;
+use crate::casts::{bitcast, freeze, freezes};
 use crate::choices::select;
 use crate::elements::element;
 use crate::ends::ends_block;
@@ -18,6 +18,18 @@ use ir_ast::{BlockId, Instr, Op, ValueId};
 use ir_tokens::Kind;
 use items::Items;
 use std::alloc::Global;
+
+/// An instruction that begins with a word that is left out where the wide forms may not stand.
+#[tactic(auto, unfolding(crate::specs::Instructions::wide_op))]
+fn wide_op(alloc: Global, input: &mut Input<'_>, value: ValueId) -> Result<Op, Fault>
+    ensures { Reads ((form.wide_op value).read input.old) result input.new }
+{
+    if freezes(input) {
+        Ok(Op::Cast(freeze(alloc, input, value)?))
+    } else {
+        Ok(Op::Number(integer_op(alloc, input, value)?))
+    }
+}
 
 /// An instruction after the name of its value.
 #[tactic(auto, unfolding(crate::specs::Instructions::named_op))]
@@ -33,6 +45,7 @@ fn named_op(alloc: Global, input: &mut Input<'_>, site: Site, value: ValueId) ->
         Kind::Select => Ok(Op::Choice(select(alloc, input, value)?)),
         Kind::Call => Ok(Op::Call(call(alloc, input, value)?)),
         Kind::Tail | Kind::Notail => Ok(Op::Call(tail_call(alloc, input, value)?)),
+        Kind::LeftOut => wide_op(alloc, input, value),
         _ => Ok(Op::Number(integer_op(alloc, input, value)?)),
     }
 }

@@ -40,6 +40,8 @@ pub struct Input<'a> {
     pub globals: Items<ast::Global>,
     pub declares: Items<Declare>,
     pub functions: Items<Function>,
+    /// Whether the wide forms may stand in the text.
+    pub wide: bool,
 }
 
 impl<'a> Input<'a> {
@@ -63,6 +65,7 @@ impl<'a> Input<'a> {
             globals: Items::new(alloc),
             declares: Items::new(alloc),
             functions: Items::new(alloc),
+            wide: false,
         }
     }
 

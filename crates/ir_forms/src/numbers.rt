@@ -72,6 +72,81 @@ fn arithmetic(
     })
 }
 
+/// The operation that a word of the wide forms names.
+fn wide_of(word: &[u8]) -> Option<Arithmetic>
+    ensures { result ≡ form.wide_of word.now }
+{
+    if word == b"shl".as_slice() {
+        Some(Arithmetic::ShiftLeft)
+    } else if word == b"lshr".as_slice() {
+        Some(Arithmetic::ShiftRight)
+    } else if word == b"ashr".as_slice() {
+        Some(Arithmetic::ShiftRightSigned)
+    } else if word == b"udiv".as_slice() {
+        Some(Arithmetic::Divide)
+    } else if word == b"sdiv".as_slice() {
+        Some(Arithmetic::DivideSigned)
+    } else if word == b"urem".as_slice() {
+        Some(Arithmetic::Remainder)
+    } else if word == b"srem".as_slice() {
+        Some(Arithmetic::RemainderSigned)
+    } else {
+        None
+    }
+}
+
+/// The operation of the wide forms that the next token names.
+#[tactic(auto, unfolding(crate::specs::Numbers::wide_here))]
+fn wide_here(input: &Input<'_>) -> Option<Arithmetic>
+    ensures { result ≡ form.wide_here input.now }
+{
+    if input.wide && input.sees(Kind::LeftOut) {
+        wide_of(input.cursor.spelling())
+    } else {
+        None
+    }
+}
+
+#[tactic(auto, unfolding(crate::specs::Numbers::is_exact))]
+fn is_exact(input: &Input<'_>) -> bool
+    ensures { result ≡ form.is_exact input.now }
+{
+    input.sees(Kind::LowercaseWord) && input.cursor.spelling() == b"exact".as_slice()
+}
+
+/// The word `exact`, or nothing.
+#[tactic(auto, unfolding(crate::specs::Numbers::exact))]
+fn exact(input: &mut Input<'_>) -> Result<(), Fault>
+    ensures { Reads (form.exact.read input.old) result input.new }
+{
+    if is_exact(input) {
+        input.skip();
+    }
+    Ok(())
+}
+
+/// A shift, a division or a remainder.
+#[tactic(auto, unfolding(crate::specs::Numbers::wide_arithmetic))]
+fn wide_arithmetic(
+    alloc: Global,
+    input: &mut Input<'_>,
+    kind: Arithmetic,
+    value: ValueId,
+) -> Result<NumberOp, Fault>
+    ensures { Reads ((form.wide_arithmetic kind value).read input.old) result input.new }
+{
+    flagged_word(alloc, input)?;
+    exact(input)?;
+    let pair = pair(alloc, input)?;
+    input.set_type(value, pair.written);
+    Ok(NumberOp::Arithmetic {
+        kind,
+        written: pair.written,
+        first: pair.first,
+        second: pair.second,
+    })
+}
+
 fn resize_of(kind: Kind) -> Option<Resize>
     ensures { result ≡ form.resize_of kind }
 {
@@ -189,6 +264,17 @@ fn resized(alloc: Global, input: &mut Input<'_>, value: ValueId) -> Result<Numbe
     }
 }
 
+/// An operation of the wide forms, or a change of width.
+#[tactic(auto, unfolding(crate::specs::Numbers::wide_or_resized))]
+fn wide_or_resized(alloc: Global, input: &mut Input<'_>, value: ValueId) -> Result<NumberOp, Fault>
+    ensures { Reads ((form.wide_or_resized value).read input.old) result input.new }
+{
+    match wide_here(input) {
+        Some(kind) => wide_arithmetic(alloc, input, kind, value),
+        None => resized(alloc, input, value),
+    }
+}
+
 /// An operation on integers that is named by its word.
 #[tactic(auto, unfolding(crate::specs::Numbers::integer_op))]
 pub fn integer_op(alloc: Global, input: &mut Input<'_>, value: ValueId) -> Result<NumberOp, Fault>
@@ -196,6 +282,6 @@ pub fn integer_op(alloc: Global, input: &mut Input<'_>, value: ValueId) -> Resul
 {
     match arithmetic_of(input.kind()) {
         Some(kind) => arithmetic(alloc, input, kind, value),
-        None => resized(alloc, input, value),
+        None => wide_or_resized(alloc, input, value),
     }
 }

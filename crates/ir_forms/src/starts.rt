@@ -63,7 +63,10 @@ pub fn is_indirect_callee(kind: Kind) -> bool
 fn may_wrap(word: Kind) -> bool
     ensures { result ≡ spec.may_wrap word }
 {
-    matches!(word, Kind::Add | Kind::Sub | Kind::Mul | Kind::Trunc)
+    matches!(
+        word,
+        Kind::Add | Kind::Sub | Kind::Mul | Kind::Trunc | Kind::LeftOut
+    )
 }
 
 /// Whether this is a flag of the instruction with this word.

@@ -20,6 +20,13 @@ arithmetic_word arithmetic.Mul = codes "mul "
 arithmetic_word arithmetic.And = codes "and "
 arithmetic_word arithmetic.Or = codes "or "
 arithmetic_word arithmetic.Xor = codes "xor "
+arithmetic_word arithmetic.ShiftLeft = codes "shl "
+arithmetic_word arithmetic.ShiftRight = codes "lshr "
+arithmetic_word arithmetic.ShiftRightSigned = codes "ashr "
+arithmetic_word arithmetic.Divide = codes "udiv "
+arithmetic_word arithmetic.DivideSigned = codes "sdiv "
+arithmetic_word arithmetic.Remainder = codes "urem "
+arithmetic_word arithmetic.RemainderSigned = codes "srem "
 
 -- the word of a change of width
 abbrev pub resize_word : Resize → Text

@@ -23,7 +23,7 @@ fn put_index(
 }
 
 /// The indices of a getelementptr.
-fn put_indices(
+pub fn put_indices(
     alloc: Global,
     out: &mut Vec<u8>,
     module: &Module,
@@ -40,7 +40,7 @@ fn put_indices(
 
 /// The word of a getelementptr.
 #[tactic(auto, unfolding(crate::specs::Elements::element_word))]
-fn element_word() -> &'static [u8]
+pub fn element_word() -> &'static [u8]
     ensures { result.now ≡ spec.element_word }
 {
     b"getelementptr "

@@ -34,7 +34,11 @@ fn put_op(
 }
 
 /// The name of an instruction's value, if it has one.
-fn put_result(out: &mut Vec<u8>, locals: &Names, value: Option<ValueId>) -> Result<(), AllocError>
+pub fn put_result(
+    out: &mut Vec<u8>,
+    locals: &Names,
+    value: Option<ValueId>,
+) -> Result<(), AllocError>
     ensures { OnOk result (out.new.items ≡ out.old.items ++ spec.result_text locals.now value) }
 {
     match value {
@@ -47,7 +51,7 @@ fn put_result(out: &mut Vec<u8>, locals: &Names, value: Option<ValueId>) -> Resu
 }
 
 /// The line of an instruction.
-fn put_instruction(
+pub fn put_instruction(
     alloc: Global,
     out: &mut Vec<u8>,
     module: &Module,

@@ -89,7 +89,8 @@ pub fn put_words(
     Ok(())
 }
 
-fn put_declare(
+/// The line of a declared function.
+pub fn put_declare(
     alloc: Global,
     out: &mut Vec<u8>,
     module: &Module,
@@ -153,7 +154,7 @@ fn put_blocks(
 }
 
 /// `gc "name"`, if the function has a collector, after a blank.
-fn put_collector(out: &mut Vec<u8>, collector: &Option<Items<u8>>) -> Result<(), AllocError>
+pub fn put_collector(out: &mut Vec<u8>, collector: &Option<Items<u8>>) -> Result<(), AllocError>
     ensures { OnOk result (out.new.items ≡ out.old.items ++ spec.collector_text collector.now) }
 {
     match collector {

@@ -17,6 +17,13 @@ fn arithmetic_word(kind: Arithmetic) -> &'static [u8]
         Arithmetic::And => b"and ",
         Arithmetic::Or => b"or ",
         Arithmetic::Xor => b"xor ",
+        Arithmetic::ShiftLeft => b"shl ",
+        Arithmetic::ShiftRight => b"lshr ",
+        Arithmetic::ShiftRightSigned => b"ashr ",
+        Arithmetic::Divide => b"udiv ",
+        Arithmetic::DivideSigned => b"sdiv ",
+        Arithmetic::Remainder => b"urem ",
+        Arithmetic::RemainderSigned => b"srem ",
     }
 }
 

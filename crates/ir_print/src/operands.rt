@@ -17,7 +17,8 @@ fn is_bit(shown: Option<IrType>) -> bool
     }
 }
 
-fn put_truth(out: &mut Vec<u8>, truth: bool) -> Result<(), AllocError>
+/// `true` or `false`.
+pub fn put_truth(out: &mut Vec<u8>, truth: bool) -> Result<(), AllocError>
     ensures { OnOk result (out.new.items ≡ out.old.items ++ spec.truth_text truth) }
 {
     if truth {

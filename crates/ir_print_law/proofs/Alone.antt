@@ -9,7 +9,7 @@ use Rattle.ir_tokens.specs.Bytes.{Text}
 use Rattle.ir_text.specs.Anew.{named_head}
 use Rattle.ir_text.specs.Replaced.{name_in, name_of}
 use Rattle.ir_text.specs.ItemsOfText.{body_after}
-use Rattle.ir_text.specs.Read.{module_of, start}
+use Rattle.ir_text.specs.Read.{module_of, start_in}
 use Rattle.name_text.specs.Readings.{AreBytes}
 use Rattle.ir_print_law.specs.Printable.{IsFunction}
 use Rattle.ir_print_law.specs.Wholes.{IsWhole}
@@ -46,7 +46,7 @@ module _ (m : Module) (func : ℕ) (code whole : Text) (n : Module) (is_whole : 
   same = subst (HaveSameNames m) (sym p.is) named
 
   first : (made : Made) × IsBetween made h.before
-  first = items_before p.end p.earlier (start whole p.lexed) nothing_made h.before p.comes (starts whole p.lexed own p.is_lexed)
+  first = items_before p.end p.earlier (start_in n.wide whole p.lexed) nothing_made h.before p.comes (starts n.wide whole p.lexed own p.is_lexed)
 
   second : (later : Made) × IsBetween later h.after
       × (Leads p.end h.after → Leads p.end h.before × Grown (module_of p.end) (IsFunction (module_of p.end)) first.0 later × Told p.end first.0 later h.before h.after)
@@ -122,6 +122,7 @@ module _ (m : Module) (func : ℕ) (code whole : Text) (n : Module) (is_whole : 
         (h.globals ∙ ap (λ (x : Module). length x.globals) (sym p.is)) (h.declares ∙ ap (λ (x : Module). length x.declares) (sym p.is)) h.functions;
     none_missing = after_leads.0.missing;
     right = are_right m is_whole.names h.after p.end after_leads.0 same;
+    forms = before_leads.0.forms ∙ same.forms;
   }
 
 pub read_alone : AreReadAlone

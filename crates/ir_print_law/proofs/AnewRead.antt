@@ -94,6 +94,7 @@ module _ (m : Module) (names : HasModuleNames m) where
       symbol_uses = symbol_uses;
       missing = late.0;
       ordered = h.ordered;
+      forms = h.forms;
     };
   } where
     late : (o.missing ≡ None) × (wrong_symbol (with_sorts m.sorts o) ≡ None) × (wrong_struct (with_sorts m.sorts o) ≡ None)
@@ -144,6 +145,7 @@ module _ (m : Module) (names : HasModuleNames m) where
       symbols = own_symbols i is h.symbols;
       structs = h.structs;
       layouts = h.layouts;
+      forms = h.forms;
     }
 
     module _ (types : List IrType) where
@@ -156,6 +158,7 @@ module _ (m : Module) (names : HasModuleNames m) where
         symbol_uses = b.symbol_uses;
         missing = b.missing;
         ordered = b.ordered;
+        forms = b.forms;
       }
 
       its_number : (i : Input) → spelled i.cursor ≡ own_name → Arrives m types (with_symbol (symbol.Defined func) i) → symbol_number i ≡ old.symbol
@@ -203,6 +206,7 @@ module _ (m : Module) (names : HasModuleNames m) where
               symbol_uses = b.symbol_uses;
               missing = none.0;
               ordered = b.ordered;
+              forms = b.forms;
             },
           )
 
@@ -215,6 +219,7 @@ module _ (m : Module) (names : HasModuleNames m) where
       symbols = h.symbols;
       structs = h.structs;
       layouts = h.layouts;
+      forms = h.forms;
     }
 
     only_function : (symbol returned : ℕ) (ps : List Parameter) (c : Option Text) (bs : List Block) (i : Input) → made_of (kept_of i) ≡ nothing_made
@@ -234,6 +239,7 @@ module _ (m : Module) (names : HasModuleNames m) where
           symbols = inl refl;
           structs = inl (refl, refl);
           layouts = λ name layout e. e;
+          forms = refl;
         } in
         let types = o.types in
         let front = said.2 in

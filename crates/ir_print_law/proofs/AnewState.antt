@@ -56,6 +56,7 @@ pub record Anew (m : Module) (i : Input) : Type 0 where
   pub symbols : AreItsSymbols m i
   pub structs : AreItsStructs m i
   pub layouts : AreItsLayouts m i.struct_names.sorts
+  pub forms : i.wide ≡ m.wide
 
 -- Reading goes on to an end with these types, where each name that is used is one of the module's and means something that may be used so.
 pub record Arrives (m : Module) (types : List IrType) (i : Input) : Type 0 where
@@ -66,6 +67,7 @@ pub record Arrives (m : Module) (types : List IrType) (i : Input) : Type 0 where
   pub symbol_uses : (u : SymbolUse) → IsIn u i.symbol_uses → is_right u.is_call (slice_get m.sorts u.symbol) ≡ true
   pub missing : i.missing ≡ None
   pub ordered : AreOrdered types
+  pub forms : i.wide ≡ m.wide
 
 -- ---- mentions of names
 
@@ -122,6 +124,7 @@ module _ (m : Module) where
     symbols = h.symbols;
     structs = h.structs;
     layouts = h.layouts;
+    forms = h.forms;
   }
 
   pub anew_type : (i : Input) (t : IrType) → IsNext i.types t → Anew m i → Anew m (with_type_interned t i)
@@ -132,6 +135,7 @@ module _ (m : Module) where
     symbols = h.symbols;
     structs = h.structs;
     layouts = h.layouts;
+    forms = h.forms;
   }
 
   pub anew_struct : (i : Input) → Anew m i → Anew m (with_struct_use i)
@@ -142,6 +146,7 @@ module _ (m : Module) where
     symbols = h.symbols;
     structs = structs_used i (place_of (spelled i.cursor) i.struct_names.names) refl h.structs;
     layouts = layouts_used i.struct_names.sorts (place_of (spelled i.cursor) i.struct_names.names) h.layouts;
+    forms = h.forms;
   }
 
   pub anew_symbol : (i : Input) (is_call : Bool) → Anew m i → Anew m (with_symbol_use is_call i)
@@ -152,6 +157,7 @@ module _ (m : Module) where
     symbols = symbols_used i is_call (place_of (spelled i.cursor) i.symbols.names) refl h.symbols;
     structs = h.structs;
     layouts = h.layouts;
+    forms = h.forms;
   }
 
   module _ (types : List IrType) where
@@ -164,6 +170,7 @@ module _ (m : Module) where
       symbol_uses = b.symbol_uses;
       missing = b.missing;
       ordered = b.ordered;
+      forms = b.forms;
     }
 
     pub arrives_type : (i : Input) (t : IrType) → Arrives m types (with_type_interned t i) → Arrives m types i
@@ -175,6 +182,7 @@ module _ (m : Module) where
       symbol_uses = b.symbol_uses;
       missing = b.missing;
       ordered = b.ordered;
+      forms = b.forms;
     }
 
     pub arrives_struct : (i : Input) → Arrives m types (with_struct_use i) → Arrives m types i
@@ -186,6 +194,7 @@ module _ (m : Module) where
       symbol_uses = b.symbol_uses;
       missing = b.missing;
       ordered = b.ordered;
+      forms = b.forms;
     }
 
     pub arrives_symbol : (i : Input) (is_call : Bool) → Arrives m types (with_symbol_use is_call i) → Arrives m types i
@@ -197,6 +206,7 @@ module _ (m : Module) where
       symbol_uses = λ u there. b.symbol_uses u (in_first u i.symbol_uses (symbol_use is_call i ∷ []) there);
       missing = b.missing;
       ordered = b.ordered;
+      forms = b.forms;
     }
 
     -- ---- what a name is that is used
@@ -256,6 +266,7 @@ module _ (m : Module) where
         Back = Arrives m types;
         ordered = λ i back. back.ordered;
         bytes = λ i f back. spelled_bytes i.cursor f.0.bytes;
+        forms = λ i b. b.forms;
         has_types = λ i b. b.begins;
         has_structs = λ i b. b.struct_names;
         has_symbols = λ i b. b.symbols;
@@ -276,7 +287,7 @@ module _ (m : Module) where
       anew_outside made = record {
         reading = anew_reading (λ k. made_of k ≡ made);
         on_own = λ i t uses values unnamed f. (
-          record { bytes = f.0.bytes; spell = f.0.spell; ordered = f.0.ordered; symbols = f.0.symbols; structs = f.0.structs; layouts = f.0.layouts },
+          record { bytes = f.0.bytes; spell = f.0.spell; ordered = f.0.ordered; symbols = f.0.symbols; structs = f.0.structs; layouts = f.0.layouts; forms = f.0.forms },
           f.1,
         );
         from_own = λ i t uses values unnamed b. record {
@@ -287,6 +298,7 @@ module _ (m : Module) where
           symbol_uses = b.symbol_uses;
           missing = b.missing;
           ordered = b.ordered;
+          forms = b.forms;
         };
         bytes = λ i f. spelled_bytes i.cursor f.0.bytes;
         digits = λ i f is. number_spells i.cursor f.0.spell is;

@@ -18,7 +18,7 @@ module _ (s : Seat) where
   abbrev pub Stepped : Input → Input → Input → Input → Type 0
   Stepped i j o p =
       Goes o p × Own o.locals p.locals o.local_uses p.local_uses o.values p.values o.unnamed p.unnamed × Symbols o.symbols p.symbols o.symbol_uses p.symbol_uses
-      × Structs o.struct_names.names p.struct_names.names o.struct_uses p.struct_uses × (p.missing ≡ None) × (p.functions ≡ []) × Grown i o × Grown j p
+      × Structs o.struct_names.names p.struct_names.names o.struct_uses p.struct_uses × (p.missing ≡ None) × (p.functions ≡ []) × (o.wide ≡ p.wide) × Grown i o × Grown j p
 
   pub steps : {A B : Type 0} {V : Between A B} (value : Input → A) (other : Input → B) (n m : Input → Input) (falls : (i : Input) → left (n i) ≤ left i) (less : (i : Input) → left (m i) ≤ left i) (i j : Input)
       → (Beside s i j → Stepped i j (n i) (m j)) → (Beside s i j → V (n i) (m j) (value i) (other j))
@@ -27,7 +27,7 @@ module _ (s : Seat) where
   steps {V = V} value other n m falls less i j on tells = stepped s {V = V} value other n m falls less i j (λ b.
       let r = on b in
       elim r.0 [
-        | inl along ↦ inl (record { along = along; own = r.1; symbols = r.2; structs = r.3; missing = r.4; functions = r.5 }, r.6, r.7, tells b)
+        | inl along ↦ inl (record { along = along; own = r.1; symbols = r.2; structs = r.3; missing = r.4; functions = r.5; forms = r.6 }, r.7, r.8, tells b)
         | inr over ↦ inr over
       ])
 
@@ -35,7 +35,7 @@ module _ (s : Seat) where
   pub takes : {A B : Type 0} {V : Between A B} (value : Input → A) (other : Input → B) (i j : Input) → (Beside s i j → V (advanced i) (advanced j) (value i) (other j))
       → At s V (step {E = Fault} {left = left} value advanced advanced_falls) (step {E = Fault} {left = left} other advanced advanced_falls) i j
   takes {V = V} value other i j tells =
-      steps {V = V} value other advanced advanced advanced_falls advanced_falls i j (λ b. (next_either s i.cursor j.cursor b.along, b.own, b.symbols, b.structs, b.missing, b.functions, grown_itself i, grown_itself j)) tells
+      steps {V = V} value other advanced advanced advanced_falls advanced_falls i j (λ b. (next_either s i.cursor j.cursor b.along, b.own, b.symbols, b.structs, b.missing, b.functions, b.forms, grown_itself i, grown_itself j)) tells
 
   pub skip_same : Same s skip
   skip_same i j = takes {V = Any} (λ _. tt) (λ _. tt) i j (λ b. tt)

@@ -93,6 +93,7 @@ module _ (s : Seat) where
         b.structs,
         b.missing,
         b.functions,
+        b.forms,
         (type_begins t i.types, begins_itself i.struct_names.names, begins_itself i.symbols.names, begins_itself i.struct_names.sorts),
         (type_begins u j.types, begins_itself j.struct_names.names, begins_itself j.symbols.names, begins_itself j.struct_names.sorts),
       )) (λ b. (type_there t i.types, type_there u j.types)))

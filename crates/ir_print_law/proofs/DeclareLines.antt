@@ -144,6 +144,7 @@ module _ (m : Module) (f : Function) (named : AreNamed m f) (types : TypesRead m
         record {
           stands = l.3.stands;
           ordered = l.3.ordered;
+          forms = l.3.forms;
           room = record { types = room_y.types; structs = room_y.structs; symbols = room_y.symbols; locals = room_y.locals };
           holds = (
             k_holds.0,

@@ -91,6 +91,7 @@ module _ (m : Module) (f : Function) (named : AreNamed m f) (types : TypesRead m
       let ready_q : Ready (known m f named (far_numbered far (far.unnamed + 1))) 0 (with_number_taken p) sep = record {
         stands = t.3.stands;
         ordered = t.3.ordered;
+        forms = t.3.forms;
         room = let r = t.3.room in record { types = r.types; structs = r.structs; symbols = r.symbols; locals = r.locals };
         holds = (
           h.0,

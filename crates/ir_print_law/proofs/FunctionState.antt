@@ -130,6 +130,7 @@ module _ {m : Module} (w : Outside m) where
   kit f t unnamed g pending = record {
     ordered = λ i back. w.reading.ordered i back.outside;
     bytes = λ i h back. w.reading.bytes i h.outside back.outside;
+    forms = λ i h. w.reading.forms i h.outside;
     has_types = λ i h. w.reading.has_types i h.outside;
     has_structs = λ i h. w.reading.has_structs i h.outside;
     has_symbols = λ i h. w.reading.has_symbols i h.outside;

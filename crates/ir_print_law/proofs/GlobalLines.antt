@@ -219,6 +219,7 @@ module _ (m : Module) (f : Function) (named : AreNamed m f) (types : TypesRead m
         record {
           stands = ready_s.stands;
           ordered = ready_s.ordered;
+          forms = ready_s.forms;
           room = record { types = room_s.types; structs = room_s.structs; symbols = room_s.symbols; locals = room_s.locals };
           holds = (
             h.0,

@@ -10,12 +10,12 @@ use Rattle.ir_ast.specs.declared.op.Op.TheVariants as op
 use Rattle.ir_tokens.specs.declared.token.Kind.{Kind}
 use Rattle.ir_tokens.specs.declared.token.Kind.TheVariants as k
 use Rattle.ir_forms.specs.Calls.{valued, unnamed, typed_call, call, tail_call, void_call, numbered_call, call_by, call_statement, tail_call_statement}
-use Rattle.ir_forms.specs.Casts.{bitcast}
+use Rattle.ir_forms.specs.Casts.{bitcast, freezes, freeze}
 use Rattle.ir_forms.specs.Choices.{select}
 use Rattle.ir_forms.specs.Cursor.{kind}
 use Rattle.ir_forms.specs.Elements.{element}
 use Rattle.ir_forms.specs.Input.{Form}
-use Rattle.ir_forms.specs.Instructions.{named_op_by, named_op, named_after, instruction_by, instruction, placed, at_terminator, body}
+use Rattle.ir_forms.specs.Instructions.{wide_op_by, wide_op, named_op_by, named_op, named_after, instruction_by, instruction, placed, at_terminator, body}
 use Rattle.ir_forms.specs.ManyWith.{Follows}
 use Rattle.ir_forms.specs.Memory.{alloca, load, store}
 use Rattle.ir_forms.specs.Numbers.{compare, integer_op}
@@ -30,7 +30,7 @@ use Rattle.ir_print_law.specs.Casts.{IsCast}
 use Rattle.ir_print_law.specs.Choices.{IsChoice}
 use Rattle.ir_print_law.specs.Printable.{IsOp, IsInstr, gives_value}
 use Rattle.ir_print_law.proofs.Calls.{IsGivingCall, typed_call_keeps, call_keeps, tail_call_keeps, void_call_keeps}
-use Rattle.ir_print_law.proofs.Casts.{bitcast_keeps}
+use Rattle.ir_print_law.proofs.Casts.{bitcast_keeps, freeze_keeps}
 use Rattle.ir_print_law.proofs.Choices.{select_keeps}
 use Rattle.ir_print_law.proofs.Decorations.{decorations_pass, trailed_keeps}
 use Rattle.ir_print_law.proofs.Elements.{element_keeps}
@@ -63,6 +63,14 @@ module _ {m : Module} {f : Function} {Back : Input → Type 0} {Fore : Progress 
       → ((i : Input) → Keeps (Open g n) (λ _. Fore (with_named_value g n)) Back form Good i) → Names g n (as_op wrap form)
   of_family g n Good wrap form good on i = wrapped Back (Open g n) (Fore (with_named_value g n)) Good (IsGiving m f true) wrap form i good (on i)
 
+  wide_op_by_keeps : (g : Progress) (n : ℕ) (x : Bool) → Names g n (wide_op_by n x)
+  wide_op_by_keeps g n true = of_family g n (IsCast m f) op.Cast (freeze n) (λ x h. (h, refl)) (freeze_keeps (naming_of b g n))
+  wide_op_by_keeps g n false = of_family g n (IsNumberOp m f) op.Number (integer_op n) (λ x h. (h, refl)) (integer_op_keeps (naming_of b g n))
+
+  wide_op_keeps : (g : Progress) (n : ℕ) → Names g n (wide_op n)
+  unfolding wide_op
+  wide_op_keeps g n i = wide_op_by_keeps g n (freezes i) i
+
   named_op_by_keeps : (g : Progress) (n : ℕ) (site : Site) (x : Kind) → Names g n (named_op_by site n x)
   named_op_by_keeps g n site k.Alloca = of_family g n (IsGivingMemory m f true) op.Memory (alloca n) (λ x h. h) (alloca_keeps (naming_of b g n))
   named_op_by_keeps g n site k.Bitcast = of_family g n (IsCast m f) op.Cast (bitcast n) (λ x h. (h, refl)) (bitcast_keeps (naming_of b g n))
@@ -73,6 +81,7 @@ module _ {m : Module} {f : Function} {Back : Input → Type 0} {Fore : Progress 
   named_op_by_keeps g n site k.Call = of_family g n (IsGivingCall m f true) op.Call (call n) (λ x h. h) (call_keeps (naming_of b g n))
   named_op_by_keeps g n site k.Tail = of_family g n (IsGivingCall m f true) op.Call (tail_call n) (λ x h. h) (tail_call_keeps (naming_of b g n))
   named_op_by_keeps g n site k.Notail = of_family g n (IsGivingCall m f true) op.Call (tail_call n) (λ x h. h) (tail_call_keeps (naming_of b g n))
+  named_op_by_keeps g n site k.LeftOut = wide_op_keeps g n
   named_op_by_keeps g n site _ = of_family g n (IsNumberOp m f) op.Number (integer_op n) (λ x h. (h, refl)) (integer_op_keeps (naming_of b g n))
 
   named_op_keeps : (g : Progress) (n : ℕ) (site : Site) → Names g n (named_op site n)

@@ -84,6 +84,7 @@ module _ (m : Module) (f : Function) (named : AreNamed m f) (far : Far) where
               record {
                 stands = at;
                 ordered = ready.ordered;
+                forms = ready.forms;
                 room = record {
                   types = let a = r.types in omega (arith, a, one);
                   structs = let a = r.structs in omega (arith, a, one);

@@ -95,6 +95,7 @@ module _ (m : Module) (func : ℕ) (code : Text) (before after : Input) (counted
     structs = record { used = λ u there. absurd there };
     missing = refl;
     functions = refl;
+    forms = h.forms;
   }
 
 -- a fault for want of room, or for a pointer of another kind, is shown as one

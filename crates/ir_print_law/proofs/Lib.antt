@@ -148,3 +148,4 @@ pub mod Law
 pub mod Passed
 pub mod Meaning
 pub mod Alone
+pub mod CoreForms

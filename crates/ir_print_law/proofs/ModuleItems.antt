@@ -89,6 +89,7 @@ leads_struct_name e i b = record {
   struct_uses = b.struct_uses;
   symbol_uses = b.symbol_uses;
   missing = b.missing;
+  forms = b.forms;
 }
 
 -- a name of a struct that is defined here
@@ -236,6 +237,7 @@ leads_symbol_name e i sort b = record {
   struct_uses = b.struct_uses;
   symbol_uses = b.symbol_uses;
   missing = b.missing;
+  forms = b.forms;
 }
 
 -- a name that is defined here, where it is known what is pending then

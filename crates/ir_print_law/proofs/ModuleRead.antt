@@ -1,5 +1,5 @@
 -- A module that is read is printable.
-use Rattle.std.proofs.Common.{◌≡◌, ℕ, ◌+◌, ◌≤◌, true, List, [], ◌∷◌, ◌++◌, length, Option, None, Some, refl, sym, ap, subst, ◌∙◌, arith, ◌⊎◌}
+use Rattle.std.proofs.Common.{◌≡◌, ℕ, Bool, ◌+◌, ◌≤◌, true, List, [], ◌∷◌, ◌++◌, length, Option, None, Some, refl, sym, ap, subst, ◌∙◌, arith, ◌⊎◌}
 use Rattle.std.specs.Prelude.{nat_lt}
 use Rattle.std.specs.List.{AllByRecursion}
 use Rattle.lemmas.specs.All.{all_so}
@@ -24,8 +24,9 @@ use Rattle.ir_text.specs.Blocks.{blocks}
 use Rattle.ir_text.specs.ItemsOfText.{function_name_by, function_name, head_end, open_body, earlier, function_of, with_function, head, definition, item_by, item, at_end_of_text, items, whole}
 use Rattle.ir_text.specs.Late.{late_fault}
 use Rattle.ir_text.specs.Parameters.{parameters}
-use Rattle.ir_text.specs.Read.{module_of, start, IsText}
+use Rattle.ir_text.specs.Read.{module_of, module_in, start_in, IsText}
 use Rattle.name_text.specs.Readings.{AreBytes}
+use Rattle.ir_print_law.specs.CoreForms.{FormsStay}
 use Rattle.ir_print_law.specs.FunctionNames.{HasNames}
 use Rattle.ir_print_law.specs.ModuleNames.{HasModuleNames}
 use Rattle.ir_print_law.specs.OneTypes.{HasOneTypes}
@@ -89,6 +90,7 @@ leads_function e symbol returned ps c bs i b =
         struct_uses = b.struct_uses;
         symbol_uses = b.symbol_uses;
         missing = none.0;
+        forms = b.forms;
       },
     )
 
@@ -211,8 +213,8 @@ module _ (Good : Module → Function → Type 0) (keeps : FunctionKeeps Good) (e
 abbrev nothing_made : Made
 nothing_made = record { structs = []; globals = []; declares = []; functions = [] }
 
-starts : (bytes : Text) (lexed : Lexed) → AreBytes bytes → IsLexed bytes lexed → IsBetween nothing_made (start bytes lexed)
-starts bytes lexed own is = (
+starts : (wide : Bool) (bytes : Text) (lexed : Lexed) → AreBytes bytes → IsLexed bytes lexed → IsBetween nothing_made (start_in wide bytes lexed)
+starts wide bytes lexed own is = (
   record {
     bytes = own;
     spell = lexed_spell bytes lexed is;
@@ -239,6 +241,7 @@ ends o end none =
       struct_uses = struct_right o late.2;
       symbol_uses = symbol_right o late.1;
       missing = late.0;
+      forms = refl;
     }
 
 all_grown : {A : Type 0} (P : A → Type 0) (xs ys : List A) → ys ≡ xs → Grows P [] xs → AllByRecursion P ys
@@ -252,19 +255,23 @@ abbrev pub HasRead : (Module → Function → Type 0) → Input → Type 0
 HasRead Good o = Stands no_one o × AllByRecursion (IsStructType (module_of o)) o.structs × AllByRecursion (IsGlobal (module_of o)) o.globals
     × AllByRecursion (IsDeclare (module_of o)) o.declares × AllByRecursion (Good (module_of o)) o.functions
 
-read : (Good : Module → Function → Type 0) → FunctionKeeps Good → (bytes : Text) (lexed : Lexed) (o : Input) → AreBytes bytes → IsLexed bytes lexed
-    → whole.says (start bytes lexed) tt o → late_fault o ≡ None → HasRead Good o
-read Good keeps bytes lexed o own is said none =
+read : (Good : Module → Function → Type 0) → FunctionKeeps Good → (wide : Bool) (bytes : Text) (lexed : Lexed) (o : Input) → AreBytes bytes → IsLexed bytes lexed
+    → whole.says (start_in wide bytes lexed) tt o → late_fault o ≡ None → HasRead Good o × (o.wide ≡ wide)
+read Good keeps wide bytes lexed o own is said none =
     let m = module_of o in
-    let x = whole_goes Good keeps o (start bytes lexed) nothing_made tt o said (starts bytes lexed own is) in
+    let x = whole_goes Good keeps o (start_in wide bytes lexed) nothing_made tt o said (starts wide bytes lexed own is) in
     let later = x.0 in
-    let grown = (x.2 (ends o x.1.0 none)).1 in
+    let back = x.2 (ends o x.1.0 none) in
+    let grown = back.1 in
     let same = x.1.1 in (
-      x.1.0,
-      all_grown (IsStructType m) later.structs o.structs (ap (λ (y : Kept). y.structs) same) grown.structs,
-      all_grown (IsGlobal m) later.globals o.globals (ap (λ (y : Kept). y.globals) same) grown.globals,
-      all_grown (IsDeclare m) later.declares o.declares (ap (λ (y : Kept). y.declares) same) grown.declares,
-      all_grown (Good m) later.functions o.functions (ap (λ (y : Kept). y.functions) same) grown.functions,
+      (
+        x.1.0,
+        all_grown (IsStructType m) later.structs o.structs (ap (λ (y : Kept). y.structs) same) grown.structs,
+        all_grown (IsGlobal m) later.globals o.globals (ap (λ (y : Kept). y.globals) same) grown.globals,
+        all_grown (IsDeclare m) later.declares o.declares (ap (λ (y : Kept). y.declares) same) grown.declares,
+        all_grown (Good m) later.functions o.functions (ap (λ (y : Kept). y.functions) same) grown.functions,
+      ),
+      sym back.0.forms,
     )
 
 end_printable : (Good : Module → Function → Type 0) → ((m : Module) (f : Function) → Good m f → IsFunction m f) → (o : Input) → HasRead Good o → IsPrintable (module_of o)
@@ -283,7 +290,10 @@ end_printable Good is_function o h = record {
 -- what holds of a module where reading ends holds of the module that is read
 pub read_so : (Good : Module → Function → Type 0) → FunctionKeeps Good → (P : Module → Type 0) → ((o : Input) → HasRead Good o → P (module_of o))
     → (bytes : Text) (m : Module) → AreBytes bytes → IsText bytes m → P m
-read_so Good keeps P so bytes m own is = let end = is.3 in subst P end.3 (so end.0 (read Good keeps bytes is.1 end.0 own is.2 end.1 end.2))
+read_so Good keeps P so bytes m own is =
+    let end = is.3 in
+    let done = read Good keeps m.wide bytes is.1 end.0 own is.2 end.1 end.2 in
+    subst P (ap (λ (wide : Bool). module_in wide end.0) done.1 ∙ end.3) (so end.0 done.0)
 
 -- what is read is printable
 pub read_is_printable : (bytes : Text) (m : Module) → AreBytes bytes → IsText bytes m → IsPrintable m
@@ -306,3 +316,7 @@ read_has_one_types = read_so IsFunction (λ m w. function_is w) HasOneTypes (λ 
 -- and the further fields of a struct come before it in its table of types
 pub read_is_ordered : (bytes : Text) (m : Module) → AreBytes bytes → IsText bytes m → AreOrdered m.types
 read_is_ordered = read_so IsFunction (λ m w. function_is w) (λ m. AreOrdered m.types) (λ o h. h.0.ordered)
+
+-- whether the wide forms may stand is at the end as it was before the first token
+pub read_keeps_forms : FormsStay
+read_keeps_forms wide bytes lexed o own is said none = (read IsFunction (λ m w. function_is w) wide bytes lexed o own is said none).1

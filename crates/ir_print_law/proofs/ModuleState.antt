@@ -114,6 +114,7 @@ pub record Leads (e i : Input) : Type 0 where
   pub struct_uses : (u : StructUse) → IsIn u i.struct_uses → is_right_struct e u ≡ true
   pub symbol_uses : (u : SymbolUse) → IsIn u i.symbol_uses → is_right_symbol e u ≡ true
   pub missing : i.missing ≡ None
+  pub forms : i.wide ≡ e.wide
 
 -- ---- the text that is left
 
@@ -289,6 +290,7 @@ leads_token e i b = record {
   struct_uses = b.struct_uses;
   symbol_uses = b.symbol_uses;
   missing = b.missing;
+  forms = b.forms;
 }
 
 -- before a type
@@ -301,6 +303,7 @@ leads_type e i t b = record {
   struct_uses = b.struct_uses;
   symbol_uses = b.symbol_uses;
   missing = b.missing;
+  forms = b.forms;
 }
 
 -- before a name of a struct
@@ -313,6 +316,7 @@ leads_struct e i b = record {
   struct_uses = λ u there. b.struct_uses u (in_first u i.struct_uses (record { name = struct_number i; start = start i.cursor } ∷ []) there);
   symbol_uses = b.symbol_uses;
   missing = b.missing;
+  forms = b.forms;
 }
 
 -- before a name of a global or a function
@@ -326,6 +330,7 @@ leads_symbol e i is_call b = record {
   symbol_uses = λ u there. b.symbol_uses u
       (in_first u i.symbol_uses (record { symbol = symbol_number i; is_call = is_call; start = start i.cursor; length = size i.cursor } ∷ []) there);
   missing = b.missing;
+  forms = b.forms;
 }
 
 -- The reading of a module, where these names are pending and `P` holds of what no form changes that reads a type or an operand.
@@ -335,6 +340,7 @@ reading_of e P p = record {
   Back = Leads e;
   ordered = λ i back. back.end.ordered;
   bytes = λ i f back. spelled_bytes i.cursor f.0.bytes;
+  forms = λ i b. b.forms;
   has_types = λ i b. b.types;
   has_structs = λ i b. b.struct_names;
   has_symbols = λ i b. b.symbols;
@@ -399,6 +405,7 @@ leads_kept e i k b = record {
   struct_uses = b.struct_uses;
   symbol_uses = b.symbol_uses;
   missing = b.missing;
+  forms = b.forms;
 }
 
 -- nothing of it depends on the names of a function

@@ -49,7 +49,7 @@ module _ (s : Seat) where
   unfolding take_number
   take_number_same i j = past s (rule s (λ i. nat_lt i.unnamed 4294967295) limit (λ i j b. ap (λ (n : ℕ). nat_lt n 4294967295) b.own.unnamed_is) i j)
       (λ i j. steps s {V = Any} (λ _. tt) (λ _. tt) with_number_taken with_number_taken with_number_taken_falls with_number_taken_falls i j
-      (λ b. (inl b.along, own_number b.own, b.symbols, b.structs, b.missing, b.functions, grown_itself i, grown_itself j)) (λ b. tt))
+      (λ b. (inl b.along, own_number b.own, b.symbols, b.structs, b.missing, b.functions, b.forms, grown_itself i, grown_itself j)) (λ b. tt))
 
   next_number_same : Same s next_number
   unfolding next_number
@@ -68,6 +68,7 @@ module _ (s : Seat) where
         structs_use (spelled i.cursor) (spelled j.cursor) (record { name = struct_number i; start = start i.cursor }) (record { name = struct_number j; start = start j.cursor }) (word i j b) refl refl b.structs,
         b.missing,
         b.functions,
+        b.forms,
         (begins_itself i.types, name_begins (spelled i.cursor) i.struct_names.names, begins_itself i.symbols.names, sorts_begin (place_of (spelled i.cursor) i.struct_names.names) i.struct_names.sorts),
         (begins_itself j.types, name_begins (spelled j.cursor) j.struct_names.names, begins_itself j.symbols.names, sorts_begin (place_of (spelled j.cursor) j.struct_names.names) j.struct_names.sorts),
       ))
@@ -93,6 +94,7 @@ module _ (s : Seat) where
         b.structs,
         b.missing,
         b.functions,
+        b.forms,
         (begins_itself i.types, begins_itself i.struct_names.names, name_begins (spelled i.cursor) i.symbols.names, begins_itself i.struct_names.sorts),
         (begins_itself j.types, begins_itself j.struct_names.names, name_begins (spelled j.cursor) j.symbols.names, begins_itself j.struct_names.sorts),
       )) (λ b. tt))
@@ -127,6 +129,7 @@ module _ (s : Seat) where
         b.structs,
         b.missing,
         b.functions,
+        b.forms,
         (begins_itself i.types, begins_itself i.struct_names.names, name_begins (spelled i.cursor) i.symbols.names, begins_itself i.struct_names.sorts),
         (begins_itself j.types, begins_itself j.struct_names.names, name_begins (spelled j.cursor) j.symbols.names, begins_itself j.struct_names.sorts),
       )) (λ b. tt))
@@ -159,6 +162,7 @@ module _ (s : Seat) where
         b.structs,
         b.missing,
         b.functions,
+        b.forms,
         grown_itself i,
         grown_itself j,
       )) (number i j))
@@ -193,6 +197,7 @@ module _ (s : Seat) where
         b.structs,
         b.missing,
         b.functions,
+        b.forms,
         grown_itself i,
         grown_itself j,
       )) (number i j))
@@ -207,7 +212,7 @@ module _ (s : Seat) where
   value_of_key_at : (t : Text) → Both s Equal (value_of_key t) (value_of_key t)
   value_of_key_at t i j = past s (past s (rule s (λ i. nat_lt (key_number t i) 4294967296) limit (λ i j b. ap (λ (n : ℕ). nat_lt n 4294967296) (key_number_same t i j b)) i j) room_so)
       (λ i j. steps s {V = Equal} (key_number t) (key_number t) (with_unwritten_value t) (with_unwritten_value t) (with_unwritten_value_falls t) (with_unwritten_value_falls t) i j
-      (λ b. (inl b.along, own_value (own_mention t t refl b.own), b.symbols, b.structs, b.missing, b.functions, grown_itself i, grown_itself j)) (key_number_same t i j))
+      (λ b. (inl b.along, own_value (own_mention t t refl b.own), b.symbols, b.structs, b.missing, b.functions, b.forms, grown_itself i, grown_itself j)) (key_number_same t i j))
 
   pub unnamed_value_at : Both s Equal unnamed_value unnamed_value
   unfolding unnamed_value
@@ -218,7 +223,7 @@ module _ (s : Seat) where
   pub set_sort_at : (value : ℕ) (x y : LocalSort) → bare x ≡ bare y → Both s Any (set_sort value x) (set_sort value y)
   set_sort_at value x y same i j =
       steps s {V = Any} (λ _. tt) (λ _. tt) (with_sort value x) (with_sort value y) (with_sort_falls value x) (with_sort_falls value y) i j
-      (λ b. (inl b.along, own_define value value x y refl same b.own, b.symbols, b.structs, b.missing, b.functions, grown_itself i, grown_itself j)) (λ b. tt)
+      (λ b. (inl b.along, own_define value value x y refl same b.own, b.symbols, b.structs, b.missing, b.functions, b.forms, grown_itself i, grown_itself j)) (λ b. tt)
 
   -- ---- labels
 
@@ -233,6 +238,7 @@ module _ (s : Seat) where
         b.structs,
         b.missing,
         b.functions,
+        b.forms,
         grown_itself i,
         grown_itself j,
       )) (number i j))
@@ -247,7 +253,7 @@ module _ (s : Seat) where
   label_of_key_at : (block : ℕ) (t : Text) → Both s Equal (label_of_key block t) (label_of_key block t)
   label_of_key_at block t i j = past s (rule s (λ i. nat_lt (key_number t i) 4294967296) limit (λ i j b. ap (λ (n : ℕ). nat_lt n 4294967296) (key_number_same t i j b)) i j)
       (λ i j. steps s {V = Equal} (key_number t) (key_number t) (with_unwritten_label t block) (with_unwritten_label t block) (with_unwritten_label_falls t block) (with_unwritten_label_falls t block) i j
-      (λ b. (inl b.along, own_define (key_number t i) (key_number t j) (local.Block block) (local.Block block) (key_number_same t i j b) refl (own_mention t t refl b.own), b.symbols, b.structs, b.missing, b.functions, grown_itself i, grown_itself j))
+      (λ b. (inl b.along, own_define (key_number t i) (key_number t j) (local.Block block) (local.Block block) (key_number_same t i j b) refl (own_mention t t refl b.own), b.symbols, b.structs, b.missing, b.functions, b.forms, grown_itself i, grown_itself j))
       (key_number_same t i j))
 
   pub unnamed_label_at : (block : ℕ) → Both s Equal (unnamed_label block) (unnamed_label block)

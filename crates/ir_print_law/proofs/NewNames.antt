@@ -54,6 +54,7 @@ module _ (m : Module) (f : Function) (named : AreNamed m f) (far : Far) where
         record {
           stands = w.3;
           ordered = ready.ordered;
+          forms = ready.forms;
           room = record {
             types = let a = r.types in omega (arith, a, one);
             structs = omega (arith, room_structs, one, longer);
@@ -114,6 +115,7 @@ module _ (m : Module) (f : Function) (named : AreNamed m f) (far : Far) where
         record {
           stands = w.3;
           ordered = ready.ordered;
+          forms = ready.forms;
           room = record {
             types = let a = r.types in omega (arith, a, one);
             structs = let a = r.structs in omega (arith, a, one);

@@ -110,6 +110,7 @@ module _ (m : Module) (f : Function) (named : AreNamed m f) (far : Far) where
           record {
             stands = w.2;
             ordered = ready.ordered;
+            forms = ready.forms;
             room = record {
               types = let a = r.types in omega (arith, a, one);
               structs = let a = r.structs in omega (arith, a, one);
@@ -160,6 +161,7 @@ module _ (m : Module) (f : Function) (named : AreNamed m f) (far : Far) where
           record {
             stands = w.2;
             ordered = ready.ordered;
+            forms = ready.forms;
             room = record {
               types = let a = r.types in omega (arith, a, one);
               structs = let a = r.structs in omega (arith, a, one);

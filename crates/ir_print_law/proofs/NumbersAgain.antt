@@ -1,6 +1,7 @@
 -- Printed operations on integers, and conditions, are read as they were printed; and their numbers are within the tables.
-use Rattle.std.proofs.Common.{◌≡◌, ◌≤◌, ℕ, ◌+◌, true, false, List, [], ◌∷◌, ◌++◌, length, slice_get, None, Some, refl, ap, subst, ◌∙◌, arith, append_assoc}
-use Rattle.std.specs.Prelude.{codes}
+use Rattle.std.proofs.Common.{◌≡◌, ◌≤◌, ℕ, ◌+◌, Bool, true, false, List, [], ◌∷◌, ◌++◌, length, slice_get, None, Some, refl, ap, subst, ◌∙◌, arith, append_assoc}
+use Rattle.std.specs.Prelude.{◌&&◌, if◌then◌else◌, codes}
+use Rattle.std.specs.Str.{bytes_eq}
 use Rattle.grammar.specs.Grammar.{pure, ◌>>=◌, ◌>>◌}
 use Rattle.ir_ast.specs.declared.argument.Argument.{Argument}
 use Rattle.ir_ast.specs.declared.function.Function.{Function}
@@ -18,16 +19,17 @@ use Rattle.ir_tokens.specs.declared.token.Kind.{Kind}
 use Rattle.ir_tokens.specs.declared.token.Kind.TheVariants as k
 use Rattle.ir_tokens.specs.Bytes.{Text, class_of}
 use Rattle.ir_tokens.specs.Keywords.{word_kind, keywords}
-use Rattle.ir_forms.specs.Cursor.{kind, same_kind}
+use Rattle.ir_forms.specs.Cursor.{kind, sees, spelling, same_kind}
 use Rattle.ir_forms.specs.declared.input.Input.{Input}
 use Rattle.ir_forms.specs.Input.{Form, advanced, skip, expect}
 use Rattle.ir_forms.specs.Names.{set_type}
 use Rattle.ir_forms.specs.Operand as form
 use Rattle.ir_forms.specs.Written as w
 use Rattle.ir_forms.specs.declared.numbers.TwoOperands.{TwoOperands}
-use Rattle.ir_forms.specs.Decorations.{flagged_word}
+use Rattle.ir_forms.specs.Decorations.{flagged_word, either}
 use Rattle.ir_forms.specs.Starts.{is_flag_of}
 use Rattle.ir_forms.specs.Lists as lists
+use Rattle.ir_forms.specs.Casts as casts
 use Rattle.ir_forms.specs.Numbers as numbers
 use Rattle.ir_print.specs.Numbers.{arithmetic_word, comparison_word, resize_word, number_op_text}
 use Rattle.ir_print.specs.Operands.{operand_text, typed_text}
@@ -44,7 +46,7 @@ use Rattle.ir_print_law.proofs.PartsLonger.{MeansAsMuch, pair_longer, converted_
 use Rattle.ir_print_law.proofs.PartsWithin.{Wide, pair_within, converted_within}
 use Rattle.ir_print_law.proofs.State.{Invariant, Ready, Reads, Any}
 use Rattle.ir_print_law.proofs.Shown.{shown}
-use Rattle.ir_print_law.proofs.Steps.{looked, given, word_skipped, word_seen, intern_reads, grows_further, later_before}
+use Rattle.ir_print_law.proofs.Steps.{looked, given, unlike, word_skipped, word_seen, intern_reads, grows_further, later_before}
 use Rattle.ir_print_law.proofs.Flags.{type_no_flag, word_flagged}
 use Rattle.ir_print_law.proofs.Types.{EndsType}
 use Rattle.ir_print_law.proofs.WholeTypes.{type_begins}
@@ -58,7 +60,7 @@ use Rattle.ir_print.specs.Instructions.{op_text}
 use Rattle.ir_ast.specs.declared.numbers.Arithmetic.TheVariants as arithmetic
 use Rattle.ir_ast.specs.declared.numbers.Resize.TheVariants as resize
 use Rattle.ir_forms.specs.Place.{Place}
-use Rattle.ir_print_law.proofs.Words.{word_comes}
+use Rattle.ir_print_law.proofs.Words.{word_comes, seen}
 use Rattle.ir_forms.specs.declared.site.Site.{Site}
 use Rattle.ir_forms.specs.Instructions as whole
 use Rattle.ir_forms.specs.Ops.{as_op}
@@ -116,6 +118,14 @@ module _ {m : Module} {f : Function} (v : Invariant m f) where
       again_form : ℕ → Form Argument
       again_form bit = w.again (numbers.bit_type bit) >> operand_form bit
 
+-- a word of another form names none of the wide forms
+nothing_wide : (i : Input) → sees k.LeftOut i.cursor ≡ false → numbers.wide_here i ≡ None
+unfolding numbers.wide_here
+nothing_wide i e = pick i.wide where
+  pick : (t : Bool) → (if t && sees k.LeftOut i.cursor then numbers.wide_of (spelling i.cursor) else None) ≡ None
+  pick true = rw e refl
+  pick false = refl
+
 module _ {m : Module} {f : Function} (v u : Invariant m f) where
   -- ---- sums and the like
 
@@ -147,6 +157,51 @@ module _ {m : Module} {f : Function} (v u : Invariant m f) where
 
       pair_form : Form NumberOp
       pair_form = numbers.pair >>= set_form
+
+  -- ---- shifts, division and remainder
+
+  -- a type is not the word `exact`
+  no_exact : (o : Input) → w.begins_type (kind o.cursor) ≡ true → numbers.is_exact o ≡ false
+  unfolding numbers.is_exact
+  no_exact o begins = ap (λ (b : Bool). b && bytes_eq (spelling o.cursor) (codes "exact")) (unlike k.LowercaseWord w.begins_type o refl begins)
+
+  -- `sdiv T V, W`, and so for the other six
+  pub wide_reads : (x : Arithmetic) (name : Text) (value t : ℕ) (a b : Operand) (i : Input) (gap rest : Text) (s : ℕ) → is_plain name ≡ true → ArePair m f t a b
+      → Sets v u value → AreBlanks gap → IsSeam rest
+      → Ready v s i (gap ++ (name ++ (32 ∷ (pair_text m f.locals (typed t a) b ++ rest)))) → Reads u s (numbers.wide_arithmetic x value) i rest (NumberAgain m f.locals (number.Arithmetic x t a b))
+  unfolding numbers.wide_arithmetic numbers.exact class_of
+  wide_reads x name value t a b i gap rest s plain own sets blanks seam ready =
+      let good = NumberAgain m f.locals (number.Arithmetic x t a b) in
+      let afterwards = 32 ∷ (pair_text m f.locals (typed t a) b ++ rest) in
+      on v u flagged_word (λ _. exact_form) i afterwards rest s s (λ _ o. advanced i ≡ o) good
+      (word_flagged v name i gap afterwards s s blanks plain refl (omega arith) ready
+      (λ o stands word. type_no_flag word (kind o.cursor) (begins o stands)))
+      (λ _ o ready g e.
+      on v u numbers.exact (λ _. pair_form) o afterwards rest s s (λ _ q. o ≡ q) good
+      (looked v numbers.is_exact (either skip (pure tt)) o afterwards s (λ _ q. o ≡ q) false (no_exact o (begins o ready.stands)) (given v tt o afterwards s (λ _ q. o ≡ q) ready refl))
+      (λ _ q ready h e.
+      on v u numbers.pair set_form q rest rest s s (PairAgain m f.locals t a b) good
+      (pair_reads v t a b q (32 ∷ []) rest s own refl seam ready)
+      (λ p r ready h again. set_reads v u (λ n others. IsNumberOpAgain m n f.locals others) value (local.Value p.written) (number.Arithmetic x t a b) (number.Arithmetic x p.written p.first p.second) r rest s sets refl ready
+      (λ n others later. (refl, again n others later)))))
+    where
+      front : (a b c : Text) → ((a ++ 32 ∷ b) ++ codes ", " ++ c) ++ rest ≡ a ++ (32 ∷ (b ++ (codes ", " ++ (c ++ rest))))
+      front a b c = simp append_assoc
+
+      begins : (o : Input) → Stands o.cursor (32 ∷ (pair_text m f.locals (typed t a) b ++ rest)) → w.begins_type (kind o.cursor) ≡ true
+      begins o stands =
+          let starts = subst (λ (y : Text). Stands o.cursor (32 ∷ y)) (front (type_text m t) (operand_text m f.locals t a) (operand_text m f.locals t b)) stands in
+          type_begins v own.0 o (32 ∷ []) (32 ∷ (operand_text m f.locals t a ++ (codes ", " ++ (operand_text m f.locals t b ++ rest)))) own.1.0.2 refl refl
+          (subst (λ (y : Text). Stands o.cursor (32 ∷ (y ++ (32 ∷ (operand_text m f.locals t a ++ (codes ", " ++ (operand_text m f.locals t b ++ rest))))))) (type_shown m own.0 t own.1.0.0 own.1.0.1) starts)
+
+      set_form : TwoOperands → Form NumberOp
+      set_form p = set_type value p.written >> pure (number.Arithmetic x p.written p.first p.second)
+
+      pair_form : Form NumberOp
+      pair_form = numbers.pair >>= set_form
+
+      exact_form : Form NumberOp
+      exact_form = numbers.exact >> pair_form
 
   -- ---- comparisons
 
@@ -221,17 +276,34 @@ module _ {m : Module} {f : Function} (v u : Invariant m f) where
       (ap numbers.arithmetic_of (word_seen v name i gap (32 ∷ (pair_text m f.locals (typed t a) b ++ rest)) s blanks plain refl ready) ∙ of)
       (arithmetic_reads x name value t a b i gap rest s is plain own sets blanks seam ready)
 
+  -- a shift, a division or a remainder, by its word
+  pub by_wide : (value : ℕ) (x : Arithmetic) (name : Text) (t : ℕ) (a b : Operand) (i : Input) (gap rest : Text) (s : ℕ) → word_kind name ≡ k.LeftOut → numbers.wide_of name ≡ Some x → is_plain name ≡ true → m.wide ≡ true
+      → ArePair m f t a b → Sets v u value → AreBlanks gap → IsSeam rest → Ready v s i (gap ++ (name ++ (32 ∷ (pair_text m f.locals (typed t a) b ++ rest))))
+      → Reads u s (numbers.integer_op value) i rest (NumberAgain m f.locals (number.Arithmetic x t a b))
+  unfolding numbers.integer_op numbers.wide_or_resized numbers.wide_here class_of
+  by_wide value x name t a b i gap rest s left of plain wide own sets blanks seam ready =
+      let good = NumberAgain m f.locals (number.Arithmetic x t a b) in
+      let comes = word_comes i.cursor gap name (32 ∷ (pair_text m f.locals (typed t a) b ++ rest)) blanks plain refl ready.stands in
+      let is : kind i.cursor ≡ k.LeftOut = comes.0 ∙ left in
+      let spelled : spelling i.cursor ≡ name = comes.1 in
+      let forms : i.wide ≡ true = ready.forms ∙ wide in
+      let here : numbers.wide_here i ≡ Some x = rw (forms, seen k.LeftOut i is, spelled) of in
+      looked u (λ i. numbers.arithmetic_of (kind i.cursor)) (numbers.arithmetic_by value) i rest s good None (ap numbers.arithmetic_of is)
+      (looked u numbers.wide_here (numbers.wide_by value) i rest s good (Some x) here
+      (wide_reads x name value t a b i gap rest s plain own sets blanks seam ready))
+
   -- a change of width, by its word
-  pub by_resize : (value : ℕ) (x : Resize) (name : Text) (from : ℕ) (a : Operand) (to : ℕ) (i : Input) (gap rest : Text) (s : ℕ) → numbers.arithmetic_of (word_kind name) ≡ None → numbers.resize_of (word_kind name) ≡ Some x → is_plain name ≡ true
+  pub by_resize : (value : ℕ) (x : Resize) (name : Text) (from : ℕ) (a : Operand) (to : ℕ) (i : Input) (gap rest : Text) (s : ℕ) → numbers.arithmetic_of (word_kind name) ≡ None → same_kind (word_kind name) k.LeftOut ≡ false → numbers.resize_of (word_kind name) ≡ Some x → is_plain name ≡ true
       → IsConverted m f from a to → Sets v u value → AreBlanks gap → EndsType rest → Ready v s i (gap ++ (name ++ (32 ∷ (converted_text m f.locals (typed from a) to ++ rest))))
       → Reads u s (numbers.integer_op value) i rest (NumberAgain m f.locals (number.Resize x from a to))
-  unfolding numbers.integer_op numbers.resized class_of
-  by_resize value x name from a to i gap rest s none of plain own sets blanks ends ready =
+  unfolding numbers.integer_op numbers.wide_or_resized numbers.wide_here numbers.resized sees class_of
+  by_resize value x name from a to i gap rest s none not_left of plain own sets blanks ends ready =
       let is = word_seen v name i gap (32 ∷ (converted_text m f.locals (typed from a) to ++ rest)) s blanks plain refl ready in
       let good = NumberAgain m f.locals (number.Resize x from a to) in
       looked u (λ i. numbers.arithmetic_of (kind i.cursor)) (numbers.arithmetic_by value) i rest s good None (ap numbers.arithmetic_of is ∙ none)
+      (looked u numbers.wide_here (numbers.wide_by value) i rest s good None (nothing_wide i (ap (λ (x : Kind). same_kind x k.LeftOut) is ∙ not_left))
       (looked u (λ i. numbers.resize_of (kind i.cursor)) (numbers.resize_by value) i rest s good (Some x) (ap numbers.resize_of is ∙ of)
-      (resize_reads x name value from a to i gap rest s plain own sets blanks ends ready))
+      (resize_reads x name value from a to i gap rest s plain own sets blanks ends ready)))
 
   -- a comparison, by what it asks
   pub by_compare : (value : ℕ) (c : Comparison) (t : ℕ) (a b : Operand) (i : Input) (gap rest : Text) (s : ℕ) → ArePair m f t a b → Sets v u value → AreBlanks gap → IsSeam rest
@@ -252,37 +324,77 @@ module _ {m : Module} {f : Function} (v u : Invariant m f) where
   as_number : (form : Form NumberOp) (x : NumberOp) (i : Input) (rest : Text) (s : ℕ) → Reads u s form i rest (NumberAgain m f.locals x) → Reads u s (as_op op.Number form) i rest (OpAgain m f.locals (op.Number x))
   as_number form x i rest s h = op_reads u op.Number form (λ n others. IsNumberOpAgain m n f.locals others) x (op.Number x) i rest s (λ y o again. again) h
 
+  -- a word of the seven is not `freeze`
+  wide_op_reads : (value : ℕ) (x : NumberOp) (name afterwards : Text) (i : Input) (gap rest : Text) (s : ℕ) → bytes_eq name (codes "freeze") ≡ false → is_plain name ≡ true → AreBlanks gap → IsSeam afterwards
+      → Ready v s i (gap ++ (name ++ afterwards)) → Reads u s (as_op op.Number (numbers.integer_op value)) i rest (OpAgain m f.locals (op.Number x)) → Reads u s (whole.wide_op value) i rest (OpAgain m f.locals (op.Number x))
+  unfolding whole.wide_op casts.freezes
+  wide_op_reads value x name afterwards i gap rest s other plain blanks seam ready h =
+      let spelled : spelling i.cursor ≡ name = (word_comes i.cursor gap name afterwards blanks plain seam ready.stands).1 in
+      looked u casts.freezes (whole.wide_op_by value) i rest s (OpAgain m f.locals (op.Number x)) false (rw (spelled, other) (no_both i.wide)) h
+    where
+      no_both : (t : Bool) → t && false ≡ false
+      no_both true = refl
+      no_both false = refl
+
   -- what follows `%v =`
   pub named_number_reads : (site : Site) (value : ℕ) (x : NumberOp) (i : Input) (gap rest : Text) (s : ℕ) → AreBlanks gap → IsNumberOp m f x → Sets v u value → EndsLine rest
       → Ready v s i (gap ++ (op_text m f.locals (op.Number x) ++ rest)) → Reads u s (whole.named_op site value) i rest (OpAgain m f.locals (op.Number x))
-  unfolding word_kind keywords class_of
+  unfolding word_kind keywords class_of same_kind
   named_number_reads site value (number.Arithmetic arithmetic.Add t a b) i gap rest s blanks own sets ends ready =
       by_word v u site value (op.Number (number.Arithmetic arithmetic.Add t a b)) (codes "add") (32 ∷ (pair_text m f.locals (typed t a) b ++ rest)) i gap rest s blanks refl refl ready
-      (as_number (numbers.integer_op value) (number.Arithmetic arithmetic.Add t a b) i rest s (by_arithmetic value arithmetic.Add (codes "add") t a b i gap rest s refl refl refl own sets blanks ends.0 ready))
+      (as_number (numbers.integer_op value) (number.Arithmetic arithmetic.Add t a b) i rest s (by_arithmetic value arithmetic.Add (codes "add") t a b i gap rest s refl refl refl own.1 sets blanks ends.0 ready))
   named_number_reads site value (number.Arithmetic arithmetic.Sub t a b) i gap rest s blanks own sets ends ready =
       by_word v u site value (op.Number (number.Arithmetic arithmetic.Sub t a b)) (codes "sub") (32 ∷ (pair_text m f.locals (typed t a) b ++ rest)) i gap rest s blanks refl refl ready
-      (as_number (numbers.integer_op value) (number.Arithmetic arithmetic.Sub t a b) i rest s (by_arithmetic value arithmetic.Sub (codes "sub") t a b i gap rest s refl refl refl own sets blanks ends.0 ready))
+      (as_number (numbers.integer_op value) (number.Arithmetic arithmetic.Sub t a b) i rest s (by_arithmetic value arithmetic.Sub (codes "sub") t a b i gap rest s refl refl refl own.1 sets blanks ends.0 ready))
   named_number_reads site value (number.Arithmetic arithmetic.Mul t a b) i gap rest s blanks own sets ends ready =
       by_word v u site value (op.Number (number.Arithmetic arithmetic.Mul t a b)) (codes "mul") (32 ∷ (pair_text m f.locals (typed t a) b ++ rest)) i gap rest s blanks refl refl ready
-      (as_number (numbers.integer_op value) (number.Arithmetic arithmetic.Mul t a b) i rest s (by_arithmetic value arithmetic.Mul (codes "mul") t a b i gap rest s refl refl refl own sets blanks ends.0 ready))
+      (as_number (numbers.integer_op value) (number.Arithmetic arithmetic.Mul t a b) i rest s (by_arithmetic value arithmetic.Mul (codes "mul") t a b i gap rest s refl refl refl own.1 sets blanks ends.0 ready))
   named_number_reads site value (number.Arithmetic arithmetic.And t a b) i gap rest s blanks own sets ends ready =
       by_word v u site value (op.Number (number.Arithmetic arithmetic.And t a b)) (codes "and") (32 ∷ (pair_text m f.locals (typed t a) b ++ rest)) i gap rest s blanks refl refl ready
-      (as_number (numbers.integer_op value) (number.Arithmetic arithmetic.And t a b) i rest s (by_arithmetic value arithmetic.And (codes "and") t a b i gap rest s refl refl refl own sets blanks ends.0 ready))
+      (as_number (numbers.integer_op value) (number.Arithmetic arithmetic.And t a b) i rest s (by_arithmetic value arithmetic.And (codes "and") t a b i gap rest s refl refl refl own.1 sets blanks ends.0 ready))
   named_number_reads site value (number.Arithmetic arithmetic.Or t a b) i gap rest s blanks own sets ends ready =
       by_word v u site value (op.Number (number.Arithmetic arithmetic.Or t a b)) (codes "or") (32 ∷ (pair_text m f.locals (typed t a) b ++ rest)) i gap rest s blanks refl refl ready
-      (as_number (numbers.integer_op value) (number.Arithmetic arithmetic.Or t a b) i rest s (by_arithmetic value arithmetic.Or (codes "or") t a b i gap rest s refl refl refl own sets blanks ends.0 ready))
+      (as_number (numbers.integer_op value) (number.Arithmetic arithmetic.Or t a b) i rest s (by_arithmetic value arithmetic.Or (codes "or") t a b i gap rest s refl refl refl own.1 sets blanks ends.0 ready))
   named_number_reads site value (number.Arithmetic arithmetic.Xor t a b) i gap rest s blanks own sets ends ready =
       by_word v u site value (op.Number (number.Arithmetic arithmetic.Xor t a b)) (codes "xor") (32 ∷ (pair_text m f.locals (typed t a) b ++ rest)) i gap rest s blanks refl refl ready
-      (as_number (numbers.integer_op value) (number.Arithmetic arithmetic.Xor t a b) i rest s (by_arithmetic value arithmetic.Xor (codes "xor") t a b i gap rest s refl refl refl own sets blanks ends.0 ready))
+      (as_number (numbers.integer_op value) (number.Arithmetic arithmetic.Xor t a b) i rest s (by_arithmetic value arithmetic.Xor (codes "xor") t a b i gap rest s refl refl refl own.1 sets blanks ends.0 ready))
+  named_number_reads site value (number.Arithmetic arithmetic.ShiftLeft t a b) i gap rest s blanks own sets ends ready =
+      by_word v u site value (op.Number (number.Arithmetic arithmetic.ShiftLeft t a b)) (codes "shl") (32 ∷ (pair_text m f.locals (typed t a) b ++ rest)) i gap rest s blanks refl refl ready
+      (wide_op_reads value (number.Arithmetic arithmetic.ShiftLeft t a b) (codes "shl") (32 ∷ (pair_text m f.locals (typed t a) b ++ rest)) i gap rest s refl refl blanks refl ready
+      (as_number (numbers.integer_op value) (number.Arithmetic arithmetic.ShiftLeft t a b) i rest s (by_wide value arithmetic.ShiftLeft (codes "shl") t a b i gap rest s refl refl refl (own.0 refl) own.1 sets blanks ends.0 ready)))
+  named_number_reads site value (number.Arithmetic arithmetic.ShiftRight t a b) i gap rest s blanks own sets ends ready =
+      by_word v u site value (op.Number (number.Arithmetic arithmetic.ShiftRight t a b)) (codes "lshr") (32 ∷ (pair_text m f.locals (typed t a) b ++ rest)) i gap rest s blanks refl refl ready
+      (wide_op_reads value (number.Arithmetic arithmetic.ShiftRight t a b) (codes "lshr") (32 ∷ (pair_text m f.locals (typed t a) b ++ rest)) i gap rest s refl refl blanks refl ready
+      (as_number (numbers.integer_op value) (number.Arithmetic arithmetic.ShiftRight t a b) i rest s (by_wide value arithmetic.ShiftRight (codes "lshr") t a b i gap rest s refl refl refl (own.0 refl) own.1 sets blanks ends.0 ready)))
+  named_number_reads site value (number.Arithmetic arithmetic.ShiftRightSigned t a b) i gap rest s blanks own sets ends ready =
+      by_word v u site value (op.Number (number.Arithmetic arithmetic.ShiftRightSigned t a b)) (codes "ashr") (32 ∷ (pair_text m f.locals (typed t a) b ++ rest)) i gap rest s blanks refl refl ready
+      (wide_op_reads value (number.Arithmetic arithmetic.ShiftRightSigned t a b) (codes "ashr") (32 ∷ (pair_text m f.locals (typed t a) b ++ rest)) i gap rest s refl refl blanks refl ready
+      (as_number (numbers.integer_op value) (number.Arithmetic arithmetic.ShiftRightSigned t a b) i rest s (by_wide value arithmetic.ShiftRightSigned (codes "ashr") t a b i gap rest s refl refl refl (own.0 refl) own.1 sets blanks ends.0 ready)))
+  named_number_reads site value (number.Arithmetic arithmetic.Divide t a b) i gap rest s blanks own sets ends ready =
+      by_word v u site value (op.Number (number.Arithmetic arithmetic.Divide t a b)) (codes "udiv") (32 ∷ (pair_text m f.locals (typed t a) b ++ rest)) i gap rest s blanks refl refl ready
+      (wide_op_reads value (number.Arithmetic arithmetic.Divide t a b) (codes "udiv") (32 ∷ (pair_text m f.locals (typed t a) b ++ rest)) i gap rest s refl refl blanks refl ready
+      (as_number (numbers.integer_op value) (number.Arithmetic arithmetic.Divide t a b) i rest s (by_wide value arithmetic.Divide (codes "udiv") t a b i gap rest s refl refl refl (own.0 refl) own.1 sets blanks ends.0 ready)))
+  named_number_reads site value (number.Arithmetic arithmetic.DivideSigned t a b) i gap rest s blanks own sets ends ready =
+      by_word v u site value (op.Number (number.Arithmetic arithmetic.DivideSigned t a b)) (codes "sdiv") (32 ∷ (pair_text m f.locals (typed t a) b ++ rest)) i gap rest s blanks refl refl ready
+      (wide_op_reads value (number.Arithmetic arithmetic.DivideSigned t a b) (codes "sdiv") (32 ∷ (pair_text m f.locals (typed t a) b ++ rest)) i gap rest s refl refl blanks refl ready
+      (as_number (numbers.integer_op value) (number.Arithmetic arithmetic.DivideSigned t a b) i rest s (by_wide value arithmetic.DivideSigned (codes "sdiv") t a b i gap rest s refl refl refl (own.0 refl) own.1 sets blanks ends.0 ready)))
+  named_number_reads site value (number.Arithmetic arithmetic.Remainder t a b) i gap rest s blanks own sets ends ready =
+      by_word v u site value (op.Number (number.Arithmetic arithmetic.Remainder t a b)) (codes "urem") (32 ∷ (pair_text m f.locals (typed t a) b ++ rest)) i gap rest s blanks refl refl ready
+      (wide_op_reads value (number.Arithmetic arithmetic.Remainder t a b) (codes "urem") (32 ∷ (pair_text m f.locals (typed t a) b ++ rest)) i gap rest s refl refl blanks refl ready
+      (as_number (numbers.integer_op value) (number.Arithmetic arithmetic.Remainder t a b) i rest s (by_wide value arithmetic.Remainder (codes "urem") t a b i gap rest s refl refl refl (own.0 refl) own.1 sets blanks ends.0 ready)))
+  named_number_reads site value (number.Arithmetic arithmetic.RemainderSigned t a b) i gap rest s blanks own sets ends ready =
+      by_word v u site value (op.Number (number.Arithmetic arithmetic.RemainderSigned t a b)) (codes "srem") (32 ∷ (pair_text m f.locals (typed t a) b ++ rest)) i gap rest s blanks refl refl ready
+      (wide_op_reads value (number.Arithmetic arithmetic.RemainderSigned t a b) (codes "srem") (32 ∷ (pair_text m f.locals (typed t a) b ++ rest)) i gap rest s refl refl blanks refl ready
+      (as_number (numbers.integer_op value) (number.Arithmetic arithmetic.RemainderSigned t a b) i rest s (by_wide value arithmetic.RemainderSigned (codes "srem") t a b i gap rest s refl refl refl (own.0 refl) own.1 sets blanks ends.0 ready)))
   named_number_reads site value (number.Resize resize.ZeroExtend from a to) i gap rest s blanks own sets ends ready =
       by_word v u site value (op.Number (number.Resize resize.ZeroExtend from a to)) (codes "zext") (32 ∷ (converted_text m f.locals (typed from a) to ++ rest)) i gap rest s blanks refl refl ready
-      (as_number (numbers.integer_op value) (number.Resize resize.ZeroExtend from a to) i rest s (by_resize value resize.ZeroExtend (codes "zext") from a to i gap rest s refl refl refl own sets blanks (line_ends_type rest ends) ready))
+      (as_number (numbers.integer_op value) (number.Resize resize.ZeroExtend from a to) i rest s (by_resize value resize.ZeroExtend (codes "zext") from a to i gap rest s refl refl refl refl own sets blanks (line_ends_type rest ends) ready))
   named_number_reads site value (number.Resize resize.SignExtend from a to) i gap rest s blanks own sets ends ready =
       by_word v u site value (op.Number (number.Resize resize.SignExtend from a to)) (codes "sext") (32 ∷ (converted_text m f.locals (typed from a) to ++ rest)) i gap rest s blanks refl refl ready
-      (as_number (numbers.integer_op value) (number.Resize resize.SignExtend from a to) i rest s (by_resize value resize.SignExtend (codes "sext") from a to i gap rest s refl refl refl own sets blanks (line_ends_type rest ends) ready))
+      (as_number (numbers.integer_op value) (number.Resize resize.SignExtend from a to) i rest s (by_resize value resize.SignExtend (codes "sext") from a to i gap rest s refl refl refl refl own sets blanks (line_ends_type rest ends) ready))
   named_number_reads site value (number.Resize resize.Truncate from a to) i gap rest s blanks own sets ends ready =
       by_word v u site value (op.Number (number.Resize resize.Truncate from a to)) (codes "trunc") (32 ∷ (converted_text m f.locals (typed from a) to ++ rest)) i gap rest s blanks refl refl ready
-      (as_number (numbers.integer_op value) (number.Resize resize.Truncate from a to) i rest s (by_resize value resize.Truncate (codes "trunc") from a to i gap rest s refl refl refl own sets blanks (line_ends_type rest ends) ready))
+      (as_number (numbers.integer_op value) (number.Resize resize.Truncate from a to) i rest s (by_resize value resize.Truncate (codes "trunc") from a to i gap rest s refl refl refl refl own sets blanks (line_ends_type rest ends) ready))
   named_number_reads site value (number.Compare c t a b) i gap rest s blanks own sets ends ready =
       let front = ap (λ (y : Text). y ++ rest) (append_assoc (codes "icmp ") (comparison_word c) (pair_text m f.locals (typed t a) b)) in
       let ready : Ready v s i (gap ++ (codes "icmp" ++ (32 ∷ ((comparison_word c ++ pair_text m f.locals (typed t a) b) ++ rest)))) = subst (λ (y : Text). Ready v s i (gap ++ y)) front ready in
@@ -300,6 +412,13 @@ number_no_phi m locals (number.Arithmetic arithmetic.Mul t a b) place rest at = 
 number_no_phi m locals (number.Arithmetic arithmetic.And t a b) place rest at = ap (λ (x : Kind). same_kind x k.Phi) (word_comes place (32 ∷ []) (codes "and") _ refl refl refl at).0
 number_no_phi m locals (number.Arithmetic arithmetic.Or t a b) place rest at = ap (λ (x : Kind). same_kind x k.Phi) (word_comes place (32 ∷ []) (codes "or") _ refl refl refl at).0
 number_no_phi m locals (number.Arithmetic arithmetic.Xor t a b) place rest at = ap (λ (x : Kind). same_kind x k.Phi) (word_comes place (32 ∷ []) (codes "xor") _ refl refl refl at).0
+number_no_phi m locals (number.Arithmetic arithmetic.ShiftLeft t a b) place rest at = ap (λ (x : Kind). same_kind x k.Phi) (word_comes place (32 ∷ []) (codes "shl") _ refl refl refl at).0
+number_no_phi m locals (number.Arithmetic arithmetic.ShiftRight t a b) place rest at = ap (λ (x : Kind). same_kind x k.Phi) (word_comes place (32 ∷ []) (codes "lshr") _ refl refl refl at).0
+number_no_phi m locals (number.Arithmetic arithmetic.ShiftRightSigned t a b) place rest at = ap (λ (x : Kind). same_kind x k.Phi) (word_comes place (32 ∷ []) (codes "ashr") _ refl refl refl at).0
+number_no_phi m locals (number.Arithmetic arithmetic.Divide t a b) place rest at = ap (λ (x : Kind). same_kind x k.Phi) (word_comes place (32 ∷ []) (codes "udiv") _ refl refl refl at).0
+number_no_phi m locals (number.Arithmetic arithmetic.DivideSigned t a b) place rest at = ap (λ (x : Kind). same_kind x k.Phi) (word_comes place (32 ∷ []) (codes "sdiv") _ refl refl refl at).0
+number_no_phi m locals (number.Arithmetic arithmetic.Remainder t a b) place rest at = ap (λ (x : Kind). same_kind x k.Phi) (word_comes place (32 ∷ []) (codes "urem") _ refl refl refl at).0
+number_no_phi m locals (number.Arithmetic arithmetic.RemainderSigned t a b) place rest at = ap (λ (x : Kind). same_kind x k.Phi) (word_comes place (32 ∷ []) (codes "srem") _ refl refl refl at).0
 number_no_phi m locals (number.Resize resize.ZeroExtend from a to) place rest at = ap (λ (x : Kind). same_kind x k.Phi) (word_comes place (32 ∷ []) (codes "zext") _ refl refl refl at).0
 number_no_phi m locals (number.Resize resize.SignExtend from a to) place rest at = ap (λ (x : Kind). same_kind x k.Phi) (word_comes place (32 ∷ []) (codes "sext") _ refl refl refl at).0
 number_no_phi m locals (number.Resize resize.Truncate from a to) place rest at = ap (λ (x : Kind). same_kind x k.Phi) (word_comes place (32 ∷ []) (codes "trunc") _ refl refl refl at).0
@@ -321,7 +440,7 @@ module _ (m n : Module) (locals others : List Text) where
 -- an operation on numbers is printable where the module has more types, too
 pub number_longer : (m : Module) (types : List IrType) (fs : List Function) (more : IsLonger m.types types) (same : defined_functions (with_types m types fs) ≡ defined_functions m) (f : Function)
     → (x : NumberOp) → IsNumberOp m f x → IsNumberOp (with_types m types fs) f x
-number_longer m types fs more same f (number.Arithmetic kind t x y) h = pair_again m types fs more same f t x y h
+number_longer m types fs more same f (number.Arithmetic kind t x y) h = (h.0, pair_again m types fs more same f t x y h.1)
 number_longer m types fs more same f (number.Resize kind from x to) h = converted_again m types fs more same f from x to h
 number_longer m types fs more same f (number.Compare kind t x y) h = pair_again m types fs more same f t x y h
 
@@ -329,7 +448,7 @@ number_longer m types fs more same f (number.Compare kind t x y) h = pair_again 
 
 module _ (m : Module) (f : Function) (own : HasModuleNames m) (h : AreDefinedWithin f) where
   pub number_within : (x : NumberOp) → Wide m f (λ m f. IsNumberOp m f x) → IsNumberOpWithin m f x
-  number_within (number.Arithmetic kind written first second) is = pair_within m f own h written first second is
+  number_within (number.Arithmetic kind written first second) is = pair_within m f own h written first second (λ more. (is more).1)
   number_within (number.Resize kind from x to) is = converted_within m f own h from x to is
   number_within (number.Compare kind written first second) is = pair_within m f own h written first second is
 

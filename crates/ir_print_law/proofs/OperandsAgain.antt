@@ -200,6 +200,7 @@ module _ {m : Module} {f : Function} (v : Invariant m f) where
       record {
         stands = at;
         ordered = ready.ordered;
+        forms = ready.forms;
         room = record {
           types = let h = room.types in omega (arith, h, le);
           structs = let h = room.structs in omega (arith, h, le);
@@ -235,6 +236,7 @@ module _ {m : Module} {f : Function} (v : Invariant m f) where
       record {
         stands = at;
         ordered = ready.ordered;
+        forms = ready.forms;
         room = record {
           types = let h = room.types in omega (arith, h, le);
           structs = let h = room.structs in omega (arith, h, le);

@@ -3,6 +3,7 @@ use Rattle.std.proofs.Common.{◌≡◌, ℕ, Bool, true, false, not, Option, No
 use Rattle.std.specs.Prelude.{◌&&◌}
 use Rattle.ir_tokens.specs.declared.token.Kind.{Kind}
 use Rattle.ir_tokens.specs.declared.token.Kind.TheVariants as k
+use Rattle.grammar.specs.Grammar.{pure}
 use Rattle.ir_ast.specs.declared.calls.Call.{Call}
 use Rattle.ir_ast.specs.declared.function.LocalSort.TheVariants as local
 use Rattle.ir_ast.specs.declared.ir_type.IrType.TheVariants as type
@@ -22,23 +23,23 @@ use Rattle.ir_forms.specs.declared.decorating.Trail.TheVariants as trail
 use Rattle.ir_forms.specs.declared.input.Input.{Input}
 use Rattle.ir_forms.specs.declared.site.Site.{Site}
 use Rattle.ir_forms.specs.declared.written.WrittenType.{WrittenType}
-use Rattle.ir_forms.specs.Input.{Form, unexpected, unread}
-use Rattle.ir_forms.specs.Decorations.{trail_of}
+use Rattle.ir_forms.specs.Input.{Form, unexpected, unread, skip}
+use Rattle.ir_forms.specs.Decorations.{trail_of, either}
 use Rattle.ir_forms.specs.Ops.{as_op}
-use Rattle.ir_forms.specs.Instructions.{named_op_by}
+use Rattle.ir_forms.specs.Instructions.{wide_op_by, wide_op, named_op_by}
 use Rattle.ir_tokens.specs.contracts.token.Kind.{the_type}
 use denote.Enum.Bare.{same_true}
 use Rattle.ir_forms.specs.Starts.{is_indirect_callee}
 use Rattle.ir_forms.specs.Written.{bits_of}
-use Rattle.ir_forms.specs.Numbers.{pair, arithmetic_of, arithmetic, resize_of, resize, comparison_of, comparison_by, comparison, compare, bit_type, condition, resize_by, resized, arithmetic_by, integer_op}
+use Rattle.ir_forms.specs.Numbers.{pair, arithmetic_of, arithmetic, wide_here, wide_by, wide_or_resized, wide_arithmetic, exact, is_exact, resize_of, resize, comparison_of, comparison_by, comparison, compare, bit_type, condition, resize_by, resized, arithmetic_by, integer_op}
 use Rattle.ir_forms.specs.Memory.{alloca, place_of, load, store}
 use Rattle.ir_forms.specs.Elements.{element}
-use Rattle.ir_forms.specs.Casts.{bitcast}
+use Rattle.ir_forms.specs.Casts.{bitcast, freezes, freeze}
 use Rattle.ir_forms.specs.Choices.{typed_pair, select, separated, incoming, entry, entry_takes, ends_entries, after_entry, all_entries, is_local, begins_phi, at_no_phi, phi_value_by, phi_value, phi, phi_takes, phis}
 use Rattle.ir_forms.specs.Calls.{called_by, called, call_after, typed_call, call, valued, unnamed, void_call, numbered_call, call_by, call_statement_after, call_statement, sees_call, tail_call, tail_call_statement}
 use Rattle.ir_print_law.specs.Shapes.{Integer}
-use Rattle.ir_print_law.proofs.Seats.{Seat, Beside, kind_same, after_same, third_same}
-use Rattle.ir_print_law.proofs.Sim.{Between, Any, Equal, At, Both, Same, past, both, by, and, then, give, gives, refuses, so, tells, by_kind, kinds, lists, lists_by}
+use Rattle.ir_print_law.proofs.Seats.{Seat, Beside, sees_same, spelling_same, kind_same, after_same, third_same}
+use Rattle.ir_print_law.proofs.Sim.{Between, Any, Equal, At, Both, Same, past, both, by, and, then, give, gives, refuses, so, tells, by_kind, kinds, looks, lists, lists_by}
 use Rattle.ir_print_law.proofs.AnewSteps.{skip_same, expect_same, seen}
 use Rattle.ir_print_law.proofs.Names.{set_sort_at, callee_same, new_value_at, numbered_value_at, unnamed_value_at, incoming_label_at}
 use Rattle.ir_print_law.proofs.AnewTypes.{Written, written_later, bits_same, intern_at, scalar_at, any_type_at}
@@ -61,6 +62,24 @@ module _ (s : Seat) where
   arithmetic_same x value i j =
       past s (flagged_same s i j) (λ i j. and s (pair_same i j) (λ a b i j. past s (set_sort_at s value (local.Value a.written) (local.Value b.written) refl i j)
       (gives s (number.Arithmetic x a.written a.first a.second) (number.Arithmetic x b.written b.first b.second))))
+
+  exact_by_same : (t : Bool) → Same s (either skip (pure tt) t)
+  exact_by_same true = skip_same s
+  exact_by_same false = gives s tt tt
+
+  exact_alike : (i j : Input) → Beside s i j → is_exact i ≡ is_exact j
+  unfolding is_exact
+  exact_alike i j b = rw (sees_same s k.LowercaseWord i.cursor j.cursor b.along, spelling_same s i.cursor j.cursor b.along) refl
+
+  exact_same : Same s exact
+  unfolding exact
+  exact_same = tells s is_exact (either skip (pure tt)) exact_alike exact_by_same
+
+  wide_same : (x : Arithmetic) (value : ℕ) → Same s (wide_arithmetic x value)
+  unfolding wide_arithmetic
+  wide_same x value i j =
+      past s (flagged_same s i j) (λ i j. past s (exact_same i j) (λ i j. and s (pair_same i j) (λ a b i j. past s (set_sort_at s value (local.Value a.written) (local.Value b.written) refl i j)
+      (gives s (number.Arithmetic x a.written a.first a.second) (number.Arithmetic x b.written b.first b.second)))))
 
   resize_same : (x : Resize) (value : ℕ) → Same s (resize x value)
   unfolding resize
@@ -96,8 +115,20 @@ module _ (s : Seat) where
   unfolding resized
   resized_same value = tells s (λ i. resize_of (kind i.cursor)) (resize_by value) (λ i j b. ap resize_of (kind_same s i.cursor j.cursor b.along)) (resize_by_same value)
 
+  wide_by_same : (value : ℕ) (x : Option Arithmetic) → Same s (wide_by value x)
+  wide_by_same value None = resized_same value
+  wide_by_same value (Some x) = wide_same x value
+
+  wide_here_same : (i j : Input) → Beside s i j → wide_here i ≡ wide_here j
+  unfolding wide_here
+  wide_here_same i j b = rw (b.forms, sees_same s k.LeftOut i.cursor j.cursor b.along, spelling_same s i.cursor j.cursor b.along) refl
+
+  wide_or_resized_same : (value : ℕ) → Same s (wide_or_resized value)
+  unfolding wide_or_resized
+  wide_or_resized_same value = tells s wide_here (wide_by value) wide_here_same (wide_by_same value)
+
   arithmetic_by_same : (value : ℕ) (x : Option Arithmetic) → Same s (arithmetic_by value x)
-  arithmetic_by_same value None = resized_same value
+  arithmetic_by_same value None = wide_or_resized_same value
   arithmetic_by_same value (Some x) = arithmetic_same x value
 
   integer_op_same : (value : ℕ) → Same s (integer_op value)
@@ -151,6 +182,16 @@ module _ (s : Seat) where
   bitcast_same value i j =
       past s (skip_same s i j) (λ i j. and s (typed_same s i j) (λ a b i j. past s (expect_same s k.To i j) (λ i j. and s (scalar_at s i j) (λ v u i j.
       past s (set_sort_at s value (local.Value v.id) (local.Value u.id) refl i j) (gives s (record { from = a.written; operand = a.operand; to = v.id }) (record { from = b.written; operand = b.operand; to = u.id }))))))
+
+  freeze_same : (value : ℕ) → Same s (freeze value)
+  unfolding freeze
+  freeze_same value i j =
+      past s (skip_same s i j) (λ i j. and s (typed_same s i j) (λ a b i j. past s (set_sort_at s value (local.Value a.written) (local.Value b.written) refl i j)
+      (gives s (record { from = a.written; operand = a.operand; to = a.written }) (record { from = b.written; operand = b.operand; to = b.written }))))
+
+  freezes_same : (i j : Input) → Beside s i j → freezes i ≡ freezes j
+  unfolding freezes
+  freezes_same i j b = rw (b.forms, spelling_same s i.cursor j.cursor b.along) refl
 
   -- ---- select and phi
 
@@ -317,6 +358,14 @@ module _ (s : Seat) where
   pub store_op : Both s Trails (as_op op.Memory store) (as_op op.Memory store)
   store_op = memory_op store_at
 
+  wide_op_by_at : (value : ℕ) (x : Bool) → Both s Trails (wide_op_by value x) (wide_op_by value x)
+  wide_op_by_at value true = λ i j. and s (freeze_same value i j) (λ x y i j. give s {V = Trails} (op.Cast x) (op.Cast y) refl)
+  wide_op_by_at value false = number_op (integer_op_same value)
+
+  wide_op_at : (value : ℕ) → Both s Trails (wide_op value) (wide_op value)
+  unfolding wide_op
+  wide_op_at value i j = looks s {V = Trails} freezes freezes (wide_op_by value) (wide_op_by value) i j (freezes_same i j) (λ x. wide_op_by_at value x i j)
+
   pub named_op_by_at : (site : Site) (value : ℕ) (x : Kind) → Both s Trails (named_op_by site value x) (named_op_by site value x)
   named_op_by_at site value k.Alloca = memory_op (alloca_at value)
   named_op_by_at site value k.Bitcast = λ i j. and s (bitcast_same value i j) (λ x y i j. give s {V = Trails} (op.Cast x) (op.Cast y) refl)
@@ -327,4 +376,5 @@ module _ (s : Seat) where
   named_op_by_at site value k.Call = call_op (call_same value)
   named_op_by_at site value k.Tail = call_op (tail_call_same value)
   named_op_by_at site value k.Notail = call_op (tail_call_same value)
+  named_op_by_at site value k.LeftOut = wide_op_at value
   named_op_by_at site value _ = number_op (integer_op_same value)

@@ -152,6 +152,7 @@ module _ (m : Module) (f : Function) (named : AreNamed m f) (types : TypesRead m
       let ready_set : Ready (known m f named (far_parameter far key (unnamed_then far.unnamed key is))) 0 (names.with_sort value (local.Value w.id) q) sep = record {
         stands = a.1.3.stands;
         ordered = a.1.3.ordered;
+        forms = a.1.3.forms;
         room = let r = a.1.3.room in record { types = r.types; structs = r.structs; symbols = r.symbols; locals = r.locals };
         holds = (
           h.0,

@@ -1,5 +1,5 @@
 -- The states before and after one function, where a whole text is read.
-use Rattle.std.proofs.Common.{◌≡◌, ℕ, ◌+◌, true, List, [], ◌∷◌, ◌++◌, length, Some, refl, sym, ap, subst, ◌∙◌, arith}
+use Rattle.std.proofs.Common.{◌≡◌, ℕ, Bool, ◌+◌, true, List, [], ◌∷◌, ◌++◌, length, Some, refl, sym, ap, subst, ◌∙◌, arith}
 use Rattle.std.specs.Prelude.{nat_lt, slice_get}
 use Rattle.std.proofs.lemmas.Slice.Eq.{bytes_eq-Decides}
 use Rattle.grammar.specs.Grammar.{◌>>=◌}
@@ -17,7 +17,7 @@ use Rattle.ir_forms.specs.Input.{Form}
 use Rattle.ir_forms.specs.Names.{new_symbol, with_symbol}
 use Rattle.ir_text.specs.Anew.{named_head}
 use Rattle.ir_text.specs.ItemsOfText.{function_name_by, function_name, open_body, body_after, with_function, head, definition, item_by, item, at_end_of_text}
-use Rattle.ir_text.specs.Read.{module_of, start}
+use Rattle.ir_text.specs.Read.{module_of, start_in}
 use Rattle.name_text.specs.Readings.{AreBytes}
 use Rattle.ir_print_law.specs.Printable.{IsFunction, IsStructType, IsGlobal, IsDeclare}
 use Rattle.ir_print_law.proofs.Forms.{Keeps, Any}
@@ -180,8 +180,8 @@ module _ (e : Input) where
 abbrev pub nothing_made : Made
 nothing_made = record { structs = []; globals = []; declares = []; functions = [] }
 
-pub starts : (bytes : Text) (lexed : Lexed) → AreBytes bytes → IsLexed bytes lexed → IsBetween nothing_made (start bytes lexed)
-starts bytes lexed own is = (
+pub starts : (wide : Bool) (bytes : Text) (lexed : Lexed) → AreBytes bytes → IsLexed bytes lexed → IsBetween nothing_made (start_in wide bytes lexed)
+starts wide bytes lexed own is = (
   record {
     bytes = own;
     spell = lexed_spell bytes lexed is;

@@ -25,6 +25,7 @@ pub record Reading (m : Module) : Type 1 where
   pub Back : Input → Type 0
   pub ordered : (i : Input) → Back i → AreOrdered m.types
   pub bytes : (i : Input) → Fore i → Back i → AreBytes (spelled i.cursor)
+  pub forms : (i : Input) → Back i → i.wide ≡ m.wide
   pub has_types : (i : Input) → Back i → Begins i.types m.types
   pub has_structs : (i : Input) → Back i → Begins i.struct_names.names m.struct_names
   pub has_symbols : (i : Input) → Back i → Begins i.symbols.names m.symbols
@@ -89,6 +90,7 @@ pub record Naming (m : Module) (f : Function) (value : ℕ) : Type 1 where
 pub record Kit (m : Module) (f : Function) (Fore Back : Input → Type 0) : Type 0 where
   pub ordered : (i : Input) → Back i → AreOrdered m.types
   pub bytes : (i : Input) → Fore i → Back i → AreBytes (spelled i.cursor)
+  pub forms : (i : Input) → Back i → i.wide ≡ m.wide
   pub has_types : (i : Input) → Back i → Begins i.types m.types
   pub has_structs : (i : Input) → Back i → Begins i.struct_names.names m.struct_names
   pub has_symbols : (i : Input) → Back i → Begins i.symbols.names m.symbols
@@ -114,6 +116,7 @@ within_of {Fore = Fore} {Back = Back} kit = record {
     Back = Back;
     ordered = kit.ordered;
     bytes = kit.bytes;
+    forms = kit.forms;
     has_types = kit.has_types;
     has_structs = kit.has_structs;
     has_symbols = kit.has_symbols;

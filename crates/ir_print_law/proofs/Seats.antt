@@ -89,6 +89,7 @@ pub record Beside (s : Seat) (i j : Input) : Type 0 where
   pub structs : Structs i.struct_names.names j.struct_names.names i.struct_uses j.struct_uses
   pub missing : j.missing ≡ None
   pub functions : j.functions ≡ []
+  pub forms : i.wide ≡ j.wide
 
 -- ---- what was read stays
 

@@ -53,7 +53,7 @@ module _ {m : Module} {f : Function} (v u : Invariant m f) where
     tt,
     with_sort value sort i,
     (refl, refl),
-    record { stands = ready.stands; ordered = ready.ordered; room = let r = ready.room in record { types = r.types; structs = r.structs; symbols = r.symbols; locals = r.locals }; holds = sets i sort is ready.holds },
+    record { stands = ready.stands; ordered = ready.ordered; forms = ready.forms; room = let r = ready.room in record { types = r.types; structs = r.structs; symbols = r.symbols; locals = r.locals }; holds = sets i sort is ready.holds },
     (let g = grows_itself i in record {
       types = g.types;
       structs = g.structs;

@@ -66,6 +66,7 @@ module _ (m : Module) where
   kit f = record {
     ordered = λ i back. absurd back;
     bytes = λ i h back. absurd back;
+    forms = λ i back. absurd back;
     has_types = λ i back. absurd back;
     has_structs = λ i back. absurd back;
     has_symbols = λ i back. absurd back;

@@ -11,7 +11,7 @@ use Rattle.ir_tokens.specs.Tokens.{lexed_of}
 use Rattle.ir_forms.specs.Intrinsics.{is_left_out}
 use Rattle.ir_forms.specs.declared.uses.Wanted.{Wanted}
 use Rattle.ir_forms.specs.declared.uses.Wanted.TheVariants as wants
-use Rattle.ir_text.specs.Read.{start}
+use Rattle.ir_text.specs.Read.{start_in}
 use Rattle.name_text.specs.Readings.{AreBytes}
 use Rattle.ir_print.specs.Names.{name_at}
 use Rattle.ir_print_law.specs.Readings.{IsKey}
@@ -115,10 +115,11 @@ far_start = record {
 }
 
 -- nothing is known before the first token
-pub ready_at_start : (m : Module) (named : AreNamed m nobody) (bytes : Text) → length bytes ≤ 16777216 → Ready (known m nobody named far_start) 0 (start bytes (lexed_of bytes)) bytes
+pub ready_at_start : (m : Module) (named : AreNamed m nobody) (bytes : Text) → length bytes ≤ 16777216 → Ready (known m nobody named far_start) 0 (start_in m.wide bytes (lexed_of bytes)) bytes
 ready_at_start m named bytes few = record {
-  stands = start_stands bytes;
+  stands = start_stands m.wide bytes;
   ordered = λ number x e. absurd cc;
+  forms = refl;
   room = record { types = omega (arith, few); structs = omega (arith, few); symbols = omega (arith, few); locals = omega (arith, few) };
   holds = (
     record { even = refl; known = λ name is. absurd is; new = λ name none. refl; uses_so = tt },

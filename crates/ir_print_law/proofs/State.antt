@@ -46,6 +46,7 @@ pub record Ready {m : Module} {f : Function} (v : Invariant m f) (spare : ℕ) (
   pub ordered : AreInOrder (has_opaque m.types) i.types
   pub room : HasRoom i (length bytes + spare)
   pub holds : v.Holds i
+  pub forms : i.wide ≡ m.wide
 
 -- what was read stays, and further types and names come after it
 pub record Grows (i o : Input) : Type 0 where

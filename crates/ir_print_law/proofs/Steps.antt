@@ -100,6 +100,7 @@ module _ {m : Module} {f : Function} (v : Invariant m f) where
   less_spare i bytes s t le ready = record {
     stands = ready.stands;
     ordered = ready.ordered;
+    forms = ready.forms;
     room = less_room i (length bytes + t) (length bytes + s) (omega (arith, le)) ready.room;
     holds = ready.holds;
   }
@@ -109,6 +110,7 @@ module _ {m : Module} {f : Function} (v : Invariant m f) where
   passed i bytes rest s t ready at le = record {
     stands = at;
     ordered = ready.ordered;
+    forms = ready.forms;
     room = let room = less_room i (length rest + t) (length bytes + s) le ready.room in record { types = room.types; structs = room.structs; symbols = room.symbols; locals = room.locals };
     holds = v.on_token i ready.holds;
   }
@@ -215,6 +217,7 @@ module _ {m : Module} {f : Function} (v : Invariant m f) where
         record {
           stands = ready.stands;
           ordered = type_in_order (has_opaque m.types) t i.types last ready.ordered;
+          forms = ready.forms;
           room = record {
             types = omega (arith, types, longer);
             structs = let h = room.structs in omega (arith, h);

@@ -94,6 +94,7 @@ module _ (m : Module) (f : Function) (named : AreNamed m f) (types : TypesRead m
         record {
           stands = ready.stands;
           ordered = ready.ordered;
+          forms = ready.forms;
           room = record { types = r.types; structs = r.structs; symbols = r.symbols; locals = r.locals };
           holds = (
             h.0,

@@ -48,6 +48,7 @@ having r k = record {
   Back = r.Back;
   ordered = r.ordered;
   bytes = λ i h back. r.bytes i h.0 back;
+  forms = r.forms;
   has_types = r.has_types;
   has_structs = r.has_structs;
   has_symbols = r.has_symbols;

@@ -232,6 +232,7 @@ module _ {m : Module} {f : Function} (v : Invariant m f) where
         record {
           stands = r.2;
           ordered = ready.ordered;
+          forms = ready.forms;
           room = record {
             types = omega (arith, types, a, b, some);
             structs = omega (arith, structs, a, b, some, longer);

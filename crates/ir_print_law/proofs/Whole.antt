@@ -11,7 +11,7 @@ use Rattle.ir_ast.specs.declared.module.Module.{Module}
 use Rattle.ir_tokens.specs.Bytes.{Text}
 use Rattle.ir_tokens.specs.Tokens.{lexed_of}
 use Rattle.ir_text.specs.ItemsOfText.{whole, items}
-use Rattle.ir_text.specs.Read.{IsText, module_of, start}
+use Rattle.ir_text.specs.Read.{IsTextIn, module_in, start_in}
 use Rattle.ir_print.specs.Items.{struct_line, global_line, declare_line, function_text, text_of}
 use Rattle.ir_print_law.specs.Definitions.{AreNew, defined_globals, functions_of}
 use Rattle.ir_print_law.specs.Printable.{IsPrintable, IsSymbol}
@@ -46,7 +46,7 @@ structs_long m [] = omega arith
 structs_long m (s ∷ ss) = let a = length-append (struct_line m s) (flat_map (struct_line m) ss) in let b = structs_long m ss in omega (arith, a, b)
 
 -- The text is read as a module that is this one again, and has the same text.
-pub prints_again : (m : Module) → IsPrintable m → length (text_of m) ≤ 16777216 → (n : Module) × IsText (text_of m) n × IsAgain m n × (text_of m ≡ text_of n)
+pub prints_again : (m : Module) → IsPrintable m → length (text_of m) ≤ 16777216 → (n : Module) × IsTextIn m.wide (text_of m) n × IsAgain m n × (text_of m ≡ text_of n)
 unfolding whole items
 prints_again m is fits =
     let bytes = text_of m in
@@ -57,23 +57,23 @@ prints_again m is fits =
     let parts = append_assoc (structs ++ globals) declares functions ∙ append_assoc structs globals (declares ++ functions) in
     let named = nobody_named m is in
     let ready = ready_at_start m named bytes fits in
-    let i = start (text_of m) (lexed_of (text_of m)) in
+    let i = start_in m.wide (text_of m) (lexed_of (text_of m)) in
     let size = ap length parts ∙ length-append structs (globals ++ (declares ++ functions)) in
     let long = structs_long m m.structs in
     let own = all_first IsSymbol (defined_globals m) (functions_of m) is.symbols.0 in
     let others = all_second IsSymbol (defined_globals m) (functions_of m) is.symbols.0 in
-    let h = structs_go m is (nobody_named m is) m.globals m.declares m.functions m.structs far_start (start (text_of m) (lexed_of (text_of m))) [] refl past_end.1 past_end.0 is.structs is.struct_names.0 is.struct_names.1
+    let h = structs_go m is (nobody_named m is) m.globals m.declares m.functions m.structs far_start (start_in m.wide (text_of m) (lexed_of (text_of m))) [] refl past_end.1 past_end.0 is.structs is.struct_names.0 is.struct_names.1
     (omega (arith, fits, size, long)) refl
     (λ names ts j gap blanks past out ready_j.
     globals_go m is (nobody_named m is) m.declares m.functions m.globals (record far_start { structs = names; struct_types = ts }) j gap blanks past past_end.0 is.globals is.declares is.functions own others is.symbols.1
     (λ name g. absurd g) refl (λ name there g. new_apart [] (defined_globals m) (functions_of m) name is.symbols.1 g there) (no_more (length m.globals) 4096 is.few_globals) (no_more (length m.declares) 65535 is.few_declares) (no_more (length m.functions) 65535 is.few_functions) out ready_j)
-    (subst (λ (t : Text). Ready (known m nobody (nobody_named m is) far_start) 0 (start (text_of m) (lexed_of (text_of m))) t) parts ready) in
+    (subst (λ (t : Text). Ready (known m nobody (nobody_named m is) far_start) 0 (start_in m.wide (text_of m) (lexed_of (text_of m))) t) parts ready) in
     let o = h.1 in
     let now = h.2 in
     let w = h.12 in
     let end = ends_there o.cursor h.7 h.10 h.9.stands in
     let counted = h.9.holds.3 in
-    let n = module_of o in
+    let n = module_in m.wide o in
     let later : IsModuleLater o n = record { types = begins_itself o.types; structs = begins_itself o.struct_names.names; symbols = begins_itself o.symbols.names } in
     let fault = no_fault m now o h.9.holds w.more_structs w.more_globals w.more_functions in
     let again : IsAgain m n = record {
@@ -82,4 +82,4 @@ prints_again m is fits =
       declares = subst (λ (l : List Declare). AreAlike (IsDeclareAgain m n) m.declares l) (sym (counted.declares_are ∙ w.more_declares)) (h.15 n later);
       functions = subst (λ (l : List Function). AreAlike (IsFunctionAgain m n) m.functions l) (sym (counted.functions_are ∙ w.more_defines)) (h.16 n later);
     } in
-    (module_of h.1, (fits, lexed_of (text_of m), text_is_lexed (text_of m), (o, (h.0, o, h.8, (ap (λ (b : Option ℕ). not (is_some b)) end.1, refl)), fault, refl)), again, same_text m n again)
+    (module_in m.wide h.1, (fits, lexed_of (text_of m), text_is_lexed (text_of m), (o, (h.0, o, h.8, (ap (λ (b : Option ℕ). not (is_some b)) end.1, refl)), fault, refl)), again, same_text m n again)

@@ -16,7 +16,7 @@ use Rattle.ir_forms.specs.declared.uses.SymbolUse.{SymbolUse}
 use Rattle.ir_forms.specs.declared.input.Input.{Input}
 use Rattle.ir_text.specs.Late as late
 use Rattle.ir_text.specs.Late.{late_fault, first_of_faults, earliest, operand_fault}
-use Rattle.ir_text.specs.Read.{start}
+use Rattle.ir_text.specs.Read.{start_in}
 use Rattle.ir_print_law.specs.Stands.{Stands}
 use Rattle.ir_print_law.specs.Definitions.{defined_structs, defined_globals, functions_of, used_symbols}
 use Rattle.ir_print_law.proofs.WholeFunctionEnds.{none_found, nobody}
@@ -66,8 +66,8 @@ no_fault m far i h structs globals functions =
 pub text_is_lexed : (bytes : Text) → IsLexed bytes (lexed_of bytes)
 text_is_lexed bytes = found bytes (Ok (lexed_of bytes)) refl
 
-pub start_stands : (bytes : Text) → Stands (start bytes (lexed_of bytes)).cursor bytes
-start_stands bytes = ([], length bytes, true, refl, omega arith, refl, refl)
+pub start_stands : (wide : Bool) (bytes : Text) → Stands (start_in wide bytes (lexed_of bytes)).cursor bytes
+start_stands wide bytes = ([], length bytes, true, refl, omega arith, refl, refl)
 
 end_by : (n total : ℕ) (first : Bool) (gap : Text) → past_gap false gap ≡ [] → ((lex_from n total first [] gap).tokens ≡ []) × ((lex_from n total first [] gap).bad ≡ None)
 unfolding lex_from

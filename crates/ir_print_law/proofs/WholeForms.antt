@@ -85,7 +85,7 @@ test_on w test fault form i rest t Q e h = (h.0, h.1, (tt, i, (e, refl), h.2), h
 
 -- the same place, where other things are known of the names
 pub ready_as : {m : Module} {f g : Function} (v : Invariant m f) (w : Invariant m g) (i : Input) (bytes : Text) (s : ℕ) → (v.Holds i → w.Holds i) → Ready v s i bytes → Ready w s i bytes
-ready_as v w i bytes s so ready = record { stands = ready.stands; ordered = ready.ordered; room = ready.room; holds = so ready.holds }
+ready_as v w i bytes s so ready = record { stands = ready.stands; ordered = ready.ordered; forms = ready.forms; room = ready.room; holds = so ready.holds }
 
 -- ---- forms after which more is known of the names
 

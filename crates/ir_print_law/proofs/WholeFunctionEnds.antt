@@ -141,6 +141,7 @@ module _ (m : Module) (f : Function) (named : AreNamed m f) (nobody_named : AreN
         record {
           stands = ready.stands;
           ordered = ready.ordered;
+          forms = ready.forms;
           room = record { types = r.types; structs = r.structs; symbols = r.symbols; locals = omega (arith, few) };
           holds = (
             k.0,

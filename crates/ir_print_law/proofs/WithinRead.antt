@@ -45,6 +45,7 @@ module _ {m : Module} (own : HasModuleNames m) (more : List Text) where
     Back = r.Back;
     ordered = r.ordered;
     bytes = r.bytes;
+    forms = r.forms;
     has_types = r.has_types;
     has_structs = r.has_structs;
     has_symbols = λ i back. begins_further i.symbols.names m.symbols (m.symbols ++ more) (r.has_symbols i back) (begins_with m.symbols more);

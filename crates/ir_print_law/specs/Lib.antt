@@ -28,3 +28,4 @@ pub mod Stars
 pub mod Readings
 pub mod Places
 pub mod Standing
+pub mod CoreForms

@@ -1,7 +1,9 @@
 -- Operations on integers: when they are printable, when their numbers are within the tables, and when one is another one again.
-use Rattle.std.specs.Prelude.{◌≡◌, List}
+use Rattle.std.specs.Prelude.{◌≡◌, Bool, true, false, List}
 use Rattle.ir_ast.specs.declared.function.Function.{Function}
 use Rattle.ir_ast.specs.declared.module.Module.{Module}
+use Rattle.ir_ast.specs.declared.numbers.Arithmetic.{Arithmetic}
+use Rattle.ir_ast.specs.declared.numbers.Arithmetic.TheVariants as arithmetic
 use Rattle.ir_ast.specs.declared.numbers.NumberOp.{NumberOp}
 use Rattle.ir_ast.specs.declared.numbers.NumberOp.TheVariants as number
 use Rattle.ir_tokens.specs.Bytes.{Text}
@@ -9,9 +11,23 @@ use Rattle.ir_print_law.specs.Parts.{ArePair, IsConverted}
 use Rattle.ir_print_law.specs.PartsWithin.{ArePairWithin, IsConvertedWithin}
 use Rattle.ir_print_law.specs.PartsAgain.{IsTypeAgain, IsOperandAgain, ArePairAgain}
 
+-- an operation of the wide forms
+abbrev pub is_wide : Arithmetic → Bool
+is_wide arithmetic.Add = false
+is_wide arithmetic.Sub = false
+is_wide arithmetic.Mul = false
+is_wide arithmetic.And = false
+is_wide arithmetic.Or = false
+is_wide arithmetic.Xor = false
+is_wide _ = true
+
+-- the operation may stand in a text of the module
+abbrev pub MayStand : Module → Arithmetic → Type 0
+MayStand m kind = is_wide kind ≡ true → m.wide ≡ true
+
 -- an operation that gives an integer
 abbrev pub IsNumberOp : Module → Function → NumberOp → Type 0
-IsNumberOp m f (number.Arithmetic kind written first second) = ArePair m f written first second
+IsNumberOp m f (number.Arithmetic kind written first second) = MayStand m kind × ArePair m f written first second
 IsNumberOp m f (number.Resize kind from x to) = IsConverted m f from x to
 IsNumberOp m f (number.Compare kind written first second) = ArePair m f written first second
 

@@ -19,7 +19,7 @@ use Rattle.ir_text.specs.Anew.{sorts_before, named_head}
 use Rattle.ir_text.specs.Replaced.{name_of, IsReplaced, IsReplaceFault}
 use Rattle.ir_text.specs.ItemsOfText.{body_after, definition, item, at_end_of_text}
 use Rattle.ir_text.specs.Late.{late_fault}
-use Rattle.ir_text.specs.Read.{text_limit, start, module_of, IsText}
+use Rattle.ir_text.specs.Read.{text_limit, start_in, module_of, IsText}
 use Rattle.ir_text.specs.declared.read_fault.ReadFault.{ReadFault}
 use Rattle.ir_text.specs.declared.read_fault.ReadFault.TheVariants as shown
 use Rattle.name_text.specs.Readings.{AreBytes}
@@ -68,6 +68,7 @@ pub record StandsBetween (m : Module) (func : ℕ) (code : Text) (before after :
   pub means : MeanAlike before.symbols (symbols_before m func)
   pub none_missing : after.missing ≡ None
   pub right : AreRight m after
+  pub forms : before.wide ≡ m.wide
 
 -- the tables of the module have no room for more, or have pointers of another kind
 abbrev pub IsOfTables : ReadFault → Type 0
@@ -88,7 +89,7 @@ pub record ReadsPast (whole : Text) (n : Module) (before after : Input) : Type 0
   pub lexed : Lexed
   pub is_lexed : IsLexed whole lexed
   pub earlier : List (Unit {0})
-  pub comes : Before at_end_of_text item.says (start whole lexed) earlier before
+  pub comes : Before at_end_of_text item.says (start_in n.wide whole lexed) earlier before
   pub begins : sees k.Define before.cursor ≡ true
   pub function : definition.says before tt after
   pub later : List (Unit {0})
@@ -125,6 +126,7 @@ pub record HaveSameNames (m n : Module) : Type 0 where
   pub globals : defined_globals n ≡ defined_globals m
   pub declares : declared_functions n ≡ declared_functions m
   pub functions : defined_functions n ≡ defined_functions m
+  pub forms : n.wide ≡ m.wide
 
 -- each global name of the module has its meaning beside it
 abbrev pub IsCounted : Module → Type 0

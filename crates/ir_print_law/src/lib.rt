@@ -12,6 +12,6 @@ mod table_laws;
 pub use alone_laws::{counted_law, read_alone_law};
 pub use print_laws::{print_law, printed_again_law};
 pub use printable_laws::{named_law, printable_law};
-pub use reading_laws::{constant_law, end_law, integer_type_law, name_law, star_law};
+pub use reading_laws::{constant_law, core_law, end_law, integer_type_law, name_law, star_law};
 pub use replaced_laws::{grown_law, replaced_law, whole_law};
 pub use table_laws::{one_type_law, within_law};

@@ -1,4 +1,5 @@
 //! What is printed is read again.
+ghost use Rattle.ir_print_law.specs.CoreForms.{AreCoreRead, AreCoreWordsRead, FormsStay};
 ghost use Rattle.ir_print_law.specs.Ends.{JumpsAreRead, EmptyReturnsAreRead, UnreachablesAreRead};
 ghost use Rattle.ir_print_law.specs.Stars.{StarsAreRead};
 ghost use Rattle.ir_print_law.specs.Readings.{ConstantsAreRead, LocalsAreRead, LocalOperandsAreRead, GlobalOperandsAreRead, CalleesAreRead, StructNamesAreRead, TargetsAreRead, NewValuesAreRead, NumberedValuesAreRead, LabelsAreRead, CollectorsAreRead, IntegerTypesAreRead};
@@ -37,4 +38,12 @@ pub fn name_law()
 /// Printed stars are read as the pointer types that they make of a type.
 pub fn star_law()
     ensures { StarsAreRead }
+{}
+
+/// Where the wide forms may not stand, an operation on integers is read as if there were none: the same one, or the same fault. And
+/// nothing that is read changes whether they may.
+pub fn core_law()
+    ensures core { AreCoreRead }
+    ensures words { AreCoreWordsRead }
+    ensures stay { FormsStay }
 {}

@@ -42,6 +42,7 @@ start_with t place = record (start_of place) {
   types = t.types;
   struct_names = record { names = t.struct_names; sorts = t.struct_of };
   symbols = record { names = t.symbols; sorts = t.sorts };
+  wide = t.wide;
 }
 
 -- the tables of a module, where neither this function nor one after it is defined so far
@@ -97,6 +98,7 @@ replacement_of o = record {
     struct_of = o.struct_names.sorts;
     symbols = o.symbols.names;
     sorts = o.symbols.sorts;
+    wide = o.wide;
   };
   functions = o.functions;
 }

@@ -142,6 +142,7 @@ fn start_with<'x>(alloc: Global, tables: Tables, bytes: &'x [u8], lexed: &'x Lex
         globals: Items::new(alloc),
         declares: Items::new(alloc),
         functions: Items::new(alloc),
+        wide: tables.wide,
     }
 }
 
@@ -156,6 +157,7 @@ fn replacement_of(input: Input<'_>) -> Replacement
             struct_of: input.struct_names.sorts,
             symbols: input.symbols.names,
             sorts: input.symbols.sorts,
+            wide: input.wide,
         },
         functions: input.functions,
     }

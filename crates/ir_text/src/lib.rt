@@ -17,5 +17,5 @@ pub use anew::{Replacement, read_function};
 pub use ir_print::print;
 pub use items_of_text::{FunctionHead, body_after, defined_result, head_after};
 pub use read_fault::ReadFault;
-pub use reader::read;
+pub use reader::{read, read_in};
 pub use replaced::{copy_first, name_of, replace};

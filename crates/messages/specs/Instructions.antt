@@ -46,16 +46,20 @@ pub record FirstStopsAt (functions : List Function) (block place : ℕ) : Type 0
   pub there : slice_get functions 0 ≡ Some function
   pub stops : StopsAt function block place
 
+-- before these tokens of a function are read, where the wide forms may stand or not
+abbrev pub start_in : (wide : Bool) → (text : Text) → List Token → Input
+start_in wide text tokens = record (start_of (record { text = text; rest = tokens; bad = None })) { wide = wide }
+
 -- these tokens of a function, ended after them, are read as the function of this name up to there
-pub record IsReadUpTo (text name : Text) (tokens : List Token) (block place : ℕ) : Type 0 where
+pub record IsReadUpTo (wide : Bool) (text name : Text) (tokens : List Token) (block place : ℕ) : Type 0 where
   pub after : Input
-  pub read : (anew 0 name).says (start_of (record { text = text; rest = ended tokens; bad = None })) tt after
+  pub read : (anew 0 name).says (start_in wide text (ended tokens)) tt after
   pub stops : FirstStopsAt after.functions block place
 
 -- An instruction of the function of this name begins at this token: the function's tokens before it, ended there, are read as the function up to the instruction.
-pub record BeginsAt (text : Text) (tokens : List Token) (name : Text) (block place : ℕ) (token : Token) : Type 0 where
+pub record BeginsAt (wide : Bool) (text : Text) (tokens : List Token) (name : Text) (block place : ℕ) (token : Token) : Type 0 where
   pub from : ℕ
   pub at : ℕ
   pub there : slice_get tokens at ≡ Some token
   pub begins_one : begins token.kind ≡ true
-  pub read : IsReadUpTo text name (drop from (take at tokens)) block place
+  pub read : IsReadUpTo wide text name (drop from (take at tokens)) block place

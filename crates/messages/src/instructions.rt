@@ -6,7 +6,7 @@ ghost use Rattle.messages.specs.Instructions as spec;
 ghost use Rattle.messages.specs.Instructions.{BeginsAt, IsReadUpTo, StopsAt};
 
 use crate::guesses::make_guess;
-use ir_ast::{Block, FuncId, Function, HashKey};
+use ir_ast::{Block, FuncId, Function, Module};
 use ir_forms::{Cursor, Fault, Input};
 use ir_text::{FunctionHead, body_after, defined_result, head_after};
 use ir_tokens::{Kind, TEXT_LIMIT, Token};
@@ -121,16 +121,17 @@ fn reads_up_to(
     name: &[u8],
     tokens: &[Token],
     numbers: Numbers,
-    key: HashKey,
+    of_module: &Module,
 ) -> Result<bool, AllocError>
-    ensures { IfOk result (λ is_read. is_read ≡ true → IsReadUpTo text.now name.now tokens.now numbers.block numbers.place) }
+    ensures { IfOk result (λ is_read. is_read ≡ true → IsReadUpTo of_module.now.wide text.now name.now tokens.now numbers.block numbers.place) }
 {
     if text.len() > TEXT_LIMIT {
         return Ok(false);
     }
     let tokens = ended(alloc, tokens)?;
     let cursor = Cursor::new(text, tokens.as_slice(), None);
-    let mut input = Input::new(alloc, cursor, key);
+    let mut input = Input::new(alloc, cursor, of_module.symbols.key());
+    input.wide = of_module.wide;
     let answer = match function_named(alloc, &mut input, name) {
         Ok(()) => { Ok(first_stops_at(input.functions.as_slice(), numbers.block, numbers.place)) }
         Err(Fault::Memory) => Err(AllocError),
@@ -141,16 +142,16 @@ fn reads_up_to(
 }
 
 /// The first token of an instruction of the function of this name. It is told only where the reader reads the function up to there
-/// as the function up to the instruction. No clause says that it is always told. The key is that of the module's tables.
+/// as the function up to the instruction, in the forms of the module. No clause says that it is always told.
 pub fn first_token(
     alloc: Global,
     text: &[u8],
     tokens: &[Token],
     name: &[u8],
     numbers: Numbers,
-    key: HashKey,
+    of_module: &Module,
 ) -> Result<Option<Token>, AllocError>
-    ensures { IfOk result (λ found. IfSome found (λ token. BeginsAt text.now tokens.now name.now numbers.block numbers.place token)) }
+    ensures { IfOk result (λ found. IfSome found (λ token. BeginsAt of_module.now.wide text.now tokens.now name.now numbers.block numbers.place token)) }
 {
     let Some(guess) = make_guess(tokens, numbers.function, numbers.block, numbers.place) else {
         return Ok(None);
@@ -162,7 +163,7 @@ pub fn first_token(
     let Some(within) = before.get(guess.function..) else {
         return Ok(None);
     };
-    if begins(token.kind) && reads_up_to(alloc, text, name, within, numbers, key)? {
+    if begins(token.kind) && reads_up_to(alloc, text, name, within, numbers, of_module)? {
         Ok(Some(*token))
     } else {
         Ok(None)

@@ -125,7 +125,7 @@ module _ (m : Module) (ordered : ArePartsBefore m.types) where
     -- ---- instructions
 
     number_op : (x : NumberOp) → IsNumberOp m f x → IsNumberOp (o m ordered) made (opaque_number (numbers m ordered) x)
-    number_op (number.Arithmetic kind t x y) h = pair t x y h
+    number_op (number.Arithmetic kind t x y) h = (h.0, pair t x y h.1)
     number_op (number.Resize kind from x to) h = converted from x to h
     number_op (number.Compare kind t x y) h = pair t x y h
 

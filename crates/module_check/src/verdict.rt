@@ -5,7 +5,7 @@ ghost use Rattle.program_safety.specs.Safety.{IsCarefulProgram, IsSafeProgram};
 
 use crate::accepted::Accepted;
 use crate::under_check::UnderCheck;
-use block_check::check_function;
+use block_check::{CheckRooms, check_function_in};
 use block_rules::{BlockFault, Refusal};
 use certs::Certs;
 use ir_ast::{FuncId, Module};
@@ -60,6 +60,7 @@ impl From<LayoutFault> for Reason {
 /// The first fault in the first `count` functions of a module, in text order.
 fn fault_in_functions(
     alloc: Global,
+    rooms: &mut CheckRooms,
     program: &Program,
     certs: &Certs,
     count: u32,
@@ -68,7 +69,7 @@ fn fault_in_functions(
     ensures { MatchOption result (IsModuleCertified program.now certs.now.sections count) (IsModuleFault program.now certs.now.sections count) }
 {
     for number in 0..count {
-        if let Err(fault) = check_function(alloc, program, certs, FuncId::new(number)) {
+        if let Err(fault) = check_function_in(alloc, rooms, program, certs, FuncId::new(number)) {
             return Some(fault);
         }
     }
@@ -81,7 +82,27 @@ pub fn fault_in_module(alloc: Global, program: &Program, certs: &Certs) -> Optio
 {
     // No memory holds more functions than there are numbers for them.
     match u32::try_from(program.module().functions.len()) {
-        Ok(count) => fault_in_functions(alloc, program, certs, count),
+        Ok(count) => fault_in_own_rooms(alloc, program, certs, count),
+        Err(_) => Some(BlockFault::Memory),
+    }
+}
+
+/// The same in a room of its own.
+fn fault_in_own_rooms(
+    alloc: Global,
+    program: &Program,
+    certs: &Certs,
+    count: u32,
+) -> Option<BlockFault>
+    requires { count ≤ length program.now.of_module.functions }
+    ensures { MatchOption result (IsModuleCertified program.now certs.now.sections count) (IsModuleFault program.now certs.now.sections count) }
+{
+    match CheckRooms::new(alloc) {
+        Ok(mut rooms) => {
+            let fault = fault_in_functions(alloc, &mut rooms, program, certs, count);
+            drop(rooms);
+            fault
+        }
         Err(_) => Some(BlockFault::Memory),
     }
 }

@@ -2,7 +2,7 @@
 ghost use Rattle.std.specs.Prelude.{◌≡◌, ◌<◌, ◌≤◌, length};
 ghost use Rattle.parallel_check.specs.Shares.{IsOf, IsFirstFault};
 
-use block_check::check_function;
+use block_check::{CheckRooms, check_function_in};
 use block_rules::BlockFault;
 use certs::Certs;
 use gate::Gate;
@@ -31,6 +31,30 @@ pub fn fault_in_share<G: Gate>(
     requires count { functions.now.count ≤ length functions.now.program.now.of_module.functions }
     ensures { IsFirstFault functions.now.program.now functions.now.certs.now.sections (IsOf workers worker) functions.now.count result }
 {
+    match CheckRooms::new(alloc) {
+        Ok(mut rooms) => {
+            let fault = fault_in_rooms(alloc, &mut rooms, workers, worker, gate, functions);
+            drop(rooms);
+            fault
+        }
+        Err(_) => Some(BlockFault::Memory),
+    }
+}
+
+/// The same in one room for all of them.
+fn fault_in_rooms<G: Gate>(
+    alloc: Global,
+    rooms: &mut CheckRooms,
+    workers: u32,
+    worker: u32,
+    gate: &G,
+    functions: &FirstFunctions,
+) -> Option<BlockFault>
+    requires worker { worker < workers }
+    requires few { workers ≤ 64 }
+    requires count { functions.now.count ≤ length functions.now.program.now.of_module.functions }
+    ensures { IsFirstFault functions.now.program.now functions.now.certs.now.sections (IsOf workers worker) functions.now.count result }
+{
     let FirstFunctions {
         program,
         certs,
@@ -39,7 +63,7 @@ pub fn fault_in_share<G: Gate>(
     for number in (worker..count).step_by(workers as usize) {
         let piece = number as usize;
         gate.before(piece);
-        let checked = check_function(alloc, program, certs, FuncId::new(number));
+        let checked = check_function_in(alloc, rooms, program, certs, FuncId::new(number));
         gate.after(piece);
         if let Err(fault) = checked {
             return Some(fault);

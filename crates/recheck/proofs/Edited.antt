@@ -22,7 +22,7 @@ use Rattle.recheck.specs.declared.edit.Edit.{Edit}
 use Rattle.recheck.specs.declared.edit.Edit.TheVariants as edit
 use Rattle.recheck.specs.Edits.{AreRead, IsShapedSection, IsCode, HasTextFault, IsReadAt, IsRead, IsEditedAt, IsEdited, HasSectionFault, HasCodeFault, IsFaultAt, IsEditFault, IsEditAccepted, IsRefusedBy, code_fault, name_in, no_function, text_with}
 use Rattle.recheck.specs.Named.{function_named}
-use Rattle.recheck.specs.Put.{state, with_function, IsTextPut, IsBothPut, AreReady, IsKept}
+use Rattle.recheck.specs.Put.{state, with_function, IsTextPut, IsBothPut, IsReadAnew, AreReady, IsKept}
 use Rattle.recheck.specs.Session.{IsAnswered}
 use Rattle.recheck.specs.Interface.{rechecked_by}
 use Rattle.recheck.specs.declared.edit_fault.EditFault.{EditFault}
@@ -145,16 +145,24 @@ module _ (m : Module) (func : ℕ) (code text : Text) (n : Module) (is : IsTheCo
   pub with_code : (o : Module) (section : Section) → AreRead m func code text o section → IsShapedSection text n func section
   with_code o section h = subst (λ (x : Module). IsShapedSection text x func section) (is.one o h.0) h.1
 
--- a program made anew, with the function and the section that were read
-pub both_anew : (p q : LaidOut) (certs others : List Section) (func : ℕ) (old : Function) (past section : Section) (n : Module) (code text : Text) (count : ℕ)
-    → IsReplaced p.of_module func code n → IsShapedSection text n func section → (q.of_module ≡ n) × AreLayouts n q.layouts × AreSizes n q.sizes
+-- a program laid out of the module that was read, and the section
+pub anew_read : (m : Module) (func : ℕ) (code text : Text) (n : Module) (q : LaidOut) (section : Section) → IsCode m func code n → IsShapedSection text n func section
+    → (q.of_module ≡ n) × AreLayouts n q.layouts × AreSizes n q.sizes → IsReadAnew m func code text q section
+anew_read m func code text n q section is_read is laid = record {
+  are_read = subst (λ (x : Module). AreRead m func code text x section) (sym laid.0) (is_read, is);
+  laid_out = subst (λ (x : Module). AreLayouts x q.layouts) (sym laid.0) laid.1;
+  sized = subst (λ (x : Module). AreSizes x q.sizes) (sym laid.0) laid.2;
+}
+
+-- it is in the place of the old one, with the section
+pub both_anew : (p q : LaidOut) (certs others : List Section) (func : ℕ) (old : Function) (past section : Section) (code text : Text) (count : ℕ) → IsReadAnew p.of_module func code text q section
     → others ≡ slice_set certs func section → slice_get p.of_module.functions func ≡ Some old → slice_get certs func ≡ Some past
     → count ≡ rechecked_by q.of_module others func (Some old) (Some past) → IsBothPut p certs func code text q others count
-both_anew p q certs others func old past section n code text count is_read is laid e at past_at counted = record {
-  of_code = subst (λ (m : Module). IsReplaced p.of_module func code m) (sym laid.0) is_read;
-  laid_out = subst (λ (m : Module). AreLayouts m q.layouts) (sym laid.0) laid.1;
-  sized = subst (λ (m : Module). AreSizes m q.sizes) (sym laid.0) laid.2;
-  of_text = put_so p certs q others func old past section text count (subst (λ (m : Module). IsShapedSection text m func section) (sym laid.0) is) e at past_at counted;
+both_anew p q certs others func old past section code text count read e at past_at counted = record {
+  of_code = read.are_read.0.0;
+  laid_out = read.laid_out;
+  sized = read.sized;
+  of_text = put_so p certs q others func old past section text count read.are_read.1 e at past_at counted;
 }
 
 -- ---- the function in the place of the old one

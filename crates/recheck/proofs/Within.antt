@@ -1,5 +1,5 @@
 -- A function that is read in the tables of its module, to which its text adds nothing.
-use Rattle.std.proofs.Common.{◌≡◌, ◌≢◌, ℕ, List, slice_get, Option, Some, None, Ok, Err, ap, sym, subst, ◌∙◌}
+use Rattle.std.proofs.Common.{◌≡◌, ◌≢◌, ℕ, Bool, List, slice_get, Option, Some, None, Ok, Err, ap, sym, subst, ◌∙◌}
 use Rattle.std.specs.Prelude.{IfSome}
 use Rattle.ir_ast.specs.declared.function.Function.{Function}
 use Rattle.ir_ast.specs.declared.ir_type.IrType.{IrType}
@@ -30,6 +30,7 @@ pub record AreTables (m : Module) (t : Tables) : Type 0 where
   pub struct_names : t.struct_names ≡ m.struct_names
   pub struct_of : t.struct_of ≡ m.struct_of
   pub symbols : t.symbols ≡ m.symbols
+  pub wide : t.wide ≡ m.wide
 
 -- what the names stand for stays
 sorts_stay : (t : Tables) (func : ℕ) (name bytes : Text) (a : Replacement) → IsTextAnew t func name bytes a → a.tables.sorts ≡ t.sorts
@@ -62,6 +63,7 @@ module _ (m : Module) (func : ℕ) (bytes : Text) (tables : Tables) (name : Text
           ∙ ap (λ (x : List (Option ℕ)). record t { types = m.types; struct_names = m.struct_names; struct_of = x }) of_t.struct_of
           ∙ ap (λ (x : List Text). record t { types = m.types; struct_names = m.struct_names; struct_of = m.struct_of; symbols = x }) of_t.symbols
           ∙ ap (λ (x : List SymbolSort). record t { types = m.types; struct_names = m.struct_names; struct_of = m.struct_of; symbols = m.symbols; sorts = x }) sorts
+          ∙ ap (λ (x : Bool). record t { types = m.types; struct_names = m.struct_names; struct_of = m.struct_of; symbols = m.symbols; sorts = m.sorts; wide = x }) of_t.wide
 
   module_same : (a : Replacement) (f : Function) → IsTextAnew tables func name bytes a → AreTables m a.tables → Some f ≡ slice_get a.functions 0 → with_replacement m func a ≡ with_function m func f
   module_same a f h are at =

@@ -11,7 +11,7 @@ use Rattle.certs.specs.declared.section.Section.{Section}
 use Rattle.layout.specs.Functions.{with_functions, laid_with}
 use Rattle.layout.specs.Layouts.{LaidOut, AreLayouts, AreSizes}
 use Rattle.answers.specs.KeptRows.{AreKept}
-use Rattle.recheck.specs.Edits.{IsShapedSection}
+use Rattle.recheck.specs.Edits.{AreRead, IsShapedSection}
 use Rattle.recheck.specs.Session.{State, IsAnswered}
 use Rattle.recheck.specs.Interface.{rechecked_by}
 use Rattle.recheck.specs.declared.kept.KeptWork.{KeptWork}
@@ -50,6 +50,12 @@ pub record IsBothPut (p : LaidOut) (certs : List Section) (func : ℕ) (code tex
   pub laid_out : AreLayouts q.of_module q.layouts
   pub sized : AreSizes q.of_module q.sizes
   pub of_text : IsTextPut p certs func text q others count
+
+-- The function of this code and the section of this text are those of this program, which is laid out, and of this section.
+pub record IsReadAnew (m : Module) (func : ℕ) (code text : Text) (q : LaidOut) (section : Section) : Type 0 where
+  pub are_read : AreRead m func code text q.of_module section
+  pub laid_out : AreLayouts q.of_module q.layouts
+  pub sized : AreSizes q.of_module q.sizes
 
 -- tables that are ready for the reader of the next code are those of the module
 abbrev pub AreReady : Module → Option Tables → Type 0

@@ -9,7 +9,7 @@ ghost use Rattle.ir_text.specs.Replaced.{IsReplaced, IsReplaceFault};
 ghost use Rattle.ir_text.specs.declared.read_fault.ReadFault.{ReadFault as AReadFault};
 ghost use Rattle.layout.specs.declared.fault.LayoutFault.TheVariants as layout_fault;
 ghost use Rattle.recheck.specs.Edits.{AreRead, HasCodeFault, HasTextFault, IsCode, IsEditAccepted, IsRefusedBy, code_fault};
-ghost use Rattle.recheck.specs.Put.{AreReady, IsBothPut, IsKept, with_function};
+ghost use Rattle.recheck.specs.Put.{AreReady, IsBothPut, IsKept, IsReadAnew, with_function};
 ghost use Rattle.recheck.specs.declared.edit_fault.EditFault.{EditFault as AFault};
 ghost use Rattle.recheck.specs.declared.edit_fault.EditFault.TheVariants.{Memory};
 
@@ -18,7 +18,7 @@ use crate::kept::KeptWork;
 use crate::put::{answer_all, function_at, put_in_place, read_text};
 use crate::tables::same_tables;
 use crate::texts::{OldFunction, SectionText};
-use certs::Certs;
+use certs::{Certs, Section};
 use copies::{Tables, copy_tables};
 use ir_ast::{FuncId, Function, Module};
 use ir_print_law::grown_law;
@@ -130,6 +130,43 @@ fn put_program(program: &mut Program, anew: Program)
     drop(mem::replace(program, anew));
 }
 
+/// The program and the section of two texts, where the code may add to the tables.
+fn read_anew(
+    alloc: Global,
+    program: &Program,
+    code: &[u8],
+    text: &SectionText<'_>,
+) -> Result<(Program, Section), EditFault>
+    requires { text.now.func < length program.now.of_module.functions }
+    ensures found { IfOk result (λ read. IsReadAnew program.now.of_module text.now.func code.now text.now.bytes.now read.0 read.1) }
+    ensures only { (n : AModule) (section : ASection) → AreRead program.now.of_module text.now.func code.now text.now.bytes.now n section → IsEditAccepted result }
+    ensures fault { IfErr result (λ e. e ≢ Memory → HasCodeFault program.now.of_module text.now.func code.now text.now.bytes.now e) }
+    ensures only_fault { (e : AFault) → HasCodeFault program.now.of_module text.now.func code.now text.now.bytes.now e → IsRefusedBy result e }
+{
+    grown_law();
+    layouts_stay_law();
+    let of_module = match read_code(alloc, program.module(), text.func, code) {
+        Ok(of_module) => of_module,
+        Err(fault) => return Err(fault),
+    };
+    let section = match read_text(alloc, &of_module, text.func, text.bytes) {
+        Ok(section) => section,
+        Err(fault) => {
+            drop(of_module);
+            return Err(fault);
+        }
+    };
+    match Program::new(alloc, of_module) {
+        Ok(anew) => Ok((anew, section)),
+        Err(refused) => {
+            let fault = refused.fault;
+            drop(refused);
+            drop(section);
+            Err(without_layouts(fault))
+        }
+    }
+}
+
 /// Puts the function and the section of two texts in the place of those that are there, where the code may add to the tables.
 /// Where that is refused, all is as before.
 fn put_anew(
@@ -152,27 +189,9 @@ fn put_anew(
     ensures only { (n : AModule) (section : ASection) → AreRead program.old.of_module text.now.func code.now text.now.bytes.now n section → IsEditAccepted result }
     ensures only_fault { (e : AFault) → HasCodeFault program.old.of_module text.now.func code.now text.now.bytes.now e → IsRefusedBy result e }
 {
-    grown_law();
-    layouts_stay_law();
-    let of_module = match read_code(alloc, program.module(), text.func, code) {
-        Ok(of_module) => of_module,
+    let (anew, section) = match read_anew(alloc, program, code, text) {
+        Ok(read) => read,
         Err(fault) => return Err(fault),
-    };
-    let section = match read_text(alloc, &of_module, text.func, text.bytes) {
-        Ok(section) => section,
-        Err(fault) => {
-            drop(of_module);
-            return Err(fault);
-        }
-    };
-    let anew = match Program::new(alloc, of_module) {
-        Ok(anew) => anew,
-        Err(refused) => {
-            let fault = refused.fault;
-            drop(refused);
-            drop(section);
-            return Err(without_layouts(fault));
-        }
     };
     let past = certs.replace(text.func, section);
     let old = OldFunction {

@@ -118,7 +118,7 @@ module _ (m : Module) (types : List IrType) (fs : List Function) (more : Stay m.
     -- ---- instructions
 
     number_op : (x : NumberOp) → IsNumberOp m f x → number_op_text m f.locals x ≡ number_op_text n f.locals x
-    number_op (number.Arithmetic kind t x y) h = ap (λ (text : Text). arithmetic_word kind ++ text) (pair t x y h)
+    number_op (number.Arithmetic kind t x y) h = ap (λ (text : Text). arithmetic_word kind ++ text) (pair t x y h.1)
     number_op (number.Resize kind from x to) h = ap (λ (text : Text). resize_word kind ++ text) (converted from x to h)
     number_op (number.Compare kind t x y) h = ap (λ (text : Text). codes "icmp " ++ comparison_word kind ++ text) (pair t x y h)
 

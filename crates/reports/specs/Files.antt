@@ -1,5 +1,5 @@
 -- The files of a line, and what is read from them.
-use Rattle.std.specs.Prelude.{◌≡◌, ◌≢◌, ◌⊎◌, ℕ, List, [], Option, None, Some, if◌then◌else◌}
+use Rattle.std.specs.Prelude.{◌≡◌, ◌≢◌, ◌⊎◌, ℕ, Bool, false, List, [], Option, None, Some, if◌then◌else◌}
 use Rattle.std.specs.Option.{option_map}
 use Rattle.ir_ast.specs.declared.module.Module.{Module}
 use Rattle.ir_ast.specs.declared.shapes.Shapes.{Shapes}
@@ -18,6 +18,7 @@ use Rattle.trace_text.specs.Text as trace_text
 use Rattle.trace_text.specs.declared.fault.TraceFault.TheVariants as trace
 use Rattle.trace_text.specs.declared.trace.Trace.{Trace}
 use Rattle.reports.specs.declared.files.File.{File}
+use Rattle.reports.specs.declared.files.ModuleFile.{ModuleFile}
 use Rattle.reports.specs.declared.files.Unread.{Unread}
 use Rattle.reports.specs.declared.files.Unread.TheVariants as unread
 use Rattle.reports.specs.Report.{Answer, no_file, of_cert_fault, of_edits_fault, of_layout_fault, of_read_fault, of_trace_fault}
@@ -34,15 +35,25 @@ abbrev pub bytes_of : Option File → Option (List ℕ)
 bytes_of None = None
 bytes_of (Some file) = option_map (λ bytes. bytes.now) file.bytes
 
+-- the file of a module, if it is given
+abbrev pub file_of : Option ModuleFile → Option File
+file_of None = None
+file_of (Some of_module) = Some of_module.file
+
+-- whether the wide forms may stand in the text of this module
+abbrev pub is_wide : Option ModuleFile → Bool
+is_wide None = false
+is_wide (Some of_module) = of_module.wide
+
 -- the file has this path and cannot be read
 abbrev pub IsNoFile : (path : List ℕ) → Option File → Type 0
 IsNoFile path file = (path ≡ path_of file) × (bytes_of file ≡ None)
 
 -- ---- what is read
 
--- the file is a text of this module
-abbrev pub HasModule : Option File → Module → Type 0
-HasModule file m = (bytes : List ℕ) × (bytes_of file ≡ Some bytes) × text.IsText bytes m
+-- the file is a text of this module, in the forms that may stand in it
+abbrev pub HasModule : Option ModuleFile → Module → Type 0
+HasModule first m = (bytes : List ℕ) × (bytes_of (file_of first) ≡ Some bytes) × text.IsTextIn (is_wide first) bytes m
 
 -- the file is a text of these certificates of the module
 abbrev pub HasCerts : Option File → Module → Certs → Type 0
@@ -61,12 +72,12 @@ abbrev pub IsRead : File → (of_module shaped : Module) → Type 0
 IsRead file of_module shaped = (bytes : List ℕ) × (shapes : Shapes) × (bytes_of (Some file) ≡ Some bytes) × shape_text.AreShapes bytes of_module shapes × (shaped ≡ with_read of_module shapes)
 
 -- the first file is a text of this module, with the shapes of the other file where it is given
-abbrev pub HasShaped : (first shapes : Option File) → Module → Type 0
+abbrev pub HasShaped : (first : Option ModuleFile) → (shapes : Option File) → Module → Type 0
 HasShaped first None m = HasModule first m
 HasShaped first (Some shapes) m = (of_module : Module) × HasModule first of_module × IsRead shapes of_module m
 
 -- the files are texts of the module of this program, laid out
-abbrev pub HasProgram : (first shapes : Option File) → LaidOut → Type 0
+abbrev pub HasProgram : (first : Option ModuleFile) → (shapes : Option File) → LaidOut → Type 0
 HasProgram first shapes p = HasShaped first shapes p.of_module × AreLayouts p.of_module p.layouts × AreSizes p.of_module p.sizes
 
 -- the file is a text of this trace of the program
@@ -76,10 +87,11 @@ HasTrace file p trace = (bytes : List ℕ) × (bytes_of file ≡ Some bytes) × 
 -- ---- what is not
 
 -- the first fault in the file of a module
-abbrev pub IsNoModule : Option File → Unread → Type 0
-IsNoModule file (unread.NoFile path) = IsNoFile path.now file
-IsNoModule file (unread.NoModule fault) = (bytes : List ℕ) × (bytes_of file ≡ Some bytes) × (fault ≢ read.Memory → text.IsFault bytes fault)
-IsNoModule file _ = ⊥
+abbrev pub IsNoModule : Option ModuleFile → Unread → Type 0
+IsNoModule first (unread.NoFile path) = IsNoFile path.now (file_of first)
+IsNoModule first (unread.NoModule fault) =
+    (bytes : List ℕ) × (bytes_of (file_of first) ≡ Some bytes) × (fault ≢ read.Memory → text.IsFaultIn (is_wide first) bytes fault)
+IsNoModule first _ = ⊥
 
 -- the first fault in the file of the certificates of this module
 abbrev pub IsNoCertificate : Option File → Module → Unread → Type 0
@@ -96,7 +108,7 @@ IsNoShapes (Some file) m (unread.NoCertificate of_module fault) =
 IsNoShapes _ m _ = ⊥
 
 -- the first fault in the files of a module and its shapes
-abbrev pub IsNoShaped : (first shapes : Option File) → Unread → Type 0
+abbrev pub IsNoShaped : (first : Option ModuleFile) → (shapes : Option File) → Unread → Type 0
 IsNoShaped first shapes u = IsNoModule first u ⊎ ((m : Module) × HasModule first m × IsNoShapes shapes m u)
 
 -- the first fault in the file of edits
@@ -106,12 +118,12 @@ IsNoEdits file (unread.NoEdits fault) = (bytes : List ℕ) × (bytes_of file ≡
 IsNoEdits file _ = ⊥
 
 -- the first fault in the layouts of the module in these files
-abbrev pub HasNoLayouts : (first shapes : Option File) → Unread → Type 0
+abbrev pub HasNoLayouts : (first : Option ModuleFile) → (shapes : Option File) → Unread → Type 0
 HasNoLayouts first shapes (unread.NoLayouts refused) = HasShaped first shapes refused.of_module × (refused.fault ≢ layout.Memory → IsLayoutFault refused.of_module refused.fault)
 HasNoLayouts first shapes _ = ⊥
 
 -- the first fault in the files of a program
-abbrev pub IsNoProgram : (first shapes : Option File) → Unread → Type 0
+abbrev pub IsNoProgram : (first : Option ModuleFile) → (shapes : Option File) → Unread → Type 0
 IsNoProgram first shapes u = IsNoShaped first shapes u ⊎ HasNoLayouts first shapes u
 
 -- the first fault in the file of a trace of this program
@@ -121,11 +133,11 @@ IsNoTrace file p (unread.NoTrace fault) = (bytes : List ℕ) × (bytes_of file �
 IsNoTrace file p _ = ⊥
 
 -- the first fault in the files of a module and its certificates
-abbrev pub IsUncertified : (first certificate : Option File) → Unread → Type 0
+abbrev pub IsUncertified : (first : Option ModuleFile) → (certificate : Option File) → Unread → Type 0
 IsUncertified first certificate u = IsNoModule first u ⊎ ((m : Module) × HasModule first m × IsNoCertificate certificate m u)
 
 -- the first fault in the files of a program and a trace
-abbrev pub IsUntraced : (first trace shapes : Option File) → Unread → Type 0
+abbrev pub IsUntraced : (first : Option ModuleFile) → (trace shapes : Option File) → Unread → Type 0
 IsUntraced first trace shapes u = IsNoProgram first shapes u ⊎ ((p : LaidOut) × HasProgram first shapes p × IsNoTrace trace p u)
 
 -- what is printed of it

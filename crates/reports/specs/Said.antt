@@ -10,6 +10,7 @@ use Rattle.module_check.specs.Accepted.{IsFirstRefusal, shaped}
 use Rattle.reports.specs.Report.{Answer, IsTold, line_of, no, no_memory, of_layout_fault}
 use Rattle.reports.specs.Files.{HasModule, HasCerts, IsUncertified, of_unread}
 use Rattle.reports.specs.declared.files.File.{File}
+use Rattle.reports.specs.declared.files.ModuleFile.{ModuleFile}
 use Rattle.reports.specs.declared.files.Unread.{Unread}
 use Rattle.reports.specs.declared.outputs.Outputs.{Outputs}
 use Rattle.reports.specs.declared.outputs.Results.{Results}
@@ -63,7 +64,7 @@ pub data OfVerdict (m : Module) (certs : Certs) : Said → Type 0 where
   not_checked : OfVerdict m certs (OnError no_memory)
 
 -- what is said of the files of a module and its certificates, where this is said of them once they are read
-pub data OfCertified (OfCerts : Module → Certs → Said → Type 0) (first certificate : Option File) : Said → Type 0 where
+pub data OfCertified (OfCerts : Module → Certs → Said → Type 0) (first : Option ModuleFile) (certificate : Option File) : Said → Type 0 where
   not_certified : (unread : Unread) → IsUncertified first certificate unread → OfCertified OfCerts first certificate (OnError (of_unread unread))
   of_certified : (m : Module) (certs : Certs) (said : Said) → HasModule first m → HasCerts certificate m certs → OfCerts m certs said
       → OfCertified OfCerts first certificate said

@@ -18,6 +18,7 @@ use Rattle.mutators.specs.declared.report.RunReport.{RunReport}
 use Rattle.reports.specs.Files.{HasProgram, HasTrace, IsNoTrace, IsUntraced, of_unread}
 use Rattle.reports.specs.Said.{Said, OnOutput, OnError, OfVerdict}
 use Rattle.reports.specs.declared.files.File.{File}
+use Rattle.reports.specs.declared.files.ModuleFile.{ModuleFile}
 use Rattle.reports.specs.declared.files.Unread.{Unread}
 use Rattle.reports.specs.Outcomes.{of_outcome, of_setup_fault}
 use Rattle.reports.specs.RunReport.{of_report}
@@ -30,7 +31,7 @@ pub data OfTrace (p : LaidOut) (t : Trace) : Said → Type 0 where
   not_begun : (fault : SetupFault) → (fault ≢ setup.Memory → IsSetupFault p t.setup fault) → OfTrace p t (OnError (of_setup_fault fault))
 
 -- what is said of the files of a program, its trace and its shapes, where this is said of program and trace once they are read
-pub data OfRun (Run : LaidOut → Trace → Said → Type 0) (first trace shapes : Option File) : Said → Type 0 where
+pub data OfRun (Run : LaidOut → Trace → Said → Type 0) (first : Option ModuleFile) (trace shapes : Option File) : Said → Type 0 where
   not_traced : (unread : Unread) → IsUntraced first trace shapes unread → OfRun Run first trace shapes (OnError (of_unread unread))
   of_traced : (p : LaidOut) (t : Trace) (said : Said) → HasProgram first shapes p → HasTrace trace p t → Run p t said
       → OfRun Run first trace shapes said

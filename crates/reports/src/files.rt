@@ -5,12 +5,12 @@ ghost use Rattle.std.specs.Option.{option_copied};
 ghost use Rattle.certs.specs.Fits.{fits};
 ghost use Rattle.trace_text.specs.Traces.{IsTraceOf};
 ghost use Rattle.reports.specs.Files as spec;
-ghost use Rattle.reports.specs.Files.{HasModule, HasCerts, HasEdits, HasProgram, HasShaped, HasTrace, IsNoModule, IsNoCertificate, IsNoEdits, IsNoProgram, IsNoShaped, IsNoShapes, IsNoTrace, IsRead, IsUncertified, IsUntraced, with_read};
+ghost use Rattle.reports.specs.Files.{file_of, is_wide, HasModule, HasCerts, HasEdits, HasProgram, HasShaped, HasTrace, IsNoModule, IsNoCertificate, IsNoEdits, IsNoProgram, IsNoShaped, IsNoShapes, IsNoTrace, IsRead, IsUncertified, IsUntraced, with_read};
 
 use certificate::{CertFault, read_cert, read_shapes};
 use certs::Certs;
 use ir_ast::{Module, Shapes};
-use ir_text::{ReadFault, read};
+use ir_text::{ReadFault, read_in};
 use items::Items;
 use layout::{NotAProgram, Program, wants_shapes};
 use recheck::{Edit, read_edits};
@@ -24,11 +24,18 @@ pub struct File<'a> {
     pub bytes: Option<&'a [u8]>,
 }
 
+/// The file of a module, and whether the wide forms may stand in its text.
+#[derive(Clone, Copy)]
+pub struct ModuleFile<'a> {
+    pub file: File<'a>,
+    pub wide: bool,
+}
+
 /// The files of a command, by what each is. None is a file that the line does not give. One that a command needs counts then as a file
 /// with an empty path that cannot be read.
 #[derive(Clone, Copy)]
 pub struct Files<'a> {
-    pub of_module: Option<File<'a>>,
+    pub of_module: Option<ModuleFile<'a>>,
     pub certificate: Option<File<'a>>,
     pub shapes: Option<File<'a>>,
     pub trace: Option<File<'a>>,
@@ -36,6 +43,26 @@ pub struct Files<'a> {
     pub of_record: Option<File<'a>>,
     /// Whether the command is to write a file of its own.
     pub saves: bool,
+}
+
+/// The file of a module, if it is given.
+pub fn file_of<'a>(of_module: Option<ModuleFile<'a>>) -> Option<File<'a>>
+    ensures { result ≡ file_of of_module.entry }
+{
+    match of_module {
+        Some(of_module) => Some(of_module.file),
+        None => None,
+    }
+}
+
+/// Whether the wide forms may stand in the text of this module.
+pub fn is_wide(of_module: Option<ModuleFile<'_>>) -> bool
+    ensures { result ≡ is_wide of_module.entry }
+{
+    match of_module {
+        Some(of_module) => of_module.wide,
+        None => false,
+    }
 }
 
 /// The path of a file, empty where it is not given.
@@ -90,10 +117,11 @@ pub fn module_in<'a>(alloc: Global, files: &Files<'a>) -> Result<Module, Unread<
     ensures ok { IfOk result (HasModule files.now.of_module) }
     ensures err { IfErr result (IsNoModule files.now.of_module) }
 {
-    let Some(text) = bytes_of(files.of_module) else {
-        return Err(Unread::NoFile(path_of(files.of_module)));
+    let file = file_of(files.of_module);
+    let Some(text) = bytes_of(file) else {
+        return Err(Unread::NoFile(path_of(file)));
     };
-    match read(alloc, text) {
+    match read_in(alloc, text, is_wide(files.of_module)) {
         Ok(of_module) => Ok(of_module),
         Err(fault) => Err(Unread::NoModule(fault)),
     }

@@ -79,18 +79,18 @@ impl<'a> Scene<'a> {
     /// The first token of an instruction of the function.
     pub fn token_of(&self, spot: &Spot) -> Result<Option<Token>, AllocError> {
         let symbol = self.context.function.symbol.number() as usize;
-        let symbols = &self.context.module().symbols;
+        let of_module = self.context.module();
         first_token(
             self.pen.alloc,
             self.source.text,
             self.source.tokens,
-            symbols.name_at(symbol),
+            of_module.symbols.name_at(symbol),
             Numbers {
                 function: self.refusal.func.number() as usize,
                 block: spot.block.number() as usize,
                 place: spot.place,
             },
-            symbols.key(),
+            of_module,
         )
     }
 

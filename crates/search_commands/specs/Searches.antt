@@ -24,6 +24,7 @@ use Rattle.reports.specs.Files.{HasProgram, IsNoProgram, of_unread}
 use Rattle.reports.specs.Report.{Answer, of_layout_reason, no_memory}
 use Rattle.reports.specs.Said.{Said, OnOutput, OnError, OnBoth, OfCertified}
 use Rattle.reports.specs.declared.files.File.{File}
+use Rattle.reports.specs.declared.files.ModuleFile.{ModuleFile}
 use Rattle.reports.specs.declared.files.Unread.{Unread}
 use Rattle.reports.specs.Outcomes.{of_setup_fault, break_text}
 use Rattle.search_commands.specs.Sources.{AreSoundBy, AreTried, IsFound, past_seed}
@@ -140,7 +141,7 @@ pub data OfHunt (wanted : Bool) (p : LaidOut) (before after : List ℕ) : Said �
   not_hunted : after ≡ before → OfHunt wanted p before after (OnError no_memory)
 
 -- what it says of the files of a module and of its shapes
-pub data OfHuntShaped (wanted : Bool) (first shapes : Option File) (before after : List ℕ) : Said → Type 0 where
+pub data OfHuntShaped (wanted : Bool) (first : Option ModuleFile) (shapes : Option File) (before after : List ℕ) : Said → Type 0 where
   no_program : (unread : Unread) → IsNoProgram first shapes unread → after ≡ before → OfHuntShaped wanted first shapes before after (OnError (of_unread unread))
   of_program : (p : LaidOut) (said : Said) → HasProgram first shapes p → OfHunt wanted p before after said → OfHuntShaped wanted first shapes before after said
 
@@ -152,6 +153,6 @@ pub data OfHuntCerts (wanted : Bool) (m : Module) (certs : Certs) (before after 
       → OfHuntCerts wanted m certs before after said
 
 -- what it says of its files: of the module, and of its certificates where they are given, or else of its shapes
-abbrev pub OfHuntFiles : (wanted : Bool) → (first certificate shapes : Option File) → (before after : List ℕ) → Said → Type 0
+abbrev pub OfHuntFiles : (wanted : Bool) → (first : Option ModuleFile) → (certificate shapes : Option File) → (before after : List ℕ) → Said → Type 0
 OfHuntFiles wanted first None shapes before after = OfHuntShaped wanted first shapes before after
 OfHuntFiles wanted first (Some certificate) shapes before after = OfCertified (λ m certs. OfHuntCerts wanted m certs before after) first (Some certificate)

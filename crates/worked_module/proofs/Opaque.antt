@@ -59,6 +59,7 @@ m0 = record {
   declares = [];
   functions = f0 ∷ [];
   shapes = Some (record { words = (Some 0 ∷ []) ∷ []; globals = Some 0 ∷ []; roots = [] });
+  wide = false;
 }
 
 abbrev pub program : LaidOut

@@ -6,6 +6,6 @@ use Rattle.block_check.proofs.check.answer.Goals as goal
 
 pub returns-in-Some : goal.returns-in-Some
 returns-in-Some c =
-    let w = c.over.result in
+    let w = c.over-walk.result in
     let breaks = subst (λ found. MatchOption found (IsCertified (seen w.under_check.now) w.block) (λ broken. BreaksAt (seen w.under_check.now) w.block broken.0 broken.1)) c.in-Some.is c.in_ok-first_breach.ensures in
-    refused_at c.args.under_check.now c.args.block c.in-Some.instr c.in-Some.broken c.requires (found_of w.under_check.now c.args.under_check.now w.block c.args.block c.in-Some.instr c.in-Some.broken c.over.ensures.under_check c.over.ensures.block breaks)
+    refused_at c.args.under_check.now c.args.block c.in-Some.instr c.in-Some.broken c.requires (found_of w.under_check.now c.args.under_check.now w.block c.args.block c.in-Some.instr c.in-Some.broken c.over-walk.ensures.under_check c.over-walk.ensures.block breaks)

@@ -31,3 +31,6 @@ returns-in-Replay-clause-said g c = rw c.in-Replay.is c.replay_files.ensures.sai
 
 pub returns-in-Conform-clause-said : goal.returns-in-Conform-clause-said
 returns-in-Conform-clause-said g c = rw c.in-Conform.is (IfOk-weaker c.conform_files.result _ _ (λ status says. (_, says, refl, refl)) c.conform_files.ensures)
+
+pub returns-in-Lower-clause-said : goal.returns-in-Lower-clause-said
+returns-in-Lower-clause-said g c = rw c.in-Lower.is (IfOk-weaker c.lower_files.result _ _ (λ status says. (_, says, refl, refl)) c.lower_files.ensures)

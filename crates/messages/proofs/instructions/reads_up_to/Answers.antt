@@ -4,7 +4,8 @@ use Rattle.ir_ast.specs.declared.function.Function.{Function}
 use Rattle.ir_text.specs.Anew.{anew}
 use Rattle.ir_forms.specs.Place.{Place}
 use Rattle.ir_forms.specs.Input.{start_of}
-use Rattle.messages.specs.Instructions.{FirstStopsAt, ended}
+use Rattle.ir_forms.specs.declared.input.Input.{Input}
+use Rattle.messages.specs.Instructions.{FirstStopsAt, ended, start_in}
 use Rattle.messages.proofs.instructions.reads_up_to.Goals as goal
 use Rattle.messages.proofs.instructions.reads_up_to.Goals.{in-Ok, in-Err-Memory, in-Err}
 
@@ -14,11 +15,12 @@ returns c =
     let form = anew 0 c.args.name.now in
     let place : c.new-cursor.result ≡ record { text = text; rest = ended c.args.tokens.now; bad = None } =
     c.new-cursor.ensures ∙ ap (λ (rest : List Token). let it : Place = record { text = text; rest = rest; bad = None } in it) (c.as_slice.ensures.value ∙ c.in_ok-tokens.ensures) in
+    let wide = c.args.of_module.now.wide in
     let start = c.new-input.ensures ∙ ap start_of place in
     elim c.match-function_named.branch [
       | in-Ok w ↦ rw w.answer-is (λ yes. record {
         after = c.function_named.new.input;
-        read = form.sound (start_of (record { text = text; rest = ended c.args.tokens.now; bad = None })) tt c.function_named.new.input (ap form.read (sym start) ∙ w.in-Ok.ensures);
+        read = form.sound (start_in wide text (ended c.args.tokens.now)) tt c.function_named.new.input (ap (λ (i : Input). form.read (record i { wide = wide })) (sym start) ∙ w.in-Ok.ensures);
         stops = subst (λ (functions : List Function). FirstStopsAt functions c.args.numbers.block c.args.numbers.place) w.as_slice-in-Ok.ensures (w.first_stops_at.ensures yes);
       })
       | in-Err-Memory w ↦ rw w.answer-is tt

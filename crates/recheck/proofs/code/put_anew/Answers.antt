@@ -1,78 +1,27 @@
 use Rattle.std.proofs.Common.{◌≡◌, ◌<◌, ℕ, Some, slice_get, refl, ap, subst, sym}
 use Rattle.ir_ast.specs.declared.module.Module.{Module}
 use Rattle.answers.specs.declared.kept_functions.KeptFunctions.{KeptFunctions}
-use Rattle.layout.specs.Layouts.{AreLayouts, LaidOut}
+use Rattle.layout.specs.Layouts.{LaidOut}
 use Rattle.recheck.specs.Put.{IsBothPut}
-use Rattle.recheck.proofs.Edited.{the_code, code_accepted, code_refused, code_same, only_section, with_code, section_of_code, both_anew}
-use Rattle.recheck.proofs.Grown.{layouts_of_replaced}
+use Rattle.recheck.proofs.Edited.{both_anew}
 use Rattle.recheck.proofs.Puts.{certs_back, as_many_sections}
 use Rattle.recheck.proofs.code.put_anew.Goals as goal
 
--- ---- the code is refused
-
-pub returns-in-Err-clause-fault : goal.returns-in-Err-clause-fault
-returns-in-Err-clause-fault c = λ differs. code_refused c.args.program.now.of_module c.module.result.now c.module.ensures.of_module c.args.text.now.func c.args.code.now c.in-Err.fault c.args.text.now.bytes.now c.in-Err.ensures.fault differs
-
-pub returns-in-Err-clause-only : goal.returns-in-Err-clause-only
-returns-in-Err-clause-only c = λ n section is. code_accepted c.args.program.now.of_module c.module.result.now c.module.ensures.of_module c.args.text.now.func c.args.code.now c.in-Err.fault c.in-Err.ensures.only n is.0
-
-pub returns-in-Err-clause-only_fault : goal.returns-in-Err-clause-only_fault
-returns-in-Err-clause-only_fault c = code_same c.args.program.now.of_module c.module.result.now c.module.ensures.of_module c.args.text.now.func c.args.code.now c.in-Err.fault c.in-Err.ensures.only c.in-Err.ensures.only_fault c.args.text.now.bytes.now
-
--- ---- the section is refused
-
-pub returns-in-Err-read_text-clause-fault : goal.returns-in-Err-read_text-clause-fault
-returns-in-Err-read_text-clause-fault c =
-    let read = the_code c.args.program.now.of_module c.module.result.now c.module.ensures.of_module c.args.text.now.func c.args.code.now c.in-Ok.of_module c.in-Ok.ensures.found c.in-Ok.ensures.one c.in-Ok.ensures.only_fault in
-    λ differs. section_of_code c.args.program.now.of_module c.args.text.now.func c.args.code.now c.args.text.now.bytes.now c.in-Ok.of_module read c.in-Err-read_text.fault (c.in-Err-read_text.ensures.fault differs)
-
-pub returns-in-Err-read_text-clause-only : goal.returns-in-Err-read_text-clause-only
-returns-in-Err-read_text-clause-only c =
-    let read = the_code c.args.program.now.of_module c.module.result.now c.module.ensures.of_module c.args.text.now.func c.args.code.now c.in-Ok.of_module c.in-Ok.ensures.found c.in-Ok.ensures.one c.in-Ok.ensures.only_fault in
-    λ n section is. c.in-Err-read_text.ensures.only section (with_code c.args.program.now.of_module c.args.text.now.func c.args.code.now c.args.text.now.bytes.now c.in-Ok.of_module read n section is)
-
-pub returns-in-Err-read_text-clause-only_fault : goal.returns-in-Err-read_text-clause-only_fault
-returns-in-Err-read_text-clause-only_fault c =
-    let read = the_code c.args.program.now.of_module c.module.result.now c.module.ensures.of_module c.args.text.now.func c.args.code.now c.in-Ok.of_module c.in-Ok.ensures.found c.in-Ok.ensures.one c.in-Ok.ensures.only_fault in
-    λ e h. c.in-Err-read_text.ensures.only_fault e (only_section c.args.program.now.of_module c.args.text.now.func c.args.code.now c.args.text.now.bytes.now c.in-Ok.of_module read e h)
-
--- ---- there are no layouts
-
-pub without_layouts-requires : goal.without_layouts-requires
-without_layouts-requires c =
-    let read = the_code c.args.program.now.of_module c.module.result.now c.module.ensures.of_module c.args.text.now.func c.args.code.now c.in-Ok.of_module c.in-Ok.ensures.found c.in-Ok.ensures.one c.in-Ok.ensures.only_fault in
-    let laid = subst (λ (m : Module). AreLayouts m c.args.program.now.layouts) c.module.ensures.of_module c.module.ensures.laid_out in
-    c.in-Err-new.ensures.refused_only_so c.args.program.now.layouts
-    (layouts_of_replaced c.grown_law.ensures c.layouts_stay_law.ensures c.args.program.now.of_module c.args.text.now.func c.args.code.now c.in-Ok.of_module c.args.program.now.layouts read.is_read.0 read.is_read.1 laid)
-
-pub returns-in-Err-new-clause-only_fault : goal.returns-in-Err-new-clause-only_fault
-returns-in-Err-new-clause-only_fault c =
-    let read = the_code c.args.program.now.of_module c.module.result.now c.module.ensures.of_module c.args.text.now.func c.args.code.now c.in-Ok.of_module c.in-Ok.ensures.found c.in-Ok.ensures.one c.in-Ok.ensures.only_fault in
-    λ e h. absurd (c.in-Ok-read_text.ensures.only_fault e (only_section c.args.program.now.of_module c.args.text.now.func c.args.code.now c.args.text.now.bytes.now c.in-Ok.of_module read e h))
-
--- ---- it is accepted, or memory runs out
-
 pub returns-in-Ok-answer_all-clause-put : goal.returns-in-Ok-answer_all-clause-put
 returns-in-Ok-answer_all-clause-put c =
-    let read = the_code c.args.program.now.of_module c.module.result.now c.module.ensures.of_module c.args.text.now.func c.args.code.now c.in-Ok.of_module c.in-Ok.ensures.found c.in-Ok.ensures.one c.in-Ok.ensures.only_fault in
     subst (λ (p : LaidOut). IsBothPut c.args.program.now c.args.certs.now.sections c.args.text.now.func c.args.code.now c.args.text.now.bytes.now p c.replace-past.new.self.sections c.in-Ok-answer_all.count) (sym c.put_program.ensures)
-    (both_anew c.args.program.now c.in-Ok-new.anew c.args.certs.now.sections c.replace-past.new.self.sections c.args.text.now.func c.function_at.result.now c.replace-past.result c.in-Ok-read_text.section c.in-Ok.of_module c.args.code.now c.args.text.now.bytes.now c.in-Ok-answer_all.count
-    read.is_read.0 c.in-Ok-read_text.ensures.found c.in-Ok-new.ensures.found c.replace-past.ensures.new
-    (subst (λ (m : Module). slice_get m.functions c.args.text.now.func ≡ Some c.function_at.result.now) c.module-2.ensures.of_module c.function_at.ensures)
+    (both_anew c.args.program.now c.in-Ok.read.0 c.args.certs.now.sections c.replace-past.new.self.sections c.args.text.now.func c.function_at.result.now c.replace-past.result c.in-Ok.read.1 c.args.code.now c.args.text.now.bytes.now c.in-Ok-answer_all.count
+    c.in-Ok.ensures.found c.replace-past.ensures.new
+    (subst (λ (m : Module). slice_get m.functions c.args.text.now.func ≡ Some c.function_at.result.now) c.module.ensures.of_module c.function_at.ensures)
     c.replace-past.ensures.given_back c.in-Ok-answer_all.ensures.count)
-
-pub returns-in-Ok-answer_all-clause-only_fault : goal.returns-in-Ok-answer_all-clause-only_fault
-returns-in-Ok-answer_all-clause-only_fault c =
-    let read = the_code c.args.program.now.of_module c.module.result.now c.module.ensures.of_module c.args.text.now.func c.args.code.now c.in-Ok.of_module c.in-Ok.ensures.found c.in-Ok.ensures.one c.in-Ok.ensures.only_fault in
-    λ e h. c.in-Ok-read_text.ensures.only_fault e (only_section c.args.program.now.of_module c.args.text.now.func c.args.code.now c.args.text.now.bytes.now c.in-Ok.of_module read e h)
 
 pub replace-requires : goal.replace-requires
 replace-requires c =
-    subst (λ (n : ℕ). c.args.text.now.func < n) (sym (as_many_sections c.args.certs.now.sections c.replace-past.new.self.sections c.args.text.now.func c.in-Ok-read_text.section c.replace-past.ensures.new)) c.requires.section
+    subst (λ (n : ℕ). c.args.text.now.func < n) (sym (as_many_sections c.args.certs.now.sections c.replace-past.new.self.sections c.args.text.now.func c.in-Ok.read.1 c.replace-past.ensures.new)) c.requires.section
 
 pub returns-in-Err-answer_all-clause-kept : goal.returns-in-Err-answer_all-clause-kept
 returns-in-Err-answer_all-clause-kept c = (
   refl,
-  certs_back c.args.certs.now c.replace-past.new.self c.replace.new.self c.args.text.now.func c.replace-past.result c.in-Ok-read_text.section c.replace-past.ensures.new c.replace-past.ensures.given_back c.replace.ensures.new c.replace-past.ensures.shapes c.replace.ensures.shapes,
+  certs_back c.args.certs.now c.replace-past.new.self c.replace.new.self c.args.text.now.func c.replace-past.result c.in-Ok.read.1 c.replace-past.ensures.new c.replace-past.ensures.given_back c.replace.ensures.new c.replace-past.ensures.shapes c.replace.ensures.shapes,
   ap (λ (functions : KeptFunctions). record c.args.kept.now { functions = functions }) c.in-Err-answer_all.ensures.kept,
 )

@@ -26,7 +26,7 @@ returns-in-Ok-copy_first-clause-found c =
     let same = c.same_tables.ensures in
     let yes = c.if-not-same_tables.false in
     let are : AreTables c.args.of_module.now c.in-Ok.read.tables =
-    record { types = same.types yes; struct_names = same.struct_names yes; struct_of = same.struct_of yes; symbols = same.symbols yes } in
+    record { types = same.types yes; struct_names = same.struct_names yes; struct_of = same.struct_of yes; symbols = same.symbols yes; wide = same.wide yes } in
     some_found c.args.of_module.now c.args.func c.args.code.now c.in_ok-tables.tables c.name_of.result.now c.in_ok-tables.ensures.tables c.name_of.ensures c.in-Ok.read c.in-Ok-copy_first.function c.in-Ok.ensures.found are
     (c.in-Ok-copy_first.ensures ∙ ap (λ (fs : List Function). slice_get fs 0) c.as_slice.ensures)
 
@@ -35,7 +35,7 @@ returns-in-Ok-copy_first-clause-one c = λ n is.
     let same = c.same_tables.ensures in
     let yes = c.if-not-same_tables.false in
     let are : AreTables c.args.of_module.now c.in-Ok.read.tables =
-    record { types = same.types yes; struct_names = same.struct_names yes; struct_of = same.struct_of yes; symbols = same.symbols yes } in
+    record { types = same.types yes; struct_names = same.struct_names yes; struct_of = same.struct_of yes; symbols = same.symbols yes; wide = same.wide yes } in
     some_one c.args.of_module.now c.args.func c.args.code.now c.in_ok-tables.tables c.name_of.result.now c.in_ok-tables.ensures.tables c.name_of.ensures c.in-Ok.read c.in-Ok-copy_first.function c.in-Ok.ensures.found are
     (c.in-Ok-copy_first.ensures ∙ ap (λ (fs : List Function). slice_get fs 0) c.as_slice.ensures) c.in-Ok.ensures.only n is
 
@@ -47,6 +47,6 @@ returns-in-Ok-copy_first-clause-ready c =
     let same = c.same_tables.ensures in
     let yes = c.if-not-same_tables.false in
     let are : AreTables c.args.of_module.now c.in-Ok.read.tables =
-    record { types = same.types yes; struct_names = same.struct_names yes; struct_of = same.struct_of yes; symbols = same.symbols yes } in
+    record { types = same.types yes; struct_names = same.struct_names yes; struct_of = same.struct_of yes; symbols = same.symbols yes; wide = same.wide yes } in
     subst (AreReady c.args.of_module.now) (sym c.keep_tables.ensures)
     (tables_same c.args.of_module.now c.args.func c.args.code.now c.in_ok-tables.tables c.name_of.result.now c.in_ok-tables.ensures.tables c.name_of.ensures c.in-Ok.read c.in-Ok.ensures.found are)

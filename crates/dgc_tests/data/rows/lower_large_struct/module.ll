@@ -1,0 +1,5 @@
+%T = type { [65 x i64] }
+define void @f() {
+entry:
+  ret void
+}

@@ -1,0 +1,20 @@
+define i8 @f0(i8 %a, i8 %b) {
+entry:
+  %v = lshr i8 %a, %b
+  ret i8 %v
+}
+define i64 @f1(i64 %a, i64 %b) {
+entry:
+  %v = lshr exact i64 %a, %b
+  ret i64 %v
+}
+define i13 @f2(i13 %a, i13 %b) {
+entry:
+  %v = lshr i13 %a, %b
+  ret i13 %v
+}
+define i1 @f3(i1 %a, i1 %b) {
+entry:
+  %v = lshr i1 %a, %b
+  ret i1 %v
+}

@@ -1,0 +1,5 @@
+define i64 @f(i64 %a) {
+entry:
+  sdiv i64 %a, 2
+  ret i64 %a
+}

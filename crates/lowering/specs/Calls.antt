@@ -1,0 +1,51 @@
+-- How calls are lowered.
+use Rattle.std.specs.Prelude.{Bool, List, [], ◌∷◌, ◌++◌, Option, Some, None, codes}
+use Rattle.ir_ast.specs.declared.argument.Argument.{Argument}
+use Rattle.ir_ast.specs.declared.calls.Call.{Call}
+use Rattle.ir_ast.specs.declared.instr.Instr.{Instr}
+use Rattle.ir_ast.specs.declared.module.Module.{Module}
+use Rattle.ir_ast.specs.declared.runtime.Runtime.{Runtime}
+use Rattle.ir_ast.specs.declared.runtime.Runtime.TheVariants as runtime
+use Rattle.ir_tokens.specs.Bytes.{Text}
+use Rattle.ir_print.specs.Operands.{argument_text}
+use Rattle.ir_print.specs.Instructions.{instruction_line}
+use Rattle.types.specs.RuntimeCall.{runtime_called}
+use Rattle.lowering.specs.declared.words.Seat.{Seat}
+use Rattle.lowering.specs.Memory.{plain_line}
+use Rattle.lowering.specs.Words.{load_text}
+
+-- the line that stores null into the slot that is made a root
+abbrev pub null_line : Module → (locals : List Text) → (arguments : List Argument) → Text
+null_line m locals [] = []
+null_line m locals (slot ∷ rest) = codes "  store ptr null, " ++ argument_text m locals slot ++ 10 ∷ []
+
+-- a read of a reference, by the arguments of gcread
+abbrev pub gcread_text : (recorded : Bool) → Module → (locals : List Text) → Seat → Instr → Call → (arguments : List Argument) → Text
+gcread_text recorded m locals seat instr call (base ∷ place ∷ []) = load_text recorded m locals seat (record { result = instr.result; loaded = call.returned; place = place })
+gcread_text recorded m locals seat instr call arguments = instruction_line m locals instr
+
+-- how the call of the barrier begins
+unfoldable pub barrier_word : Text
+barrier_word = codes "  call void @dg_write("
+
+-- the call of the barrier, with a value and its place
+abbrev pub barrier_line : Module → (locals : List Text) → (value place : Argument) → Text
+barrier_line m locals value place = barrier_word ++ argument_text m locals value ++ codes ", " ++ argument_text m locals place ++ codes ")\n"
+
+-- a store of a reference after the barrier, by the arguments of gcwrite
+abbrev pub gcwrite_text : Module → (locals : List Text) → Instr → (arguments : List Argument) → Text
+gcwrite_text m locals instr (value ∷ base ∷ place ∷ []) = barrier_line m locals value place
+gcwrite_text m locals instr arguments = instruction_line m locals instr
+
+-- a call, by the function of the runtime that it calls
+abbrev pub call_by : (recorded : Bool) → Module → (locals : List Text) → Seat → Instr → Call → Option Runtime → Text
+call_by recorded m locals seat instr call None = plain_line recorded m locals instr
+call_by recorded m locals seat instr call (Some runtime.Alloc) = instruction_line m locals instr
+call_by recorded m locals seat instr call (Some runtime.Safepoint) = instruction_line m locals instr
+call_by recorded m locals seat instr call (Some runtime.GcRoot) = plain_line recorded m locals instr ++ null_line m locals call.arguments
+call_by recorded m locals seat instr call (Some runtime.GcRead) = gcread_text recorded m locals seat instr call call.arguments
+call_by recorded m locals seat instr call (Some runtime.GcWrite) = gcwrite_text m locals instr call.arguments
+
+-- a call
+abbrev pub call_text : (recorded : Bool) → Module → (locals : List Text) → Seat → Instr → Call → Text
+call_text recorded m locals seat instr call = call_by recorded m locals seat instr call (runtime_called m call.callee)

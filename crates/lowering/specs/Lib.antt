@@ -1,0 +1,10 @@
+pub mod Types
+pub mod Words
+pub mod Memory
+pub mod Elements
+pub mod Calls
+pub mod Instructions
+pub mod Ends
+pub mod Items
+pub mod Tables
+pub mod Lowered

@@ -1,0 +1,121 @@
+//! How calls are lowered.
+ghost use Rattle.std.specs.Prelude.{◌≡◌, ◌++◌, ◌∷◌, [], OnOk};
+ghost use Rattle.lowering.specs.Calls as spec;
+
+use crate::memory::put_plain;
+use crate::scope::Scope;
+use crate::words::{Loading, Seat, put_load};
+use ir_ast::{Argument, Call, Instr, Runtime};
+use ir_print::{put_argument, put_instruction};
+use std::alloc::{AllocError, Global};
+use types::runtime_called;
+
+/// The line that stores null into the slot that is made a root.
+fn put_null(
+    alloc: Global,
+    out: &mut Vec<u8>,
+    scope: &Scope,
+    arguments: &[Argument],
+) -> Result<(), AllocError>
+    ensures { OnOk result (out.new.items ≡ out.old.items ++ spec.null_line scope.now.of_module.now scope.now.locals.now arguments.now) }
+{
+    match arguments {
+        [] => Ok(()),
+        [slot, ..] => {
+            out.extend_from_slice(b"  store ptr null, ")?;
+            put_argument(alloc, out, scope.of_module, scope.locals, slot)?;
+            out.push(b'\n')?;
+            Ok(())
+        }
+    }
+}
+
+/// A read of a reference.
+fn put_gcread(
+    alloc: Global,
+    out: &mut Vec<u8>,
+    scope: &Scope,
+    seat: &Seat,
+    instr: &Instr,
+    call: &Call,
+) -> Result<(), AllocError>
+    ensures { OnOk result (out.new.items ≡ out.old.items ++ spec.gcread_text scope.now.recorded scope.now.of_module.now scope.now.locals.now seat.now instr.now call.now call.now.arguments) }
+{
+    match call.arguments.as_slice() {
+        [_, place] => {
+            let loading = Loading {
+                result: instr.result,
+                loaded: call.returned,
+                place: *place,
+            };
+            put_load(alloc, out, scope, seat, &loading)
+        }
+        _ => put_instruction(alloc, out, scope.of_module, scope.locals, instr),
+    }
+}
+
+/// How the call of the barrier begins.
+#[tactic(auto, unfolding(crate::specs::Calls::barrier_word))]
+fn barrier_word() -> &'static [u8]
+    ensures { result.now ≡ spec.barrier_word }
+{
+    b"  call void @dg_write("
+}
+
+/// The call of the barrier, with a value and its place.
+fn put_barrier(
+    alloc: Global,
+    out: &mut Vec<u8>,
+    scope: &Scope,
+    value: &Argument,
+    place: &Argument,
+) -> Result<(), AllocError>
+    ensures { OnOk result (out.new.items ≡ out.old.items ++ spec.barrier_line scope.now.of_module.now scope.now.locals.now value.now place.now) }
+{
+    out.extend_from_slice(barrier_word())?;
+    put_argument(alloc, out, scope.of_module, scope.locals, value)?;
+    out.extend_from_slice(b", ")?;
+    put_argument(alloc, out, scope.of_module, scope.locals, place)?;
+    out.extend_from_slice(b")\n")
+}
+
+/// A store of a reference after the barrier.
+fn put_gcwrite(
+    alloc: Global,
+    out: &mut Vec<u8>,
+    scope: &Scope,
+    instr: &Instr,
+    arguments: &[Argument],
+) -> Result<(), AllocError>
+    ensures { OnOk result (out.new.items ≡ out.old.items ++ spec.gcwrite_text scope.now.of_module.now scope.now.locals.now instr.now arguments.now) }
+{
+    match arguments {
+        [value, _, place] => put_barrier(alloc, out, scope, value, place),
+        _ => put_instruction(alloc, out, scope.of_module, scope.locals, instr),
+    }
+}
+
+/// A call.
+pub(crate) fn put_call(
+    alloc: Global,
+    out: &mut Vec<u8>,
+    scope: &Scope,
+    seat: &Seat,
+    instr: &Instr,
+    call: &Call,
+) -> Result<(), AllocError>
+    ensures { OnOk result (out.new.items ≡ out.old.items ++ spec.call_text scope.now.recorded scope.now.of_module.now scope.now.locals.now seat.now instr.now call.now) }
+{
+    match runtime_called(scope.of_module, call.callee) {
+        None => put_plain(alloc, out, scope, instr),
+        Some(Runtime::Alloc) | Some(Runtime::Safepoint) => {
+            put_instruction(alloc, out, scope.of_module, scope.locals, instr)
+        }
+        Some(Runtime::GcRoot) => {
+            put_plain(alloc, out, scope, instr)?;
+            put_null(alloc, out, scope, call.arguments.as_slice())
+        }
+        Some(Runtime::GcRead) => put_gcread(alloc, out, scope, seat, instr, call),
+        Some(Runtime::GcWrite) => put_gcwrite(alloc, out, scope, instr, call.arguments.as_slice()),
+    }
+}
