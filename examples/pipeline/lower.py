@@ -1,11 +1,11 @@
 #!/usr/bin/env python3
 """Writes an accepted module with opaque pointers as one that LLVM compiles beside a concurrent collector.
 
-    lower.py MODULE.ll > LOWERED.ll
+    lower.py [--record] MODULE.ll > LOWERED.ll
 
 What it writes in place of what is the list of docs/LOWERING.md. In short: `llvm.gcwrite` becomes a call of `dg_write`, a load or a
-store of a word an atomic one, a word 64 bits wide, and what dgc reads without effect and LLVM takes as a promise is left out. A text
-with typed pointers goes through `dgc migrate` first.
+store of a word an atomic one, a word 64 bits wide, and what dgc reads without effect and LLVM takes as a promise is left out. With
+--record, for a recorder, words are read and stored by calls. A text with typed pointers goes through `dgc migrate` first.
 
 Nothing is proved of this script. It reads the forms of docs/TEXT.md alone, and ends with status 1 and one line where it meets another
 one. It does not check the module: that is for `dgc check`.
@@ -18,7 +18,8 @@ import ir
 
 RUNTIME = {"@dg_alloc", "@dg_safepoint", "@llvm.gcroot", "@llvm.gcread", "@llvm.gcwrite"}
 IN_MEMORY = {"byval", "sret", "inalloca", "preallocated", "swifterror"}
-OWN = ["@dg_write", "@dg_end", "@dg_layouts", "@dg_layout_count", "@dg_globals", "@dg_global_count", "@llvm_gc_root_chain"]
+OWN = ["@dg_write", "@dg_end", "@dg_read", "@dg_store", "@dg_local", "@dg_layouts", "@dg_layout_count", "@dg_layout_names", "@dg_globals", "@dg_global_count",
+       "@dg_starts", "@dg_start_count", "@llvm_gc_root_chain"]
 ARITHMETIC = ("add", "sub", "mul", "and", "or", "xor")
 LAST = """declare ptr @dg_alloc(i32) nounwind
 declare void @dg_safepoint() nounwind
@@ -27,6 +28,10 @@ declare void @dg_end() noreturn nounwind
 declare void @llvm.gcroot(ptr, ptr)
 @llvm_gc_root_chain = external thread_local global ptr
 @llvm.compiler.used = appending global [1 x ptr] [ptr @llvm_gc_root_chain], section "llvm.metadata"
+"""
+RECORDING = """declare i64 @dg_read(ptr) nounwind
+declare void @dg_store(ptr, i64) nounwind
+declare void @dg_local(i32) nounwind
 """
 
 
@@ -69,8 +74,9 @@ def number(text, bits, line):
 class Lowering:
     """One function as LLVM shall compile it."""
 
-    def __init__(self, function, module):
+    def __init__(self, function, module, records=False):
         self.f, self.m, self.lines, self.count = function, module, [], 0
+        self.records, self.unseen = records, 0
         names = {name for _, name in function.parameters} | {label for label, _ in function.blocks} | {it.name for _, body in function.blocks for it in body}
         self.prefix = next(mark for mark in self.marks() if not any(name and name[1:].startswith(mark) for name in names))
         self.slots = self.find_slots()
@@ -126,8 +132,27 @@ class Lowering:
     def slot(self, operand):
         return self.slots.get(operand.value)
 
+    def tell(self, own):
+        """Of a recorder: how many instructions before this one touch no shared word. Its own step is OWN of them."""
+        if self.records and self.unseen - own:
+            self.put(f"call void @dg_local(i32 {self.unseen - own})")
+        self.unseen = 0
+
     # Words of cells and globals.
+    def read_word(self, name, of_type, place):
+        """A load of a word by a call."""
+        self.tell(1)
+        if of_type == "i64":
+            self.put(f"{name} = call i64 @dg_read(ptr {place})")
+            return
+        whole = self.fresh()
+        self.put(f"{whole} = call i64 @dg_read(ptr {place})")
+        self.put(f"{name} = {'inttoptr' if of_type == 'ptr' else 'trunc'} i64 {whole} to {of_type}")
+
     def load_word(self, name, of_type, place):
+        if self.records:
+            self.read_word(name, of_type, place)
+            return
         if of_type in ("ptr", "i64"):
             self.put(f"{name} = load atomic {of_type}, ptr {place} seq_cst, align 8")
             return
@@ -137,13 +162,21 @@ class Lowering:
 
     def store_word(self, operand, place, line):
         value, bits = self.value(operand, line), ir.width(operand.type)
+        self.tell(1)
         if 0 < bits < 64 and value.startswith("%"):
             whole = self.fresh()
             self.put(f"{whole} = zext {operand.type} {value} to i64")
             value = whole
         elif 0 < bits < 64:
             value = str({"true": 1, "false": 0}[value] if bits == 1 else int(value) % (1 << bits))
-        self.put(f"store atomic {'i64' if bits else 'ptr'} {value}, ptr {place} seq_cst, align 8")
+        if self.records and not bits:
+            whole = self.fresh()
+            self.put(f"{whole} = ptrtoint ptr {value} to i64")
+            value = whole
+        if self.records:
+            self.put(f"call void @dg_store(ptr {place}, i64 {value})")
+        else:
+            self.put(f"store atomic {'i64' if bits else 'ptr'} {value}, ptr {place} seq_cst, align 8")
 
     # Instructions.
     def load(self, it):
@@ -185,6 +218,7 @@ class Lowering:
         if any(IN_MEMORY & set(words) for words in it.words):
             raise ir.Fault(it.line, "an argument that is passed in memory is no form of docs/TEXT.md")
         given = ", ".join(self.typed(operand, it.line) for operand in it.operands)
+        self.tell(0)
         self.put(f"{self.local(it.name) + ' = ' if it.name else ''}call {result} {it.callee}({given})")
 
     def wants(self, it, types):
@@ -193,10 +227,12 @@ class Lowering:
 
     def alloc(self, it):
         self.wants(it, ["i32"])
+        self.tell(1)
         self.put(f"{self.local(it.name)} = call ptr @dg_alloc(i32 {self.value(it.operands[0], it.line)})")
 
     def safepoint(self, it):
         self.wants(it, [])
+        self.tell(1)
         self.put("call void @dg_safepoint()")
 
     def gcroot(self, it):
@@ -217,6 +253,7 @@ class Lowering:
         self.wants(it, ["ptr", "ptr", "ptr"])
         if self.slot(it.operands[2]):
             raise ir.Fault(it.line, "a gcwrite into a slot")
+        self.tell(1)
         self.put(f"call void @dg_write(ptr {self.value(it.operands[0], it.line)}, ptr {self.value(it.operands[2], it.line)})")
 
     def phi(self, it):
@@ -225,17 +262,21 @@ class Lowering:
         self.put(f"{self.local(it.name)} = phi {it.type} {ways}")
 
     def br(self, it):
+        self.tell(0)
         on = f"{self.typed(it.operands[0], it.line)}, " if it.operands else ""
         self.put(f"br {on}" + ", ".join(f"label {self.local(label)}" for label in it.labels))
 
     def switch(self, it):
+        self.tell(0)
         cases = " ".join(f"{self.typed(case, it.line)}, label {self.local(label)}" for case, label in zip(it.cases, it.labels[1:]))
         self.put(f"switch {self.typed(it.operands[0], it.line)}, label {self.local(it.labels[0])} [ {cases} ]")
 
     def ret(self, it):
+        self.tell(0)
         self.put(f"ret {self.typed(it.operands[0], it.line)}" if it.operands else "ret void")
 
     def unreachable(self, it):
+        self.tell(0)
         self.put("call void @dg_end()")
         self.put("unreachable")
 
@@ -261,6 +302,7 @@ class Lowering:
             raise ir.Fault(it.line, f"the value of `{it.kind}` has no name")
         if it.name and it.kind in ("store", "br", "switch", "ret", "unreachable"):
             raise ir.Fault(it.line, f"`{it.kind}` has no value")
+        self.unseen += it.kind != "phi"
         known = "load store alloca getelementptr call phi br switch ret unreachable".split()
         (getattr(self, it.kind) if it.kind in known else self.simple)(it)
 
@@ -303,14 +345,56 @@ def tables_of(module):
             raise ir.Fault(1, f"{name} has more than 64 words")
         layouts.append(f"{{ i64, i64 }} {{ i64 {len(words)}, i64 {sum(1 << at for at, word in enumerate(words) if word == 'ptr')} }}")
     places = [f"{{ ptr, i64 }} {{ ptr {it.name}, i64 {int(it.type == 'ptr')} }}" for it in module.globals.values()]
+    names = [f"ptr @dg.layout.{at}" for at in range(len(layouts))]
+    yield from (c_string(f"@dg.layout.{at}", name) for at, name in enumerate(module.types))
     yield f"@dg_layout_count = constant i64 {len(layouts)}"
+    yield f"@dg_layout_names = constant [{len(names)} x ptr] [{', '.join(names)}]"
     yield f"@dg_layouts = constant [{len(layouts)} x {{ i64, i64 }}] [{', '.join(layouts)}]"
     yield f"@dg_global_count = constant i64 {len(places)}"
     yield f"@dg_globals = constant [{len(places)} x {{ ptr, i64 }}] [{', '.join(places)}]"
 
 
-def lowered(text):
-    """The text that LLVM compiles."""
+def c_string(label, name):
+    """A constant with the letters of a name without its sign, as they stand in the text, and a 0."""
+    letters = [byte for byte in name[1:].encode("utf-8")]
+    written = "".join(chr(byte) if 32 <= byte < 127 and byte not in b'"\\' else f"\\{byte:02X}" for byte in letters)
+    return f'{label} = private constant [{len(letters) + 1} x i8] c"{written}\\00"'
+
+
+def start_of(at, function):
+    """A function by which the runtime calls one that takes integers alone: it gets them in an array, and gives an integer."""
+    yield f'define private i64 @dg.start.{at}(ptr %a) nounwind "no-builtins" {{'
+    given = []
+    for place, (of_type, _) in enumerate(function.parameters):
+        yield f"  %p{place} = getelementptr i64, ptr %a, i64 {place}"
+        yield f"  %w{place} = load i64, ptr %p{place}"
+        if of_type != "i64":
+            yield f"  %x{place} = trunc i64 %w{place} to {of_type}"
+        given.append(f"{of_type} %{'w' if of_type == 'i64' else 'x'}{place}")
+    call = f"call {function.result} {function.name}({', '.join(given)})"
+    if function.result == "void":
+        yield f"  {call}\n  ret i64 0\n}}"
+    elif function.result == "i64":
+        yield f"  %r = {call}\n  ret i64 %r\n}}"
+    else:
+        yield f"  %r = {call}\n  %w = {'ptrtoint' if function.result == 'ptr' else 'zext'} {function.result} %r to i64\n  ret i64 %w\n}}"
+
+
+def starts_of(module):
+    """The functions at which a thread may start."""
+    starts = [it for it in module.functions.values() if all(ir.width(of_type) for of_type, _ in it.parameters)]
+    rows = []
+    for at, function in enumerate(starts):
+        yield c_string(f"@dg.start.name.{at}", function.name)
+        yield from start_of(at, function)
+        result = {"void": 0, "ptr": 2}.get(function.result, 1)
+        rows.append(f"{{ ptr, ptr, i64, i64 }} {{ ptr @dg.start.name.{at}, ptr @dg.start.{at}, i64 {len(function.parameters)}, i64 {result} }}")
+    yield f"@dg_start_count = constant i64 {len(rows)}"
+    yield f"@dg_starts = constant [{len(rows)} x {{ ptr, ptr, i64, i64 }}] [{', '.join(rows)}]"
+
+
+def lowered(text, records=False):
+    """The text that LLVM compiles; for a recorder words are read and stored by calls."""
     module = ir.read(text)
     taken = set(module.globals) | set(module.functions)
     for name in OWN:
@@ -324,18 +408,19 @@ def lowered(text):
     lines = ["; For LLVM, by lower.py (docs/LOWERING.md)."] + module.targets
     lines += [f"{name} = type {word_type(of_type)}" for name, of_type in module.types.items()]
     lines += [global_of(it) for it in module.globals.values()]
-    lines += [Lowering(function, module).text() for function in module.functions.values()]
-    return "\n".join(lines + [*tables_of(module), LAST])
+    lines += [Lowering(function, module, records).text() for function in module.functions.values()]
+    return "\n".join(lines + [*tables_of(module), *starts_of(module), LAST + (RECORDING if records else "")])
 
 
 def main():
     parser = argparse.ArgumentParser(description=__doc__.split("\n")[0])
+    parser.add_argument("--record", action="store_true")
     parser.add_argument("text", metavar="MODULE.ll")
     options = parser.parse_args()
     try:
         with open(options.text, encoding="utf-8") as file:
             text = file.read()
-        sys.stdout.write(lowered(text))
+        sys.stdout.write(lowered(text, options.record))
     except OSError as error:
         sys.exit(f"lower.py: {options.text}: {error.strerror}")
     except (ir.Fault, UnicodeDecodeError) as fault:

@@ -1,5 +1,5 @@
 #!/bin/sh
-# Takes a C program through clang, opt, gcroot.py, dgc, lower.py and llc, step by step. README.md says why these steps.
+# Takes a C program through clang, opt, gcroot.py, dgc and llc, step by step. README.md says why these steps.
 #
 #     DGC=path examples/pipeline/run.sh [PROGRAM.c [REPLAY.trace [RUN.trace]]]
 #
@@ -138,15 +138,11 @@ if [ -n "$ABSTRACT" ]; then
     exit 0
 fi
 
-echo "8. lower.py: what LLVM compiles"
-cp "$out/3.ll" "$out/8.opaque.ll"
+echo "8. dgc lower: what LLVM compiles"
+"$dgc" lower "$out/3.ll" "$out/3.cert" >"$out/8.ll" 2>"$out/8.txt" || refused lower "$(cat "$out/8.ll" "$out/8.txt")"
 opaque=
-if ! grep -qw ptr "$out/3.ll"; then
-    "$dgc" migrate "$out/3.ll" >"$out/8.opaque.ll" 2>"$out/8.txt" || refused migrate "$(cat "$out/8.txt")"
-fi
 [ "$(version_of "$opt")" -gt 14 ] || opaque=-opaque-pointers
-python3 "$here/lower.py" "$out/8.opaque.ll" >"$out/8.ll" 2>"$out/8.txt" || stop "$(cat "$out/8.txt")"
-"$opt" $opaque -passes=verify -disable-output "$out/8.ll" || fail "opt refuses what lower.py writes"
+"$opt" $opaque -passes=verify -disable-output "$out/8.ll" || fail "opt refuses what dgc lower prints"
 echo "    $(wc -l <"$out/8.ll") lines, verified by opt"
 
 # places_of NAME FILE: how many places in the code of an object file name a symbol.
@@ -155,14 +151,14 @@ places_of() {
 }
 
 echo "9. llc: the object file calls the barrier"
-"$llc" $opaque -O2 -filetype=obj -o "$out/9.plain.o" "$out/8.opaque.ll" || fail "llc failed on the text that was checked"
-"$llc" $opaque -O2 -filetype=obj -o "$out/9.o" "$out/8.ll" || fail "llc failed on what lower.py writes"
+"$llc" -O2 -filetype=obj -o "$out/9.plain.o" "$out/3.ll" || fail "llc failed on the text that was checked"
+"$llc" $opaque -O2 -filetype=obj -o "$out/9.o" "$out/8.ll" || fail "llc failed on what dgc lower prints"
 barriers=$(grep -c 'call void @llvm.gcwrite(' "$out/3.ll")
 calls=$(places_of dg_write "$out/9.o")
 echo "    the text that was checked has $barriers calls of llvm.gcwrite"
 echo "    LLVM's own code of it calls a barrier $(places_of '[A-Za-z_.]*write[A-Za-z_.]*' "$out/9.plain.o") times"
 echo "    the lowered text calls dg_write $(grep -c 'call void @dg_write(' "$out/8.ll") times, and its code has $calls such calls (llc joins equal ends of blocks)"
-[ "$barriers" -eq "$(grep -c 'call void @dg_write(' "$out/8.ll")" ] || fail "a barrier is missing in what lower.py writes"
+[ "$barriers" -eq "$(grep -c 'call void @dg_write(' "$out/8.ll")" ] || fail "a barrier is missing in what dgc lower prints"
 [ "$barriers" -eq 0 ] || [ "$calls" -gt 0 ] || fail "the object file has no barrier"
 if grep -q 'call void @llvm.gcroot(' "$out/3.ll"; then
     "$objdump" -t "$out/9.o" | grep -q '[.]tbss.*llvm_gc_root_chain' || fail "all threads share one root chain"

@@ -1,0 +1,109 @@
+#!/bin/sh
+# From C to native programs: four threads beside the collector of runtime/, for each a record, and what `dgc conform` says of it.
+# docs/NATIVE.md tells of the runtime.
+#
+#     DGC=path examples/native/run.sh [lists] [trees] [queues] [swap]
+#
+# Without arguments it takes all four. lists, trees and queues are C, and go through examples/pipeline/run.sh. swap is the module of
+# examples/swap; without its barrier (plain.ll) it is refused, lowered all the same, and its record has to be refused too.
+# LLVM is the version of clang, opt and llc: 22 where it is not set; 19, 16 and 14 do too. DGC is crates/dgc/out/dgc where it is not set.
+# OUT names a folder to keep what is made. Ends with 0 where each step succeeds, and otherwise with 1.
+
+here=$(cd "$(dirname "$0")" && pwd)
+top=$(cd "$here/../.." && pwd)
+dgc=${DGC:-$top/crates/dgc/out/dgc}
+llvm=${LLVM:-22}
+[ $# -gt 0 ] || set -- lists trees queues swap
+
+fail() {
+    echo "run.sh: $1" >&2
+    exit 1
+}
+
+for program in python3 "$dgc" "clang-$llvm" "opt-$llvm" "llc-$llvm"; do
+    command -v "$program" >/dev/null 2>&1 || fail "$program is missing (Debian: apt-get install clang-$llvm llvm-$llvm; DGC names the program dgc)"
+done
+if [ -n "$OUT" ]; then
+    out=$OUT
+    mkdir -p "$out" || fail "the folder $out cannot be made"
+else
+    out=$(mktemp -d) || fail "no folder for what is made"
+    trap 'rm -rf "$out"' EXIT
+fi
+
+# lower WORD ..: the text that LLVM compiles (docs/LOWERING.md).
+lower() {
+    python3 "$top/examples/pipeline/lower.py" "$@"
+}
+
+# build MODULE PROGRAM [--record]: a native program of a module with opaque pointers. From LLVM 20 on roots are lowered before passes.
+build() {
+    lower $3 "$1" >"$2.ll" || fail "lower.py refuses $1"
+    if [ "$llvm" -ge 20 ]; then
+        "opt-$llvm" '-passes=shadow-stack-gc-lowering,default<O2>' -o "$2.bc" "$2.ll" || fail "opt failed"
+    else
+        cp "$2.ll" "$2.bc"
+    fi
+    opaque=
+    [ "$llvm" -gt 14 ] || opaque=-opaque-pointers
+    "llc-$llvm" $opaque -O2 -relocation-model=pic -filetype=obj -o "$2.o" "$2.bc" || fail "llc failed"
+    flags=
+    [ -z "$3" ] || flags=-DRECORD
+    "clang-$llvm" -std=c11 -O2 -pthread $flags -I"$top/runtime" -I"$top/examples/records" -o "$2" "$2.o" "$top/runtime/dgrt.c" "$top/runtime/dgmain.c" || fail "the program is not linked"
+}
+
+# conforms MODULE TRACE RECORD [SHAPES]: what dgc says of a record.
+conforms() {
+    if [ -n "$4" ]; then "$dgc" conform "$1" "$2" "$3" --shapes "$4"; else "$dgc" conform "$1" "$2" "$3"; fi || true
+}
+
+of_c() {
+    echo "$1: C to a module, its certificate and the check (examples/pipeline/run.sh)"
+    OUT="$out/$1" DGC="$dgc" LLVM="$llvm" sh "$top/examples/pipeline/run.sh" "$here/$1.c" >"$out/$1.txt" || fail "see $out/$1.txt"
+    sed -n '/^5/{n;s/^ */    dgc check: /p}' "$out/$1.txt"
+    build "$out/$1/8.opaque.ll" "$out/$1/native"
+    echo "    four threads beside the collector:"
+    "$out/$1/native" "$here/$1.trace" 2>"$out/$1/times.txt" >"$out/$1/ends.txt" || fail "the native program fails"
+    sed 's/^/        /' "$out/$1/ends.txt"
+    build "$out/$1/8.opaque.ll" "$out/$1/recorder" --record
+    "$out/$1/recorder" "$here/$1.trace" "$out/$1/run.record" 2>/dev/null >"$out/$1/recorded.txt" || fail "the recorder fails"
+    grep '^t ' "$out/$1/ends.txt" >"$out/$1/one.txt"
+    grep '^t ' "$out/$1/recorded.txt" | cmp -s - "$out/$1/one.txt" || fail "the recorder's threads return something else"
+    shapes=$out/$1/3.shapes
+    [ -f "$shapes" ] || shapes=
+    said=$(conforms "$out/$1/3.ll" "$here/$1.trace" "$out/$1/run.record" "$shapes")
+    echo "    its record: $said"
+    case $said in conforms*) ;; *) fail "the record does not conform" ;; esac
+}
+
+# record_swap NAME: records 100,000 steps of examples/swap/NAME.ll, whose threads have no end.
+record_swap() {
+    build "$top/examples/swap/$1.ll" "$out/swap/$1" --record
+    DG_LIMIT=100000 DG_STALL=20 "$out/swap/$1" "$here/swap.trace" "$out/swap/$1.record" 2>/dev/null || fail "the recorder of $1.ll fails"
+    said=$(conforms "$top/examples/swap/$1.ll" "$here/swap.trace" "$out/swap/$1.record" "$top/examples/swap/swap.shapes")
+    echo "    the record of $1.ll: $said"
+}
+
+of_swap() {
+    mkdir -p "$out/swap"
+    echo "swap: the modules of examples/swap"
+    "$dgc" check "$top/examples/swap/barrier.ll" "$top/examples/swap/swap.cert" | sed 's/^/    dgc check barrier.ll: /'
+    build "$top/examples/swap/barrier.ll" "$out/swap/native"
+    timeout 1 "$out/swap/native" "$here/swap.trace" >/dev/null 2>&1
+    [ $? -eq 124 ] || fail "the native program ends"
+    echo "    four threads ran for a second"
+    record_swap barrier
+    case $said in conforms*) ;; *) fail "the record does not conform" ;; esac
+    "$dgc" check "$top/examples/swap/plain.ll" "$top/examples/swap/swap.cert" | sed 's/^/    dgc check plain.ll: /'
+    record_swap plain
+    case $said in no*) ;; *) fail "the record of plain.ll conforms" ;; esac
+}
+
+for name in "$@"; do
+    case $name in
+    lists | trees | queues) of_c "$name" ;;
+    swap) of_swap ;;
+    *) fail "no program $name" ;;
+    esac
+done
+[ -z "$OUT" ] || echo "What was made is in $out."
