@@ -9,6 +9,7 @@ KINDS = []
 WORDS = {
     "check": "check {0} {1}",
     "recheck": "recheck {0} {1} {2}",
+    "make": "make {0}",
     "migrate": "migrate {0} {1}",
     "replay": "replay {0} {1}",
     "replay, shapes": "replay {0} {1} --shapes {2}",
@@ -18,7 +19,7 @@ WORDS = {
     "check, all": "check {0} {1} --all --explain always",
     "recheck, explained": "recheck {0} {1} {2} --explain always",
 }
-SAYS = {"check": "yes", "recheck": "yes", "migrate": "cert 2", "replay": "sound", "replay, shapes": "sound", "soak": "sound",
+SAYS = {"check": "yes", "recheck": "yes", "make": "cert 1", "migrate": "cert 2", "replay": "sound", "replay, shapes": "sound", "soak": "sound",
         "check, explained": "no", "check, not read": "error L5", "check, all": "no", "recheck, explained": "no"}
 
 

@@ -74,6 +74,21 @@ def migrated_structs(n):
     return lines(n, lambda i: f"%T{i} = type {{ i64, %T{(i + 1) % n}* }}"), "cert 1\n"
 
 
+@kind("phis of a loop, for which a certificate is made", command="make")
+def made_loop(n):
+    """Phis of a loop, whose values of the way back are defined in the loop: the certificate claims each at one block."""
+    body = ("  br label %loop\nloop:\n" + lines(n, lambda i: f"  %p{i} = phi i64 [ {i}, %entry ], [ %q{i}, %loop ]")
+            + lines(n, lambda i: f"  %q{i} = add i64 %p{i}, 1") + "  br label %loop\n")
+    return function(body)[:1]
+
+
+@kind("values over a branch, for which a certificate is made", command="make")
+def made_branch(n):
+    """Numbers that a later block uses: the certificate claims each there."""
+    uses = lines(n, lambda i: f"  %u{i} = add i64 %v{i}, 1")
+    return function(numbers(n) + f"  br label %next\nnext:\n{uses}  ret void\n", parameters="i64 %k")[:1]
+
+
 @kind("seeds", 100000, "soak")
 def seeds(n):
     """Seeds of a soak, of a hundred steps each."""

@@ -1,10 +1,10 @@
 #!/usr/bin/env python3
-"""Tries examples/pipeline/lower.py with the versions of LLVM that are installed, and what LLVM makes of texts that were not lowered.
+"""Tries `dgc lower` with the versions of LLVM that are installed, and what LLVM makes of texts that were not lowered.
 
     lowering.py DGC [--modules N] [--seed S] [--versions V ..] [--keep FOLDER]
 
 First come the facts of docs/LOWERING.md: for each small text what LLVM makes of it, a line for each fact and a column for each version.
-Then N modules of `agree.py` are drawn, written with opaque pointers by `dgc migrate`, lowered, verified by `opt -passes=verify`,
+Then N modules of `agree.py` are drawn, lowered by `dgc lower`, verified by `opt -passes=verify`,
 compiled by `llc -O2`, and run. From version 20 on they are also compiled after `shadow-stack-gc-lowering,default<O2>`. Each function has
 to return what `dgc replay` says. Ends with 1 where a text is refused, or where something else is returned.
 
@@ -22,8 +22,6 @@ import tempfile
 import agree
 
 TOP = os.path.dirname(os.path.dirname(os.path.abspath(__file__)))
-PIPELINE = os.path.join(TOP, "examples", "pipeline")
-LOWER = os.path.join(PIPELINE, "lower.py")
 VERSIONS = ["14", "16", "19", "22"]
 RUNTIME = """
 void dg_write(void *value, void **place) { *place = value; }
@@ -141,10 +139,7 @@ def endless(llvm):
 
 def lowered(dgc, path):
     """A text with typed pointers as LLVM shall compile it."""
-    opaque = subprocess.run([dgc, "migrate", path], capture_output=True, text=True, check=True).stdout
-    with open(path + ".opaque", "w") as out:
-        out.write(opaque)
-    done = subprocess.run([sys.executable, LOWER, path + ".opaque"], capture_output=True, text=True)
+    done = subprocess.run([dgc, "lower", path], capture_output=True, text=True)
     if done.returncode:
         sys.exit(done.stderr)
     return done.stdout
