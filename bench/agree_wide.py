@@ -1,12 +1,14 @@
 #!/usr/bin/env python3
-"""Compares what the operations of the wide forms give in `dgc replay` with what LLVM's own code of the same text gives.
+"""Compares what the operations and the functions of the wide forms give in `dgc replay` with what LLVM's own code of the same text gives.
 
     agree_wide.py DGC [--draws N] [--seed S] [--only WORD ..] [--keep FOLDER]
 
-For each of shl, lshr, ashr, udiv, sdiv, urem, srem and freeze, one function for each of many widths draws operands, computes
-and mixes what it gets into what it returns: N draws for each word, with 0, 1, -1 and the least number among them. No draw is
-a case that LLVM leaves open: a shift is by less than the width, no divisor is 0, and the least number is not divided by -1.
-`clang -O0` builds the text. Prints the first draw that differs, and ends with 1 then. For use by hand.
+For each of shl, lshr, ashr, udiv, sdiv, urem, srem and freeze, and of llvm.smax, smin, umax, umin, abs, ctpop, ctlz, cttz, bswap,
+bitreverse, fshl and fshr, one function for each of many widths draws operands, computes and mixes what it gets into what it returns:
+N draws for each word, with 0, 1, -1 and the least number among them. No draw is a case that LLVM leaves open: a shift is by less
+than the width, no divisor is 0, and the least number is not divided by -1. The flag of abs, ctlz and cttz is false; with the words
+abs-true, ctlz-true and cttz-true it is true, and neither the least number nor 0 is drawn where LLVM excludes it. `clang -O0` builds the
+text. Prints the first draw that differs, and ends with 1 then. For use by hand.
 """
 import argparse
 import os
@@ -14,16 +16,28 @@ import subprocess
 import sys
 import tempfile
 
-WORDS = ["shl", "lshr", "ashr", "udiv", "sdiv", "urem", "srem", "freeze"]
+OPERATIONS = ["shl", "lshr", "ashr", "udiv", "sdiv", "urem", "srem", "freeze"]
+# How many operands each function of integers takes; the words with a flag take one, and the flag.
+FUNCTIONS = {"smax": 2, "smin": 2, "umax": 2, "umin": 2, "abs": 1, "abs-true": 1, "ctpop": 1, "ctlz": 1, "ctlz-true": 1, "cttz": 1,
+             "cttz-true": 1, "bswap": 1, "bitreverse": 1, "fshl": 3, "fshr": 3}
+FLAGGED = ["abs", "ctlz", "cttz"]
+WORDS = OPERATIONS + list(FUNCTIONS)
 SHIFTS, SIGNED = ["shl", "lshr", "ashr"], ["sdiv", "srem"]
 WIDTHS = [1, 2, 3, 7, 8, 13, 16, 24, 31, 32, 33, 48, 63, 64]
 FACTOR, ADDEND = 6364136223846793005, 1442695040888963407
-STEPS = 60
+STEPS = 80
 
 
 def widths_of(word):
-    """A number of one bit has no signed divisor: 1 is -1 there, and the least number."""
+    """A number of one bit has no signed divisor: 1 is -1 there, and the least number. Bytes change places in pairs."""
+    if word == "bswap":
+        return [bits for bits in WIDTHS if bits % 16 == 0]
     return [bits for bits in WIDTHS if bits > 1 or word not in SIGNED]
+
+
+def written(bits, value):
+    """A constant of this width."""
+    return value if bits > 1 else "true" if value % 2 else "false"
 
 
 def drawn(name, bits):
@@ -34,10 +48,9 @@ def drawn(name, bits):
              f"  %{name}h = lshr i64 %{name}n, 33", f"  %{name}x = xor i64 %{name}h, %{name}n", cut,
              f"  %{name}k = lshr i64 %{name}n, 61"]
     last = f"%{name}c"
-    for number, value in enumerate([0, "true" if bits == 1 else 1, -1, least]):
-        value = "true" if bits == 1 and value in (-1, least) else "false" if bits == 1 and value == 0 else value
+    for number, value in enumerate([0, 1, -1, least]):
         lines += [f"  %{name}t{number} = icmp eq i64 %{name}k, {number}",
-                  f"  %{name}v{number} = select i1 %{name}t{number}, i{bits} {value}, i{bits} {last}"]
+                  f"  %{name}v{number} = select i1 %{name}t{number}, i{bits} {written(bits, value)}, i{bits} {last}"]
         last = f"%{name}v{number}"
     return lines, last
 
@@ -56,21 +69,59 @@ def guarded(word, bits, one, two):
                     "  %o = and i1 %l, %w", f"  %y = select i1 %o, i{bits} 1, i{bits} %g"], "%y"
 
 
+def named(word, bits):
+    """The name of a function of integers."""
+    return f"@llvm.{word.split('-')[0]}.i{bits}"
+
+
+def declared(word, bits):
+    """The line that declares what a word calls, if it calls something."""
+    if word not in FUNCTIONS:
+        return ""
+    types = [f"i{bits}"] * FUNCTIONS[word] + (["i1"] if word.split("-")[0] in FLAGGED else [])
+    return f"declare i{bits} {named(word, bits)}({', '.join(types)})\n"
+
+
+def called(word, bits, operands):
+    """The lines that keep a draw from a case that LLVM leaves open, and the call of a function of integers."""
+    guard, flag, taken = [], [], operands[:FUNCTIONS[word]]
+    if word.split("-")[0] in FLAGGED:
+        flag = ["i1 false"]
+    if word.endswith("-true"):
+        left, other = (-(1 << (bits - 1)), 0) if word == "abs-true" else (0, 1)
+        guard = [f"  %z = icmp eq i{bits} {taken[0]}, {written(bits, left)}",
+                 f"  %g = select i1 %z, i{bits} {written(bits, other)}, i{bits} {taken[0]}"]
+        flag, taken = ["i1 true"], ["%g"]
+    if len(taken) == 3 and bits & (bits - 1):
+        # The code of LLVM 14 counts bits of a wider register into the distance. A mask clears them, and leaves distances past the width.
+        guard = [f"  %g = and i{bits} {taken[2]}, {(1 << (bits - 1)) - 1}"]
+        taken = taken[:2] + ["%g"]
+    arguments = ", ".join([f"i{bits} {operand}" for operand in taken] + flag)
+    return guard, f"call i{bits} {named(word, bits)}({arguments})"
+
+
+def computed(word, bits, operands):
+    """The same of any word: the lines before, and what is computed."""
+    if word in FUNCTIONS:
+        return called(word, bits, operands)
+    one, two, _ = operands
+    guard, other = guarded(word, bits, one, two)
+    return guard, f"freeze i{bits} {one}" if word == "freeze" else f"{word} i{bits} {one}, {other}"
+
+
 def function(word, bits):
     """A loop of as many draws as its second argument says."""
-    first, one = drawn("a", bits)
-    second, two = drawn("b", bits)
-    guard, other = guarded(word, bits, one, two)
-    given = f"freeze i{bits} {one}" if word == "freeze" else f"{word} i{bits} {one}, {other}"
+    (first, one), (second, two), (third, three) = (drawn(name, bits) for name in "abc")
+    guard, given = computed(word, bits, [one, two, three])
     wide = f"  %r = zext i{bits} %q to i64" if bits < 64 else "  %r = add i64 %q, 0"
     lines = [f"define i64 @f{bits}(i64 %seed, i64 %turns) {{", "entry:", "  br label %head", "head:",
-             "  %i = phi i64 [ 0, %entry ], [ %j, %head ]", "  %as = phi i64 [ %seed, %entry ], [ %bn, %head ]",
+             "  %i = phi i64 [ 0, %entry ], [ %j, %head ]", "  %as = phi i64 [ %seed, %entry ], [ %cn, %head ]",
              "  %mix = phi i64 [ 0, %entry ], [ %more, %head ]"]
-    lines += first + ["  %bs = add i64 %an, 0"] + second + guard
+    lines += first + ["  %bs = add i64 %an, 0"] + second + ["  %cs = add i64 %bn, 0"] + third + guard
     lines += [f"  %q = {given}", wide, "  %by = mul i64 %mix, 1099511628211", "  %more = xor i64 %by, %r",
               "  %j = add i64 %i, 1", "  %c = icmp ult i64 %j, %turns", "  br i1 %c, label %head, label %out", "out:",
               "  ret i64 %more", "}"]
-    return "\n".join(lines) + "\n"
+    return declared(word, bits) + "\n".join(lines) + "\n"
 
 
 def returned(dgc, base, word, seed, turns):

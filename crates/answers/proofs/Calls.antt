@@ -1,7 +1,8 @@
 -- What is asked of a call of a function that is known, and what is known after it, does not depend on functions.
 use Rattle.std.specs.List.{list_all}
 use Rattle.std.specs.Prelude.{Bool, List, None, Option, Some, [], false, not, refl, ℕ, ◌&&◌, ◌||◌, ◌∷◌, ◌≡◌}
-use Rattle.block_rules.specs.Calls.{after_defined, all_available, all_current, all_taken, all_values, alloc_conditions, are_root_arguments, defined_conditions, drop_arguments, is_taken, is_unrooted, is_written_with, may_root, no_slots, number_layouts, numbers_layout, read_call_conditions, receive_result, refused_conditions, root_conditions, safepoint_conditions, takes_address, takes_slot, write_call_conditions}
+use Rattle.block_rules.specs.Calls.{after_defined, after_integer_call, all_available, all_current, all_taken, all_values, alloc_conditions, are_root_arguments, defined_conditions, drop_arguments, integer_conditions, is_taken, is_unrooted, is_written_with, may_root, no_slots, number_layouts, numbers_layout, read_call_conditions, receive_result, refused_conditions, root_conditions, safepoint_conditions, takes_address, takes_slot, write_call_conditions}
+use Rattle.block_rules.specs.Integers.{define_number}
 use Rattle.block_rules.specs.Operands.{is_no_opaque_slot, is_null, known_fits, known_of, slot_named}
 use Rattle.block_rules.specs.Promises.{callee_mark, given_by, promised_in, promises_in, show_promises}
 use Rattle.block_rules.specs.TypeKinds.{is_reference}
@@ -73,6 +74,12 @@ safepoint_conditions_same m fs = λ along here returned arguments. (K2, is_writt
     ∷ (K12, here.may_move_references)
     ∷ (K17, is_may here.mark) ∷ []
 
+pub integer_conditions_same : (m : Module) (fs : List Function) → integer_conditions (with_functions m fs) ≡ integer_conditions m
+integer_conditions_same m fs = λ along f slots here facts named returned arguments. (K1, all_available slots facts arguments)
+    ∷ (K2, all_values_same m fs along f slots facts arguments && is_written_as_same m fs along returned arguments named)
+    ∷ (K10, no_slots slots arguments)
+    ∷ (K12, here.may_move_references) ∷ []
+
 pub defined_conditions_same : (m : Module) (fs : List Function) → defined_conditions (with_functions m fs) ≡ defined_conditions m
 defined_conditions_same m fs = λ along f slots here facts returned arguments called section. (K1, all_available slots facts arguments)
     ∷ (K2, all_values_same m fs along f slots facts arguments && is_written_with returned arguments called)
@@ -117,6 +124,13 @@ receive_result_by m fs (Some v) returned promise facts = λ along. receive v (gi
 
 pub receive_result_same : (m : Module) (fs : List Function) → receive_result (with_functions m fs) ≡ receive_result m
 receive_result_same m fs = λ along result returned promise facts. receive_result_by m fs result returned promise facts along
+
+after_integer_call_by : (m : Module) (fs : List Function) (result : Option ℕ) (returned : ℕ) (facts : FactSet) → after_integer_call (with_functions m fs) result returned facts ≡ after_integer_call m result returned facts
+after_integer_call_by m fs None returned facts = refl
+after_integer_call_by m fs (Some v) returned facts = λ along. define_number v (kind_of_same m fs along returned) None facts
+
+pub after_integer_call_same : (m : Module) (fs : List Function) → after_integer_call (with_functions m fs) ≡ after_integer_call m
+after_integer_call_same m fs = λ along result returned facts. after_integer_call_by m fs result returned facts along
 
 pub after_defined_same : (m : Module) (fs : List Function) → after_defined (with_functions m fs) ≡ after_defined m
 after_defined_same m fs = λ along result returned arguments section facts. receive_result_same m fs along result returned (promised_in section) (after_mark (callee_mark section) (drop_arguments arguments facts))

@@ -11,7 +11,7 @@ use Rattle.ir_ast.specs.declared.items_of_module.SymbolSort.{SymbolSort}
 use Rattle.ir_ast.specs.declared.items_of_module.SymbolSort.TheVariants.{Unknown, Global, Declared, Defined}
 use Rattle.ir_ast.specs.declared.module.Module.{Module}
 use Rattle.ir_ast.specs.declared.runtime.Runtime.{Runtime}
-use Rattle.ir_ast.specs.declared.runtime.Runtime.TheVariants.{Alloc, Safepoint, GcRoot, GcRead, GcWrite}
+use Rattle.ir_ast.specs.declared.runtime.Runtime.TheVariants.{Alloc, Safepoint, GcRoot, GcRead, GcWrite, Integer}
 use Rattle.certs.specs.declared.section.Section.{Section}
 use Rattle.layout.specs.Layouts.{LaidOut}
 use Rattle.shadow_stack.specs.Slots.{SlotTable}
@@ -27,7 +27,7 @@ use Rattle.block_rules.specs.Signature.{signature_of, is_declared_as, callable, 
 use Rattle.block_rules.specs.Calls.{all_available, all_current, no_slots, is_written_for, is_written_with, defined_conditions, call_conditions, drop_arguments, after_call}
 use Rattle.answers.specs.Local.{with_functions, laid_with, types_of, Interface, function_of_sort, IfThere, LooksSame}
 use Rattle.answers.proofs.Signature.{callable_declare_same}
-use Rattle.answers.proofs.Calls.{all_values_same, root_conditions_same, alloc_conditions_same, safepoint_conditions_same, read_call_conditions_same, write_call_conditions_same, refused_conditions_same, receive_result_same}
+use Rattle.answers.proofs.Calls.{all_values_same, root_conditions_same, alloc_conditions_same, safepoint_conditions_same, integer_conditions_same, read_call_conditions_same, write_call_conditions_same, refused_conditions_same, receive_result_same, after_integer_call_same}
 use Rattle.answers.proofs.Places.{after_read_call_same}
 
 -- ---- types
@@ -148,6 +148,7 @@ module _ (p : LaidOut) (certs : List Section) (fs : List Function) (others : Lis
   call_same f slots here facts returned arguments (OfRuntime Safepoint) h = λ along. safepoint_conditions_same p.of_module fs along here returned arguments
   call_same f slots here facts returned arguments (OfRuntime GcRead) h = λ along. read_call_conditions_same p fs along f slots here facts returned arguments
   call_same f slots here facts returned arguments (OfRuntime GcWrite) h = λ along. write_call_conditions_same p fs along f slots here facts returned arguments
+  call_same f slots here facts returned arguments (OfRuntime (Integer function bits)) h = λ along. integer_conditions_same p.of_module fs along f slots here facts (Integer function bits) returned arguments
   call_same f slots here facts returned arguments (OfModule called) h = defined_same f slots here facts returned arguments called h
   call_same f slots here facts returned arguments (NoFunction named) h = λ along. refused_conditions_same p.of_module fs along f slots here facts named arguments
 
@@ -159,6 +160,7 @@ module _ (p : LaidOut) (certs : List Section) (fs : List Function) (others : Lis
   after_call_same slots result returned arguments (OfRuntime Safepoint) facts h = refl
   after_call_same slots result returned arguments (OfRuntime GcRead) facts h = λ along. after_read_call_same p fs along result arguments facts
   after_call_same slots result returned arguments (OfRuntime GcWrite) facts h = refl
+  after_call_same slots result returned arguments (OfRuntime (Integer function bits)) facts h = λ along. after_integer_call_same p.of_module fs along result returned facts
   after_call_same slots result returned arguments (OfModule called) facts h =
       λ along. receive_result_same p.of_module fs along result returned (h along).result (after_mark (h along).mark (drop_arguments arguments facts))
   after_call_same slots result returned arguments (NoFunction named) facts h = refl

@@ -5,7 +5,7 @@ use Rattle.block_rules.specs.Signature.{callable, callable_declare, is_argument_
 use Rattle.block_rules.specs.TypeKinds.{is_any_reference, is_bits, is_void}
 use Rattle.block_rules.specs.declared.callee.Callee.TheVariants.{NoFunction, OfRuntime}
 use Rattle.block_rules.specs.declared.signature.RuntimeType.{RuntimeType}
-use Rattle.block_rules.specs.declared.signature.RuntimeType.TheVariants.{Number, Pointer, PointerToPointer, Void}
+use Rattle.block_rules.specs.declared.signature.RuntimeType.TheVariants.{Bits, Pointer, PointerToPointer, Void}
 use Rattle.ir_ast.specs.declared.argument.Argument.{Argument}
 use Rattle.ir_ast.specs.declared.function.Function.{Function}
 use Rattle.ir_ast.specs.declared.items_of_module.Declare.{Declare}
@@ -17,7 +17,7 @@ use Rattle.answers.specs.Local.{with_functions}
 
 is_runtime_type_by : (m : Module) (fs : List Function) (written : ℕ) (type : RuntimeType) → is_runtime_type (with_functions m fs) written type ≡ is_runtime_type m written type
 is_runtime_type_by m fs written Void = λ along. is_void (kind_of_same m fs along written)
-is_runtime_type_by m fs written Number = λ along. is_bits 32 (kind_of_same m fs along written)
+is_runtime_type_by m fs written (Bits bits) = λ along. is_bits bits (kind_of_same m fs along written)
 is_runtime_type_by m fs written Pointer = λ along. is_any_reference (kind_of_same m fs along written)
 is_runtime_type_by m fs written PointerToPointer = λ along. is_opaque m written || is_any_reference (place_kind_same m fs along written)
 

@@ -285,9 +285,10 @@ K18  A call is of a function that the module defines, or of one of the runtime's
      five, with its arguments.
 
 The runtime's functions are dg_alloc, dg_safepoint and the intrinsics gcroot,
-gcread and gcwrite. Each has to be declared with its own types. A call with
-another number of arguments is refused too. In such a call gcroot may still name
-a slot, and gcread and gcwrite an address, so that K18 is what is told.
+gcread and gcwrite. Each has to be declared with its own types. With `--forms
+wide` LLVM's functions of integers, as llvm.smax.i32, are called so too. A call
+with another number of arguments is refused too. In such a call gcroot may still
+name a slot, and gcread and gcwrite an address, so that K18 is what is told.
 
 Why: Of any other function nothing is known: it could reach a safepoint, keep a
 reference, or store one without a barrier.

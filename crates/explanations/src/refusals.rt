@@ -2,7 +2,7 @@
 use crate::cells::{Mistyped, element_base, mistyped_in, operand_of, put_outside, put_types};
 use crate::edges::{learned, put_edge};
 use crate::mismatches::{mismatch_of, put_mismatch};
-use crate::notes::{put_cert_note, put_line, put_mend, put_mend_word, put_or};
+use crate::notes::{MARGIN, put_cert_note, put_line, put_mend, put_mend_word, put_or};
 use crate::nulls::{UNCOMPARED, put_base_note, put_place_line, put_shown};
 use crate::phis::Entries;
 use crate::promised::{
@@ -22,7 +22,7 @@ use diagnosis::facts_before;
 use facts::Facts;
 use ir_ast::{Function, Operand, Runtime};
 use layout::Program;
-use messages::{Ink, Message, NamedText, Pen, Pointers, declare_of};
+use messages::{Ink, Message, NamedText, Pen, Pointers, put_declare_of};
 use scenes::{
     Scene, Sought, Source, arguments_of, is_runtime_call, operands_of, place_of, put_known,
     put_spot, subject_of,
@@ -106,7 +106,21 @@ fn put_unavailable(out: &mut Message, told: &Told) {
 fn put_mistyped(out: &mut Message, told: &Told, operands: &[Operand]) {
     let mistyped = mistyped_in(told.scene, operands, told.place);
     let told = told.with_it(operand_of(&mistyped));
-    put_mistyped_as(out, &told, operands, &mistyped)
+    put_mistyped_as(out, &told, operands, &mistyped);
+    put_own_types(out, told.scene)
+}
+
+/// The types of the function of integers that is called, as a further line of what mends.
+fn put_own_types(out: &mut Message, scene: &Scene) {
+    let Some(runtime) = runtime_named(scene) else {
+        return;
+    };
+    if matches!(runtime, Runtime::Integer { .. }) {
+        out.put(MARGIN);
+        out.put("and call it with these types: ");
+        put_declare_of(out, &runtime, Pointers::of_module(scene.context.module()));
+        out.put("\n")
+    }
 }
 
 /// K2, by which operand is wrong.
@@ -247,7 +261,7 @@ fn put_declared(out: &mut Message, scene: &Scene, runtime: &Runtime) {
     put_mend_word(out, scene);
     out.put("declare it so, and call it with these types: ");
     let pointers = Pointers::of_module(scene.context.module());
-    out.put(declare_of(runtime, pointers));
+    put_declare_of(out, runtime, pointers);
     out.put("\n")
 }
 

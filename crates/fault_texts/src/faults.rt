@@ -11,7 +11,7 @@ use ir_text::ReadFault;
 use ir_tokens::Position;
 use layout::LayoutFault;
 use messages::{
-    Ink, Message, NamedText, Pen, Pointers, declare_of, line_numbered, put_path_at,
+    Ink, Message, NamedText, Pen, Pointers, line_numbered, put_declare_of, put_path_at,
     put_position_line,
 };
 use name_text::{Blank, past_blanks, past_word, word};
@@ -236,7 +236,7 @@ fn put_undeclared(pen: Pen, out: &mut Message, named: NamedText, runtime: &Runti
     };
     out.put_inked(pen.look, Ink::Mend, "  mend:  ");
     out.put("add this line outside the functions: ");
-    out.put(declare_of(runtime, pointers));
+    put_declare_of(out, runtime, pointers);
     out.put("\n")
 }
 

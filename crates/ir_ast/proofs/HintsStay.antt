@@ -8,10 +8,10 @@ use Rattle.ir_ast.specs.Places.{place_is_end}
 use Rattle.lemmas.specs.Numbers.{test_same}
 
 module _ {X : Type 0} (p : X → Bool) where
-  stays : (xs : List X) (y : X) (n : ℕ) → position p xs ≡ Some n → position p (xs ++ y ∷ []) ≡ Some n
+  pub stays : (xs : List X) (y : X) (n : ℕ) → position p xs ≡ Some n → position p (xs ++ y ∷ []) ≡ Some n
   stays xs y n e = grind (arith, common_steps)
 
-  here : (xs : List X) (y : X) → position p xs ≡ None → p y ≡ true → position p (xs ++ y ∷ []) ≡ Some (length xs)
+  pub here : (xs : List X) (y : X) → position p xs ≡ None → p y ≡ true → position p (xs ++ y ∷ []) ≡ Some (length xs)
   here xs y none e = let end = place_is_end p xs none in grind (arith, common_steps)
 
 itself : (t : IrType) → is_same_type t t ≡ true

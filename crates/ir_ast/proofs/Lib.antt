@@ -3,3 +3,5 @@ mod Coefficients
 mod KeysAgain
 mod TypedPointers
 mod HintsStay
+mod Chains
+mod KeptNames

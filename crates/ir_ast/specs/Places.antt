@@ -1,8 +1,6 @@
 -- Places in a list of keys, and in the list of the keys' names.
-use Rattle.std.proofs.Common.{◌≡◌, ℕ, ◌≤◌, ◌+◌, suc, Bool, true, false, cond, not, nat_lt, ◌||◌, List, [], ◌∷◌, ◌++◌, map, length, position, is_some, unwrap_or, if◌then◌else◌, None, Some, refl, sym, ap, ◌∙◌, arith}
+use Rattle.std.proofs.Common.{◌≡◌, ℕ, ◌≤◌, ◌+◌, suc, Bool, true, false, cond, not, nat_lt, ◌||◌, List, [], ◌∷◌, ◌++◌, map, length, position, is_some, None, Some, refl, ap, ◌∙◌, arith}
 use Rattle.std.proofs.lemmas.Bool.Decides.{nat_tests}
-use Rattle.std.specs.Str.{bytes_eq}
-use Rattle.ir_ast.specs.Names.{place_of, number_of, numbered}
 use Rattle.std.specs.List.{prefix_len, position_or_len, list_any}
 
 module _ {A B : Type 0} (f : A → B) where
@@ -71,27 +69,3 @@ module _ {A : Type 0} (p : A → Bool) where
       by : (b : Bool) → is_some (cond b (Some (position_or_len p xs)) None) ≡ b
       by true = refl
       by false = refl
-
-module _ {K : Type 0} (bytes : K → List ℕ) where
-  -- a name that no key has is looked for up to the end
-  pub unseen : (text : List ℕ) (keys : List K) → place_of text (map bytes keys) ≡ None
-      → (list_any (λ k. bytes_eq text (bytes k)) keys ≡ false) × (position_or_len (λ k. bytes_eq text (bytes k)) keys ≡ length (map bytes keys))
-  unseen text keys e =
-      let none : position (λ k. bytes_eq text (bytes k)) keys ≡ None = sym (position-map bytes (bytes_eq text) keys) ∙ e in
-      (none_passes (λ k. bytes_eq text (bytes k)) keys none, place_is_end (λ k. bytes_eq text (bytes k)) keys none ∙ sym (map-length bytes keys))
-
-  new_key : (key : K) (keys : List K) → place_of (bytes key) (map bytes keys) ≡ None
-      → (position_or_len (λ k. bytes_eq (bytes key) (bytes k)) keys ≡ number_of (bytes key) (map bytes keys))
-      × (map bytes (if list_any (λ k. bytes_eq (bytes key) (bytes k)) keys then keys else keys ++ key ∷ []) ≡ numbered (bytes key) (map bytes keys))
-  new_key key keys none =
-      let names : List (List ℕ) = map bytes keys in
-      let ends = unseen (bytes key) keys none in (
-        ends.1 ∙ sym (ap (λ p. unwrap_or p (length names)) none),
-        ap (λ b. map bytes (if b then keys else keys ++ key ∷ [])) ends.0 ∙ map-push bytes keys key ∙ sym (ap (λ p. if is_some p then names else names ++ bytes key ∷ []) none),
-      )
-
-  -- a key for a new name gets the name's number, and is then its key
-  pub new_name : (key : K) (keys : List K) (text : List ℕ) (names : List (List ℕ)) → bytes key ≡ text → map bytes keys ≡ names → place_of text names ≡ None
-      → (position_or_len (λ k. bytes_eq (bytes key) (bytes k)) keys ≡ number_of text names)
-      × (map bytes (if list_any (λ k. bytes_eq (bytes key) (bytes k)) keys then keys else keys ++ key ∷ []) ≡ numbered text names)
-  new_name key keys text names is_text are_names none = rw (← is_text, ← are_names) (new_key key keys (rw (is_text, are_names) none))

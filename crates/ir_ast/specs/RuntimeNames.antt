@@ -1,10 +1,11 @@
--- The names of the runtime's functions.
+-- The names of the runtime's functions, and of the intrinsics.
 use Rattle.std.specs.Prelude.{ℕ, if◌then◌else◌, List, Option, Some, None, codes}
 use Rattle.std.specs.Str.{bytes_eq}
+use Rattle.ir_ast.specs.IntegerFunctions.{integers_named}
 use Rattle.ir_ast.specs.declared.runtime.Runtime.{Runtime}
 use Rattle.ir_ast.specs.declared.runtime.Runtime.TheVariants.{Alloc, Safepoint, GcRoot, GcRead, GcWrite}
 
--- the function of the runtime that has this name
+-- the function of the runtime, or the intrinsic, that has this name
 abbrev pub runtime_of : List ℕ → Option Runtime
 runtime_of name =
     if bytes_eq name (codes "dg_alloc") then Some Alloc
@@ -12,4 +13,4 @@ runtime_of name =
     else (if bytes_eq name (codes "llvm.gcroot") then Some GcRoot
     else (if bytes_eq name (codes "llvm.gcread") then Some GcRead
     else (if bytes_eq name (codes "llvm.gcwrite") then Some GcWrite
-    else None))))
+    else integers_named name))))

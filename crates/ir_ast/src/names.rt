@@ -3,30 +3,30 @@ ghost use Rattle.std.specs.Option.{option_copied};
 ghost use Rattle.ir_ast.specs.Names.{name_at, place_of, number_of, numbered};
 
 use crate::hash_key::HashKey;
-use crate::rehashed::rehash;
-use indexmap::IndexSet;
+use crate::links::{Links, Span, text_at};
 use std::alloc::{AllocError, Global};
 use std::marker::Model;
 
 /// How many names or types a table holds: each is numbered by a `u32`.
 pub(crate) const TABLE_LIMIT: usize = 1 << 32;
 
-/// Distinct names, numbered from 0 in the order in which they came.
+/// Distinct names, numbered from 0 in the order in which they came. Their texts stand one after the other.
 #[derive(Drop)]
 pub struct Names {
-    texts: IndexSet<Vec<u8>, HashKey>,
-    /// The key to hash by from the next new name on, where it is another one.
-    next_key: Option<HashKey>,
+    bytes: Vec<u8>,
+    spans: Vec<Span>,
+    links: Links,
 }
 
 impl Model for Names {
-    ghost use Rattle.std.specs.Prelude.{◌≤◌, ◌^◌, List, ℕ, length, map};
+    ghost use Rattle.std.specs.Prelude.{List, ℕ};
+    ghost use Rattle.ir_ast.specs.Links.{texts_of, AreNames};
 
     ghost Value = { List (List ℕ) };
 
-    ghost view = { λ names. map (λ text. text.items) names.texts.keys };
+    ghost view = { λ names. texts_of names.bytes.items names.spans.items };
 
-    ghost invariant = { λ names. length names.texts.keys ≤ 2 ^ 32 };
+    ghost invariant = { λ names. AreNames names.bytes.items names.spans.items names.links };
 }
 
 impl Names {
@@ -34,35 +34,22 @@ impl Names {
         ensures { result ≡ [] }
     {
         Names {
-            texts: IndexSet::with_hasher(alloc, key),
-            next_key: None,
+            bytes: Vec::new(alloc),
+            spans: Vec::new(alloc),
+            links: Links::new(alloc, key),
         }
     }
 
     /// The key by which a new name is hashed.
     pub fn key(&self) -> HashKey {
-        match self.next_key {
-            Some(key) => key,
-            None => *self.texts.hasher(),
-        }
+        self.links.next_key.unwrap_or(self.links.key)
     }
 
     /// Hashes by this key as soon as a name is new. A text that adds nothing leaves the table as it is.
     pub fn set_key(&mut self, key: HashKey)
         ensures { self.new ≡ self.old }
     {
-        self.next_key = Some(key);
-    }
-
-    /// Hashes by the key that is set.
-    fn take_key(&mut self, alloc: Global) -> Result<(), AllocError>
-        ensures { self.new ≡ self.old }
-    {
-        if let Some(key) = self.next_key {
-            rehash(alloc, &mut self.texts, key)?;
-            self.next_key = None;
-        }
-        Ok(())
+        self.links.next_key = Some(key);
     }
 
     /// How many names there are.
@@ -70,7 +57,7 @@ impl Names {
         ensures count { result ≡ length self.now }
         ensures limit { length self.now ≤ 2 ^ 32 }
     {
-        self.texts.len()
+        self.spans.len()
     }
 
     /// The number of a name, if it is there. It is looked up by its hash.
@@ -78,15 +65,16 @@ impl Names {
         ensures place { result ≡ place_of text.now self.now }
         ensures limit { IfSome result (λ number. number < 2 ^ 32) }
     {
-        self.texts.get_index_of(text)
+        let hash = self.links.hash_of(text);
+        self.links.find(&self.bytes, &self.spans, text, hash)
     }
 
     /// The name with this number.
     pub fn get(&self, number: usize) -> Option<&[u8]>
         ensures { option_copied result ≡ slice_get self.now number }
     {
-        let text = self.texts.get_index(number)?;
-        Some(text.as_slice())
+        let span = *self.spans.get(number)?;
+        Some(text_at(&self.bytes, span))
     }
 
     /// The name with this number, empty where there is none.
@@ -105,15 +93,23 @@ impl Names {
         ensures err { OnErr result (self.new ≡ self.old) }
         ensures err_only_new { OnErr result (place_of text.now self.old ≡ None) }
     {
-        if let Some(number) = self.find(text) {
+        let hash = self.links.hash_of(text);
+        if let Some(number) = self.links.find(&self.bytes, &self.spans, text, hash) {
             return Ok(number);
         }
-        if self.texts.len() >= TABLE_LIMIT {
+        let number = self.spans.len();
+        if number >= TABLE_LIMIT {
             return Err(AllocError);
         }
-        let text = Vec::from_slice(alloc, text)?;
-        self.take_key(alloc)?;
-        let (number, _) = self.texts.insert_full(text)?;
+        let hash = self
+            .links
+            .make_room(alloc, &self.bytes, &self.spans, text, hash)?;
+        self.spans.reserve(1)?;
+        let start = self.bytes.len();
+        self.bytes.extend_from_slice(text)?;
+        let end = self.bytes.len();
+        self.links.add(hash, number as u32);
+        self.spans.push_reserved(Span { start, end });
         Ok(number)
     }
 
@@ -121,6 +117,8 @@ impl Names {
     pub fn clear(&mut self)
         ensures { self.new ≡ [] }
     {
-        self.texts.clear();
+        self.bytes.clear();
+        self.spans.clear();
+        self.links.clear();
     }
 }

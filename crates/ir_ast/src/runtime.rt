@@ -1,6 +1,8 @@
 ghost use Rattle.std.specs.Prelude.{◌≡◌};
 ghost use Rattle.ir_ast.specs.RuntimeNames.{runtime_of};
 
+use crate::integer_function::{IntegerFunction, integers_named};
+
 /// A function of the runtime or an intrinsic, known by its name.
 #[derive(Clone, Copy)]
 pub enum Runtime {
@@ -14,6 +16,11 @@ pub enum Runtime {
     GcRead,
     /// `llvm.gcwrite`
     GcWrite,
+    /// `llvm.smax.i32` and its like, of integers of so many bits; the wide forms alone have them.
+    Integer {
+        function: IntegerFunction,
+        bits: u64,
+    },
 }
 
 impl Runtime {
@@ -32,7 +39,7 @@ impl Runtime {
         } else if name == b"llvm.gcwrite".as_slice() {
             Some(Runtime::GcWrite)
         } else {
-            None
+            integers_named(name)
         }
     }
 }

@@ -151,9 +151,9 @@ is_function (Some (symbol.Defined f)) = true
 abbrev pub symbol_number : Input → ℕ
 symbol_number i = number_of (spelled i.cursor) i.symbols.names
 
--- intrinsics other than the three are left out
+-- intrinsics that may not stand in the text are left out
 abbrev pub not_left_out : Form (Unit {0})
-not_left_out = checked (λ i. not (is_left_out (spelled i.cursor))) (λ i. left_out i.cursor)
+not_left_out = checked (λ i. not (is_left_out i.wide (spelled i.cursor))) (λ i. left_out i.cursor)
 
 -- the global name that is here was defined before
 abbrev pub is_known_symbol : Input → Bool

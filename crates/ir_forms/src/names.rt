@@ -114,13 +114,13 @@ impl<'a> Input<'a> {
 
     /// Whether the next token's global name is one of an intrinsic that is left out.
     fn names_left_out(&self, alloc: Global) -> Result<bool, AllocError>
-        ensures { IfOk result (λ is. is ≡ left_out_name (place.spelled self.now.cursor)) }
+        ensures { IfOk result (λ is. is ≡ left_out_name self.now.wide (place.spelled self.now.cursor)) }
     {
         match self.cursor.borrowed() {
-            Some(name) => Ok(is_left_out(name)),
+            Some(name) => Ok(is_left_out(self.wide, name)),
             None => {
                 let name = self.cursor.spelled(alloc)?;
-                Ok(is_left_out(name.as_slice()))
+                Ok(is_left_out(self.wide, name.as_slice()))
             }
         }
     }

@@ -1,5 +1,5 @@
 -- Printed calls are read as these calls again.
-use Rattle.std.proofs.Common.{◌≡◌, ℕ, ◌+◌, true, false, List, [], ◌∷◌, ◌++◌, slice_get, Some, refl, ap, subst, arith, append_assoc, inl, inr, Option, sym, ◌∙◌}
+use Rattle.std.proofs.Common.{◌≡◌, ℕ, ◌+◌, Bool, true, false, List, [], ◌∷◌, ◌++◌, slice_get, Some, refl, ap, subst, arith, append_assoc, inl, inr, Option, sym, ◌∙◌}
 use Rattle.std.specs.Prelude.{codes}
 use Rattle.grammar.specs.Grammar.{pure, look, ◌>>=◌, ◌>>◌}
 use Rattle.ir_ast.specs.declared.calls.Call.{Call}
@@ -16,6 +16,7 @@ use Rattle.ir_forms.specs.Cursor.{kind, begins_line, same_kind}
 use Rattle.ir_forms.specs.declared.input.Input.{Input}
 use Rattle.ir_forms.specs.declared.written.WrittenType.{WrittenType}
 use Rattle.ir_forms.specs.Input.{Form, advanced, skip, expect}
+use Rattle.ir_forms.specs.Intrinsics.{is_left_out}
 use Rattle.ir_forms.specs.Names.{set_type, callee, with_symbol_use}
 use Rattle.ir_forms.specs.Written as w
 use Rattle.ir_forms.specs.Lists as lists
@@ -95,7 +96,7 @@ module _ {m : Module} {f : Function} (v : Invariant m f) where
       let t2 = listed (argument_text m f.locals) x.arguments ++ 41 ∷ rest in
       let t1 = 40 ∷ t2 in
       let is = v.is_symbol true name there in
-      let c = callees_are_read name i (32 ∷ []) t1 is.0 is.1 (symbol_few v i _ s name ready) refl refl ready.stands in
+      let c = callees_are_read name i (32 ∷ []) t1 is.0 (ap (λ (wide : Bool). is_left_out wide name) ready.forms ∙ is.1) (symbol_few v i _ s name ready) refl refl ready.stands in
       let g1 = global_comes i.cursor (32 ∷ []) name t1 refl is.0 refl ready.stands in
       let a : Reads v s calls.called i (40 ∷ (listed (argument_text m f.locals) x.arguments ++ 41 ∷ rest)) (λ n o. slice_get o.symbols.names n ≡ Some (name_at m.symbols x.callee)) =
       looked v (λ i. kind i.cursor) calls.called_by i (40 ∷ (listed (argument_text m f.locals) x.arguments ++ 41 ∷ rest)) s (λ n o. slice_get o.symbols.names n ≡ Some (name_at m.symbols x.callee)) k.GlobalName g1.0

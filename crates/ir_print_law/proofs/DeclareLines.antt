@@ -81,7 +81,7 @@ module _ (m : Module) (f : Function) (named : AreNamed m f) (types : TypesRead m
       (function_defined m far.symbols far.globals far.functions i.symbols i.symbol_uses (spelled i.cursor) (symbol.Declared number) tt
       (λ is. apart (subst (λ (x : Text). IsIn x far.globals) e is)) (λ is. never (subst (λ (x : Text). IsIn x (defined_globals m)) e is)) h)
 
-  name_reads : (number : ℕ) (i : Input) (name rest : Text) → AreBytes name → is_left_out name ≡ false → (IsIn name far.symbols → ⊥) → (IsIn name far.globals → ⊥) → (IsIn name (defined_globals m) → ⊥)
+  name_reads : (number : ℕ) (i : Input) (name rest : Text) → AreBytes name → is_left_out m.wide name ≡ false → (IsIn name far.symbols → ⊥) → (IsIn name far.globals → ⊥) → (IsIn name (defined_globals m) → ⊥)
       → Ready (known m f named far) 0 i (32 ∷ 64 ∷ (name_text blank.Kept name ++ 40 ∷ rest))
       → Goes (known m f named (far_named name)) 0 (function_name (symbol.Declared number)) i (40 ∷ rest) (λ n o. slice_get o.symbols.names n ≡ Some name)
   unfolding function_name class_of
@@ -93,7 +93,7 @@ module _ (m : Module) (f : Function) (named : AreNamed m f) (types : TypesRead m
       let o = a.1 in
       (a.0, a.1, subst (λ (x : Kind). (function_name_by (symbol.Declared number) x).says i n o) (sym e) a.2, a.3, a.4, a.5)
 
-  pub declare_goes : (d : Declare) (i : Input) (gap rest : Text) → IsDeclare m d → AreBytes (name_at m.symbols d.symbol) → is_left_out (name_at m.symbols d.symbol) ≡ false
+  pub declare_goes : (d : Declare) (i : Input) (gap rest : Text) → IsDeclare m d → AreBytes (name_at m.symbols d.symbol) → is_left_out m.wide (name_at m.symbols d.symbol) ≡ false
       → (IsIn (name_at m.symbols d.symbol) far.symbols → ⊥) → (IsIn (name_at m.symbols d.symbol) far.globals → ⊥) → (IsIn (name_at m.symbols d.symbol) (defined_globals m) → ⊥)
       → length far.declares < 65535 → far.unnamed + length d.parameters < 4294967295 → Comes begins_item (10 ∷ rest) → AreBlanks gap
       → Ready (known m f named far) 0 i (gap ++ (declare_line m d ++ rest)) → DeclareGoes d i rest

@@ -100,7 +100,7 @@ module _ (m : Module) (is : IsPrintable m) (named : AreNamed m nobody) where
       × ((n : Module) → IsModuleLater o n → AreAlike (IsDeclareAgain m n) ds xs) × ((n : Module) → IsModuleLater o n → AreAlike (IsFunctionAgain m n) fs gs)
 
   pub declares_go : (ds : List Declare) (fs : List Function) (far : Far) (i : Input) (gap : Text) → AreBlanks gap → past_gap false gap ≡ [] → past_gap false (10 ∷ []) ≡ [] → AllByRecursion (IsDeclare m) ds
-      → AllByRecursion (IsFunction m) fs → AllByRecursion IsSymbol (declared_names m ds ++ function_names m fs) → AreNew far.symbols (declared_names m ds ++ function_names m fs)
+      → AllByRecursion (IsFunction m) fs → AllByRecursion (IsSymbol m.wide) (declared_names m ds ++ function_names m fs) → AreNew far.symbols (declared_names m ds ++ function_names m fs)
       → ((name : Text) → IsIn name far.globals → IsIn name far.symbols) → ((name : Text) → IsIn name (declared_names m ds ++ function_names m fs) → IsIn name (defined_globals m) → ⊥)
       → length far.declares + length ds ≤ 65535 → length far.defines + length fs ≤ 65535 → outside far ≡ far
       → Ready (known m nobody named far) 0 i (gap ++ (flat_map (declare_line m) ds ++ flat_map (function_text m) fs)) → DeclaresGo ds fs far i

@@ -107,7 +107,7 @@ module _ (m : Module) (f : Function) (named : AreNamed m f) (nobody_named : AreN
       (λ is. apart (subst (λ (x : Text). IsIn x far.globals) e is)) (λ is. never (subst (λ (x : Text). IsIn x (defined_globals m)) e is)) h)
 
   -- the name of the function
-  name_reads : (number : ℕ) (i : Input) (name rest : Text) → AreBytes name → is_left_out name ≡ false → (IsIn name far.symbols → ⊥) → (IsIn name far.globals → ⊥) → (IsIn name (defined_globals m) → ⊥)
+  name_reads : (number : ℕ) (i : Input) (name rest : Text) → AreBytes name → is_left_out m.wide name ≡ false → (IsIn name far.symbols → ⊥) → (IsIn name far.globals → ⊥) → (IsIn name (defined_globals m) → ⊥)
       → Ready (known m f named (outside far)) 0 i (32 ∷ 64 ∷ (name_text blank.Kept name ++ 40 ∷ rest))
       → Goes (known m f named (far_named name)) 0 (function_name (symbol.Defined number)) i (40 ∷ rest) (λ n o. slice_get o.symbols.names n ≡ Some name)
   unfolding function_name class_of
@@ -133,7 +133,7 @@ module _ (m : Module) (f : Function) (named : AreNamed m f) (nobody_named : AreN
   }
 
   pub definition_goes : (i : Input) (gap rest : Text) → IsFunction m f → AllByRecursion IsKey (parameter_keys f) → AllByRecursion (HasKeys m f named ops) f.blocks
-      → AreBytes (name_at m.symbols f.symbol) → is_left_out (name_at m.symbols f.symbol) ≡ false → (IsIn (name_at m.symbols f.symbol) far.symbols → ⊥) → (IsIn (name_at m.symbols f.symbol) far.globals → ⊥)
+      → AreBytes (name_at m.symbols f.symbol) → is_left_out m.wide (name_at m.symbols f.symbol) ≡ false → (IsIn (name_at m.symbols f.symbol) far.symbols → ⊥) → (IsIn (name_at m.symbols f.symbol) far.globals → ⊥)
       → (IsIn (name_at m.symbols f.symbol) (defined_globals m) → ⊥) → length far.defines < 65535 → AreBlanks gap
       → Ready (known m nobody nobody_named (outside far)) 0 i (gap ++ (function_text m f ++ rest)) → DefinitionGoes i rest
   unfolding item definition head parameters class_of word_kind keywords

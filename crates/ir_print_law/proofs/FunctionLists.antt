@@ -69,7 +69,7 @@ module _ (m : Module) (is : IsPrintable m) (named : AreNamed m nobody) where
       × Reaches i o × WithFunctions far now (function_names m fs) gs × ((n : Module) → IsModuleLater o n → AreAlike (IsFunctionAgain m n) fs gs)
 
   pub functions_go : (fs : List Function) (far : Far) (i : Input) (gap : Text) → AreBlanks gap → past_gap false gap ≡ [] → past_gap false (10 ∷ []) ≡ [] → AllByRecursion (IsFunction m) fs
-      → AllByRecursion IsSymbol (function_names m fs) → AreNew far.symbols (function_names m fs) → ((name : Text) → IsIn name far.globals → IsIn name far.symbols)
+      → AllByRecursion (IsSymbol m.wide) (function_names m fs) → AreNew far.symbols (function_names m fs) → ((name : Text) → IsIn name far.globals → IsIn name far.symbols)
       → ((name : Text) → IsIn name (function_names m fs) → IsIn name (defined_globals m) → ⊥) → length far.defines + length fs ≤ 65535 → outside far ≡ far
       → Ready (known m nobody named far) 0 i (gap ++ flat_map (function_text m) fs) → FunctionsGo fs far i
   functions_go [] far i gap blanks past past_line are symbols new globals never few out ready =

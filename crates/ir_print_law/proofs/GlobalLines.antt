@@ -165,7 +165,7 @@ module _ (m : Module) (f : Function) (named : AreNamed m f) (types : TypesRead m
       let plain = decorations_said spot.Global p (ap (begins_decoration spot.Global (begins_line p.cursor)) e) in
       (a.1, b.1, a.2, (tt, p, plain, subst (λ (x : Kind). (is_constant_by x).says p false o) (sym e) (tt, o, b.2, (refl, refl))), b.3, widens_further i p o (grows_widens i p a.4) (grows_widens p o b.4))
 
-  pub global_goes : (g : Global) (i : Input) (gap rest : Text) → IsGlobal m g → AreBytes (name_at m.symbols g.symbol) → is_left_out (name_at m.symbols g.symbol) ≡ false
+  pub global_goes : (g : Global) (i : Input) (gap rest : Text) → IsGlobal m g → AreBytes (name_at m.symbols g.symbol) → is_left_out m.wide (name_at m.symbols g.symbol) ≡ false
       → (IsIn (name_at m.symbols g.symbol) far.symbols → ⊥) → (IsIn (name_at m.symbols g.symbol) far.functions → ⊥) → length far.global_items < 4096 → Comes begins_item (10 ∷ rest) → AreBlanks gap
       → Ready (known m f named far) 0 i (gap ++ (global_line m g ++ rest)) → GlobalGoes g i rest
   unfolding item global initial class_of

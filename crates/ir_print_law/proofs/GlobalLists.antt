@@ -52,7 +52,7 @@ global_kind m y i gap rest own blanks at =
 abbrev pub functions_text : Module → List Declare → List Function → Text
 functions_text m ds fs = flat_map (declare_line m) ds ++ flat_map (function_text m) fs
 
-globals_begin : (m : Module) (ys : List Global) (ds : List Declare) (fs : List Function) → AllByRecursion IsSymbol (global_names m ys) → past_gap false (10 ∷ []) ≡ []
+globals_begin : (m : Module) (ys : List Global) (ds : List Declare) (fs : List Function) → AllByRecursion (IsSymbol m.wide) (global_names m ys) → past_gap false (10 ∷ []) ≡ []
     → Comes begins_item (10 ∷ (flat_map (global_line m) ys ++ functions_text m ds fs))
 globals_begin m [] ds fs own past = declares_begin m ds fs past
 globals_begin m (y ∷ ys) ds fs own past = λ i at.
@@ -81,7 +81,7 @@ module _ (m : Module) (is : IsPrintable m) (named : AreNamed m nobody) (ds : Lis
       × ((n : Module) → IsModuleLater o n → AreAlike (IsDeclareAgain m n) ds xs) × ((n : Module) → IsModuleLater o n → AreAlike (IsFunctionAgain m n) fs gs)
 
   pub globals_go : (ys : List Global) (far : Far) (i : Input) (gap : Text) → AreBlanks gap → past_gap false gap ≡ [] → past_gap false (10 ∷ []) ≡ [] → AllByRecursion (IsGlobal m) ys
-      → AllByRecursion (IsDeclare m) ds → AllByRecursion (IsFunction m) fs → AllByRecursion IsSymbol (global_names m ys) → AllByRecursion IsSymbol (declared_names m ds ++ function_names m fs)
+      → AllByRecursion (IsDeclare m) ds → AllByRecursion (IsFunction m) fs → AllByRecursion (IsSymbol m.wide) (global_names m ys) → AllByRecursion (IsSymbol m.wide) (declared_names m ds ++ function_names m fs)
       → AreNew far.symbols (global_names m ys ++ (declared_names m ds ++ function_names m fs)) → ((name : Text) → IsIn name far.globals → IsIn name far.symbols) → far.functions ≡ []
       → ((name : Text) → IsIn name (declared_names m ds ++ function_names m fs) → IsIn name (defined_globals m) → ⊥)
       → length far.global_items + length ys ≤ 4096 → length far.declares + length ds ≤ 65535 → length far.defines + length fs ≤ 65535 → outside far ≡ far

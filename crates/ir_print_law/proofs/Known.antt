@@ -224,7 +224,7 @@ local_used f seen values labels pending t uses k wanted start is_in h =
 -- what is used is named as it is read
 pub record AreNamed (m : Module) (f : Function) : Type 0 where
   pub is_key : (wanted : Wanted) (key : Text) → IsIn key (used_keys f wanted) → IsKey key
-  pub is_symbol : (is_call : Bool) (name : Text) → IsIn name (used_symbols m is_call) → AreBytes name × (is_left_out name ≡ false)
+  pub is_symbol : (is_call : Bool) (name : Text) → IsIn name (used_symbols m is_call) → AreBytes name × (is_left_out m.wide name ≡ false)
 
 abbrev pub known : (m : Module) (f : Function) → AreNamed m f → (far : Far) → Invariant m f
 known m f named far = record {

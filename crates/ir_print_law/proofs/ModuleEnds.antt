@@ -117,11 +117,11 @@ module _ (e : Input) (h : Stands no_one e) where
 
   one_sort : (n k : ℕ) (a b : SymbolSort) → OwnsSymbol (symbols_of no_one e) a n → OwnsSymbol (symbols_of no_one e) b k
       → name_at e.symbols.names n ≡ name_at e.symbols.names k → Some a ≡ Some b
-  one_sort n k a b x y same = same_sort symbol.Unknown (OwnsSymbol (symbols_of no_one e)) IsSymbol e.symbols n k a b h.symbols x y same
+  one_sort n k a b x y same = same_sort symbol.Unknown (OwnsSymbol (symbols_of no_one e)) (IsSymbol e.wide) e.symbols n k a b h.symbols x y same
 
-  symbol_good : (n : ℕ) (a : SymbolSort) → OwnsSymbol (symbols_of no_one e) a n → IsSymbol (name_at e.symbols.names n)
+  symbol_good : (n : ℕ) (a : SymbolSort) → OwnsSymbol (symbols_of no_one e) a n → IsSymbol e.wide (name_at e.symbols.names n)
   symbol_good n a x =
-      h.symbols.good n a (name_at e.symbols.names n) x (name_there symbol.Unknown (OwnsSymbol (symbols_of no_one e)) IsSymbol e.symbols n a h.symbols (h.symbols.known n a x))
+      h.symbols.good n a (name_at e.symbols.names n) x (name_there symbol.Unknown (OwnsSymbol (symbols_of no_one e)) (IsSymbol e.wide) e.symbols n a h.symbols (h.symbols.known n a x))
 
   globals_are : keys_at e.symbols.names (symbols_of no_one e).globals ≡ defined_globals (module_of e)
   globals_are = keys_are (λ (g : Global). g.symbol) e.symbols.names e.globals
@@ -167,7 +167,7 @@ module _ (e : Input) (h : Stands no_one e) where
       ])
 
   -- the names of globals and functions are bytes that are not left out, and each is new
-  pub symbols_end : AllByRecursion IsSymbol (defined_globals (module_of e) ++ functions_of (module_of e)) × AreNew [] (defined_globals (module_of e) ++ functions_of (module_of e))
+  pub symbols_end : AllByRecursion (IsSymbol e.wide) (defined_globals (module_of e) ++ functions_of (module_of e)) × AreNew [] (defined_globals (module_of e) ++ functions_of (module_of e))
   symbols_end =
       let names = e.symbols.names in
       let gs = keys_at names (symbols_of no_one e).globals in
@@ -176,9 +176,9 @@ module _ (e : Input) (h : Stands no_one e) where
       let are : gs ++ (ds ++ fs) ≡ defined_globals (module_of e) ++ functions_of (module_of e) =
       ap (λ (l : List Text). l ++ (ds ++ fs)) globals_are ∙ ap (λ (l : List Text). defined_globals (module_of e) ++ (l ++ fs)) declares_are
       ∙ ap (λ (l : List Text). defined_globals (module_of e) ++ (declared_functions (module_of e) ++ l)) functions_are in (
-        subst (AllByRecursion IsSymbol) are
-            (all_join IsSymbol gs (ds ++ fs) (all_keys IsSymbol names (symbols_of no_one e).globals (λ place n x. symbol_good n (symbol.Global place) x))
-            (all_join IsSymbol ds fs (all_keys IsSymbol names (symbols_of no_one e).declares (λ place n x. symbol_good n (symbol.Declared place) x))
-            (all_keys IsSymbol names (symbols_of no_one e).functions (λ place n x. symbol_good n (symbol.Defined place) x)))),
+        subst (AllByRecursion (IsSymbol e.wide)) are
+            (all_join (IsSymbol e.wide) gs (ds ++ fs) (all_keys (IsSymbol e.wide) names (symbols_of no_one e).globals (λ place n x. symbol_good n (symbol.Global place) x))
+            (all_join (IsSymbol e.wide) ds fs (all_keys (IsSymbol e.wide) names (symbols_of no_one e).declares (λ place n x. symbol_good n (symbol.Declared place) x))
+            (all_keys (IsSymbol e.wide) names (symbols_of no_one e).functions (λ place n x. symbol_good n (symbol.Defined place) x)))),
         subst (AreNew []) are (new_append [] gs (ds ++ fs) globals_new (new_append gs ds fs declares_new functions_new)),
       )

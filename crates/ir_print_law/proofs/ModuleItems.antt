@@ -142,12 +142,12 @@ seen_symbols i = mentioned (spelled i.cursor) symbol.Unknown i.symbols
 
 -- a name of a symbol may be defined here
 abbrev IsNewName : Input → Type 0
-IsNewName i = (is_known_symbol i ≡ false) × (is_left_out (spelled i.cursor) ≡ false)
+IsNewName i = (is_known_symbol i ≡ false) × (is_left_out i.wide (spelled i.cursor) ≡ false)
 
-is_seen : (i : Input) → Stands no_one i → AreSymbols (symbols_of no_one i) (seen_symbols i)
-is_seen i h = table_mentions symbol.Unknown (OwnsSymbol (symbols_of no_one i)) IsSymbol i.symbols (spelled i.cursor) (spelled_bytes i.cursor h.bytes) h.symbols
+is_seen : (i : Input) → Stands no_one i → AreSymbols i.wide (symbols_of no_one i) (seen_symbols i)
+is_seen i h = table_mentions symbol.Unknown (OwnsSymbol (symbols_of no_one i)) (IsSymbol i.wide) i.symbols (spelled i.cursor) (spelled_bytes i.cursor h.bytes) h.symbols
 
-is_named : (i : Input) → IsNewName i → Stands no_one i → IsSymbol (spelled i.cursor)
+is_named : (i : Input) → IsNewName i → Stands no_one i → IsSymbol i.wide (spelled i.cursor)
 is_named i new h = (spelled_bytes i.cursor h.bytes, new.1)
 
 there : (i : Input) → slice_get (seen_symbols i).names (symbol_number i) ≡ Some (spelled i.cursor)
@@ -161,10 +161,10 @@ stands_global_name i few new h = record {
   ordered = h.ordered;
   once = h.once;
   structs = h.structs;
-  symbols = subst (λ (l : List ℕ). AreSymbols (record own { globals = l }) (defined n (symbol.Global (length i.globals)) t))
+  symbols = subst (λ (l : List ℕ). AreSymbols i.wide (record own { globals = l }) (defined n (symbol.Global (length i.globals)) t))
       (nil_first (map (λ (g : Global). g.symbol) i.globals) n)
-      (subst (λ (k : ℕ). AreSymbols (more_globals own n) (defined n (symbol.Global k) t)) (plain_length (λ (g : Global). g.symbol) i.globals)
-      (global_defines own t n (spelled i.cursor) (there i) new.0 (is_named i new h) (is_seen i h)));
+      (subst (λ (k : ℕ). AreSymbols i.wide (more_globals own n) (defined n (symbol.Global k) t)) (plain_length (λ (g : Global). g.symbol) i.globals)
+      (global_defines i.wide own t n (spelled i.cursor) (there i) new.0 (is_named i new h) (is_seen i h)));
   few_globals = fits_one (length i.globals) 4096 few;
   few_declares = h.few_declares;
   few_functions = h.few_functions;
@@ -186,10 +186,10 @@ stands_declare_name i few new h = record {
   ordered = h.ordered;
   once = h.once;
   structs = h.structs;
-  symbols = subst (λ (l : List ℕ). AreSymbols (record own { declares = l }) (defined n (symbol.Declared (length i.declares)) t))
+  symbols = subst (λ (l : List ℕ). AreSymbols i.wide (record own { declares = l }) (defined n (symbol.Declared (length i.declares)) t))
       (nil_first (map (λ (d : Declare). d.symbol) i.declares) n)
-      (subst (λ (k : ℕ). AreSymbols (more_declares own n) (defined n (symbol.Declared k) t)) (plain_length (λ (d : Declare). d.symbol) i.declares)
-      (declared_defines own t n (spelled i.cursor) (there i) new.0 (is_named i new h) (is_seen i h)));
+      (subst (λ (k : ℕ). AreSymbols i.wide (more_declares own n) (defined n (symbol.Declared k) t)) (plain_length (λ (d : Declare). d.symbol) i.declares)
+      (declared_defines i.wide own t n (spelled i.cursor) (there i) new.0 (is_named i new h) (is_seen i h)));
   few_globals = h.few_globals;
   few_declares = fits_one (length i.declares) 65535 few;
   few_functions = h.few_functions;
@@ -211,10 +211,10 @@ stands_function_name i few new h = record {
   ordered = h.ordered;
   once = h.once;
   structs = h.structs;
-  symbols = subst (λ (l : List ℕ). AreSymbols (record own { functions = l }) (defined n (symbol.Defined (length i.functions)) t))
+  symbols = subst (λ (l : List ℕ). AreSymbols i.wide (record own { functions = l }) (defined n (symbol.Defined (length i.functions)) t))
       (nil_first (map (λ (f : Function). f.symbol) i.functions) n)
-      (subst (λ (k : ℕ). AreSymbols (more_functions own n) (defined n (symbol.Defined k) t)) (plain_length (λ (f : Function). f.symbol) i.functions)
-      (defined_defines own t n (spelled i.cursor) (there i) new.0 (is_named i new h) (is_seen i h)));
+      (subst (λ (k : ℕ). AreSymbols i.wide (more_functions own n) (defined n (symbol.Defined k) t)) (plain_length (λ (f : Function). f.symbol) i.functions)
+      (defined_defines i.wide own t n (spelled i.cursor) (there i) new.0 (is_named i new h) (is_seen i h)));
   few_globals = h.few_globals;
   few_declares = h.few_declares;
   few_functions = fits_one (length i.functions) 65535 few;
@@ -251,7 +251,7 @@ symbol_keeps e P pending sort i stands n o h f =
     let before = first ∙ rules.2.3.1 in
     let same : i ≡ h.1 = before ∙ rules.3.1 in
     let new : is_known_symbol i ≡ false = not_true (is_known_symbol i) (ap (λ (j : Input). not (is_known_symbol j)) before ∙ rules.3.0) in
-    let stays : is_left_out (spelled i.cursor) ≡ false = not_true (is_left_out (spelled i.cursor)) rules.2.2.0 in
+    let stays : is_left_out i.wide (spelled i.cursor) ≡ false = not_true (is_left_out i.wide (spelled i.cursor)) rules.2.2.0 in
     let number : symbol_number i ≡ n = ap symbol_number same ∙ h.3.0 in
     let end : with_symbol sort i ≡ o = ap (with_symbol sort) same ∙ h.3.1 in (
       subst (λ (k : ℕ). Stands (pending k) o × P (kept_of o)) number
@@ -300,7 +300,7 @@ global_added g i h = record {
   ordered = h.ordered;
   once = h.once;
   structs = h.structs;
-  symbols = subst (λ (l : List ℕ). AreSymbols (record (symbols_of no_one i) { globals = l }) i.symbols) (added (λ (x : Global). x.symbol) i.globals g) h.symbols;
+  symbols = subst (λ (l : List ℕ). AreSymbols i.wide (record (symbols_of no_one i) { globals = l }) i.symbols) (added (λ (x : Global). x.symbol) i.globals g) h.symbols;
   few_globals = added_length i.globals g 4096 h.few_globals;
   few_declares = h.few_declares;
   few_functions = h.few_functions;
@@ -314,7 +314,7 @@ declare_added d i h = record {
   ordered = h.ordered;
   once = h.once;
   structs = h.structs;
-  symbols = subst (λ (l : List ℕ). AreSymbols (record (symbols_of no_one i) { declares = l }) i.symbols) (added (λ (x : Declare). x.symbol) i.declares d) h.symbols;
+  symbols = subst (λ (l : List ℕ). AreSymbols i.wide (record (symbols_of no_one i) { declares = l }) i.symbols) (added (λ (x : Declare). x.symbol) i.declares d) h.symbols;
   few_globals = h.few_globals;
   few_declares = added_length i.declares d 65535 h.few_declares;
   few_functions = h.few_functions;
@@ -330,7 +330,7 @@ function_added symbol returned ps c bs i h = record {
   ordered = h.ordered;
   once = h.once;
   structs = h.structs;
-  symbols = subst (λ (l : List ℕ). AreSymbols (record (symbols_of no_one i) { functions = l }) i.symbols) (added (λ (x : Function). x.symbol) i.functions f) h.symbols;
+  symbols = subst (λ (l : List ℕ). AreSymbols i.wide (record (symbols_of no_one i) { functions = l }) i.symbols) (added (λ (x : Function). x.symbol) i.functions f) h.symbols;
   few_globals = h.few_globals;
   few_declares = h.few_declares;
   few_functions = added_length i.functions f 65535 h.few_functions;

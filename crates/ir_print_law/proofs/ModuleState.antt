@@ -74,7 +74,7 @@ pub record Stands (p : Pending) (i : Input) : Type 0 where
   pub ordered : AreOrdered i.types
   pub once : AreOnce i.types
   pub structs : AreStructs (struct_names_of p i) i.struct_names
-  pub symbols : AreSymbols (symbols_of p i) i.symbols
+  pub symbols : AreSymbols i.wide (symbols_of p i) i.symbols
   pub few_globals : length i.globals + length p.globals ≤ 4096
   pub few_declares : length i.declares + length p.declares ≤ 65535
   pub few_functions : length i.functions + length p.functions ≤ 65535
@@ -266,7 +266,7 @@ stands_symbol p i is_call h = record {
   ordered = h.ordered;
   once = h.once;
   structs = h.structs;
-  symbols = table_mentions symbol.Unknown (OwnsSymbol (symbols_of p i)) IsSymbol i.symbols (spelled i.cursor) (spelled_bytes i.cursor h.bytes) h.symbols;
+  symbols = table_mentions symbol.Unknown (OwnsSymbol (symbols_of p i)) (IsSymbol i.wide) i.symbols (spelled i.cursor) (spelled_bytes i.cursor h.bytes) h.symbols;
   few_globals = h.few_globals;
   few_declares = h.few_declares;
   few_functions = h.few_functions;

@@ -151,8 +151,8 @@ OwnsSymbol own (symbol.Declared d) n = slice_get own.declares d ≡ Some n
 OwnsSymbol own (symbol.Defined f) n = slice_get own.functions f ≡ Some n
 
 -- the names of globals and functions, where these have one
-abbrev pub AreSymbols : Owned → Table SymbolSort → Type 0
-AreSymbols own t = IsTable symbol.Unknown (OwnsSymbol own) IsSymbol t
+abbrev pub AreSymbols : (wide : Bool) → Owned → Table SymbolSort → Type 0
+AreSymbols wide own t = IsTable symbol.Unknown (OwnsSymbol own) (IsSymbol wide) t
 
 -- a name that is no global and no function so far means nothing
 no_symbol : (sorts : List SymbolSort) (n : ℕ) → n < length sorts → is_symbol (slice_get sorts n) ≡ false → slice_get sorts n ≡ Some symbol.Unknown
@@ -170,12 +170,12 @@ IsMore own later sort n =
     × ((k : ℕ) (x : SymbolSort) → OwnsSymbol later x k → OwnsSymbol own x k ⊎ ((k ≡ n) × (x ≡ sort)))
 
 -- the name means what is new
-symbol_defines : (own later : Owned) (t : Table SymbolSort) (n : ℕ) (sort : SymbolSort) (name : Text) → IsMore own later sort n → slice_get t.names n ≡ Some name
-    → is_symbol (slice_get t.sorts n) ≡ false → IsSymbol name → AreSymbols own t → AreSymbols later (defined n sort t)
-symbol_defines own later t n sort name more at none is h =
+symbol_defines : (wide : Bool) (own later : Owned) (t : Table SymbolSort) (n : ℕ) (sort : SymbolSort) (name : Text) → IsMore own later sort n → slice_get t.names n ≡ Some name
+    → is_symbol (slice_get t.sorts n) ≡ false → IsSymbol wide name → AreSymbols wide own t → AreSymbols wide later (defined n sort t)
+symbol_defines wide own later t n sort name more at none is h =
     let less = slice_get_within t.names n name at in
     let within : n < length t.sorts = (let s = h.same in omega (arith, less, s)) in
-    table_defines symbol.Unknown (OwnsSymbol own) (OwnsSymbol later) IsSymbol t n sort name at (no_symbol t.sorts n within none) is (λ k o. o) more.0 more.1 more.2 h
+    table_defines symbol.Unknown (OwnsSymbol own) (OwnsSymbol later) (IsSymbol wide) t n sort name at (no_symbol t.sorts n within none) is (λ k o. o) more.0 more.1 more.2 h
 
 -- what is owned is owned in a longer list
 longer : (own : List ℕ) (n g k : ℕ) → slice_get own g ≡ Some k → slice_get (own ++ n ∷ []) g ≡ Some k
@@ -237,19 +237,19 @@ defined_more own n = (up, get_end own.functions n, down) where
   down k (symbol.Defined f) o = elim (get_either own.functions n f k o) [ inl p ↦ inl p | inr p ↦ inr (p.1, ap symbol.Defined p.0) ]
 
 -- a name that means nothing so far is that of the next global
-pub global_defines : (own : Owned) (t : Table SymbolSort) (n : ℕ) (name : Text) → slice_get t.names n ≡ Some name → is_symbol (slice_get t.sorts n) ≡ false → IsSymbol name
-    → AreSymbols own t → AreSymbols (more_globals own n) (defined n (symbol.Global (length own.globals)) t)
-global_defines own t n name at none is h = symbol_defines own (more_globals own n) t n (symbol.Global (length own.globals)) name (global_more own n) at none is h
+pub global_defines : (wide : Bool) (own : Owned) (t : Table SymbolSort) (n : ℕ) (name : Text) → slice_get t.names n ≡ Some name → is_symbol (slice_get t.sorts n) ≡ false → IsSymbol wide name
+    → AreSymbols wide own t → AreSymbols wide (more_globals own n) (defined n (symbol.Global (length own.globals)) t)
+global_defines wide own t n name at none is h = symbol_defines wide own (more_globals own n) t n (symbol.Global (length own.globals)) name (global_more own n) at none is h
 
 -- the same of the next declared function
-pub declared_defines : (own : Owned) (t : Table SymbolSort) (n : ℕ) (name : Text) → slice_get t.names n ≡ Some name → is_symbol (slice_get t.sorts n) ≡ false → IsSymbol name
-    → AreSymbols own t → AreSymbols (more_declares own n) (defined n (symbol.Declared (length own.declares)) t)
-declared_defines own t n name at none is h = symbol_defines own (more_declares own n) t n (symbol.Declared (length own.declares)) name (declared_more own n) at none is h
+pub declared_defines : (wide : Bool) (own : Owned) (t : Table SymbolSort) (n : ℕ) (name : Text) → slice_get t.names n ≡ Some name → is_symbol (slice_get t.sorts n) ≡ false → IsSymbol wide name
+    → AreSymbols wide own t → AreSymbols wide (more_declares own n) (defined n (symbol.Declared (length own.declares)) t)
+declared_defines wide own t n name at none is h = symbol_defines wide own (more_declares own n) t n (symbol.Declared (length own.declares)) name (declared_more own n) at none is h
 
 -- the same of the next defined function
-pub defined_defines : (own : Owned) (t : Table SymbolSort) (n : ℕ) (name : Text) → slice_get t.names n ≡ Some name → is_symbol (slice_get t.sorts n) ≡ false → IsSymbol name
-    → AreSymbols own t → AreSymbols (more_functions own n) (defined n (symbol.Defined (length own.functions)) t)
-defined_defines own t n name at none is h = symbol_defines own (more_functions own n) t n (symbol.Defined (length own.functions)) name (defined_more own n) at none is h
+pub defined_defines : (wide : Bool) (own : Owned) (t : Table SymbolSort) (n : ℕ) (name : Text) → slice_get t.names n ≡ Some name → is_symbol (slice_get t.sorts n) ≡ false → IsSymbol wide name
+    → AreSymbols wide own t → AreSymbols wide (more_functions own n) (defined n (symbol.Defined (length own.functions)) t)
+defined_defines wide own t n name at none is h = symbol_defines wide own (more_functions own n) t n (symbol.Defined (length own.functions)) name (defined_more own n) at none is h
 
 -- before the first name
 pub no_structs : AreStructs [] (record { names = []; sorts = [] })
@@ -270,8 +270,8 @@ abbrev pub none_owned : Owned
 none_owned = record { globals = []; declares = []; functions = [] }
 
 -- before the first name of a global or a function
-pub no_symbols : AreSymbols none_owned (record { names = []; sorts = [] })
-no_symbols = record {
+pub no_symbols : (wide : Bool) → AreSymbols wide none_owned (record { names = []; sorts = [] })
+no_symbols wide = record {
   same = refl;
   bytes = λ n name e. absurd cc;
   places = λ n name e. absurd cc;

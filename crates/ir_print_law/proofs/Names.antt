@@ -100,7 +100,7 @@ module _ (s : Seat) where
       )) (λ b. tt))
 
   not_left_out_same : Same s not_left_out
-  not_left_out_same = rule s (λ i. not (is_left_out (spelled i.cursor))) (λ i. left_out i.cursor) (λ i j b. ap (λ (t : Text). not (is_left_out t)) (word i j b))
+  not_left_out_same = rule s (λ i. not (is_left_out i.wide (spelled i.cursor))) (λ i. left_out i.cursor) (λ i j b. rw (b.forms, word i j b) refl)
 
   pub callee_same : Same s callee
   unfolding callee

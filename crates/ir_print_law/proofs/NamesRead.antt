@@ -168,10 +168,10 @@ global_operands_are_read bits name i gap rest own no_intrinsic no_function less 
     let e : spelled i.cursor ≡ name = w.2 ∙ name_spelled blank.Kept name own in
     (global_read bits i name w.0 e no_intrinsic no_function less, e, w.3)
 
-callee_read : (i : Input) (name : Text) → spelled i.cursor ≡ name → is_left_out name ≡ false → number_of name i.symbols.names < 2 ^ 32 → callee.says i (number_of name i.symbols.names) (with_symbol_use true i)
+callee_read : (i : Input) (name : Text) → spelled i.cursor ≡ name → is_left_out i.wide name ≡ false → number_of name i.symbols.names < 2 ^ 32 → callee.says i (number_of name i.symbols.names) (with_symbol_use true i)
 unfolding callee
 callee_read i name e own less =
-    (tt, i, (ap (λ (x : Text). not (is_left_out x)) e ∙ ap not own, refl), symbol_read true i name e less)
+    (tt, i, (ap (λ (x : Text). not (is_left_out i.wide x)) e ∙ ap not own, refl), symbol_read true i name e less)
 
 pub callees_are_read : CalleesAreRead
 callees_are_read name i gap rest own known less blanks seam at =

@@ -92,7 +92,7 @@ module _ (m : Module) (f : Function) (named : AreNamed m f) (far : Far) where
   abbrev pub far_symbol : (more_globals more_functions : List Text) → Text → Far
   far_symbol more_globals more_functions name = record far { symbols = far.symbols ++ name ∷ []; globals = more_globals; functions = more_functions }
 
-  pub new_symbol_goes : (more_globals more_functions : List Text) (sort : SymbolSort) (name : Text) (i : Input) (gap rest : Text) (s : ℕ) → AreBytes name → is_left_out name ≡ false → (IsIn name far.symbols → ⊥)
+  pub new_symbol_goes : (more_globals more_functions : List Text) (sort : SymbolSort) (name : Text) (i : Input) (gap rest : Text) (s : ℕ) → AreBytes name → is_left_out m.wide name ≡ false → (IsIn name far.symbols → ⊥)
       → SymbolsThen more_globals more_functions name sort i
       → AreBlanks gap → IsSeam rest → Ready (known m f named far) s i (gap ++ 64 ∷ (name_text blank.Kept name ++ rest))
       → Goes (known m f named (far_symbol more_globals more_functions name)) s (names.new_symbol sort) i rest (λ n o. slice_get o.symbols.names n ≡ Some name)
@@ -106,7 +106,7 @@ module _ (m : Module) (f : Function) (named : AreNamed m f) (far : Far) where
       let room_symbols = r.symbols in
       let within = number_within (spelled i.cursor) i.symbols.names in
       let number : names.symbol_number i < 2 ^ 32 = omega (arith, room_symbols, within) in
-      let kept : not (is_left_out (spelled i.cursor)) ≡ true = ap (λ (x : Text). not (is_left_out x)) e ∙ ap not allowed in
+      let kept : not (is_left_out i.wide (spelled i.cursor)) ≡ true = rw (ready.forms, e) (ap not allowed) in
       let new = symbol_is_new m far.symbols far.globals far.functions i.symbols i.symbol_uses (spelled i.cursor) h.1 (λ is. none (subst (λ (x : Text). IsIn x far.symbols) e is)) in
       let longer = name_length (spelled i.cursor) i.symbols.names in (
         names.symbol_number i,

@@ -72,7 +72,7 @@ module _ (m : Module) (whole : IsWhole m) (func : ℕ) (old : Function) (at : sl
       printable = record {
         struct_names = h.struct_names;
         symbols = subst
-            (λ (names : List Text). AllByRecursion IsSymbol (defined_globals m ++ (declared_functions m ++ names)) × AreNew [] (defined_globals m ++ (declared_functions m ++ names)))
+            (λ (names : List Text). AllByRecursion (IsSymbol m.wide) (defined_globals m ++ (declared_functions m ++ names)) × AreNew [] (defined_globals m ++ (declared_functions m ++ names)))
             (sym same_names) h.symbols;
         structs = all_so (IsStructType m) (IsStructType (edited types f)) m.structs (struct_again m types (slice_set m.functions func f) (more, order) same_names) h.structs;
         globals = all_so (IsGlobal m) (IsGlobal (edited types f)) m.globals (global_again m types (slice_set m.functions func f) (more, order) same_names) h.globals;

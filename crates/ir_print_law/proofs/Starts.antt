@@ -78,9 +78,9 @@ function_keys m f is =
 
 -- ---- what is used is named as it is read
 
-symbol_named : (m : Module) → IsPrintable m → (is_call : Bool) (name : Text) → IsIn name (used_symbols m is_call) → AreBytes name × (is_left_out name ≡ false)
-symbol_named m is true name there = all_in IsSymbol (defined_globals m ++ functions_of m) name is.symbols.0 (in_second name (defined_globals m) (functions_of m) there)
-symbol_named m is false name there = all_in IsSymbol (defined_globals m ++ functions_of m) name is.symbols.0 (in_first name (defined_globals m) (functions_of m) there)
+symbol_named : (m : Module) → IsPrintable m → (is_call : Bool) (name : Text) → IsIn name (used_symbols m is_call) → AreBytes name × (is_left_out m.wide name ≡ false)
+symbol_named m is true name there = all_in (IsSymbol m.wide) (defined_globals m ++ functions_of m) name is.symbols.0 (in_second name (defined_globals m) (functions_of m) there)
+symbol_named m is false name there = all_in (IsSymbol m.wide) (defined_globals m ++ functions_of m) name is.symbols.0 (in_first name (defined_globals m) (functions_of m) there)
 
 pub nobody_named : (m : Module) → IsPrintable m → AreNamed m nobody
 nobody_named m is = record { is_key = λ wanted key there. absurd (no_key wanted key there); is_symbol = symbol_named m is }

@@ -24,7 +24,7 @@ pub record Invariant (m : Module) (f : Function) : Type 1 where
   pub Holds : Input → Type 0
   -- what is used is named as it is read
   pub is_key : (wanted : Wanted) (key : Text) → IsIn key (used_keys f wanted) → IsKey key
-  pub is_symbol : (is_call : Bool) (name : Text) → IsIn name (used_symbols m is_call) → AreBytes name × (is_left_out name ≡ false)
+  pub is_symbol : (is_call : Bool) (name : Text) → IsIn name (used_symbols m is_call) → AreBytes name × (is_left_out m.wide name ≡ false)
   pub on_token : (i : Input) → Holds i → Holds (advanced i)
   pub on_type : (i : Input) (t : IrType) → Holds i → Holds (with_type_interned t i)
   pub on_struct : (i : Input) → IsIn (spelled i.cursor) (defined_structs m) → Holds i → Holds (with_struct_use i)

@@ -60,8 +60,8 @@ prints_again m is fits =
     let i = start_in m.wide (text_of m) (lexed_of (text_of m)) in
     let size = ap length parts ∙ length-append structs (globals ++ (declares ++ functions)) in
     let long = structs_long m m.structs in
-    let own = all_first IsSymbol (defined_globals m) (functions_of m) is.symbols.0 in
-    let others = all_second IsSymbol (defined_globals m) (functions_of m) is.symbols.0 in
+    let own = all_first (IsSymbol m.wide) (defined_globals m) (functions_of m) is.symbols.0 in
+    let others = all_second (IsSymbol m.wide) (defined_globals m) (functions_of m) is.symbols.0 in
     let h = structs_go m is (nobody_named m is) m.globals m.declares m.functions m.structs far_start (start_in m.wide (text_of m) (lexed_of (text_of m))) [] refl past_end.1 past_end.0 is.structs is.struct_names.0 is.struct_names.1
     (omega (arith, fits, size, long)) refl
     (λ names ts j gap blanks past out ready_j.

@@ -1,12 +1,15 @@
 -- Texts in which the wide forms may not stand: they are read as if there were no wide forms.
-use Rattle.std.specs.Prelude.{◌≡◌, ℕ, Bool, false, Option, Some, None}
-use Rattle.grammar.specs.Grammar.{look}
+use Rattle.std.specs.Prelude.{◌≡◌, ℕ, Bool, false, not, ◌&&◌, ◌||◌, Option, Some, None, codes}
+use Rattle.std.specs.Str.{bytes_eq}
+use Rattle.grammar.specs.Grammar.{checked, look}
 use Rattle.ir_ast.specs.declared.numbers.Arithmetic.{Arithmetic}
 use Rattle.ir_ast.specs.declared.numbers.NumberOp.{NumberOp}
 use Rattle.ir_ast.specs.declared.op.Op.TheVariants as op
-use Rattle.ir_forms.specs.Cursor.{kind}
+use Rattle.ir_forms.specs.Cursor.{kind, left_out, spelled}
 use Rattle.ir_forms.specs.Input.{Form}
 use Rattle.ir_forms.specs.Instructions.{wide_op}
+use Rattle.ir_forms.specs.Intrinsics.{is_intrinsic}
+use Rattle.ir_forms.specs.Names.{not_left_out}
 use Rattle.ir_forms.specs.Ops.{as_op}
 use Rattle.ir_forms.specs.Numbers.{arithmetic, arithmetic_of, integer_op, resized}
 use Rattle.ir_forms.specs.declared.input.Input.{Input}
@@ -34,6 +37,18 @@ AreCoreRead = (value : ℕ) (i : Input) → i.wide ≡ false → (integer_op val
 -- and so it is after a word that begins a wide form
 abbrev pub AreCoreWordsRead : Type 0
 AreCoreWordsRead = (value : ℕ) (i : Input) → i.wide ≡ false → (wide_op value).read i ≡ (as_op op.Number (core_op value)).read i
+
+-- of the intrinsics, all but three of the runtime are left out
+abbrev pub is_core_left_out : Text → Bool
+is_core_left_out name = is_intrinsic name && not (bytes_eq name (codes "llvm.gcroot") || bytes_eq name (codes "llvm.gcread") || bytes_eq name (codes "llvm.gcwrite"))
+
+-- a global name that may be defined or called, where there are no wide forms
+abbrev pub core_name : Form (Unit {0})
+core_name = checked (λ i. not (is_core_left_out (spelled i.cursor))) (λ i. left_out i.cursor)
+
+-- and the same names may be defined and called
+abbrev pub AreCoreNamesRead : Type 0
+AreCoreNamesRead = (i : Input) → i.wide ≡ false → not_left_out.read i ≡ core_name.read i
 
 -- and where a text is read, whether they may stand is at its end as it was before its first token
 abbrev pub FormsStay : Type 0

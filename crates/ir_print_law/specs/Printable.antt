@@ -145,14 +145,14 @@ abbrev pub IsDeclare : Module → Declare → Type 0
 IsDeclare m declared =
     (IsVoid m declared.returned ⊎ IsAnyType m declared.returned) × AllByRecursion (IsAnyType m) declared.parameters × (declared.runtime ≡ runtime_of (name_at m.symbols declared.symbol))
 
--- a global name is bytes, and no intrinsic's that is left out
-abbrev pub IsSymbol : Text → Type 0
-IsSymbol name = AreBytes name × (is_left_out name ≡ false)
+-- a global name is bytes, and no intrinsic's that is left out by these forms
+abbrev pub IsSymbol : (wide : Bool) → Text → Type 0
+IsSymbol wide name = AreBytes name × (is_left_out wide name ≡ false)
 
 -- A module whose names are defined once, whose numbers and counts are within bounds, and whose instructions are those that are read.
 pub record IsPrintable (m : Module) : Type 0 where
   pub struct_names : AllByRecursion AreBytes (defined_structs m) × AreNew [] (defined_structs m)
-  pub symbols : AllByRecursion IsSymbol (defined_globals m ++ functions_of m) × AreNew [] (defined_globals m ++ functions_of m)
+  pub symbols : AllByRecursion (IsSymbol m.wide) (defined_globals m ++ functions_of m) × AreNew [] (defined_globals m ++ functions_of m)
   pub structs : AllByRecursion (IsStructType m) m.structs
   pub globals : AllByRecursion (IsGlobal m) m.globals
   pub few_globals : length m.globals ≤ 4096

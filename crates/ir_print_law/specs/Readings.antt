@@ -68,7 +68,7 @@ GlobalOperandsAreRead =
 -- the name of a function is read as that name where it is called
 abbrev pub CalleesAreRead : Type 0
 CalleesAreRead =
-    (name : Text) (i : Input) (gap rest : Text) → AreBytes name → is_left_out name ≡ false → number_of name i.symbols.names < 2 ^ 32
+    (name : Text) (i : Input) (gap rest : Text) → AreBytes name → is_left_out i.wide name ≡ false → number_of name i.symbols.names < 2 ^ 32
     → AreBlanks gap → IsSeam rest → Stands i.cursor (gap ++ 64 ∷ (name_text blank.Kept name ++ rest))
     → callee.says i (number_of name i.symbols.names) (with_symbol_use true i) × (spelled i.cursor ≡ name) × Stands (with_symbol_use true i).cursor rest
 

@@ -1,5 +1,5 @@
 //! What is printed is read again.
-ghost use Rattle.ir_print_law.specs.CoreForms.{AreCoreRead, AreCoreWordsRead, FormsStay};
+ghost use Rattle.ir_print_law.specs.CoreForms.{AreCoreNamesRead, AreCoreRead, AreCoreWordsRead, FormsStay};
 ghost use Rattle.ir_print_law.specs.Ends.{JumpsAreRead, EmptyReturnsAreRead, UnreachablesAreRead};
 ghost use Rattle.ir_print_law.specs.Stars.{StarsAreRead};
 ghost use Rattle.ir_print_law.specs.Readings.{ConstantsAreRead, LocalsAreRead, LocalOperandsAreRead, GlobalOperandsAreRead, CalleesAreRead, StructNamesAreRead, TargetsAreRead, NewValuesAreRead, NumberedValuesAreRead, LabelsAreRead, CollectorsAreRead, IntegerTypesAreRead};
@@ -40,10 +40,11 @@ pub fn star_law()
     ensures { StarsAreRead }
 {}
 
-/// Where the wide forms may not stand, an operation on integers is read as if there were none: the same one, or the same fault. And
-/// nothing that is read changes whether they may.
+/// Where the wide forms may not stand, an operation on integers is read as if there were none: the same one, or the same fault. The same names
+/// of intrinsics are left out. And nothing that is read changes whether the wide forms may stand.
 pub fn core_law()
     ensures core { AreCoreRead }
     ensures words { AreCoreWordsRead }
+    ensures names { AreCoreNamesRead }
     ensures stay { FormsStay }
 {}

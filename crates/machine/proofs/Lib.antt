@@ -1,3 +1,5 @@
+mod Turns
+mod WrittenTypes
 mod Few
 mod AsksArguments
 mod Phis

@@ -1,5 +1,5 @@
 -- What an instruction asks for.
-use Rattle.std.specs.Prelude.{ℕ, ◌==◌, nat_lt, Bool, true, false, ◌&&◌, ◌||◌, if◌then◌else◌, List, [], ◌∷◌, length, slice_get, Option, Some, None, is_some, not}
+use Rattle.std.specs.Prelude.{ℕ, ◌==◌, nat_lt, Bool, true, false, ◌&&◌, ◌||◌, if◌then◌else◌, List, [], ◌∷◌, length, map, slice_get, Option, Some, None, is_some, not}
 use Rattle.std.specs.List.{list_all}
 use Rattle.ir_ast.specs.declared.argument.Argument.{Argument}
 use Rattle.ir_ast.specs.declared.calls.Call.{Call}
@@ -10,6 +10,8 @@ use Rattle.ir_ast.specs.declared.ends.End.{End as AnEnd}
 use Rattle.ir_ast.specs.declared.ends.End.TheVariants as end
 use Rattle.ir_ast.specs.declared.function.Function.{Function}
 use Rattle.ir_ast.specs.declared.function.Parameter.{Parameter}
+use Rattle.ir_ast.specs.IntegerFunctions.{widths}
+use Rattle.ir_ast.specs.declared.integer_function.IntegerFunction.{IntegerFunction}
 use Rattle.ir_ast.specs.declared.items_of_module.Declare.{Declare}
 use Rattle.ir_ast.specs.declared.items_of_module.SymbolSort.{SymbolSort}
 use Rattle.ir_ast.specs.declared.items_of_module.SymbolSort.TheVariants as symbol
@@ -206,6 +208,16 @@ abbrev pub are_safepoint_types : Module → (returned : ℕ) → List ℕ → Bo
 are_safepoint_types m returned [] = is_void (slice_get m.types returned)
 are_safepoint_types m returned parameters = false
 
+-- these are integers of these widths
+abbrev pub are_of_widths : Module → (widths types : List ℕ) → Bool
+are_of_widths m [] [] = true
+are_of_widths m (bits ∷ widths) (type ∷ types) = is_integer_of bits (slice_get m.types type) && are_of_widths m widths types
+are_of_widths m _ _ = false
+
+-- the types of a function of integers: what it takes, and an integer of its width
+abbrev pub are_integer_types : Module → IntegerFunction → (bits returned : ℕ) → List ℕ → Bool
+are_integer_types m function bits returned parameters = is_integer_of bits (slice_get m.types returned) && are_of_widths m (widths function bits) parameters
+
 -- these are the types of a function of the runtime
 abbrev pub are_types_of : Module → Runtime → (returned : ℕ) → (parameters : List ℕ) → Bool
 are_types_of m runtime.Alloc = are_alloc_types m
@@ -213,6 +225,7 @@ are_types_of m runtime.Safepoint = are_safepoint_types m
 are_types_of m runtime.GcRoot = are_gcroot_types m
 are_types_of m runtime.GcRead = are_gcread_types m
 are_types_of m runtime.GcWrite = are_gcwrite_types m
+are_types_of m (runtime.Integer function bits) = are_integer_types m function bits
 
 -- whether a name is declared with types that pass a test
 abbrev pub declared_with : (ℕ → List ℕ → Bool) → Option Declare → Bool
@@ -279,6 +292,15 @@ abbrev pub safepoint_action : Module → (returned : ℕ) → List Argument → 
 safepoint_action m returned [] = only_if (are_safepoint_types m returned []) Safepoint
 safepoint_action m returned arguments = Wrong
 
+-- the types with which arguments are written
+abbrev pub written_types : List Argument → List ℕ
+written_types arguments = map (λ argument. argument.written) arguments
+
+-- a function of integers takes integers
+abbrev pub integer_action : Module → Function → SlotTable → List Value → IntegerFunction → (bits returned : ℕ) → List Argument → Action
+integer_action m f slots registers function bits returned arguments =
+    only_if (are_integer_types m function bits returned (written_types arguments) && are_indices m f slots registers arguments) Local
+
 -- ---- calls of defined functions
 
 -- the number of the defined function that a name of this sort is
@@ -320,6 +342,8 @@ call_action p f slots registers returned arguments declare callee (Some runtime.
     only_if (declared_with (are_gcwrite_types p.of_module) declare) (gcwrite_action p f slots registers returned arguments)
 call_action p f slots registers returned arguments declare callee (Some runtime.Safepoint) =
     only_if (declared_with (are_safepoint_types p.of_module) declare) (safepoint_action p.of_module returned arguments)
+call_action p f slots registers returned arguments declare callee (Some (runtime.Integer function bits)) =
+    only_if (declared_with (are_integer_types p.of_module function bits) declare) (integer_action p.of_module f slots registers function bits returned arguments)
 call_action p f slots registers returned arguments declare callee None = defined_action p.of_module f slots registers returned arguments callee
 
 -- ---- the end of a block

@@ -33,11 +33,11 @@ abbrev pub differ : Bool → Bool → Bool
 differ true b = not b
 differ false b = b
 
--- how many times a number is in another one; 0 where it is 0
+-- how many times the second number is in the first one; 0 where the second one is 0
 abbrev pub quotient : (a b : ℕ) → ℕ
 quotient a b = if b == 0 then 0 else a / b
 
--- what is left then; 0 where it is 0
+-- what is left of the first number then; 0 where the second one is 0
 abbrev pub rest : (a b : ℕ) → ℕ
 rest a b = if b == 0 then 0 else a % b
 

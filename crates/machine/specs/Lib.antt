@@ -1,5 +1,6 @@
 pub mod Kinds
 pub mod Integers
+pub mod IntegerFunctions
 pub mod Elements
 pub mod Jumps
 pub mod Asks

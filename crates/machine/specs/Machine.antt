@@ -11,6 +11,7 @@ use Rattle.ir_ast.specs.declared.ends.End.TheVariants as end
 use Rattle.ir_ast.specs.declared.function.Function.{Function}
 use Rattle.ir_ast.specs.declared.function.Parameter.{Parameter}
 use Rattle.ir_ast.specs.declared.instr.Instr.{Instr}
+use Rattle.ir_ast.specs.declared.integer_function.IntegerFunction.{IntegerFunction}
 use Rattle.ir_ast.specs.declared.memory.MemoryOp.{MemoryOp}
 use Rattle.ir_ast.specs.declared.memory.MemoryOp.TheVariants as memory
 use Rattle.ir_ast.specs.declared.module.Module.{Module}
@@ -35,6 +36,7 @@ use Rattle.machine.specs.declared.answer.Answer.{Answer}
 use Rattle.machine.specs.declared.answer.Answer.TheVariants as answer
 use Rattle.machine.specs.declared.frame.Frame.{Frame}
 use Rattle.machine.specs.Kinds.{is_integer, bits_at, number_in, value_of, slot_at_place, address_at_place}
+use Rattle.machine.specs.IntegerFunctions.{function_value}
 use Rattle.machine.specs.Integers.{computed, resized, compares, compares_equal, truth}
 use Rattle.machine.specs.Elements.{element_offset, element_place, address_of, global_kind, read_value}
 use Rattle.machine.specs.Jumps.{put_register, phis_of, put_phis}
@@ -180,11 +182,23 @@ abbrev pub place_of_call : Module → Function → SlotTable → List Value → 
 place_of_call m f slots registers (object ∷ place ∷ arguments) = address_at_place m f slots registers place.written place.operand
 place_of_call m f slots registers _ = None
 
+-- the integer that an argument is, if there is one
+abbrev pub integer_argument : Module → List Value → Option Argument → ℕ
+integer_argument m registers None = 0
+integer_argument m registers (Some argument) = number_in (value_of m registers argument.written argument.operand)
+
+-- what a function of integers gives of its arguments
+abbrev pub integers_value : Module → List Value → IntegerFunction → (bits : ℕ) → List Argument → Value
+integers_value m registers function bits arguments =
+    let taken = λ (n : ℕ). integer_argument m registers (slice_get arguments n) in
+    value.Number (function_value function bits (taken 0) (taken 1) (taken 2))
+
 -- the frame after a call
 abbrev pub after_call : LaidOut → Function → SlotTable → (name : Option ℕ) → List Argument → Option Runtime → Answer → Frame → Frame
 after_call p f slots name arguments (Some runtime.Alloc) given frame = set_register name (alloc_value (layout_of_call p.of_module arguments) given) frame
 after_call p f slots name arguments (Some runtime.GcRoot) given frame = set_slot (root_of_call p.of_module f slots arguments) value.Null frame
 after_call p f slots name arguments (Some runtime.GcRead) given frame = set_register name (read_at p (place_of_call p.of_module f slots frame.registers arguments) given) frame
+after_call p f slots name arguments (Some (runtime.Integer function bits)) given frame = set_register name (integers_value p.of_module frame.registers function bits arguments) frame
 after_call p f slots name arguments _ given frame = frame
 
 -- what an operation on integers gives

@@ -2,20 +2,22 @@
 ghost use Rattle.std.specs.Prelude.{◌≡◌, IfOk, slice_get};
 ghost use Rattle.std.specs.Option.{option_copied};
 ghost use Rattle.types.specs.RuntimeCall.{runtime_called};
-ghost use Rattle.machine.specs.Asks.{are_gcroot_types, are_gcread_types, are_gcwrite_types, are_alloc_types, are_safepoint_types, declare_of, are_types_of, declared_with, is_root_place, gcroot_action, gcread_action, gcwrite_action, layout_numbered, layout_named, alloc_of, alloc_action, safepoint_action, number_called, function_numbered, arguments_pass, defined_action, action_of_call};
+ghost use Rattle.ir_ast.specs.IntegerFunctions.{widths_taken};
+ghost use Rattle.machine.specs.Asks.{are_gcroot_types, are_gcread_types, are_gcwrite_types, are_alloc_types, are_safepoint_types, are_of_widths, are_integer_types, written_types, declare_of, are_types_of, declared_with, is_root_place, gcroot_action, gcread_action, gcwrite_action, layout_numbered, layout_named, alloc_of, alloc_action, safepoint_action, integer_action, number_called, function_numbered, arguments_pass, defined_action, action_of_call};
 ghost use Rattle.machine.specs.Kinds.{slot_at_place, address_at_place};
 ghost use Rattle.machine.specs.Machine.{alloc_value, layout_of_call, root_of_call, place_of_call, values_of, function_called};
 
 use crate::action::{Action, only_if};
 use crate::answer::Answer;
+use crate::elements::are_indices;
 use crate::frame_context::FrameContext;
 use crate::kinds::{is_byte_pointer, is_integer_of, is_place_of_bytes, is_void};
 use crate::memory::{barrier_action, read_action};
 use crate::operands::{address_at_place, is_usable, operand_value, slot_at_place, value_of};
 use crate::value::{Pointee, Value};
 use ir_ast::{
-    Argument, Call, Constant, Declare, FuncId, Function, Module, Op, Operand, Parameter, Runtime,
-    SymbolId, SymbolSort, TypeId,
+    Argument, Call, Constant, Declare, FuncId, Function, IntegerFunction, IntegersTaken, Module,
+    Op, Operand, Parameter, Runtime, SymbolId, SymbolSort, TypeId, integers_taken,
 };
 use pools::LayoutId;
 use shadow_stack::SlotId;
@@ -75,6 +77,40 @@ fn are_safepoint_types(of_module: &Module, returned: TypeId, parameters: &[TypeI
     ensures { result ≡ are_safepoint_types of_module.now returned parameters.now }
 {
     parameters.is_empty() && is_void(of_module, returned)
+}
+
+/// Whether these are integers of the widths that are taken.
+fn are_taken(of_module: &Module, taken: IntegersTaken, bits: u64, types: &[TypeId]) -> bool
+    ensures { result ≡ are_of_widths of_module.now (widths_taken taken bits) types.now }
+{
+    match (taken, types) {
+        (IntegersTaken::One, [only]) => is_integer_of(of_module, bits, *only),
+        (IntegersTaken::Flagged, [only, flag]) => {
+            is_integer_of(of_module, bits, *only) && is_integer_of(of_module, 1, *flag)
+        }
+        (IntegersTaken::Two, [first, second]) => {
+            is_integer_of(of_module, bits, *first) && is_integer_of(of_module, bits, *second)
+        }
+        (IntegersTaken::Three, [first, second, third]) => {
+            is_integer_of(of_module, bits, *first)
+                && (is_integer_of(of_module, bits, *second)
+                    && is_integer_of(of_module, bits, *third))
+        }
+        _ => false,
+    }
+}
+
+fn are_integer_types(
+    of_module: &Module,
+    function: IntegerFunction,
+    bits: u64,
+    returned: TypeId,
+    parameters: &[TypeId],
+) -> bool
+    ensures { result ≡ are_integer_types of_module.now function bits returned parameters.now }
+{
+    is_integer_of(of_module, bits, returned)
+        && are_taken(of_module, integers_taken(function), bits, parameters)
 }
 
 /// The declaration of a global name.
@@ -213,6 +249,9 @@ fn are_types_of(
         Runtime::GcRoot => are_gcroot_types(of_module, returned, parameters),
         Runtime::GcRead => are_gcread_types(of_module, returned, parameters),
         Runtime::GcWrite => are_gcwrite_types(of_module, returned, parameters),
+        Runtime::Integer { function, bits } => {
+            are_integer_types(of_module, function, bits, returned, parameters)
+        }
     }
 }
 
@@ -243,6 +282,46 @@ fn safepoint_action(of_module: &Module, returned: TypeId, arguments: &[Argument]
         ),
         _ => Action::Wrong,
     }
+}
+
+/// Whether a function of integers is called with its types.
+fn are_written_types(
+    of_module: &Module,
+    function: IntegerFunction,
+    bits: u64,
+    returned: TypeId,
+    arguments: &[Argument],
+) -> bool
+    ensures { result ≡ are_integer_types of_module.now function bits returned (written_types arguments.now) }
+{
+    match arguments {
+        [only] => are_integer_types(of_module, function, bits, returned, &[only.written]),
+        [first, second] => {
+            let types = [first.written, second.written];
+            are_integer_types(of_module, function, bits, returned, &types)
+        }
+        [first, second, third] => {
+            let types = [first.written, second.written, third.written];
+            are_integer_types(of_module, function, bits, returned, &types)
+        }
+        _ => false,
+    }
+}
+
+fn integer_action(
+    context: &FrameContext<'_>,
+    function: IntegerFunction,
+    bits: u64,
+    returned: TypeId,
+    arguments: &[Argument],
+) -> Action
+    ensures { result ≡ integer_action context.now.program.now.of_module context.now.function.now context.now.slots.now context.now.registers.now function bits returned arguments.now }
+{
+    only_if(
+        are_written_types(context.of_module(), function, bits, returned, arguments)
+            && are_indices(context, arguments),
+        Action::Local,
+    )
 }
 
 /// The number of the defined function that a global name names.
@@ -337,6 +416,10 @@ pub fn call_action(context: &FrameContext<'_>, call: &Call) -> Action
         Some(Runtime::GcWrite) => only_if(
             declares(of_module, Runtime::GcWrite, declare),
             gcwrite_action(context, returned, arguments),
+        ),
+        Some(Runtime::Integer { function, bits }) => only_if(
+            declares(of_module, Runtime::Integer { function, bits }, declare),
+            integer_action(context, function, bits, returned, arguments),
         ),
         None => defined_action(
             context,

@@ -10,6 +10,7 @@ use crate::choices::choice_value;
 use crate::elements::element_address;
 use crate::frame_code::FrameCode;
 use crate::frame_context::FrameContext;
+use crate::integer_functions::integers_value;
 use crate::jumps::{phi_value, phis_of};
 use crate::kinds::is_integer;
 use crate::memory::{loaded_from, read_at};
@@ -165,6 +166,10 @@ impl Frame {
             Some(Runtime::GcRead) => {
                 let place = place_of_call(&context, arguments);
                 self.set_register(name, read_at(program, place, answer));
+            }
+            Some(Runtime::Integer { function, bits }) => {
+                let value = integers_value(&context, function, bits, arguments);
+                self.set_register(name, value);
             }
             _ => {}
         }

@@ -35,7 +35,7 @@ fn is_negative(bits: u32, number: u64) -> bool
 }
 
 /// How far an integer is from zero, read with its sign.
-fn magnitude(bits: u32, number: u64) -> u128
+pub fn magnitude(bits: u32, number: u64) -> u128
     ensures { result ≡ magnitude bits number }
 {
     if is_negative(bits, number) {

@@ -18,6 +18,7 @@ mod frame_context;
 mod frame_place;
 mod frame_roots;
 mod frames;
+mod integer_functions;
 mod integers;
 mod jumps;
 mod kinds;

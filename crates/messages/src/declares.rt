@@ -1,36 +1,72 @@
-//! How the functions of the runtime are declared.
+//! How the functions of the runtime and LLVM's functions of integers are declared.
 use crate::message::Message;
 use crate::pointers::Pointers;
-use ir_ast::{Declare, Module, Runtime};
+use ir_ast::{
+    Declare, IntegerFunction, IntegersTaken, Module, Runtime, integers_taken, integers_word,
+};
 
-fn typed_declare(runtime: &Runtime) -> &'static str {
-    match runtime {
-        Runtime::Alloc => "declare i8* @dg_alloc(i32)",
-        Runtime::Safepoint => "declare void @dg_safepoint()",
-        Runtime::GcRoot => "declare void @llvm.gcroot(i8**, i8*)",
-        Runtime::GcRead => "declare i8* @llvm.gcread(i8*, i8**)",
-        Runtime::GcWrite => "declare void @llvm.gcwrite(i8*, i8*, i8**)",
+/// The line that declares one of LLVM's functions of integers.
+fn put_integers_declare(out: &mut Message, function: IntegerFunction, bits: u64) {
+    out.put("declare i");
+    out.put_number(bits);
+    out.put(" @");
+    out.put_bytes(integers_word(function));
+    out.put_number(bits);
+    out.put("(i");
+    out.put_number(bits);
+    put_others(out, integers_taken(function), bits);
+    out.put(")")
+}
+
+/// The types of what a function of integers takes after the first one.
+fn put_others(out: &mut Message, taken: IntegersTaken, bits: u64) {
+    match taken {
+        IntegersTaken::One => {}
+        IntegersTaken::Flagged => out.put(", i1"),
+        IntegersTaken::Two => put_other(out, bits),
+        IntegersTaken::Three => {
+            put_other(out, bits);
+            put_other(out, bits)
+        }
     }
 }
 
-fn opaque_declare(runtime: &Runtime) -> &'static str {
+fn put_other(out: &mut Message, bits: u64) {
+    out.put(", i");
+    out.put_number(bits)
+}
+
+fn put_typed_declare(out: &mut Message, runtime: &Runtime) {
     match runtime {
-        Runtime::Alloc => "declare ptr @dg_alloc(i32)",
-        Runtime::Safepoint => "declare void @dg_safepoint()",
-        Runtime::GcRoot => "declare void @llvm.gcroot(ptr, ptr)",
-        Runtime::GcRead => "declare ptr @llvm.gcread(ptr, ptr)",
-        Runtime::GcWrite => "declare void @llvm.gcwrite(ptr, ptr, ptr)",
+        Runtime::Alloc => out.put("declare i8* @dg_alloc(i32)"),
+        Runtime::Safepoint => out.put("declare void @dg_safepoint()"),
+        Runtime::GcRoot => out.put("declare void @llvm.gcroot(i8**, i8*)"),
+        Runtime::GcRead => out.put("declare i8* @llvm.gcread(i8*, i8**)"),
+        Runtime::GcWrite => out.put("declare void @llvm.gcwrite(i8*, i8*, i8**)"),
+        Runtime::Integer { function, bits } => put_integers_declare(out, *function, *bits),
     }
 }
 
-/// The line that declares a function of the runtime.
-pub fn declare_of(runtime: &Runtime, pointers: Pointers) -> &'static str {
+fn put_opaque_declare(out: &mut Message, runtime: &Runtime) {
+    match runtime {
+        Runtime::Alloc => out.put("declare ptr @dg_alloc(i32)"),
+        Runtime::Safepoint => out.put("declare void @dg_safepoint()"),
+        Runtime::GcRoot => out.put("declare void @llvm.gcroot(ptr, ptr)"),
+        Runtime::GcRead => out.put("declare ptr @llvm.gcread(ptr, ptr)"),
+        Runtime::GcWrite => out.put("declare void @llvm.gcwrite(ptr, ptr, ptr)"),
+        Runtime::Integer { function, bits } => put_integers_declare(out, *function, *bits),
+    }
+}
+
+/// The line that declares a function of the runtime, or one of LLVM's functions of integers.
+pub fn put_declare_of(out: &mut Message, runtime: &Runtime, pointers: Pointers) {
     match pointers {
-        Pointers::Typed => typed_declare(runtime),
-        Pointers::Opaque => opaque_declare(runtime),
+        Pointers::Typed => put_typed_declare(out, runtime),
+        Pointers::Opaque => put_opaque_declare(out, runtime),
     }
 }
 
+/// Whether a declared function is this one of the runtime.
 fn is_of(declared: &Declare, runtime: &Runtime) -> bool {
     matches!(
         (&declared.runtime, runtime),
@@ -56,6 +92,6 @@ pub fn put_wanted_declare(out: &mut Message, of_module: &Module, runtime: &Runti
         return;
     }
     out.put("         and add this line outside the functions: ");
-    out.put(declare_of(runtime, Pointers::of_module(of_module)));
+    put_declare_of(out, runtime, Pointers::of_module(of_module));
     out.put("\n")
 }

@@ -20,7 +20,7 @@ mod roots;
 mod written_types;
 
 pub use cert_lines::{CertLine, cert_place};
-pub use declares::{declare_of, put_wanted_declare};
+pub use declares::{put_declare_of, put_wanted_declare};
 pub use excerpts::{put_position_line, put_token_line};
 pub use instructions::{Numbers, first_token};
 pub use lines::{Line, line_at, line_numbered};

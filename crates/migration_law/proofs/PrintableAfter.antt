@@ -63,7 +63,7 @@ module _ (m : Module) (ordered : ArePartsBefore m.types) where
   pub printable : IsPrintable m → IsPrintable (o m ordered)
   printable h = record {
     struct_names = subst (λ names. AllByRecursion AreBytes names × AreNew [] names) (sym (structs_same m ordered)) h.struct_names;
-    symbols = subst (λ names. AllByRecursion IsSymbol names × AreNew [] names) (sym (symbols_same m ordered)) h.symbols;
+    symbols = subst (λ names. AllByRecursion (IsSymbol m.wide) names × AreNew [] names) (sym (symbols_same m ordered)) h.symbols;
     structs = all_map (IsStructType m) (IsStructType (o m ordered)) (opaque_struct (numbers m ordered)) m.structs struct h.structs;
     globals = all_map (IsGlobal m) (IsGlobal (o m ordered)) (opaque_global (numbers m ordered)) m.globals global h.globals;
     few_globals = few (opaque_global (numbers m ordered)) m.globals 4096 h.few_globals;

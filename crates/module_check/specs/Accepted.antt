@@ -105,3 +105,16 @@ abbrev pub IsVerdictOf : Module → List Section → Reason → Type 0
 IsVerdictOf of_module certs (Refused refusal) = IsFirstRefusal of_module certs refusal
 IsVerdictOf of_module certs (Layout fault) = IsLayoutFault of_module fault
 IsVerdictOf of_module certs Memory = Unit
+
+-- the first fault of a laid out program is the verdict on its module
+pub verdict_of_fault : (program : LaidOut) (m : Module) (certs : List Section) (fault : BlockFault) → program.of_module ≡ m → AreLayouts m program.layouts → AreSizes m program.sizes
+    → IsModuleFault program certs (length program.of_module.functions) fault → IsVerdictOf m certs (reason_of_block fault)
+verdict_of_fault program m certs (block.Refused refusal) same laid_out sized first =
+    subst (λ q. IsFirstRefusal q certs refusal) same (record {
+      layouts = program.layouts;
+      sizes = program.sizes;
+      laid_out = subst (λ q. AreLayouts q program.layouts) (sym same) laid_out;
+      sized = subst (λ q. AreSizes q program.sizes) (sym same) sized;
+      first = first;
+    })
+verdict_of_fault program m certs block.Memory same laid_out sized first = tt

@@ -31,9 +31,9 @@ use Rattle.machine.specs.Asks.{read_action, load_action, gcread_action, alloc_of
 use Rattle.machine.specs.Elements.{element_offset}
 use Rattle.machine.specs.Jumps.{entry_for, entry_value, phi_value, phis_of, put_register, put_phis}
 use Rattle.machine.specs.Kinds.{register_at, bits_at, value_of, slot_at_place, address_at_place}
-use Rattle.machine.specs.Machine.{State, entry_frame, has_room, with_room, function_called, instr_at, end_at, step_action, frame_action, action, slot_value, set_register, set_slot, cast_from, read_at, loaded_from, alloc_value, layout_of_call, place_of_call, after_call, number_value, choice_value, element_address, after_memory, after_op, go_on, enter_block, values_of, called_with, frames_called, result_of, frames_returned, after_instr, after_end, after_last, after_step, after_frame, after_answer}
+use Rattle.machine.specs.Machine.{State, entry_frame, has_room, with_room, function_called, instr_at, end_at, step_action, frame_action, action, slot_value, set_register, set_slot, cast_from, read_at, loaded_from, alloc_value, layout_of_call, place_of_call, integers_value, after_call, number_value, choice_value, element_address, after_memory, after_op, go_on, enter_block, values_of, called_with, frames_called, result_of, frames_returned, after_instr, after_end, after_last, after_step, after_frame, after_answer}
 use Rattle.program_runner.specs.Kinds.{FitsHeap, FrameFits, FramesFit, IsHeapWith}
-use Rattle.program_runner.specs.Values.{PlaceFits, computed_below, resized_below, compared_fits, selected_fits, one_more_fits, value_fits, element_fits}
+use Rattle.program_runner.specs.Values.{PlaceFits, computed_below, function_value_below, resized_below, compared_fits, selected_fits, one_more_fits, value_fits, element_fits}
 use Rattle.program_runner.specs.Given.{GivesNothing, FitsAsked, nothing_at, nothing_claimed, only_gives, read_fits}
 use Rattle.program_runner.specs.Asks.{operand_fits, place_fits}
 use Rattle.program_runner.specs.Begun.{AllFit, entry_fits}
@@ -153,6 +153,8 @@ module _ (s : Setup) where
             by (inr g) = nothing_at s p (place_of_call p.of_module f slots frame.registers arguments) given g
       call_fits name returned arguments declare callee (Some runtime.GcWrite) given h = fits
       call_fits name returned arguments declare callee (Some runtime.Safepoint) given h = fits
+      call_fits name returned arguments declare callee (Some (runtime.Integer function bits)) given h =
+          register_fits name (integers_value p.of_module frame.registers function bits arguments) frame (function_value_below function bits _ _ _) fits
       call_fits name returned arguments declare callee None given h = fits
 
       -- the value of an operand fits

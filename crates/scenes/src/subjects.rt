@@ -2,7 +2,7 @@
 use crate::operands::{null_base_among, slot_among, stale_among, unavailable};
 use crate::scene::{Scene, There};
 use block_rules::Rule;
-use ir_ast::{Argument, MemoryOp, Op, Operand};
+use ir_ast::{Argument, MemoryOp, Op, Operand, Runtime};
 use types::runtime_called;
 
 /// The place of a load or a store.
@@ -74,11 +74,14 @@ fn index_of(operands: &[Operand]) -> Option<Operand> {
     }
 }
 
-/// Whether the refused instruction is a call of a function of the runtime.
+/// Whether the refused instruction is a call of a function of the runtime. A function of integers is none.
 pub fn is_runtime_call(scene: &Scene) -> bool {
     match scene.there() {
         There::Body(instr) => match &instr.op {
-            Op::Call(call) => runtime_called(scene.context.module(), call.callee).is_some(),
+            Op::Call(call) => match runtime_called(scene.context.module(), call.callee) {
+                None | Some(Runtime::Integer { .. }) => false,
+                Some(_) => true,
+            },
             _ => false,
         },
         _ => false,

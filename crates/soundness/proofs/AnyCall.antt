@@ -30,6 +30,7 @@ use Rattle.soundness.specs.Goes.{Goes, HaveMembers}
 use Rattle.soundness.proofs.Accesses.{gcread_goes, gcwrite_goes}
 use Rattle.soundness.proofs.Callees.{IsCallee, callee_is, defined_is}
 use Rattle.soundness.proofs.StepCalls.{alloc_goes, root_goes, safepoint_goes}
+use Rattle.soundness.proofs.IntegerCalls.{integer_goes}
 use Rattle.soundness.proofs.RulesHold.{rules_hold}
 use Rattle.block_rules.specs.declared.rule.Rule.TheVariants.{K18}
 
@@ -72,6 +73,8 @@ module _ (heap : Setup) (p : LaidOut) (certs : List Section) (reaches : Bool) (f
       of_runtime callee arguments runtime.GcRead _ c (gcread_goes heap p certs reaches f table guarded log guards fits here cells facts frame h members result returned (a.function_numbered p.of_module (a.number_called p.of_module callee)) c.0.declare arguments c.0.types c.0.arity e)
   runtime_goes callee arguments runtime.GcWrite c e =
       of_runtime callee arguments runtime.GcWrite _ c (gcwrite_goes heap p certs reaches f table guarded log guards fits here cells facts frame h members result returned (a.function_numbered p.of_module (a.number_called p.of_module callee)) c.0.declare arguments c.0.types c.0.arity e)
+  runtime_goes callee arguments (runtime.Integer function bits) c e =
+      of_runtime callee arguments (runtime.Integer function bits) _ c (integer_goes heap p certs reaches f table guarded log here cells facts frame h result returned (a.function_numbered p.of_module (a.number_called p.of_module callee)) function bits c.0.declare arguments c.0.types c.0.arity e)
 
   -- a call that the rules allow, and that is of no defined function
   pub call_goes : (callee : ℕ) (arguments : List Argument) → a.number_called p.of_module callee ≡ None → first_failing (call_conditions p certs f table here facts returned arguments (callee_of p.of_module callee (length arguments))) ≡ None

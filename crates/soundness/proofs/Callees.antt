@@ -1,10 +1,13 @@
 -- Which function a call is of, and the types of the runtime's functions.
 use Rattle.std.proofs.Common.{◌≡◌, ℕ, List, [], ◌∷◌, length, refl, sym, ap, ◌∙◌, subst, arith, true, false, Bool, Option, Some, None, slice_get}
-use Rattle.std.specs.Prelude.{◌==◌, ◌&&◌, if◌then◌else◌, is_none}
+use Rattle.std.specs.Prelude.{◌==◌, ◌&&◌, if◌then◌else◌, is_none, map}
 use Rattle.std.specs.List.{list_all, zip}
 use Rattle.lemmas.specs.Numbers.{test_true}
 use Rattle.lemmas.specs.Bools.{and_parts}
+use Rattle.ir_ast.specs.IntegerFunctions.{widths}
+use Rattle.ir_ast.specs.declared.argument.Argument.{Argument}
 use Rattle.ir_ast.specs.declared.function.Function.{Function}
+use Rattle.ir_ast.specs.declared.integer_function.IntegerFunction.{IntegerFunction}
 use Rattle.ir_ast.specs.declared.items_of_module.Declare.{Declare}
 use Rattle.ir_ast.specs.declared.items_of_module.SymbolSort.{SymbolSort}
 use Rattle.ir_ast.specs.declared.items_of_module.SymbolSort.TheVariants as symbol
@@ -14,7 +17,7 @@ use Rattle.ir_ast.specs.declared.runtime.Runtime.TheVariants as runtime
 use Rattle.types.specs.RuntimeCall.{runtime_called, runtime_of_declare, runtime_of_sort}
 use Rattle.block_rules.specs.declared.callee.Callee.TheVariants.{OfRuntime, OfModule, NoFunction}
 use Rattle.block_rules.specs.declared.signature.RuntimeType.TheVariants as types
-use Rattle.block_rules.specs.Signature.{signature_of, is_runtime_type, is_of_type, is_declared_as, callable, callable_declare, callable_function, callable_sort, callee_of}
+use Rattle.block_rules.specs.Signature.{signature_of, is_runtime_type, is_of_type, is_argument_of, is_declared_as, is_written_as, callable, callable_declare, callable_function, callable_sort, callee_of}
 use Rattle.block_rules.specs.RuntimeNames.{runtime_named}
 use Rattle.machine.specs.Asks as a
 use Rattle.soundness.proofs.KindLemmas.{bits_same, void_same, bytes_same, place_bytes_same}
@@ -132,16 +135,16 @@ three_parameters (x ∷ y ∷ z ∷ w ∷ xs) e = absurd (omega arith)
 
 module _ (m : Module) where
   -- the types of dg_alloc are those of the machine
-  pub alloc_types : (returned written : ℕ) → is_runtime_type m returned types.Pointer ≡ true → is_runtime_type m written types.Number ≡ true → a.are_alloc_types m returned (written ∷ []) ≡ true
+  pub alloc_types : (returned written : ℕ) → is_runtime_type m returned types.Pointer ≡ true → is_runtime_type m written (types.Bits 32) ≡ true → a.are_alloc_types m returned (written ∷ []) ≡ true
   alloc_types returned written a b = rw (sym (bytes_same m returned) ∙ a, sym (bits_same m 32 written) ∙ b) refl
 
   -- so are those with which it is declared
   pub alloc_declared : (d : Declare) → is_declared_as m d runtime.Alloc ≡ true → a.are_alloc_types m d.returned d.parameters ≡ true
   alloc_declared d e =
-      let a = and_parts (is_runtime_type m d.returned types.Pointer) ((length d.parameters == 1) && list_all (is_of_type m) (zip d.parameters (types.Number ∷ []))) e in
-      let b = and_parts (length d.parameters == 1) (list_all (is_of_type m) (zip d.parameters (types.Number ∷ []))) a.1 in
+      let a = and_parts (is_runtime_type m d.returned types.Pointer) ((length d.parameters == 1) && list_all (is_of_type m) (zip d.parameters ((types.Bits 32) ∷ []))) e in
+      let b = and_parts (length d.parameters == 1) (list_all (is_of_type m) (zip d.parameters ((types.Bits 32) ∷ []))) a.1 in
       let p = one_parameter d.parameters (test_true (length d.parameters) 1 b.0) in
-      let c = and_parts (is_runtime_type m p.0 types.Number) true (subst (λ x. list_all (is_of_type m) (zip x (types.Number ∷ [])) ≡ true) p.1 b.1) in
+      let c = and_parts (is_runtime_type m p.0 (types.Bits 32)) true (subst (λ x. list_all (is_of_type m) (zip x ((types.Bits 32) ∷ [])) ≡ true) p.1 b.1) in
       rw p.1 (alloc_types d.returned p.0 a.0 c.0)
 
   -- the types of gcroot are those of the machine
@@ -193,3 +196,36 @@ module _ (m : Module) where
       let g = and_parts (is_runtime_type m p.1 types.Pointer) (is_runtime_type m p.2 types.PointerToPointer && true) c.1 in
       let k = and_parts (is_runtime_type m p.2 types.PointerToPointer) true g.1 in
       rw p.3 (write_types d.returned p.0 p.1 p.2 a.0 c.0 g.0 k.0)
+
+  -- what is declared with integers of these widths is so to the machine
+  widths_declared : (taken written : List ℕ) → length written ≡ length (map types.Bits taken) → list_all (is_of_type m) (zip written (map types.Bits taken)) ≡ true → a.are_of_widths m taken written ≡ true
+  widths_declared [] [] same e = refl
+  widths_declared [] (w ∷ written) same e = absurd (omega (arith, same))
+  widths_declared (bits ∷ taken) [] same e = absurd (omega (arith, same))
+  widths_declared (bits ∷ taken) (w ∷ written) same e =
+      let b = and_parts (is_runtime_type m w (types.Bits bits)) (list_all (is_of_type m) (zip written (map types.Bits taken))) e in
+      rw (sym (bits_same m bits w) ∙ b.0, widths_declared taken written (omega (arith, same)) b.1) refl
+
+  -- so are the types with which a function of integers is declared
+  pub integer_declared : (function : IntegerFunction) (bits : ℕ) (d : Declare) → is_declared_as m d (runtime.Integer function bits) ≡ true → a.are_integer_types m function bits d.returned d.parameters ≡ true
+  integer_declared function bits d e =
+      let expected = map types.Bits (widths function bits) in
+      let a = and_parts (is_runtime_type m d.returned (types.Bits bits)) ((length d.parameters == length expected) && list_all (is_of_type m) (zip d.parameters expected)) e in
+      let b = and_parts (length d.parameters == length expected) (list_all (is_of_type m) (zip d.parameters expected)) a.1 in
+      rw (sym (bits_same m bits d.returned) ∙ a.0, widths_declared (widths function bits) d.parameters (test_true (length d.parameters) (length expected) b.0) b.1) refl
+
+  -- what is written with integers of these widths is so to the machine
+  widths_written : (taken : List ℕ) (arguments : List Argument) → length arguments ≡ length (map types.Bits taken) → list_all (is_argument_of m) (zip arguments (map types.Bits taken)) ≡ true → a.are_of_widths m taken (a.written_types arguments) ≡ true
+  widths_written [] [] same e = refl
+  widths_written [] (argument ∷ arguments) same e = absurd (omega (arith, same))
+  widths_written (bits ∷ taken) [] same e = absurd (omega (arith, same))
+  widths_written (bits ∷ taken) (argument ∷ arguments) same e =
+      let b = and_parts (is_runtime_type m argument.written (types.Bits bits)) (list_all (is_argument_of m) (zip arguments (map types.Bits taken))) e in
+      rw (sym (bits_same m bits argument.written) ∙ b.0, widths_written taken arguments (omega (arith, same)) b.1) refl
+
+  -- so are the types with which a call of a function of integers is written
+  pub integer_written : (function : IntegerFunction) (bits returned : ℕ) (arguments : List Argument) → length arguments ≡ length (map types.Bits (widths function bits)) → is_written_as m returned arguments (runtime.Integer function bits) ≡ true
+      → a.are_integer_types m function bits returned (a.written_types arguments) ≡ true
+  integer_written function bits returned arguments same e =
+      let b = and_parts (is_runtime_type m returned (types.Bits bits)) (list_all (is_argument_of m) (zip arguments (map types.Bits (widths function bits)))) e in
+      rw (sym (bits_same m bits returned) ∙ b.0, widths_written (widths function bits) arguments same b.1) refl

@@ -140,6 +140,7 @@ module _ (p : LaidOut) (f : Function) (table : SlotTable) (names : NamesRoots p.
   call_place name arguments (Some runtime.GcRoot) given frame = slot_place _ _ frame (call_root arguments)
   call_place name arguments (Some runtime.GcRead) given frame = register_place name _ frame
   call_place name arguments (Some runtime.GcWrite) given frame = same_place frame
+  call_place name arguments (Some (runtime.Integer function bits)) given frame = register_place name _ frame
 
   memory_place : (name : Option ℕ) (x : MemoryOp) (given : Answer) (frame : Frame) → SamePlace p.of_module table frame (mc.after_memory p f table name x given frame)
   memory_place name (memory.Alloca held) given frame = same_place frame

@@ -1,12 +1,7 @@
-use Rattle.std.proofs.Common.{◌≡◌, ◌∙◌, List, length, sym, subst}
+use Rattle.std.proofs.Common.{◌∙◌, length, sym, subst}
 use Rattle.certs.specs.declared.certs.Certs.{Certs}
 use Rattle.layout.specs.Layouts.{LaidOut}
-use Rattle.block_rules.specs.declared.block_fault.BlockFault.{BlockFault}
-use Rattle.block_rules.specs.declared.block_fault.BlockFault.TheVariants as block
-use Rattle.certs.specs.declared.section.Section.{Section}
-use Rattle.ir_ast.specs.declared.module.Module.{Module}
-use Rattle.layout.specs.Layouts.{AreLayouts, AreSizes}
-use Rattle.module_check.specs.Accepted.{IsFirstRefusal, IsModuleCertified, IsModuleFault, IsProgramCertified, IsVerdictOf, accepted_program, certified_program, reason_of_block, shaped}
+use Rattle.module_check.specs.Accepted.{IsModuleCertified, IsModuleFault, IsProgramCertified, IsVerdictOf, accepted_program, certified_program, shaped, verdict_of_fault}
 use Rattle.module_check.specs.declared.verdict.Reason.{Reason}
 use Rattle.module_check.specs.Exclusive.{only_memory}
 use Rattle.module_check.proofs.verdict.check.Goals as goal
@@ -44,19 +39,6 @@ returns-in-Some-clause-only c accepted =
     let fault = subst (λ (k : Certs). IsModuleFault under.program k.sections (length under.program.of_module.functions) c.in-Some.fault) (c.certs.ensures ∙ found.certs) of_program in
     c.refused.ensures.verdict ∙ c.from.ensures ∙ only_memory under.program (shaped c.args.of_module c.args.certs) c.args.certs.sections c.in-Some.fault found.of_module found.laid_out.0 found.laid_out.1 fault accepted
 
--- the first fault of a laid out program is the verdict on its module
-verdict_of : (p : LaidOut) (m : Module) (certs : List Section) (fault : BlockFault) → p.of_module ≡ m → AreLayouts m p.layouts → AreSizes m p.sizes
-    → IsModuleFault p certs (length p.of_module.functions) fault → IsVerdictOf m certs (reason_of_block fault)
-verdict_of p m certs (block.Refused refusal) same laid_out sized first =
-    subst (λ (q : Module). IsFirstRefusal q certs refusal) same (record {
-      layouts = p.layouts;
-      sizes = p.sizes;
-      laid_out = subst (λ (q : Module). AreLayouts q p.layouts) (sym same) laid_out;
-      sized = subst (λ (q : Module). AreSizes q p.sizes) (sym same) sized;
-      first = first;
-    })
-verdict_of p m certs block.Memory same laid_out sized first = tt
-
 pub returns-in-Some-clause-verdict : goal.returns-in-Some-clause-verdict
 returns-in-Some-clause-verdict c =
     let found = c.in_ok-under.ensures in
@@ -64,4 +46,4 @@ returns-in-Some-clause-verdict c =
     let of_program = subst (λ (p : LaidOut). IsModuleFault p c.certs.result.now.sections (length p.of_module.functions) c.in-Some.fault) c.program.ensures c.in-Some.ensures in
     let fault = subst (λ (k : Certs). IsModuleFault under.program k.sections (length under.program.of_module.functions) c.in-Some.fault) (c.certs.ensures ∙ found.certs) of_program in
     subst (λ (verdict : Reason). IsVerdictOf (shaped c.args.of_module c.args.certs) c.args.certs.sections verdict) (sym (c.refused.ensures.verdict ∙ c.from.ensures))
-    (verdict_of under.program (shaped c.args.of_module c.args.certs) c.args.certs.sections c.in-Some.fault found.of_module found.laid_out.0 found.laid_out.1 fault)
+    (verdict_of_fault under.program (shaped c.args.of_module c.args.certs) c.args.certs.sections c.in-Some.fault found.of_module found.laid_out.0 found.laid_out.1 fault)

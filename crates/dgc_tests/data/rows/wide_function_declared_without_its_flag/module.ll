@@ -1,0 +1,6 @@
+declare i32 @llvm.ctlz.i32(i32)
+define i32 @f(i32 %a, i32 %b) {
+entry:
+  %v = call i32 @llvm.ctlz.i32(i32 %a)
+  ret i32 %v
+}

@@ -1,0 +1,6 @@
+declare i64 @llvm.umin.i64(i64, i64)
+define i64 @f(i64 %n) {
+entry:
+  %v = add i64 %n, 3
+  ret i64 %v
+}

@@ -1,0 +1,1 @@
+declare i64 @llvm.ctpop.i100(i64)

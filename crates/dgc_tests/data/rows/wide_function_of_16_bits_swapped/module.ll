@@ -1,0 +1,1 @@
+declare i16 @llvm.bswap.i16(i16)

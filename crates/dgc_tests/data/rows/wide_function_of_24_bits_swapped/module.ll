@@ -1,0 +1,1 @@
+declare i24 @llvm.bswap.i24(i24)

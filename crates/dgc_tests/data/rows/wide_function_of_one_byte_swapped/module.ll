@@ -1,0 +1,1 @@
+declare i8 @llvm.bswap.i8(i8)

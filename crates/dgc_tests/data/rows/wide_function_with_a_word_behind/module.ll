@@ -1,0 +1,1 @@
+declare i32 @llvm.smax.i32.x(i32, i32)

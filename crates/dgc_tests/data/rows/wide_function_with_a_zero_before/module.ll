@@ -1,0 +1,1 @@
+declare i8 @llvm.smax.i08(i8, i8)

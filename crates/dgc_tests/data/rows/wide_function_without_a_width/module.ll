@@ -1,0 +1,1 @@
+declare i64 @llvm.smax(i64, i64)

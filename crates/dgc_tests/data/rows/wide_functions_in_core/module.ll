@@ -1,0 +1,28 @@
+declare i32 @llvm.smax.i32(i32, i32)
+declare i32 @llvm.smin.i32(i32, i32)
+declare i32 @llvm.umax.i32(i32, i32)
+declare i32 @llvm.umin.i32(i32, i32)
+declare i32 @llvm.abs.i32(i32, i1)
+declare i32 @llvm.ctpop.i32(i32)
+declare i32 @llvm.ctlz.i32(i32, i1)
+declare i32 @llvm.cttz.i32(i32, i1)
+declare i32 @llvm.bswap.i32(i32)
+declare i32 @llvm.bitreverse.i32(i32)
+declare i32 @llvm.fshl.i32(i32, i32, i32)
+declare i32 @llvm.fshr.i32(i32, i32, i32)
+define i32 @f(i32 %a, i32 %b) {
+entry:
+  %v1 = call i32 @llvm.smax.i32(i32 %a, i32 %b)
+  %v2 = call i32 @llvm.smin.i32(i32 %v1, i32 -3)
+  %v3 = call i32 @llvm.umax.i32(i32 %v2, i32 %b)
+  %v4 = call i32 @llvm.umin.i32(i32 %v3, i32 9)
+  %v5 = call i32 @llvm.abs.i32(i32 %v4, i1 false)
+  %v6 = call i32 @llvm.ctpop.i32(i32 %v5)
+  %v7 = call i32 @llvm.ctlz.i32(i32 %v6, i1 true)
+  %v8 = call i32 @llvm.cttz.i32(i32 %v7, i1 false)
+  %v9 = call i32 @llvm.bswap.i32(i32 %v8)
+  %v10 = call i32 @llvm.bitreverse.i32(i32 %v9)
+  %v11 = call i32 @llvm.fshl.i32(i32 %v10, i32 %a, i32 %b)
+  %v12 = call i32 @llvm.fshr.i32(i32 %v11, i32 %a, i32 5)
+  ret i32 %v12
+}
