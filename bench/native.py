@@ -28,7 +28,7 @@ def build(words, name, folder):
     """The three programs of a C file."""
     base, path = os.path.join(folder, name), os.path.join(natively.TOP, "examples", "native", name + ".c")
     module = natively.module_of_c(words.dgc, path, base, words.version)
-    built = {"native": natively.program(module, base + ".native", words.version)}
+    built = {"native": natively.program(words.dgc, module, base + ".native", words.version)}
     beside = os.path.join(natively.TOP, "bench", "native")
     common = [f"clang-{words.version}", "-O2", "-w", "-pthread", f'-DPROGRAM="{path}"', os.path.join(beside, "alloc.c"), os.path.join(beside, "main.c")]
     for kind, more in (("malloc", []), ("boehm", ["-DBOEHM", "-lgc"])):

@@ -3,7 +3,7 @@
 
     native_agree.py DGC [--threads N] [--seed S] [--versions V ..] [--keep FOLDER]
 
-Draws modules of agree.py (sixty functions each), writes them with opaque pointers by `dgc migrate`, lowers them, and compiles each by
+Draws modules of agree.py (sixty functions each), lowers them by `dgc lower`, and compiles each by
 LLVM 14 and the newest that is installed, at -O0, -O1, -O2 and -O3. Each function is a native thread beside the collector. Each begins
 late, when the one before has ended, as the interpreter runs them: their globals are shared. Goes on until N native threads (2,000) were
 compared. Prints how many were the same, and ends with 1 at the first that is not.
@@ -60,7 +60,7 @@ int main(void) {
 
 
 def drawn(words, folder, number):
-    """A drawn module with opaque pointers, what its threads return, and a main in C that runs them one after another."""
+    """A drawn module that is lowered, what its threads return, and a main in C that runs them one after another."""
     base = os.path.join(folder, f"m{number}")
     agree.write(base, agree.Module(random.Random(number)))
     replayed = natively.done([words.dgc, "replay", base + ".ll", base + ".trace"]).splitlines()
@@ -70,9 +70,7 @@ def drawn(words, folder, number):
     rows = ", ".join(f'{{"{start[0][1:]}", {{{", ".join(word + "u" for word in start[1:]) or 0}}}}}' for start in starts)
     with open(base + ".c", "w") as out:
         out.write(MAIN % (rows, agree.CELLS))
-    with open(base + ".opaque.ll", "w") as out:
-        out.write(natively.done([words.dgc, "migrate", base + ".ll"]))
-    natively.lowered(base + ".opaque.ll", base)
+    natively.lowered(words.dgc, [base + ".ll"], base)
     return base, wanted
 
 

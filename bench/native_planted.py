@@ -102,7 +102,7 @@ def main():
     with tempfile.TemporaryDirectory() as folder:
         base = os.path.join(folder, "lists")
         module = natively.module_of_c(words.dgc, os.path.join(natively.TOP, "examples", "native", "lists.c"), base, words.version)
-        made = natively.compiled(natively.lowered(module, base + ".rec", records=True), base + ".rec", words.version)
+        made = natively.compiled(natively.lowered(words.dgc, module, base + ".rec", records=True), base + ".rec", words.version)
         with open(base + ".trace", "w") as out:
             out.write(natively.trace([("struct.node", 110)], [f"@work 40 8 {n}" for n in range(3)], ["@work 40 8 3"]))
         for change in CHANGES:

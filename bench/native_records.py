@@ -116,12 +116,12 @@ def build(words, folder):
     for name in programs:
         base = os.path.join(folder, name)
         if name == "swap":
-            for source, to in (("barrier.ll", ".ll"), ("swap.shapes", ".shapes")):
+            for source, to in (("barrier.ll", ".ll"), ("swap.cert", ".cert"), ("swap.shapes", ".shapes")):
                 with open(os.path.join(natively.TOP, "examples", "swap", source)) as read, open(base + to, "w") as out:
                     out.write(read.read())
         else:
             natively.module_of_c(words.dgc, os.path.join(natively.TOP, "examples", "native", name + ".c"), base, words.version)
-        made = natively.compiled(natively.lowered(base + ".ll", base + ".rec", records=True), base + ".rec", words.version)
+        made = natively.compiled(natively.lowered(words.dgc, [base + ".ll", base + ".cert"], base + ".rec", records=True), base + ".rec", words.version)
         natively.linked([made], base + ".own", words.version, ["-DRECORD"])
         natively.linked([made], base + ".same", words.version, ["-DRECORD", "-DSAME_ORDER"])
     return programs

@@ -19,9 +19,9 @@ PROGRAMS = {"lists": [("struct.node", 2000)], "trees": [("struct.tree", 2000)], 
 
 
 def module_of(words, folder, name):
-    """The module of a program, with opaque pointers."""
+    """The paths of the module of a program and of its certificate."""
     if name == "swap":
-        return os.path.join(natively.TOP, "examples", "swap", "barrier.ll")
+        return [os.path.join(natively.TOP, "examples", "swap", file) for file in ("barrier.ll", "swap.cert")]
     return natively.module_of_c(words.dgc, os.path.join(natively.TOP, "examples", "native", name + ".c"), os.path.join(folder, name), words.version)
 
 
@@ -40,7 +40,7 @@ def main():
             with open(path, "w") as out:
                 out.write(natively.trace(PROGRAMS[name], starts[2:], starts[:2]))
             for sanitizer in natively.SANITIZED:
-                program = natively.program(module, os.path.join(folder, f"{name}.{sanitizer}"), words.version, sanitizer=sanitizer)
+                program = natively.program(words.dgc, module, os.path.join(folder, f"{name}.{sanitizer}"), words.version, sanitizer=sanitizer)
                 command = ["timeout", "-s", "TERM", "2", program, path] if name == "swap" else [program, path]
                 ran = subprocess.run(command, capture_output=True, text=True)
                 told = "Sanitizer" in ran.stderr or ran.returncode not in ([124] if name == "swap" else [0])

@@ -1,6 +1,6 @@
 """Builds native programs of modules, with the runtime in runtime/. For the scripts native*.py.
 
-A module is lowered (docs/LOWERING.md), optimised and compiled by one version of LLVM, and linked with the runtime and dgmain.c. That
+A module is lowered by `dgc lower` (docs/LOWERING.md), optimised and compiled by one version of LLVM, and linked with the runtime and dgmain.c. That
 program takes a trace, as `dgc run` does (docs/NATIVE.md).
 """
 import os
@@ -12,8 +12,6 @@ TOP = os.path.dirname(os.path.dirname(os.path.abspath(__file__)))
 RUNTIME = os.path.join(TOP, "runtime")
 RECORDS = os.path.join(TOP, "examples", "records")
 PIPELINE = os.path.join(TOP, "examples", "pipeline")
-# Lowers the module whose path comes after these words; with --record before it for a recorder.
-LOWER = [sys.executable, os.path.join(PIPELINE, "lower.py")]
 VERSIONS = ["22", "19", "16", "14"]
 # Attributes by which a sanitizer looks at a function of the module.
 SANITIZED = {"thread": "sanitize_thread", "address": "sanitize_address"}
@@ -35,9 +33,9 @@ def done(words, **more):
     return ran.stdout
 
 
-def lowered(module, base, records=False, sanitizer=None):
-    """The text of a module with opaque pointers for LLVM: base.low.ll."""
-    text = done([*LOWER, *(["--record"] if records else []), module])
+def lowered(dgc, module, base, records=False, sanitizer=None):
+    """The text of a module for LLVM: base.low.ll. module: the words after `dgc lower`, as the paths of a module and its certificate."""
+    text = done([dgc, "lower", *module, *(["--record"] if records else [])])
     with open(base + ".low.ll", "w") as out:
         out.write(text.replace('nounwind "no-builtins"', f'nounwind {SANITIZED[sanitizer]} "no-builtins"') if sanitizer else text)
     return base + ".low.ll"
@@ -64,14 +62,14 @@ def linked(objects, out, version, flags=(), sanitizer=None, runtime=RUNTIME):
     return out
 
 
-def program(module, base, version, sanitizer=None):
-    """A native program of a module."""
-    made = compiled(lowered(module, base, sanitizer=sanitizer), base, version, sanitizer=sanitizer)
+def program(dgc, module, base, version, sanitizer=None):
+    """A native program of a module, which is given as in `lowered`."""
+    made = compiled(lowered(dgc, module, base, sanitizer=sanitizer), base, version, sanitizer=sanitizer)
     return linked([made], base, version, sanitizer=sanitizer)
 
 
 def module_of_c(dgc, path, base, version):
-    """A module of a C program by the steps of examples/pipeline, its certificate and its shapes: base.ll, .cert, .shapes."""
+    """A module of a C program by the steps of examples/pipeline, its certificate and its shapes: base.ll, .cert, .shapes. Gives the first two paths."""
     done([f"clang-{version}", "-O1", "-Xclang", "-disable-llvm-passes", "-fno-discard-value-names", "-emit-llvm", "-S", "-o", base + ".1.ll", path])
     done([f"opt-{version}", "-S", "-passes=mem2reg,jump-threading,instnamer", "-o", base + ".2.ll", base + ".1.ll"])
     for script, source, out in (("gcroot.py", base + ".2.ll", base + ".ll"), ("shapes.py", base + ".ll", base + ".shapes")):
@@ -80,7 +78,7 @@ def module_of_c(dgc, path, base, version):
     with open(base + ".cert", "w") as file:
         file.write(done([dgc, "make", base + ".ll", "--shapes", base + ".shapes", "--why"]))
     done([dgc, "check", base + ".ll", base + ".cert"])
-    return base + ".ll"
+    return [base + ".ll", base + ".cert"]
 
 
 def trace(pools, starts, late=()):

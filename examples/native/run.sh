@@ -31,25 +31,23 @@ else
     trap 'rm -rf "$out"' EXIT
 fi
 
-# lower WORD ..: the text that LLVM compiles (docs/LOWERING.md).
-lower() {
-    python3 "$top/examples/pipeline/lower.py" "$@"
-}
-
-# build MODULE PROGRAM [--record]: a native program of a module with opaque pointers. From LLVM 20 on roots are lowered before passes.
+# build PROGRAM WORD ..: a native program of a module, by the words after `dgc lower`; one that records where the first is --record.
+# From LLVM 20 on roots are lowered before passes.
 build() {
-    lower $3 "$1" >"$2.ll" || fail "lower.py refuses $1"
+    program=$1
+    shift
+    "$dgc" lower "$@" >"$program.ll" 2>"$program.txt" || fail "$(cat "$program.ll" "$program.txt")"
     if [ "$llvm" -ge 20 ]; then
-        "opt-$llvm" '-passes=shadow-stack-gc-lowering,default<O2>' -o "$2.bc" "$2.ll" || fail "opt failed"
+        "opt-$llvm" '-passes=shadow-stack-gc-lowering,default<O2>' -o "$program.bc" "$program.ll" || fail "opt failed"
     else
-        cp "$2.ll" "$2.bc"
+        cp "$program.ll" "$program.bc"
     fi
     opaque=
     [ "$llvm" -gt 14 ] || opaque=-opaque-pointers
-    "llc-$llvm" $opaque -O2 -relocation-model=pic -filetype=obj -o "$2.o" "$2.bc" || fail "llc failed"
+    "llc-$llvm" $opaque -O2 -relocation-model=pic -filetype=obj -o "$program.o" "$program.bc" || fail "llc failed"
     flags=
-    [ -z "$3" ] || flags=-DRECORD
-    "clang-$llvm" -std=c11 -O2 -pthread $flags -I"$top/runtime" -I"$top/examples/records" -o "$2" "$2.o" "$top/runtime/dgrt.c" "$top/runtime/dgmain.c" || fail "the program is not linked"
+    [ "$1" != --record ] || flags=-DRECORD
+    "clang-$llvm" -std=c11 -O2 -pthread $flags -I"$top/runtime" -I"$top/examples/records" -o "$program" "$program.o" "$top/runtime/dgrt.c" "$top/runtime/dgmain.c" || fail "the program is not linked"
 }
 
 # conforms MODULE TRACE RECORD [SHAPES]: what dgc says of a record.
@@ -61,11 +59,11 @@ of_c() {
     echo "$1: C to a module, its certificate and the check (examples/pipeline/run.sh)"
     OUT="$out/$1" DGC="$dgc" LLVM="$llvm" sh "$top/examples/pipeline/run.sh" "$here/$1.c" >"$out/$1.txt" || fail "see $out/$1.txt"
     sed -n '/^5/{n;s/^ */    dgc check: /p}' "$out/$1.txt"
-    build "$out/$1/8.opaque.ll" "$out/$1/native"
+    build "$out/$1/native" "$out/$1/3.ll" "$out/$1/3.cert"
     echo "    four threads beside the collector:"
     "$out/$1/native" "$here/$1.trace" 2>"$out/$1/times.txt" >"$out/$1/ends.txt" || fail "the native program fails"
     sed 's/^/        /' "$out/$1/ends.txt"
-    build "$out/$1/8.opaque.ll" "$out/$1/recorder" --record
+    build "$out/$1/recorder" --record "$out/$1/3.ll" "$out/$1/3.cert"
     "$out/$1/recorder" "$here/$1.trace" "$out/$1/run.record" 2>/dev/null >"$out/$1/recorded.txt" || fail "the recorder fails"
     grep '^t ' "$out/$1/ends.txt" >"$out/$1/one.txt"
     grep '^t ' "$out/$1/recorded.txt" | cmp -s - "$out/$1/one.txt" || fail "the recorder's threads return something else"
@@ -78,7 +76,7 @@ of_c() {
 
 # record_swap NAME: records 100,000 steps of examples/swap/NAME.ll, whose threads have no end.
 record_swap() {
-    build "$top/examples/swap/$1.ll" "$out/swap/$1" --record
+    build "$out/swap/$1" --record "$top/examples/swap/$1.ll" --shapes "$top/examples/swap/swap.shapes"
     DG_LIMIT=100000 DG_STALL=20 "$out/swap/$1" "$here/swap.trace" "$out/swap/$1.record" 2>/dev/null || fail "the recorder of $1.ll fails"
     said=$(conforms "$top/examples/swap/$1.ll" "$here/swap.trace" "$out/swap/$1.record" "$top/examples/swap/swap.shapes")
     echo "    the record of $1.ll: $said"
@@ -88,7 +86,7 @@ of_swap() {
     mkdir -p "$out/swap"
     echo "swap: the modules of examples/swap"
     "$dgc" check "$top/examples/swap/barrier.ll" "$top/examples/swap/swap.cert" | sed 's/^/    dgc check barrier.ll: /'
-    build "$top/examples/swap/barrier.ll" "$out/swap/native"
+    build "$out/swap/native" "$top/examples/swap/barrier.ll" "$top/examples/swap/swap.cert"
     timeout 1 "$out/swap/native" "$here/swap.trace" >/dev/null 2>&1
     [ $? -eq 124 ] || fail "the native program ends"
     echo "    four threads ran for a second"

@@ -1,4 +1,4 @@
-"""Reads the text of LLVM IR: tokens, types, operands, instructions, functions. `lower.py` and `abstract.py` read by it.
+"""Reads the text of LLVM IR: tokens, types, operands, instructions, functions. `abstract.py` and `data.py` read by it.
 
 An instruction that is not known has the kind "other" and keeps its text. A text that has not the form of LLVM's is a Fault.
 """

@@ -1,18 +1,23 @@
 -- How calls are lowered.
 use Rattle.std.specs.Prelude.{Bool, List, [], ◌∷◌, ◌++◌, Option, Some, None, codes}
+use Rattle.ir_ast.specs.IntegerFunctions.{taken_by}
 use Rattle.ir_ast.specs.declared.argument.Argument.{Argument}
 use Rattle.ir_ast.specs.declared.calls.Call.{Call}
 use Rattle.ir_ast.specs.declared.instr.Instr.{Instr}
+use Rattle.ir_ast.specs.declared.integer_function.IntegersTaken.{IntegersTaken}
+use Rattle.ir_ast.specs.declared.integer_function.IntegersTaken.TheVariants.{Flagged}
 use Rattle.ir_ast.specs.declared.module.Module.{Module}
 use Rattle.ir_ast.specs.declared.runtime.Runtime.{Runtime}
 use Rattle.ir_ast.specs.declared.runtime.Runtime.TheVariants as runtime
 use Rattle.ir_tokens.specs.Bytes.{Text}
+use Rattle.ir_print.specs.Names.{global_text}
 use Rattle.ir_print.specs.Operands.{argument_text}
-use Rattle.ir_print.specs.Instructions.{instruction_line}
+use Rattle.ir_print.specs.Types.{type_text}
+use Rattle.ir_print.specs.Instructions.{instruction_line, result_text}
 use Rattle.types.specs.RuntimeCall.{runtime_called}
 use Rattle.lowering.specs.declared.words.Seat.{Seat}
 use Rattle.lowering.specs.Memory.{plain_line}
-use Rattle.lowering.specs.Words.{load_text}
+use Rattle.lowering.specs.Words.{load_text, local_line}
 
 -- the line that stores null into the slot that is made a root
 abbrev pub null_line : Module → (locals : List Text) → (arguments : List Argument) → Text
@@ -37,6 +42,17 @@ abbrev pub gcwrite_text : Module → (locals : List Text) → Instr → (argumen
 gcwrite_text m locals instr (value ∷ base ∷ place ∷ []) = barrier_line m locals value place
 gcwrite_text m locals instr arguments = instruction_line m locals instr
 
+-- a call of a function of an integer and a flag; for LLVM the flag would leave a result open, so it gets none that is set
+abbrev pub flagged_line : (recorded : Bool) → Module → (locals : List Text) → Instr → Call → (taken : Argument) → Text
+flagged_line recorded m locals instr call taken =
+    local_line recorded ++ codes "  " ++ result_text locals instr.result ++ codes "call " ++ type_text m call.returned ++ 32 ∷ global_text m call.callee
+    ++ 40 ∷ argument_text m locals taken ++ codes ", i1 false)\n"
+
+-- a call of a function of integers, by what it takes; it makes no step on shared words
+abbrev pub integers_text : (recorded : Bool) → Module → (locals : List Text) → Instr → Call → IntegersTaken → (arguments : List Argument) → Text
+integers_text recorded m locals instr call Flagged (taken ∷ flag ∷ []) = flagged_line recorded m locals instr call taken
+integers_text recorded m locals instr call _ arguments = plain_line recorded m locals instr
+
 -- a call, by the function of the runtime that it calls
 abbrev pub call_by : (recorded : Bool) → Module → (locals : List Text) → Seat → Instr → Call → Option Runtime → Text
 call_by recorded m locals seat instr call None = plain_line recorded m locals instr
@@ -45,6 +61,7 @@ call_by recorded m locals seat instr call (Some runtime.Safepoint) = instruction
 call_by recorded m locals seat instr call (Some runtime.GcRoot) = plain_line recorded m locals instr ++ null_line m locals call.arguments
 call_by recorded m locals seat instr call (Some runtime.GcRead) = gcread_text recorded m locals seat instr call call.arguments
 call_by recorded m locals seat instr call (Some runtime.GcWrite) = gcwrite_text m locals instr call.arguments
+call_by recorded m locals seat instr call (Some (runtime.Integer function bits)) = integers_text recorded m locals instr call (taken_by function) call.arguments
 
 -- a call
 abbrev pub call_text : (recorded : Bool) → Module → (locals : List Text) → Seat → Instr → Call → Text

@@ -12,6 +12,7 @@ use Rattle.ir_ast.specs.declared.module.Module.{Module}
 use Rattle.ir_ast.specs.declared.operand.Constant.{Constant}
 use Rattle.ir_ast.specs.declared.operand.Constant.TheVariants as constant
 use Rattle.ir_ast.specs.declared.runtime.Runtime.{Runtime}
+use Rattle.ir_ast.specs.declared.runtime.Runtime.TheVariants.{Integer}
 use Rattle.ir_tokens.specs.Bytes.{Text}
 use Rattle.ir_print.specs.Choices.{phi_line}
 use Rattle.ir_print.specs.Items.{collector_text, declare_line, parameter_text}
@@ -59,9 +60,10 @@ word_text shown initial = word_by (is_integer shown) initial
 abbrev pub global_line : Module → Global → Text
 global_line m global = global_text m global.symbol ++ word_text (slice_get m.types global.held) global.initial ++ aligned_word
 
--- the line of a declared function that is none of the runtime
+-- the line of a declared function that is none of the runtime; functions of integers are LLVM's
 abbrev pub foreign_line : Module → Declare → Option Runtime → Text
 foreign_line m declared None = declare_line m declared
+foreign_line m declared (Some (Integer function bits)) = declare_line m declared
 foreign_line m declared (Some runtime) = []
 
 -- the same, by what the function is

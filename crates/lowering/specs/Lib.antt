@@ -6,5 +6,8 @@ pub mod Calls
 pub mod Instructions
 pub mod Ends
 pub mod Items
+pub mod Rows
+pub mod Strings
 pub mod Tables
+pub mod Starts
 pub mod Lowered

@@ -5,7 +5,8 @@ use Rattle.ir_ast.specs.declared.module.Module.{Module}
 use Rattle.ir_tokens.specs.Bytes.{Text}
 use Rattle.pools.specs.declared.word_kind.WordKind.{WordKind}
 use Rattle.lowering.specs.Items.{struct_line, global_line, declared_line, function_text}
-use Rattle.lowering.specs.Tables.{layout_count, layout_table, global_count, global_table}
+use Rattle.lowering.specs.Starts.{starts_of, start_count, start_table}
+use Rattle.lowering.specs.Tables.{layout_count, layout_table, global_count, global_table, name_table}
 
 -- the functions of the runtime and of LLVM
 unfoldable pub runtime_lines : Text
@@ -30,7 +31,9 @@ items_text recorded m =
 
 -- the tables of the module, whose structs have these words
 unfoldable pub tables_text : (layouts : List (List WordKind)) → Module → Text
-tables_text layouts m = layout_count (length m.structs) ++ layout_table layouts m m.structs ++ global_count (length m.globals) ++ global_table m m.globals
+tables_text layouts m =
+    layout_count (length m.structs) ++ layout_table layouts m m.structs ++ global_count (length m.globals) ++ global_table m m.globals
+    ++ name_table m m.structs ++ start_count (length (starts_of m)) ++ start_table m
 
 -- the text of a module with `ptr` for its pointers, whose structs have these words
 abbrev pub lowered_text : (recorded : Bool) → (layouts : List (List WordKind)) → Module → Text

@@ -1,6 +1,7 @@
--- What the runtime has to know of a module: the words of each layout, and the globals.
-use Rattle.std.specs.Prelude.{ℕ, suc, ◌+◌, ◌%◌, ◌^◌, ◌==◌, if◌then◌else◌, List, [], ◌∷◌, ◌++◌, length, Option, Some, slice_get, codes}
+-- What the runtime has to know of a module: the words and the name of each layout, and the globals.
+use Rattle.std.specs.Prelude.{ℕ, ◌+◌, ◌*◌, if◌then◌else◌, List, [], ◌∷◌, ◌++◌, length, take, Option, Some, slice_get, codes}
 use Rattle.std.specs.Fmt.{decimal}
+use Rattle.ir_ast.specs.Names.{name_at}
 use Rattle.ir_ast.specs.declared.items_of_module.Global.{Global}
 use Rattle.ir_ast.specs.declared.items_of_module.StructType.{StructType}
 use Rattle.ir_ast.specs.declared.ir_type.IrType.{IrType}
@@ -11,24 +12,22 @@ use Rattle.pools.specs.Layouts.{words_of}
 use Rattle.pools.specs.declared.word_kind.WordKind.{WordKind}
 use Rattle.pools.specs.declared.word_kind.WordKind.TheVariants as word
 use Rattle.types.specs.Elements.{is_integer}
+use Rattle.lowering.specs.Rows.{before_row, numbered}
+use Rattle.lowering.specs.Strings.{name_string}
 
--- the sum of the bits of those of these words that are references, with this sum before them and this bit for the first word
-abbrev pub mask_after : (mask bit : ℕ) → List WordKind → ℕ
-mask_after mask bit [] = mask
-mask_after mask bit (word.Integer bits ∷ words) = mask_after mask ((bit + bit) % 2 ^ 64) words
-mask_after mask bit (word.Reference layout ∷ words) = mask_after ((mask + bit) % 2 ^ 64) ((bit + bit) % 2 ^ 64) words
+-- the bit of a word in a mask: 1 where it is a reference
+abbrev pub bit_of : WordKind → ℕ
+bit_of (word.Integer bits) = 0
+bit_of (word.Reference layout) = 1
 
--- the mask of a layout: bit k says that word k is a reference
+-- the mask of these words: bit k says that word k is a reference
 abbrev pub mask_of : List WordKind → ℕ
-mask_of words = mask_after 0 1 words
+mask_of [] = 0
+mask_of (first ∷ rest) = bit_of first + 2 * mask_of rest
 
--- what stands before a row at this place
-abbrev pub before_row : (place : ℕ) → Text
-before_row place = if place == 0 then [] else codes ", "
-
--- the row of a layout: how many words it has, and its mask
+-- the row of a layout: how many words it has, and the mask of the first 64; layouts of a module have no more
 abbrev pub layout_row : List WordKind → Text
-layout_row words = codes "{ i64, i64 } { i64 " ++ decimal (length words) ++ codes ", i64 " ++ decimal (mask_of words) ++ codes " }"
+layout_row words = codes "{ i64, i64 } { i64 " ++ decimal (length words) ++ codes ", i64 " ++ decimal (mask_of (take 64 words)) ++ codes " }"
 
 -- the words of a struct, by what its name means
 abbrev pub words_in : (layouts : List (List WordKind)) → Option (Option ℕ) → List WordKind
@@ -39,11 +38,6 @@ words_in layouts _ = []
 abbrev pub layout_row_at : (layouts : List (List WordKind)) → Module → (place : ℕ) → StructType → Text
 layout_row_at layouts m place struct = before_row place ++ layout_row (words_in layouts (slice_get m.struct_of struct.name))
 
--- the rows of these structs, of which the first has this place
-abbrev pub layout_rows : (layouts : List (List WordKind)) → Module → (place : ℕ) → List StructType → Text
-layout_rows layouts m place [] = []
-layout_rows layouts m place (struct ∷ structs) = layout_row_at layouts m place struct ++ layout_rows layouts m (suc place) structs
-
 -- the end of the row of a global: 1 where it holds references
 abbrev pub global_mark : Option IrType → Text
 global_mark shown = if is_integer shown then codes ", i64 0 }" else codes ", i64 1 }"
@@ -51,11 +45,6 @@ global_mark shown = if is_integer shown then codes ", i64 0 }" else codes ", i64
 -- the row of a global at this place, after what stands before it
 abbrev pub global_row_at : Module → (place : ℕ) → Global → Text
 global_row_at m place global = before_row place ++ codes "{ ptr, i64 } { ptr " ++ global_text m global.symbol ++ global_mark (slice_get m.types global.held)
-
--- the rows of these globals, of which the first has this place
-abbrev pub global_rows : Module → (place : ℕ) → List Global → Text
-global_rows m place [] = []
-global_rows m place (global ∷ globals) = global_row_at m place global ++ global_rows m (suc place) globals
 
 -- a number with these words before it and after it
 unfoldable pub counted : (before : Text) → (count : ℕ) → (after : Text) → Text
@@ -71,7 +60,7 @@ layout_begin count = counted (codes "@dg_layouts = constant [") count (codes " x
 
 -- the table of layouts
 unfoldable pub layout_table : (layouts : List (List WordKind)) → Module → List StructType → Text
-layout_table layouts m structs = layout_begin (length structs) ++ layout_rows layouts m 0 structs ++ codes "]\n"
+layout_table layouts m structs = layout_begin (length structs) ++ numbered (layout_row_at layouts m) 0 structs ++ codes "]\n"
 
 -- how many globals there are
 unfoldable pub global_count : (count : ℕ) → Text
@@ -83,4 +72,24 @@ global_begin count = counted (codes "@dg_globals = constant [") count (codes " x
 
 -- the table of globals
 unfoldable pub global_table : Module → List Global → Text
-global_table m globals = global_begin (length globals) ++ global_rows m 0 globals ++ codes "]\n"
+global_table m globals = global_begin (length globals) ++ numbered (global_row_at m) 0 globals ++ codes "]\n"
+
+-- the constant that the name of the layout at this place is
+unfoldable pub name_label : (place : ℕ) → Text
+name_label place = codes "@dg.layout." ++ decimal place
+
+-- the line of the name of the struct at this place
+abbrev pub name_line : Module → (place : ℕ) → StructType → Text
+name_line m place struct = name_label place ++ name_string (name_at m.struct_names struct.name)
+
+-- the row of the struct at this place in the table of names, after what stands before it
+abbrev pub name_row_at : (place : ℕ) → StructType → Text
+name_row_at place struct = before_row place ++ codes "ptr " ++ name_label place
+
+-- how the table of names begins
+unfoldable pub name_begin : (count : ℕ) → Text
+name_begin count = counted (codes "@dg_layout_names = constant [") count (codes " x ptr] [")
+
+-- the names of layouts, and their table
+unfoldable pub name_table : Module → List StructType → Text
+name_table m structs = numbered (name_line m) 0 structs ++ name_begin (length structs) ++ numbered name_row_at 0 structs ++ codes "]\n"

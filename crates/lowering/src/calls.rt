@@ -4,9 +4,10 @@ ghost use Rattle.lowering.specs.Calls as spec;
 
 use crate::memory::put_plain;
 use crate::scope::Scope;
-use crate::words::{Loading, Seat, put_load};
-use ir_ast::{Argument, Call, Instr, Runtime};
-use ir_print::{put_argument, put_instruction};
+use crate::words::{Loading, Seat, put_load, put_local_step};
+use ir_ast::{Argument, Call, Instr, IntegersTaken, Runtime, integers_taken};
+use ir_print::{put_argument, put_instruction, put_result, put_type};
+use name_text::{Blank, put_global};
 use std::alloc::{AllocError, Global};
 use types::runtime_called;
 
@@ -95,6 +96,48 @@ fn put_gcwrite(
     }
 }
 
+/// A call of a function of an integer and a flag, which for LLVM would leave a result open.
+fn put_flagged(
+    alloc: Global,
+    out: &mut Vec<u8>,
+    scope: &Scope,
+    instr: &Instr,
+    call: &Call,
+    taken: &Argument,
+) -> Result<(), AllocError>
+    ensures { OnOk result (out.new.items ≡ out.old.items ++ spec.flagged_line scope.now.recorded scope.now.of_module.now scope.now.locals.now instr.now call.now taken.now) }
+{
+    put_local_step(out, scope.recorded)?;
+    out.extend_from_slice(b"  ")?;
+    put_result(out, scope.locals, instr.result)?;
+    out.extend_from_slice(b"call ")?;
+    put_type(alloc, out, scope.of_module, call.returned)?;
+    out.push(b' ')?;
+    put_global(out, scope.of_module, call.callee, Blank::Kept)?;
+    out.push(b'(')?;
+    put_argument(alloc, out, scope.of_module, scope.locals, taken)?;
+    out.extend_from_slice(b", i1 false)\n")
+}
+
+/// A call of a function of integers.
+fn put_integers(
+    alloc: Global,
+    out: &mut Vec<u8>,
+    scope: &Scope,
+    instr: &Instr,
+    call: &Call,
+    takes: IntegersTaken,
+) -> Result<(), AllocError>
+    ensures { OnOk result (out.new.items ≡ out.old.items ++ spec.integers_text scope.now.recorded scope.now.of_module.now scope.now.locals.now instr.now call.now takes call.now.arguments) }
+{
+    match (takes, call.arguments.as_slice()) {
+        (IntegersTaken::Flagged, [taken, _]) => {
+            put_flagged(alloc, out, scope, instr, call, taken)
+        }
+        _ => put_plain(alloc, out, scope, instr),
+    }
+}
+
 /// A call.
 pub(crate) fn put_call(
     alloc: Global,
@@ -117,5 +160,8 @@ pub(crate) fn put_call(
         }
         Some(Runtime::GcRead) => put_gcread(alloc, out, scope, seat, instr, call),
         Some(Runtime::GcWrite) => put_gcwrite(alloc, out, scope, instr, call.arguments.as_slice()),
+        Some(Runtime::Integer { function, .. }) => {
+            put_integers(alloc, out, scope, instr, call, integers_taken(function))
+        }
     }
 }

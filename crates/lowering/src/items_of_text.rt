@@ -8,7 +8,7 @@ use crate::instructions::put_body;
 use crate::scope::Scope;
 use crate::word_types::{is_integer, put_words};
 use ir_ast::{
-    Block, Constant, Declare, Function, Global as Word, IrType, Module, Names, StructType,
+    Block, Constant, Declare, Function, Global as Word, IrType, Module, Names, Runtime, StructType,
 };
 use ir_print::{
     put_collector, put_declare, put_label, put_parameters, put_phis, put_struct_name, put_type,
@@ -150,7 +150,7 @@ fn put_foreign(
     ensures { OnOk result (out.new.items ≡ out.old.items ++ spec.declared_line «module».now declared.now) }
 {
     match declared.runtime {
-        None => put_declare(alloc, out, module, declared),
+        None | Some(Runtime::Integer { .. }) => put_declare(alloc, out, module, declared),
         Some(_) => Ok(()),
     }
 }

@@ -3,8 +3,9 @@ ghost use Rattle.std.specs.Prelude.{◌≡◌, ◌++◌, [], OnOk, IfOk};
 ghost use Rattle.lowering.specs.Lowered as spec;
 
 use crate::items_of_text::{put_declares, put_functions, put_globals, put_structs};
+use crate::starts::{count_starts, put_start_count, put_start_table};
 use crate::tables::{
-    Tables, put_global_count, put_global_table, put_layout_count, put_layout_table,
+    Tables, put_global_count, put_global_table, put_layout_count, put_layout_table, put_name_table,
 };
 use ir_ast::Module;
 use pools::Layouts;
@@ -73,7 +74,14 @@ fn put_tables(alloc: Global, out: &mut Vec<u8>, tables: &Tables<'_>) -> Result<(
     put_layout_count(alloc, out, structs.len())?;
     put_layout_table(alloc, out, tables, structs)?;
     put_global_count(alloc, out, globals.len())?;
-    put_global_table(alloc, out, tables.of_module, globals)
+    put_global_table(alloc, out, tables.of_module, globals)?;
+    put_name_table(alloc, out, tables.of_module, structs)?;
+    put_start_count(
+        alloc,
+        out,
+        count_starts(tables.of_module, tables.of_module.functions.as_slice()),
+    )?;
+    put_start_table(alloc, out, tables.of_module)
 }
 
 fn put_module(

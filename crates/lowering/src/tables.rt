@@ -1,7 +1,10 @@
 //! What the runtime has to know of a module.
-ghost use Rattle.std.specs.Prelude.{◌≡◌, ◌++◌, ◌∷◌, [], OnOk, length, slice_get};
+ghost use Rattle.std.specs.Prelude.{◌≡◌, ◌++◌, ◌∷◌, [], OnOk, ◌≤◌, length, slice_get, take};
+ghost use Rattle.lowering.specs.Rows.{numbered};
 ghost use Rattle.lowering.specs.Tables as spec;
 
+use crate::rows::before_row;
+use crate::strings::put_name_string;
 use crate::word_types::is_integer;
 use ir_ast::{Global as Word, IrType, Module, StructType};
 use name_text::{Blank, put_global, put_number};
@@ -15,27 +18,39 @@ pub(crate) struct Tables<'a> {
     pub of_module: &'a Module,
 }
 
-/// The mask of a layout: bit k says that word k is a reference.
-fn mask_of(words: &[WordKind]) -> u64
-    ensures { result ≡ spec.mask_of words.now }
+/// The bit of a word in a mask.
+fn bit_of(word: &WordKind) -> u64
+    ensures { result ≡ spec.bit_of word.now }
 {
-    let mut mask: u64 = 0;
-    let mut bit: u64 = 1;
-    for word in words {
-        match word {
-            WordKind::Integer(_) => {}
-            WordKind::Reference(_) => mask = mask.wrapping_add(bit),
-        }
-        bit = bit.wrapping_add(bit);
+    match word {
+        WordKind::Integer(_) => 0,
+        WordKind::Reference(_) => 1,
     }
-    mask
 }
 
-/// What stands before a row at this place.
-fn before_row(place: usize) -> &'static [u8]
-    ensures { result.now ≡ spec.before_row place }
+/// The first 64 words of a layout.
+fn first_words(words: &[WordKind]) -> &[WordKind]
+    ensures { result.now ≡ take 64 words.now }
 {
-    if place == 0 { b"" } else { b", " }
+    if words.len() <= 64 {
+        words
+    } else {
+        &words[..64]
+    }
+}
+
+/// The mask of these words.
+fn mask_of(words: &[WordKind]) -> u64
+    requires { length words.now ≤ 64 }
+    ensures { result ≡ spec.mask_of words.now }
+{
+    match words {
+        [] => 0,
+        [word, rest @ ..] => {
+            let mask = mask_of(rest);
+            mask.wrapping_add(mask).wrapping_add(bit_of(word))
+        }
+    }
 }
 
 /// The row of a layout.
@@ -45,7 +60,7 @@ fn put_layout_row(alloc: Global, out: &mut Vec<u8>, words: &[WordKind]) -> Resul
     out.extend_from_slice(b"{ i64, i64 } { i64 ")?;
     put_number(alloc, out, words.len() as u64)?;
     out.extend_from_slice(b", i64 ")?;
-    put_number(alloc, out, mask_of(words))?;
+    put_number(alloc, out, mask_of(first_words(words)))?;
     out.extend_from_slice(b" }")
 }
 
@@ -109,7 +124,7 @@ fn put_layout_rows(
     tables: &Tables<'_>,
     structs: &[StructType],
 ) -> Result<(), AllocError>
-    ensures { OnOk result (out.new.items ≡ out.old.items ++ spec.layout_rows tables.now.layouts.now tables.now.of_module.now 0 structs.now) }
+    ensures { OnOk result (out.new.items ≡ out.old.items ++ numbered (spec.layout_row_at tables.now.layouts.now tables.now.of_module.now) 0 structs.now) }
 {
     let mut place = 0;
     for struct_type in structs {
@@ -120,7 +135,7 @@ fn put_layout_rows(
 }
 
 fn put_global_rows(out: &mut Vec<u8>, module: &Module, globals: &[Word]) -> Result<(), AllocError>
-    ensures { OnOk result (out.new.items ≡ out.old.items ++ spec.global_rows «module».now 0 globals.now) }
+    ensures { OnOk result (out.new.items ≡ out.old.items ++ numbered (spec.global_row_at «module».now) 0 globals.now) }
 {
     let mut place = 0;
     for global in globals {
@@ -132,7 +147,7 @@ fn put_global_rows(out: &mut Vec<u8>, module: &Module, globals: &[Word]) -> Resu
 
 /// A number with these words before it and after it.
 #[tactic(auto, unfolding(crate::specs::Tables::counted))]
-fn put_counted(
+pub(crate) fn put_counted(
     alloc: Global,
     out: &mut Vec<u8>,
     before: &[u8],
@@ -237,5 +252,94 @@ pub(crate) fn put_global_table(
 {
     put_global_begin(alloc, out, globals.len())?;
     put_global_rows(out, module, globals)?;
+    out.extend_from_slice(b"]\n")
+}
+
+/// The constant that the name of a layout is.
+#[tactic(auto, unfolding(crate::specs::Tables::name_label))]
+fn put_name_label(alloc: Global, out: &mut Vec<u8>, place: usize) -> Result<(), AllocError>
+    ensures { OnOk result (out.new.items ≡ out.old.items ++ spec.name_label place) }
+{
+    out.extend_from_slice(b"@dg.layout.")?;
+    put_number(alloc, out, place as u64)
+}
+
+/// The line of the name of the struct at this place.
+fn put_name_line(
+    alloc: Global,
+    out: &mut Vec<u8>,
+    module: &Module,
+    place: usize,
+    struct_type: &StructType,
+) -> Result<(), AllocError>
+    ensures { OnOk result (out.new.items ≡ out.old.items ++ spec.name_line «module».now place struct_type.now) }
+{
+    put_name_label(alloc, out, place)?;
+    put_name_string(
+        alloc,
+        out,
+        module
+            .struct_names
+            .name_at(struct_type.name.number() as usize),
+    )
+}
+
+fn put_name_lines(
+    alloc: Global,
+    out: &mut Vec<u8>,
+    module: &Module,
+    structs: &[StructType],
+) -> Result<(), AllocError>
+    ensures { OnOk result (out.new.items ≡ out.old.items ++ numbered (spec.name_line «module».now) 0 structs.now) }
+{
+    let mut place = 0;
+    for struct_type in structs {
+        put_name_line(alloc, out, module, place, struct_type)?;
+        place += 1;
+    }
+    Ok(())
+}
+
+/// The rows of the table of names.
+fn put_name_rows(alloc: Global, out: &mut Vec<u8>, structs: &[StructType]) -> Result<(), AllocError>
+    ensures { OnOk result (out.new.items ≡ out.old.items ++ numbered spec.name_row_at 0 structs.now) }
+{
+    let mut place = 0;
+    for _struct_type in structs {
+        out.extend_from_slice(before_row(place))?;
+        out.extend_from_slice(b"ptr ")?;
+        put_name_label(alloc, out, place)?;
+        place += 1;
+    }
+    Ok(())
+}
+
+/// How the table of names begins.
+#[tactic(auto, unfolding(crate::specs::Tables::name_begin))]
+fn put_name_begin(alloc: Global, out: &mut Vec<u8>, count: usize) -> Result<(), AllocError>
+    ensures { OnOk result (out.new.items ≡ out.old.items ++ spec.name_begin count) }
+{
+    put_counted(
+        alloc,
+        out,
+        b"@dg_layout_names = constant [",
+        count,
+        b" x ptr] [",
+    )
+}
+
+/// The names of layouts, and their table.
+#[tactic(auto, unfolding(crate::specs::Tables::name_table))]
+pub(crate) fn put_name_table(
+    alloc: Global,
+    out: &mut Vec<u8>,
+    module: &Module,
+    structs: &[StructType],
+) -> Result<(), AllocError>
+    ensures { OnOk result (out.new.items ≡ out.old.items ++ spec.name_table «module».now structs.now) }
+{
+    put_name_lines(alloc, out, module, structs)?;
+    put_name_begin(alloc, out, structs.len())?;
+    put_name_rows(alloc, out, structs)?;
     out.extend_from_slice(b"]\n")
 }

@@ -53,7 +53,7 @@ fn is_narrow(shown: Option<IrType>) -> bool
 }
 
 /// What makes a value of a type of a word.
-fn from_word(shown: Option<IrType>) -> &'static [u8]
+pub(crate) fn from_word(shown: Option<IrType>) -> &'static [u8]
     ensures { result.now ≡ spec.from_word shown }
 {
     match &shown {
@@ -69,7 +69,7 @@ fn from_word(shown: Option<IrType>) -> &'static [u8]
 }
 
 /// What makes a word of a value of a type.
-fn to_word(shown: Option<IrType>) -> &'static [u8]
+pub(crate) fn to_word(shown: Option<IrType>) -> &'static [u8]
     ensures { result.now ≡ spec.to_word shown }
 {
     match &shown {

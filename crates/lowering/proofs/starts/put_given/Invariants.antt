@@ -1,0 +1,7 @@
+use Rattle.std.proofs.Common.{◌≡◌, ◌++◌, drop}
+use Rattle.lowering.specs.Starts.{given_text}
+use Rattle.lowering.specs.Rows.{numbered}
+use Rattle.lowering.proofs.starts.put_given.Given as goal
+
+abbrev pub invariant-loop-parameter : goal.invariant-loop-parameter
+invariant-loop-parameter l = (l.place ≡ l.parameter-index) × (l.out.items ++ numbered (given_text l.«module») l.place (drop l.parameter-index l.parameters) ≡ l.fn.out.items ++ numbered (given_text l.«module») 0 l.parameters)
