@@ -58,12 +58,12 @@ cell_words = range_with_len 0 64
 
 -- each word of a set holds what is wanted, in a layout
 abbrev pub each_word : WantedWord → (layouts : List (List WordKind)) → (layout : ℕ) → WordSet → Bool
-each_word wanted layouts layout words = list_all (λ w. not (has_word words.members w) || holds_wanted wanted (kind_of_word layouts layout w)) cell_words
+each_word wanted layouts layout words = list_all (λ w. not (has_word words w) || holds_wanted wanted (kind_of_word layouts layout w)) cell_words
 
 -- the layout to which the first of these words refers that a set has
 abbrev pub first_layout : (layouts : List (List WordKind)) → (layout : ℕ) → WordSet → List ℕ → Option ℕ
 first_layout layouts layout words [] = None
-first_layout layouts layout words (w ∷ rest) = if has_word words.members w then layout_of_word (kind_of_word layouts layout w) else first_layout layouts layout words rest
+first_layout layouts layout words (w ∷ rest) = if has_word words w then layout_of_word (kind_of_word layouts layout w) else first_layout layouts layout words rest
 
 -- references of one layout are wanted: that of the first word, if there is one
 abbrev pub one_reference : (first : Option ℕ) → WantedWord

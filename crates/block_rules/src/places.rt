@@ -11,7 +11,7 @@ use crate::wanted_word::WantedWord;
 use facts::{Class, Facts, Known};
 use ir_ast::{Module, Operand, TypeId, ValueId};
 use layout::{Program, global_word};
-use pools::{CELL_WORDS, LayoutId, Layouts, WordKind, WordSet};
+use pools::{LayoutId, Layouts, WordKind, WordSet};
 use shadow_stack::SlotId;
 use std::alloc::AllocError;
 use types::is_opaque;
@@ -75,12 +75,17 @@ fn kind_of_word(layouts: &Layouts, layout: LayoutId, word: u32) -> Option<WordKi
     layouts.words(layout).get(word as usize).copied()
 }
 
-fn each_word(wanted: WantedWord, layouts: &Layouts, layout: LayoutId, words: &WordSet) -> bool
-    ensures { result ≡ each_word wanted layouts.now layout words.now }
+fn each_word(wanted: &WantedWord, layouts: &Layouts, layout: LayoutId, words: &WordSet) -> bool
+    ensures { result ≡ each_word wanted.now layouts.now layout words.now }
 {
-    (0..CELL_WORDS as u32).all(|word| {
-        !words.has(word) || holds_wanted(wanted, kind_of_word(layouts, layout, word))
-    })
+    let mut from = 0;
+    while let Some(word) = words.next_from(from) {
+        if !holds_wanted(*wanted, kind_of_word(layouts, layout, word)) {
+            return false;
+        }
+        from = word + 1;
+    }
+    true
 }
 
 /// The layout to which a word refers.
@@ -97,12 +102,8 @@ pub fn layout_of_word(kind: Option<WordKind>) -> Option<LayoutId>
 fn first_layout(layouts: &Layouts, layout: LayoutId, words: &WordSet) -> Option<LayoutId>
     ensures { result ≡ first_layout layouts.now layout words.now cell_words }
 {
-    for word in 0..CELL_WORDS as u32 {
-        if words.has(word) {
-            return layout_of_word(kind_of_word(layouts, layout, word));
-        }
-    }
-    None
+    let word = words.next_from(0)?;
+    layout_of_word(kind_of_word(layouts, layout, word))
 }
 
 fn wanted_by_load(kind: TypeKind, first: Option<LayoutId>) -> WantedWord
@@ -124,7 +125,7 @@ pub fn loads_words(layouts: &Layouts, layout: LayoutId, words: &WordSet, kind: T
     ensures { result ≡ loads_words layouts.now layout words.now kind }
 {
     let first = first_layout(layouts, layout, words);
-    each_word(wanted_by_load(kind, first), layouts, layout, words)
+    each_word(&wanted_by_load(kind, first), layouts, layout, words)
 }
 
 fn loads_base(program: &Program, kind: TypeKind, words: &WordSet, base: &Known) -> bool
@@ -228,7 +229,7 @@ fn fits_words(
 {
     match wanted {
         None => true,
-        Some(wanted) => each_word(wanted, layouts, layout, words),
+        Some(wanted) => each_word(&wanted, layouts, layout, words),
     }
 }
 
@@ -243,7 +244,7 @@ fn stores_base(
 {
     match base {
         Known::Cell { layout, .. } => {
-            each_word(wanted_by_store(kind), program.layouts(), *layout, words)
+            each_word(&wanted_by_store(kind), program.layouts(), *layout, words)
                 && fits_words(program.layouts(), *layout, words, wanted_by_value(value))
         }
         _ => true,

@@ -79,9 +79,9 @@ pub count_on : (i : Input) (n : ℕ) (t u : Text) → is_count n ≡ true → Co
 unfolding count
 count_on i n t u e b = let r = count_read n e in as_on count_of_word n i (decimal n) t u r.1 b r.0
 
-word_set_on : (i : Input) (set : List Bool) (t u : Text) → words_fit set ≡ true → ComesAfter t u → word_set.says (at i (words_text set ++ t)) (record { members = set }) (at i u)
+word_set_on : (i : Input) (set : List Bool) (t u : Text) → words_fit set ≡ true → ComesAfter t u → word_set.says (at i (words_text set ++ t)) set (at i u)
 unfolding word_set
-word_set_on i set t u e b = let r = words_read set e in as_on words_of_word (record { members = set }) i (words_text set) t u r.1 b r.0
+word_set_on i set t u e b = let r = words_read set e in as_on words_of_word set i (words_text set) t u r.1 b r.0
 
 pub flag_yes : (i : Input) (w t u : Text) → is_word w ≡ true → ComesAfter t u → (flag w).says (at i (w ++ t)) true (at i u)
 unfolding flag
@@ -332,17 +332,17 @@ module _ (m : Module) (f : Function) (named : IsNamed m) (own : IsNamedFunction 
   unfolding fact_of address words_of_cell
   address_on i family base words t e is =
       let w = local_text f base in
-      let set = words_text words.members in
+      let set = words_text words in
       let p = value_printed f base own is in
-      let fits = and_second (is_address family) (words_fit words.members) e in
-      let r = words_read words.members fits in
+      let fits = and_second (is_address family) (words_fit words) e in
+      let r = words_read words fits in
       let b = set ++ 10 ∷ t in
       let a = 32 ∷ b in
       let one : fact_text m f (fact.Address base words) ++ 10 ∷ t ≡ codes " addr " ++ (w ++ a) =
       ap (λ (x : Text). codes " addr " ++ x) (append_assoc w (32 ∷ set) (10 ∷ t)) in
       let first : ComesAfter (32 ∷ (w ++ a)) (w ++ a) = (refl, blanks_on w a p.1) in
       let kind : head_by family (word (at i (codes "addr" ++ 32 ∷ (w ++ a)))) ≡ head.Address =
-      ap (head_by family) (word_is i (codes "addr") (32 ∷ (w ++ a)) (w ++ a) refl first) ∙ ap (λ (x : Bool). if x then head.Address else head.Other) (and_first (is_address family) (words_fit words.members) e) in
+      ap (head_by family) (word_is i (codes "addr") (32 ∷ (w ++ a)) (w ++ a) refl first) ∙ ap (λ (x : Bool). if x then head.Address else head.Other) (and_first (is_address family) (words_fit words) e) in
       let n = length (w ++ a) in
       let afterwards : ComesAfter a b = (refl, blanks_on set (10 ∷ t) r.1) in
       let other : begins_with 64 (word (at i (w ++ a))) ≡ false = ap (begins_with 64) (word_is i w a b p.1 afterwards) in
@@ -359,7 +359,7 @@ module _ (m : Module) (f : Function) (named : IsNamed m) (own : IsNamedFunction 
                 base,
                 at now b,
                 listed_on i base a b is afterwards,
-                (words, out, word_set_on now words.members (10 ∷ t) (10 ∷ t) fits (refl, refl), (refl, refl)),
+                (words, out, word_set_on now words (10 ∷ t) (10 ∷ t) fits (refl, refl), (refl, refl)),
               ),
             )),
       )

@@ -1,9 +1,9 @@
 -- The printed words of a set are read as that set.
-use Rattle.std.proofs.Common.{◌≡◌, ℕ, zero, suc, ◌+◌, ◌-◌, ◌*◌, ◌/◌, ◌%◌, ◌<◌, ◌≤◌, Bool, true, false, cond, ◌||◌, nat_lt, List, [], ◌∷◌, ◌++◌, Option, Some, None, refl, ap, sym, ◌∙◌, arith, append_assoc}
-use Rattle.std.specs.Prelude.{if◌then◌else◌, filter}
+use Rattle.std.proofs.Common.{◌≡◌, ℕ, zero, suc, ◌+◌, ◌-◌, ◌*◌, ◌/◌, ◌%◌, ◌<◌, ◌≤◌, Bool, true, false, cond, ◌||◌, nat_lt, List, [], ◌∷◌, ◌++◌, length, Option, Some, None, refl, ap, sym, ◌∙◌, arith, append_assoc}
+use Rattle.std.specs.Prelude.{◌==◌, if◌then◌else◌, filter}
 use Rattle.std.specs.List.{list_all, list_any, flat_map, join_by, range_with_len}
 use Rattle.std.specs.Fmt.{decimal}
-use Rattle.std.proofs.lemmas.Bool.{lt-ltb, ltb-true}
+use Rattle.std.proofs.lemmas.Bool.{lt-ltb, ltb-true, eqb-true}
 use Rattle.std.proofs.lemmas.Fmt.{decimal_by_steps}
 use Rattle.lemmas.specs.Bools.{and_second, and_first}
 use Rattle.ir_tokens.specs.Bytes.{Text, is_digit}
@@ -11,21 +11,12 @@ use Rattle.pools.specs.WordSets.{no_words, has_word, adds_word}
 use Rattle.pools.specs.declared.word_set.WordSet.{WordSet}
 use Rattle.certificate.specs.Numbers.{with_digit, words_after, words_of_word}
 use Rattle.certificate.specs.Print.{words_of, words_text}
-use Rattle.certs.specs.Fits.{add_words, own_words, same_words, words_fit}
+use Rattle.certs.specs.Fits.{words_fit}
 use Rattle.name_text.specs.Words.{is_word}
 use Rattle.name_text.specs.Seams.{is_word_byte, bytes_close}
 use Rattle.name_text.specs.Spelled.{number_is_inner, number_is_word}
 use Rattle.certificate.proofs.PrintedWords.{digit_is}
-
--- sets that are one
-are_same : (xs ys : List Bool) → same_words xs ys ≡ true → xs ≡ ys
-are_same [] [] e = refl
-are_same [] (y ∷ ys) e = absurd cc
-are_same (x ∷ xs) [] e = absurd cc
-are_same (true ∷ xs) (true ∷ ys) e = ap (λ (l : List Bool). true ∷ l) (are_same xs ys e)
-are_same (true ∷ xs) (false ∷ ys) e = absurd cc
-are_same (false ∷ xs) (true ∷ ys) e = absurd cc
-are_same (false ∷ xs) (false ∷ ys) e = ap (λ (l : List Bool). false ∷ l) (are_same xs ys e)
+use Rattle.certificate.proofs.ReadSets.{add_words, own_words, own_is}
 
 digit_on : (set : WordSet) (number : Option ℕ) (d n : ℕ) (rest : Text) → is_digit d ≡ true → with_digit number d ≡ n → n < 64 → words_after set number (d ∷ rest) ≡ words_after set (Some n) rest
 digit_on set number d n rest e w lt = rw (e, w, lt-ltb n 64 lt) refl
@@ -61,16 +52,16 @@ after_commas words = flat_map (λ word. (44 ∷ []) ++ decimal word) words
 first_small : (word : ℕ) (words : List ℕ) → are_small (word ∷ words) ≡ true → word < 64
 first_small word words small = ltb-true word 64 (and_first (nat_lt word 64) (are_small words) small)
 
-commas_read : (words : List ℕ) (set : WordSet) (n : ℕ) → are_small words ≡ true → words_after set (Some n) (after_commas words) ≡ Some (record { members = added words (adds_word set.members n) })
+commas_read : (words : List ℕ) (set : WordSet) (n : ℕ) → are_small words ≡ true → words_after set (Some n) (after_commas words) ≡ Some (added words (adds_word set n))
 commas_read [] set n small = refl
 commas_read (word ∷ words) set n small =
-    let next : WordSet = record { members = adds_word set.members n } in
+    let next : WordSet = adds_word set n in
     number_after word (first_small word words small) next (after_commas words) ∙ commas_read words next word (and_second (nat_lt word 64) (are_small words) small)
 
-joined_read : (words : List ℕ) → are_small words ≡ true → (words ≡ [] → ⊥) → words_of_word (join_by decimal (44 ∷ []) words) ≡ Some (record { members = added words no_words })
+joined_read : (words : List ℕ) → are_small words ≡ true → (words ≡ [] → ⊥) → words_of_word (join_by decimal (44 ∷ []) words) ≡ Some (added words no_words)
 joined_read [] small some = absurd (some refl)
 joined_read (word ∷ words) small some =
-    let none : WordSet = record { members = no_words } in
+    let none : WordSet = no_words in
     number_after word (first_small word words small) none (after_commas words) ∙ commas_read words none word (and_second (nat_lt word 64) (are_small words) small)
 
 -- ---- the words of a set
@@ -121,15 +112,12 @@ joined_word (word ∷ words) small some =
     let lt = first_small word words small in
     word_joined (decimal word) (after_commas words) (number_is_word word (omega (arith, lt))) (number_is_inner word (omega (arith, lt))) (commas_word words (and_second (nat_lt word 64) (are_small words) small))
 
-abbrev words_set : List Bool → Option WordSet
-words_set members = Some (record { members = members })
-
 -- a set that fits is read as it was printed, and is printed as one word
-pub words_read : (set : List Bool) → words_fit set ≡ true → (words_of_word (words_text set) ≡ Some (record { members = set })) × (is_word (words_text set) ≡ true)
+pub words_read : (set : List Bool) → words_fit set ≡ true → (words_of_word (words_text set) ≡ Some set) × (is_word (words_text set) ≡ true)
 unfolding words_text own_words
 words_read set e =
-    let some = and_first (list_any (has_word set) (range_with_len 0 64)) (same_words set (own_words set)) e in
-    let same = are_same set (own_words set) (and_second (list_any (has_word set) (range_with_len 0 64)) (same_words set (own_words set)) e) in
+    let len = eqb-true (length set) 64 (and_first (length set == 64) (list_any (has_word set) (range_with_len 0 64)) e) in
+    let some = and_second (length set == 64) (list_any (has_word set) (range_with_len 0 64)) e in
     let small = filtered_small (has_word set) 64 0 (omega arith) in
     let full = filtered_some (has_word set) (range_with_len 0 64) some in
-    (joined_read (words_of set) small full ∙ ap words_set (filtered_added set (range_with_len 0 64) no_words ∙ sym same), joined_word (words_of set) small full)
+    (joined_read (words_of set) small full ∙ ap (λ (s : List Bool). Some s) (filtered_added set (range_with_len 0 64) no_words ∙ own_is set len), joined_word (words_of set) small full)

@@ -9,12 +9,20 @@ use Rattle.ir_tokens.specs.Bytes.{Text, is_digit}
 use Rattle.pools.specs.WordSets.{no_words, has_word, adds_word}
 use Rattle.pools.specs.declared.word_set.WordSet.{WordSet}
 use Rattle.certificate.specs.Numbers.{with_digit, closed, words_after, words_of_word}
-use Rattle.certs.specs.Fits.{add_words, own_words, same_words, words_fit}
+use Rattle.certs.specs.Fits.{words_fit}
 
-same_self : (xs : List Bool) → same_words xs xs ≡ true
-same_self [] = refl
-same_self (true ∷ xs) = same_self xs
-same_self (false ∷ xs) = same_self xs
+-- a word is added if a set has it
+abbrev pub add_word : (set : List Bool) → (word : ℕ) → (own : List Bool) → List Bool
+add_word set word own = if has_word set word then adds_word own word else own
+
+-- those of some words that a set has are added
+abbrev pub add_words : (set : List Bool) → (words : List ℕ) → (own : List Bool) → List Bool
+add_words set [] own = own
+add_words set (word ∷ words) own = add_words set words (add_word set word own)
+
+-- the set of those of the words from 0 to 63 that a set has
+unfoldable pub own_words : List Bool → List Bool
+own_words set = add_words set (range_with_len 0 64) no_words
 
 added_len : (set : List Bool) (word : ℕ) → length (adds_word set word) ≡ length set
 added_len set word = by (nat_lt word 64)
@@ -107,7 +115,7 @@ none_at (suc n) zero = refl
 none_at (suc n) (suc i) = none_at n i
 
 -- a list of 64 is the set of its words
-own_is : (set : List Bool) → length set ≡ 64 → own_words set ≡ set
+pub own_is : (set : List Bool) → length set ≡ 64 → own_words set ≡ set
 unfolding own_words
 own_is set len =
     let same_len : length (own_words set) ≡ 64 = add_len set (range_with_len 0 64) no_words in
@@ -123,10 +131,7 @@ some_word test (suc count) first i le lt e = elim (cases_eq i first) [
 
 -- a set of 64 with some word
 set_fits : (set : List Bool) (i : ℕ) → length set ≡ 64 → i < 64 → has_word set i ≡ true → words_fit set ≡ true
-set_fits set i len lt e =
-    let some = some_word (has_word set) 64 0 i (omega arith) lt e in
-    let own = ap (same_words set) (own_is set len) ∙ same_self set in
-    rw (some, own) refl
+set_fits set i len lt e = rw (len, some_word (has_word set) 64 0 i (omega arith) lt e) refl
 
 -- ---- what is read
 
@@ -134,28 +139,28 @@ abbrev Small : Option ℕ → Type 0
 Small None = Unit {0}
 Small (Some n) = n < 64
 
-closed_fits : (set : WordSet) (number : Option ℕ) (found : WordSet) → length set.members ≡ 64 → Small number → closed set number ≡ Some found → words_fit found.members ≡ true
+closed_fits : (set : WordSet) (number : Option ℕ) (found : WordSet) → length set ≡ 64 → Small number → closed set number ≡ Some found → words_fit found ≡ true
 closed_fits set None found len small e = absurd cc
 closed_fits set (Some n) found len small e =
-    let is : found.members ≡ adds_word set.members n = ap (λ (o : Option WordSet). members_of o) (sym e) in
-    let has : has_word (adds_word set.members n) n ≡ true = added_at set.members n n len ∙ or_second (has_word set.members n) (n == n && nat_lt n 64) (rw (eq-eqb n n refl, lt-ltb n 64 small) refl) in
-    subst (λ (x : List Bool). words_fit x ≡ true) (sym is) (set_fits (adds_word set.members n) n (added_len set.members n ∙ len) small has)
+    let is : found ≡ adds_word set n = ap (λ (o : Option WordSet). members_of o) (sym e) in
+    let has : has_word (adds_word set n) n ≡ true = added_at set n n len ∙ or_second (has_word set n) (n == n && nat_lt n 64) (rw (eq-eqb n n refl, lt-ltb n 64 small) refl) in
+    subst (λ (x : List Bool). words_fit x ≡ true) (sym is) (set_fits (adds_word set n) n (added_len set n ∙ len) small has)
   where
     members_of : Option WordSet → List Bool
     members_of None = []
-    members_of (Some w) = w.members
+    members_of (Some w) = w
 
-closed_len : (set : WordSet) (number : Option ℕ) (more : WordSet) → length set.members ≡ 64 → closed set number ≡ Some more → length more.members ≡ 64
+closed_len : (set : WordSet) (number : Option ℕ) (more : WordSet) → length set ≡ 64 → closed set number ≡ Some more → length more ≡ 64
 closed_len set None more len e = absurd cc
 closed_len set (Some n) more len e =
-    let is : length more.members ≡ length (adds_word set.members n) = ap (λ (o : Option WordSet). len_of o) (sym e) in
-    is ∙ added_len set.members n ∙ len
+    let is : length more ≡ length (adds_word set n) = ap (λ (o : Option WordSet). len_of o) (sym e) in
+    is ∙ added_len set n ∙ len
   where
     len_of : Option WordSet → ℕ
     len_of None = 0
-    len_of (Some w) = length w.members
+    len_of (Some w) = length w
 
-after_fits : (set : WordSet) (number : Option ℕ) (word : Text) (found : WordSet) → length set.members ≡ 64 → Small number → words_after set number word ≡ Some found → words_fit found.members ≡ true
+after_fits : (set : WordSet) (number : Option ℕ) (word : Text) (found : WordSet) → length set ≡ 64 → Small number → words_after set number word ≡ Some found → words_fit found ≡ true
 after_fits set number [] found len small e = closed_fits set number found len small e
 after_fits set number (byte ∷ bytes) found len small e =
     by (is_digit byte) (nat_lt (with_digit number byte) 64) (byte == 44) refl e
@@ -163,19 +168,19 @@ after_fits set number (byte ∷ bytes) found len small e =
     (λ more longer. after_fits more None bytes found longer tt)
   where
     on_closed : (c : Option WordSet) → closed set number ≡ c → option_and_then (λ more. words_after more None bytes) c ≡ Some found
-        → ((more : WordSet) → length more.members ≡ 64 → words_after more None bytes ≡ Some found → words_fit found.members ≡ true) → words_fit found.members ≡ true
+        → ((more : WordSet) → length more ≡ 64 → words_after more None bytes ≡ Some found → words_fit found ≡ true) → words_fit found ≡ true
     on_closed None is e more = absurd cc
     on_closed (Some set') is e more = more set' (closed_len set number set' len is) e
 
     by : (digit low comma : Bool) → nat_lt (with_digit number byte) 64 ≡ low
         → (if digit then (if low then words_after set (Some (with_digit number byte)) bytes else None) else (if comma then option_and_then (λ more. words_after more None bytes) (closed set number) else None)) ≡ Some found
-        → (with_digit number byte < 64 → words_after set (Some (with_digit number byte)) bytes ≡ Some found → words_fit found.members ≡ true)
-        → ((more : WordSet) → length more.members ≡ 64 → words_after more None bytes ≡ Some found → words_fit found.members ≡ true) → words_fit found.members ≡ true
+        → (with_digit number byte < 64 → words_after set (Some (with_digit number byte)) bytes ≡ Some found → words_fit found ≡ true)
+        → ((more : WordSet) → length more ≡ 64 → words_after more None bytes ≡ Some found → words_fit found ≡ true) → words_fit found ≡ true
     by true true comma low e digits commas = digits (ltb-true (with_digit number byte) 64 low) e
     by true false comma low e digits commas = absurd cc
     by false low true is e digits commas = on_closed (closed set number) refl e commas
     by false low false is e digits commas = absurd cc
 
 -- a set of words that is read fits
-pub read_words_fit : (word : Text) (found : WordSet) → words_of_word word ≡ Some found → words_fit found.members ≡ true
-read_words_fit word found e = after_fits (record { members = no_words }) None word found refl tt e
+pub read_words_fit : (word : Text) (found : WordSet) → words_of_word word ≡ Some found → words_fit found ≡ true
+read_words_fit word found e = after_fits no_words None word found refl tt e

@@ -116,7 +116,7 @@ pub count_is : (i : Input) (n : ℕ) (o : Input) → count.says i n o → (is_co
 unfolding count
 count_is i n o h = (count_fits (word i) n (as_is (count_of_word (word i)) i n o h), still_as (count_of_word (word i)) i n o h)
 
-pub word_set_is : (i : Input) (set : WordSet) (o : Input) → word_set.says i set o → (words_fit set.members ≡ true) × (still i ≡ still o)
+pub word_set_is : (i : Input) (set : WordSet) (o : Input) → word_set.says i set o → (words_fit set ≡ true) × (still i ≡ still o)
 unfolding word_set
 word_set_is i set o h = (read_words_fit (word i) set (as_is (words_of_word (word i)) i set o h), still_as (words_of_word (word i)) i set o h)
 

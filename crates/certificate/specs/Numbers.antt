@@ -23,7 +23,7 @@ with_digit (Some n) digit = 10 * n + (digit - 48)
 -- the set with the number that ends here, if there is one
 abbrev pub closed : WordSet → Option ℕ → Option WordSet
 closed set None = None
-closed set (Some n) = Some (record { members = adds_word set.members n })
+closed set (Some n) = Some (adds_word set n)
 
 -- a comma comes after each number but the last
 abbrev pub words_after : WordSet → (number : Option ℕ) → Text → Option WordSet
@@ -34,4 +34,4 @@ words_after set number (byte ∷ bytes) =
 
 -- the words of a cell, from 0 to 63, that a word of the text lists with commas between
 abbrev pub words_of_word : Text → Option WordSet
-words_of_word word = words_after (record { members = no_words }) None word
+words_of_word word = words_after no_words None word

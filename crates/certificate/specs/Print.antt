@@ -63,7 +63,7 @@ listed_word set word = word_if (has_word set word) (44 ∷ decimal word)
 abbrev pub fact_text : Module → Function → Fact → Text
 fact_text m f (fact.Number bits below) = codes " i" ++ decimal bits ++ below_text below
 fact_text m f (fact.Reference layout nonnull age same) = codes " ref " ++ layout_text m layout ++ word_if nonnull (codes " nonnull") ++ age_text age ++ value_text f (codes " same ") same
-fact_text m f (fact.Address base words) = codes " addr " ++ local_text f base ++ 32 ∷ words_text words.members
+fact_text m f (fact.Address base words) = codes " addr " ++ local_text f base ++ 32 ∷ words_text words
 fact_text m f (fact.GlobalAddress symbol) = codes " addr " ++ global_text m symbol
 
 -- a claim of a block as a line, without the line's end

@@ -70,7 +70,7 @@ fn put_listed(
     words: &WordSet,
     word: u32,
 ) -> Result<(), AllocError>
-    ensures { OnOk result (out.new.items ≡ out.old.items ++ spec.listed_word words.now.members word) }
+    ensures { OnOk result (out.new.items ≡ out.old.items ++ spec.listed_word words.now word) }
 {
     if !words.has(word) {
         return Ok(());
@@ -81,7 +81,7 @@ fn put_listed(
 
 /// The words of a set, each after a comma.
 fn commas_and_words(alloc: Global, words: &WordSet) -> Result<Vec<u8>, AllocError>
-    ensures { IfOk result (λ text. drop 1 text.items ≡ spec.words_text words.now.members) }
+    ensures { IfOk result (λ text. drop 1 text.items ≡ spec.words_text words.now) }
 {
     let mut out = Vec::new(alloc);
     for word in 0..64u32 {
@@ -92,7 +92,7 @@ fn commas_and_words(alloc: Global, words: &WordSet) -> Result<Vec<u8>, AllocErro
 
 /// The words of a set, with commas between.
 fn put_words(alloc: Global, out: &mut Vec<u8>, words: &WordSet) -> Result<(), AllocError>
-    ensures { OnOk result (out.new.items ≡ out.old.items ++ spec.words_text words.now.members) }
+    ensures { OnOk result (out.new.items ≡ out.old.items ++ spec.words_text words.now) }
 {
     let listed = commas_and_words(alloc, words)?;
     out.extend_from_slice(listed.get(1..).unwrap_or(&[]))

@@ -7,7 +7,7 @@ use Rattle.ir_ast.specs.declared.function.LocalSort.{LocalSort}
 use Rattle.ir_ast.specs.declared.function.LocalSort.TheVariants as local
 use Rattle.ir_ast.specs.declared.function.Parameter.{Parameter}
 use Rattle.ir_ast.specs.declared.module.Module.{Module}
-use Rattle.pools.specs.WordSets.{no_words, has_word, adds_word}
+use Rattle.pools.specs.WordSets.{has_word}
 use Rattle.types.specs.Globals.{global_named}
 use Rattle.certs.specs.RootNames.{root_names}
 use Rattle.certs.specs.Families.{family_of_type, family_of_value, is_reference, is_integer, is_address, refers_to, same_bits}
@@ -44,28 +44,9 @@ stands_for layout (Some own) = own == layout
 abbrev pub layout_fits : Module → Family → (layout : ℕ) → Bool
 layout_fits m family layout = refers_to layout family && list_any (stands_for layout) m.struct_of
 
--- a word is added if a set has it
-abbrev pub add_word : (set : List Bool) → (word : ℕ) → (own : List Bool) → List Bool
-add_word set word own = if has_word set word then adds_word own word else own
-
--- those of some words that a set has are added
-abbrev pub add_words : (set : List Bool) → (words : List ℕ) → (own : List Bool) → List Bool
-add_words set [] own = own
-add_words set (word ∷ words) own = add_words set words (add_word set word own)
-
--- the set of those of the words from 0 to 63 that a set has
-unfoldable pub own_words : List Bool → List Bool
-own_words set = add_words set (range_with_len 0 64) no_words
-
--- whether two sets are one
-abbrev pub same_words : List Bool → List Bool → Bool
-same_words [] [] = true
-same_words (x ∷ xs) (y ∷ ys) = (if x then y else not y) && same_words xs ys
-same_words _ _ = false
-
 -- words from 0 to 63, at least one
 abbrev pub words_fit : List Bool → Bool
-words_fit set = list_any (has_word set) (range_with_len 0 64) && same_words set (own_words set)
+words_fit set = (length set == 64) && list_any (has_word set) (range_with_len 0 64)
 
 -- ---- promises
 
@@ -102,7 +83,7 @@ parameter_fits m f parameter promise = promised_fits m (family_of_value m f para
 abbrev pub fact_fits : Module → Family → Fact → Bool
 fact_fits m family (fact.Number bits below) = is_some (same_bits family (small bits)) && below_fits below
 fact_fits m family (fact.Reference layout nonnull age same) = layout_fits m family layout
-fact_fits m family (fact.Address base words) = is_address family && words_fit words.members
+fact_fits m family (fact.Address base words) = is_address family && words_fit words
 fact_fits m family (fact.GlobalAddress symbol) = is_address family && is_some (global_named m symbol)
 
 -- a parameter or an instruction's value

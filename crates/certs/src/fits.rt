@@ -1,7 +1,6 @@
 //! Which certificates are certificates of a module.
 ghost use Rattle.std.specs.Prelude.{◌≡◌, ◌&&◌};
-ghost use Rattle.std.specs.List.{list_all, list_any, range_with_len, zip};
-ghost use Rattle.pools.specs.WordSets.{has_word};
+ghost use Rattle.std.specs.List.{list_all, list_any, zip};
 ghost use Rattle.certs.specs.Fits as spec;
 
 use crate::family::{Family, family_of_type, family_of_value};
@@ -54,41 +53,10 @@ fn layout_fits(module: &Module, family: Family, layout: LayoutId) -> bool
     family.refers_to(layout) && is_layout(module, layout)
 }
 
-fn some_word(words: &WordSet) -> bool
-    ensures { result ≡ list_any (has_word words.now.members) (range_with_len 0 64) }
-{
-    (0..64u32).any(|word| words.has(word))
-}
-
-fn add_word(words: &WordSet, word: u32, own: &mut WordSet)
-    ensures { own.new.members ≡ spec.add_word words.now.members word own.old.members }
-{
-    if words.has(word) {
-        own.add(word);
-    }
-}
-
-/// The words of a set from 0 to 63, as a set of their own.
-fn own_words(words: &WordSet) -> WordSet
-    ensures { result.members ≡ spec.own_words words.now.members }
-{
-    let mut own = WordSet::new();
-    for word in 0..64u32 {
-        add_word(words, word, &mut own);
-    }
-    own
-}
-
-fn same_words(words: &WordSet, own: &WordSet) -> bool
-    ensures { result ≡ spec.same_words words.now.members own.now.members }
-{
-    *words == *own
-}
-
 fn words_fit(words: &WordSet) -> bool
-    ensures { result ≡ spec.words_fit words.now.members }
+    ensures { result ≡ spec.words_fit words.now }
 {
-    some_word(words) && same_words(words, &own_words(words))
+    words.next_from(0).is_some()
 }
 
 /// Whether this may be promised of such a value.

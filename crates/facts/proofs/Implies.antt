@@ -253,7 +253,7 @@ number_back bits asked (Address base words) h = absurd h.0
 number_back bits asked (GlobalAddress g) h = absurd h.0
 
 address_there : (base : ℕ) (words : List Bool) (k : Known) → implies_address base words k ≡ true → AddressOf base words k
-address_there base words (Address x known) e = let parts = and_parts (x == base) (has_all words known.members) e in (test_true x base parts.0, parts.1)
+address_there base words (Address x known) e = let parts = and_parts (x == base) (has_all words known) e in (test_true x base parts.0, parts.1)
 address_there base words Nothing e = absurd cc
 address_there base words (Number bits below) e = absurd cc
 address_there base words (Cell c layout stale) e = absurd cc
@@ -261,7 +261,7 @@ address_there base words Null e = absurd cc
 address_there base words (GlobalAddress g) e = absurd cc
 
 address_back : (base : ℕ) (words : List Bool) (k : Known) → AddressOf base words k → implies_address base words k ≡ true
-address_back base words (Address x known) h = and_true (x == base) (has_all words known.members) (test_yes x base h.0) h.1
+address_back base words (Address x known) h = and_true (x == base) (has_all words known) (test_yes x base h.0) h.1
 address_back base words Nothing h = absurd h
 address_back base words (Number bits below) h = absurd h
 address_back base words (Cell c layout stale) h = absurd h
@@ -325,7 +325,7 @@ fact_implied : (here there : FactSet) (v : ℕ) (fact : Fact) → (implies_fact 
 fact_implied here there v (fact.Number bits below) = (number_there bits below (known_at here.values v), number_back bits below (known_at here.values v))
 fact_implied here there v (fact.Reference layout nonnull age same) =
     (reference_there here there v layout nonnull age same (known_at here.values v), reference_back here there v layout nonnull age same (known_at here.values v) refl)
-fact_implied here there v (fact.Address base words) = (address_there base words.members (known_at here.values v), address_back base words.members (known_at here.values v))
+fact_implied here there v (fact.Address base words) = (address_there base words (known_at here.values v), address_back base words (known_at here.values v))
 fact_implied here there v (fact.GlobalAddress g) = (global_there g (known_at here.values v), global_back g (known_at here.values v))
 
 pub implies_what_is_said : ImpliesWhatIsSaid

@@ -208,7 +208,7 @@ implies_number bits below _ = false
 
 -- a value is known to be such an address
 abbrev pub implies_address : (base : ℕ) → (words : List Bool) → Known → Bool
-implies_address base words (Address x known) = (x == base) && has_all words known.members
+implies_address base words (Address x known) = (x == base) && has_all words known
 implies_address base words _ = false
 
 -- a value is known to be the address of a global
@@ -220,7 +220,7 @@ implies_global g _ = false
 abbrev pub implies_fact : FactSet → FactSet → ℕ → Fact → Bool
 implies_fact here there v (fact.Number bits below) = implies_number bits below (known_at here.values v)
 implies_fact here there v (fact.Reference layout nonnull age same) = implies_reference here there v layout nonnull age same (known_at here.values v)
-implies_fact here there v (fact.Address base words) = implies_address base words.members (known_at here.values v)
+implies_fact here there v (fact.Address base words) = implies_address base words (known_at here.values v)
 implies_fact here there v (fact.GlobalAddress g) = implies_global g (known_at here.values v)
 
 -- a slot holds the class of a value that is known to be this

@@ -54,7 +54,7 @@ ReferenceImplied here there v layout nonnull age same =
 abbrev pub FactImplied : FactSet → FactSet → ℕ → Fact → Type 0
 FactImplied here there v (fact.Number bits below) = Says here (IsNumber v bits) × IfNamed below (λ n. Says here (IsBelow v n))
 FactImplied here there v (fact.Reference layout nonnull age same) = ReferenceImplied here there v layout nonnull age same
-FactImplied here there v (fact.Address base words) = Says here (IsAddress v base words.members)
+FactImplied here there v (fact.Address base words) = Says here (IsAddress v base words)
 FactImplied here there v (fact.GlobalAddress g) = Says here (IsGlobal v g)
 
 -- what a claim asks is said; `there` is what the target begins with

@@ -54,7 +54,7 @@ OfClass P _ = ⊥
 
 -- an address with this base, whose word is one of these
 abbrev pub AddressOf : (base : ℕ) → (words : List Bool) → Known → Type 0
-AddressOf base words (Address x known) = (x ≡ base) × (has_all words known.members ≡ true)
+AddressOf base words (Address x known) = (x ≡ base) × (has_all words known ≡ true)
 AddressOf base words _ = ⊥
 
 -- the address of a global

@@ -183,7 +183,7 @@ fn implies_number(bits: u32, below: Option<u64>, known: Known) -> bool
 }
 
 fn implies_address(base: ValueId, words: &WordSet, known: Known) -> bool
-    ensures { result ≡ implies_address base words.now.members known }
+    ensures { result ≡ implies_address base words.now known }
 {
     match known {
         Known::Address {

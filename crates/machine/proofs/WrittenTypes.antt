@@ -1,30 +1,17 @@
--- Calls with more arguments than a function of integers takes.
-use Rattle.std.proofs.Common.{◌≡◌, ◌<◌, ◌≤◌, ℕ, Bool, true, false, List, [], ◌∷◌, length, refl, arith}
-use Rattle.std.specs.Prelude.{◌&&◌, slice_get}
-use Rattle.ir_ast.specs.IntegerFunctions.{widths_taken}
+-- Calls with another number of arguments than a function of integers takes.
+use Rattle.std.proofs.Common.{◌≡◌, ◌≢◌, ◌&&◌, ℕ, false, suc, List, [], ◌∷◌, length, refl, ap, ◌∙◌}
+use Rattle.std.specs.Prelude.{slice_get}
+use Rattle.std.proofs.Math.Bool.{and-false}
 use Rattle.ir_ast.specs.declared.argument.Argument.{Argument}
-use Rattle.ir_ast.specs.declared.integer_function.IntegersTaken.{IntegersTaken}
-use Rattle.ir_ast.specs.declared.integer_function.IntegersTaken.TheVariants.{One, Flagged, Two, Three}
 use Rattle.ir_ast.specs.declared.module.Module.{Module}
 use Rattle.machine.specs.Asks.{are_of_widths, written_types}
 use Rattle.machine.specs.Kinds.{is_integer_of}
 
--- where the second does not hold, not both do
-pub not_both : (a b : Bool) → b ≡ false → (a && b) ≡ false
-not_both true b e = e
-not_both false b e = refl
-
--- a function of integers takes at most three
-pub at_most_three : (taken : IntegersTaken) (bits : ℕ) → length (widths_taken taken bits) ≤ 3
-at_most_three One bits = omega arith
-at_most_three Flagged bits = omega arith
-at_most_three Two bits = omega arith
-at_most_three Three bits = omega arith
-
--- more arguments than there are widths are not of these widths
-pub too_many : (m : Module) (widths : List ℕ) (arguments : List Argument) → length widths < length arguments → are_of_widths m widths (written_types arguments) ≡ false
-too_many m [] [] more = absurd (omega (arith, more))
-too_many m [] (argument ∷ arguments) more = refl
-too_many m (bits ∷ widths) [] more = absurd (omega (arith, more))
-too_many m (bits ∷ widths) (argument ∷ arguments) more =
-    not_both (is_integer_of bits (slice_get m.types argument.written)) (are_of_widths m widths (written_types arguments)) (too_many m widths arguments (omega (arith, more)))
+-- arguments of another number than the widths are not of these widths
+pub other_count : (m : Module) (widths : List ℕ) (arguments : List Argument) → length widths ≢ length arguments → are_of_widths m widths (written_types arguments) ≡ false
+other_count m [] [] other = absurd (other refl)
+other_count m [] (argument ∷ arguments) other = refl
+other_count m (bits ∷ widths) [] other = refl
+other_count m (bits ∷ widths) (argument ∷ arguments) other =
+    ap (λ b. is_integer_of bits (slice_get m.types argument.written) && b) (other_count m widths arguments (λ e. other (ap (λ n. suc n) e)))
+    ∙ and-false (is_integer_of bits (slice_get m.types argument.written))

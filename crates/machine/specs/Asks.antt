@@ -141,15 +141,15 @@ store_action p slots stored usable v None address = if usable then plain_action 
 
 -- ---- getelementptr, integers and references
 
--- each index is an integer
-abbrev pub are_indices : Module → Function → SlotTable → List Value → List Argument → Bool
-are_indices m f slots registers indices = list_all (λ index. is_usable_number m f slots registers index.written index.operand) indices
+-- each of these is an integer
+abbrev pub are_integers : Module → Function → SlotTable → List Value → List Argument → Bool
+are_integers m f slots registers arguments = list_all (λ argument. is_usable_number m f slots registers argument.written argument.operand) arguments
 
 -- a getelementptr leads to a part of the type, and to a word of the cell
 abbrev pub element_action : LaidOut → Function → SlotTable → List Value → Element → Action
 element_action p f slots registers x =
     only_if (is_typed p.of_module f slots x.base_type x.base
-    && (are_indices p.of_module f slots registers x.indices
+    && (are_integers p.of_module f slots registers x.indices
     && (is_some (element_type p.of_module x.source x.indices)
     && is_some (element_place p (element_offset p registers x.source x.indices) (value_of p.of_module registers x.base_type x.base))))) Local
 
@@ -299,7 +299,7 @@ written_types arguments = map (λ argument. argument.written) arguments
 -- a function of integers takes integers
 abbrev pub integer_action : Module → Function → SlotTable → List Value → IntegerFunction → (bits returned : ℕ) → List Argument → Action
 integer_action m f slots registers function bits returned arguments =
-    only_if (are_integer_types m function bits returned (written_types arguments) && are_indices m f slots registers arguments) Local
+    only_if (are_integer_types m function bits returned (written_types arguments) && are_integers m f slots registers arguments) Local
 
 -- ---- calls of defined functions
 

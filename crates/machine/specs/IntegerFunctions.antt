@@ -32,11 +32,11 @@ abbrev pub reversed : (base digits n : ℕ) → ℕ
 reversed base zero n = 0
 reversed base (suc digits) n = (n % base) * base ^ digits + reversed base digits (n / base)
 
--- two integers of `bits` bits, one behind the other, shifted up by less than the width: the upper half
+-- the first of two integers of `bits` bits above the second, as one of twice the width, shifted up by less than `bits`: the upper half
 abbrev pub shifted_up : (bits a b by : ℕ) → ℕ
 shifted_up bits a b by = computed Add bits (computed ShiftLeft bits a by) (computed ShiftRight bits b (bits - by))
 
--- and shifted down: the lower half
+-- the same shifted down: the lower half
 abbrev pub shifted_down : (bits a b by : ℕ) → ℕ
 shifted_down bits a b by = computed Add bits (computed ShiftLeft bits a (bits - by)) (computed ShiftRight bits b by)
 

@@ -20,7 +20,7 @@ magnitude bits n = if is_negative bits n then modulus bits - n else n
 abbrev pub with_sign : (bits : ℕ) → (negative : Bool) → (n : ℕ) → ℕ
 with_sign bits negative n = if negative then modulus bits - n else n
 
--- a shift by so many bits is less than the width
+-- a shift by `by` bits is less than the width
 abbrev pub may_shift : (bits by : ℕ) → Bool
 may_shift bits by = nat_lt by bits && nat_lt by 64
 

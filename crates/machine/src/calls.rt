@@ -9,7 +9,7 @@ ghost use Rattle.machine.specs.Machine.{alloc_value, layout_of_call, root_of_cal
 
 use crate::action::{Action, only_if};
 use crate::answer::Answer;
-use crate::elements::are_indices;
+use crate::elements::are_integers;
 use crate::frame_context::FrameContext;
 use crate::kinds::{is_byte_pointer, is_integer_of, is_place_of_bytes, is_void};
 use crate::memory::{barrier_action, read_action};
@@ -284,6 +284,22 @@ fn safepoint_action(of_module: &Module, returned: TypeId, arguments: &[Argument]
     }
 }
 
+/// Whether there is one argument for each width, written as an integer of it.
+#[tactic(auto, using(crate::proofs::WrittenTypes::other_count))]
+fn are_written_with(of_module: &Module, widths: &[u64], arguments: &[Argument]) -> bool
+    ensures { result ≡ are_of_widths of_module.now widths.now (written_types arguments.now) }
+{
+    if widths.len() != arguments.len() {
+        return false;
+    }
+    for (bits, argument) in widths.iter().zip(arguments.iter()) {
+        if !is_integer_of(of_module, *bits, argument.written) {
+            return false;
+        }
+    }
+    true
+}
+
 /// Whether a function of integers is called with its types.
 fn are_written_types(
     of_module: &Module,
@@ -294,18 +310,13 @@ fn are_written_types(
 ) -> bool
     ensures { result ≡ are_integer_types of_module.now function bits returned (written_types arguments.now) }
 {
-    match arguments {
-        [only] => are_integer_types(of_module, function, bits, returned, &[only.written]),
-        [first, second] => {
-            let types = [first.written, second.written];
-            are_integer_types(of_module, function, bits, returned, &types)
+    is_integer_of(of_module, bits, returned)
+        && match integers_taken(function) {
+            IntegersTaken::One => are_written_with(of_module, &[bits], arguments),
+            IntegersTaken::Flagged => are_written_with(of_module, &[bits, 1], arguments),
+            IntegersTaken::Two => are_written_with(of_module, &[bits, bits], arguments),
+            IntegersTaken::Three => are_written_with(of_module, &[bits, bits, bits], arguments),
         }
-        [first, second, third] => {
-            let types = [first.written, second.written, third.written];
-            are_integer_types(of_module, function, bits, returned, &types)
-        }
-        _ => false,
-    }
 }
 
 fn integer_action(
@@ -319,7 +330,7 @@ fn integer_action(
 {
     only_if(
         are_written_types(context.of_module(), function, bits, returned, arguments)
-            && are_indices(context, arguments),
+            && are_integers(context, arguments),
         Action::Local,
     )
 }

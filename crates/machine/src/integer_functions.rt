@@ -88,7 +88,7 @@ fn turned_by(bits: u32, number: u64) -> u64
     }
 }
 
-/// Two integers of `bits` bits, one behind the other, shifted up: the upper half.
+/// The first of two integers of `bits` bits above the second, as one of twice the width, shifted up: the upper half.
 fn shifted_up(bits: u32, first: u64, second: u64, by: u64) -> u64
     ensures { result ≡ spec.shifted_up bits first second by }
 {
@@ -106,7 +106,7 @@ fn shifted_up(bits: u32, first: u64, second: u64, by: u64) -> u64
     )
 }
 
-/// Two integers of `bits` bits, one behind the other, shifted down: the lower half.
+/// The first of two integers of `bits` bits above the second, as one of twice the width, shifted down: the lower half.
 fn shifted_down(bits: u32, first: u64, second: u64, by: u64) -> u64
     ensures { result ≡ spec.shifted_down bits first second by }
 {

@@ -56,7 +56,7 @@ fn with_sign(bits: u32, negative: bool, number: u128) -> u128
     }
 }
 
-/// Whether a shift by so many bits is less than the width.
+/// Whether a shift by `by` bits is less than the width.
 fn may_shift(bits: u32, by: u64) -> bool
     ensures { result ≡ may_shift bits by }
 {

@@ -32,7 +32,7 @@ module _ (m : Module) where
     pub fact_implies : (x : Fact) → Implies (fact_fits m before x) (fact_fits (o m) after x)
     fact_implies (fact.Number n below) = both_imply (is_some (same_bits before (small n))) (below_fits below) (is_some (same_bits after (small n))) (below_fits below) (bits before after (small n) becomes) (itself (below_fits below))
     fact_implies (fact.Reference layout nonnull age same) = layout_implies layout
-    fact_implies (fact.Address base words) = both_imply (is_address before) (words_fit words.members) (is_address after) (words_fit words.members) (address before after becomes) (itself (words_fit words.members))
+    fact_implies (fact.Address base words) = both_imply (is_address before) (words_fit words) (is_address after) (words_fit words) (address before after becomes) (itself (words_fit words))
     fact_implies (fact.GlobalAddress symbol) = both_imply (is_address before) (is_some (global_named m symbol)) (is_address after) (is_some (global_named m symbol)) (address before after becomes) (itself (is_some (global_named m symbol)))
 
     promised_layout : (layout : Option ℕ) → Implies (promised_layout_fits m before layout) (promised_layout_fits (o m) after layout)

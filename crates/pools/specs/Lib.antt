@@ -3,3 +3,4 @@ pub mod Heap
 pub mod Pools
 pub mod WordSets
 pub mod Ends
+pub mod WordBits

@@ -145,7 +145,7 @@ module _ (heap : Setup) (p : LaidOut) (certs : List Section) (reaches : Bool) (f
     reference_casts layout (value.Cell own at) r e = part_refers p.of_module own to (subst (λ l. fits_layout l (kind_of p.of_module to) ≡ true) (sym r.0) e)
     reference_casts layout (value.Address at) r e = absurd r
 
-    address_casts : (layout : ℕ) (words : WordSet) (base v : Value) → IsReferenceTo heap layout base → IsAddressOf p words.members base v → c.casts_words p.layouts layout words (place_kind p.of_module to) ≡ true → a.may_cast_value p from to v ≡ true
+    address_casts : (layout : ℕ) (words : WordSet) (base v : Value) → IsReferenceTo heap layout base → IsAddressOf p words base v → c.casts_words p.layouts layout words (place_kind p.of_module to) ≡ true → a.may_cast_value p from to v ≡ true
     address_casts layout words value.Unset v r is e = absurd r
     address_casts layout words (value.Number n) v r is e = absurd r
     address_casts layout words value.Null v r is e = ap (a.may_cast_value p from to) is ∙ sym (leads_same p.of_module to) ∙ (and_parts (may_be_reference (place_kind p.of_module to)) _ e).0

@@ -131,7 +131,7 @@ module _ (heap : Setup) (p : LaidOut) (table : SlotTable) (guarded : Guarded) wh
   means_without log cells count registers v new (Address x w) register h = pick (x == v) refl where
     pick : (b : Bool) → (x == v) ≡ b → Means heap p guarded log cells count (slice_set registers v new) (if b then Nothing else Address x w) register
     pick true e = tt
-    pick false e = subst (λ y. IsAddressOf p w.members y register) (sym (got_other registers v x new value.Unset (λ z. test_false x v e (sym z)))) h
+    pick false e = subst (λ y. IsAddressOf p w y register) (sym (got_other registers v x new value.Unset (λ z. test_false x v e (sym z)))) h
   means_without log cells count registers v new (GlobalAddress g) register h = h
 
   tested_without : (registers : List Value) (v : ℕ) (new : Value) (t : Option Test) (register : Value) → WasTested p.of_module registers t register → WasTested p.of_module (slice_set registers v new) (off_test v t) register

@@ -80,7 +80,7 @@ module _ (heap : Setup) (p : LaidOut) (table : SlotTable) (guarded : Guarded) (l
   Lists v (Number bits below) = IsInteger bits below (names v)
   Lists v (Cell c layout stale) = ListsCell v c layout stale
   Lists v Null = ⊥
-  Lists v (Address base words) = IsAddressOf p words.members (names base) (names v)
+  Lists v (Address base words) = IsAddressOf p words (names base) (names v)
   Lists v (GlobalAddress symbol) = IsGlobal p.of_module symbol (names v)
 
   -- a fresh class has a value that is fresh here
@@ -220,8 +220,8 @@ module _ (heap : Setup) (p : LaidOut) (table : SlotTable) (guarded : Guarded) (l
 
   address_implied : (v base : ℕ) (words : List Bool) (k : Known) → implies_address base words k ≡ true → Means heap p guarded log cells (length here.classes) registers k (names v) → IsAddressOf p words (names base) (names v)
   address_implied v base words (Address x known) e m =
-      let b = and_parts (x == base) (has_all words known.members) e in
-      subst (λ z. IsAddressOf p words (names z) (names v)) (test_true x base b.0) (address_grows words known.members (names x) (names v) b.1 m)
+      let b = and_parts (x == base) (has_all words known) e in
+      subst (λ z. IsAddressOf p words (names z) (names v)) (test_true x base b.0) (address_grows words known (names x) (names v) b.1 m)
   address_implied v base words Nothing e m = absurd cc
   address_implied v base words (Number n b) e m = absurd cc
   address_implied v base words (Cell c l s) e m = absurd cc
@@ -301,7 +301,7 @@ module _ (heap : Setup) (p : LaidOut) (table : SlotTable) (guarded : Guarded) (l
         cell_own f v layout (is_stale a) own,
       )
   value_listed f v (fact.Address base words) e g own = (
-    plain_listed f v (Address base words) g (address_implied v base words.members (known_at here.values v) e (h.values v)) (λ c l s. address_plain base words.members (known_at here.values v) c l s e) (λ c l s z. absurd cc),
+    plain_listed f v (Address base words) g (address_implied v base words (known_at here.values v) e (h.values v)) (λ c l s. address_plain base words (known_at here.values v) c l s e) (λ c l s z. absurd cc),
     plain_own f v (Address base words) own (λ c l s z. absurd cc),
   )
   value_listed f v (fact.GlobalAddress x) e g own = (

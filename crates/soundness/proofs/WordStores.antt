@@ -221,7 +221,7 @@ module _ (heap : Setup) (p : LaidOut) (certs : List Section) (reaches : Bool) (f
   -- ---- at a place
 
   -- a word of a set fits as each does
-  fit_word : (layout w : ℕ) (words : WordSet) → w < 64 → has_word words.members w ≡ true → (wanted : Option WantedWord) → r.fits_words p.layouts layout words wanted ≡ true → r.fits_word (kind_of_word p.layouts layout w) wanted ≡ true
+  fit_word : (layout w : ℕ) (words : WordSet) → w < 64 → has_word words w ≡ true → (wanted : Option WantedWord) → r.fits_words p.layouts layout words wanted ≡ true → r.fits_word (kind_of_word p.layouts layout w) wanted ≡ true
   fit_word layout w words lt has None e = refl
   fit_word layout w words lt has (Some wanted) e = holds_as_asked heap p table guarded log cells facts frame.registers frame.slots fits h wanted layout w words lt has e
 

@@ -93,7 +93,7 @@ Means heap p guarded log cells count registers Nothing v = Unit {0}
 Means heap p guarded log cells count registers (Number bits below) v = IsInteger bits below v
 Means heap p guarded log cells count registers (Cell c layout stale) v = IsMember heap guarded log cells count c layout stale v
 Means heap p guarded log cells count registers Null v = v ≡ value.Null
-Means heap p guarded log cells count registers (Address base words) v = IsAddressOf p words.members (register_at registers base) v
+Means heap p guarded log cells count registers (Address base words) v = IsAddressOf p words (register_at registers base) v
 Means heap p guarded log cells count registers (GlobalAddress symbol) v = IsGlobal p.of_module symbol v
 
 -- what is known of a class holds of its value

@@ -1,24 +1,26 @@
-use Rattle.std.proofs.Common.{◌+◌, None, sym, ap, ◌∙◌}
-use Rattle.block_rules.specs.Elements.{gathered}
-use Rattle.block_rules.proofs.Strides.{left_from, strode_in, strode_out, strode_end}
+use Rattle.std.proofs.Common.{None, sym, ◌∙◌, arith}
+use Rattle.block_rules.proofs.Members.{bounded}
+use Rattle.block_rules.proofs.Strides.{strode_start, strode_in, strode_end}
 use Rattle.block_rules.proofs.elements.strode.Goals as goal
-use Rattle.block_rules.proofs.elements.strode.Goals.{then-has+in_ok-words, else-has}
+
+pub loop-word-init : goal.loop-word-init
+loop-word-init c = strode_start c.args.stride.now c.args.from.now c.new-words.result c.new-words.ensures
 
 pub returns-in_err-words : goal.returns-in_err-words
 returns-in_err-words c =
+    let at = bounded c.next_from.result c.loop-word.next c.in-Some.word c.in-Some.is c.next_from.ensures.bounds in
     c.from_residual.ensures
-    ∙ sym (strode_in c.args.stride.now c.args.from.now c.loop-word.words c.loop-word.word _ None c.loop-word-test.true (sym c.has.ensures ∙ c.if-has.true) (sym c.in_err-words.was ∙ c.reach.ensures) c.loop-word.invariant)
+    ∙ sym (strode_in c.args.stride.now c.args.from.now c.loop-word.words c.loop-word.next c.in-Some.word _ None at.0 at.1 (sym c.in-Some.is ∙ c.next_from.ensures.next) (sym c.in_err-words.was ∙ c.reach.ensures) c.loop-word.invariant)
 
 pub loop-word-preserved : goal.loop-word-preserved
 loop-word-preserved c =
-    elim c.if-has.branch [
-      | then-has+in_ok-words w ↦
-          strode_in c.args.stride.now c.args.from.now c.loop-word.words c.loop-word.word _ _ c.loop-word-test.true (sym c.has.ensures ∙ w.if-has.true) (sym w.in_ok-words.was ∙ w.reach.ensures) c.loop-word.invariant
-          ∙ ap (λ s. gathered (left_from c.args.stride.now c.args.from.now (c.loop-word.word + 1)) s) (sym w.words-is)
-      | else-has w ↦
-          strode_out c.args.stride.now c.args.from.now c.loop-word.words c.loop-word.word _ c.loop-word-test.true (sym c.has.ensures ∙ w.if-has.false) c.loop-word.invariant
-          ∙ ap (λ s. gathered (left_from c.args.stride.now c.args.from.now (c.loop-word.word + 1)) s) (sym w.words-is)
-    ]
+    let at = bounded c.next_from.result c.loop-word.next c.in-Some.word c.in-Some.is c.next_from.ensures.bounds in
+    strode_in c.args.stride.now c.args.from.now c.loop-word.words c.loop-word.next c.in-Some.word _ _ at.0 at.1 (sym c.in-Some.is ∙ c.next_from.ensures.next) (sym c.in_ok-words.was ∙ c.reach.ensures) c.loop-word.invariant
+
+pub loop-word-smaller : goal.loop-word-smaller
+loop-word-smaller c =
+    let at = bounded c.next_from.result c.loop-word.next c.in-Some.word c.in-Some.is c.next_from.ensures.bounds in
+    omega (arith, at.0, at.1)
 
 pub returns : goal.returns
-returns c = sym (strode_end c.args.stride.now c.args.from.now c.loop-word.words c.loop-word.word _ c.loop-word-test.false c.loop-word.invariant)
+returns c = sym (strode_end c.args.stride.now c.args.from.now c.loop-word.words c.loop-word.next _ (sym c.in_default.is ∙ c.next_from.ensures.next) c.loop-word.invariant)

@@ -1,0 +1,10 @@
+use Rattle.std.proofs.Common.{◌≡◌, ◌-◌}
+use Rattle.block_rules.specs.Places.{each_word}
+use Rattle.block_rules.proofs.Members.{each_left}
+use Rattle.block_rules.proofs.places.each_word.Given as goal
+
+abbrev pub invariant-loop-word : goal.invariant-loop-word
+invariant-loop-word l = each_word l.wanted l.layouts l.layout l.words ≡ each_left l.wanted l.layouts l.layout l.words l.from
+
+abbrev pub decreases-loop-word : goal.decreases-loop-word
+decreases-loop-word l = 64 - l.from
