@@ -1,8 +1,13 @@
 -- The blocks from which each block is entered, in a list for each.
-use Rattle.std.specs.Prelude.{◌≡◌, ◌<◌, ℕ, ◌==◌, Bool, ◌&&◌, ◌||◌, List, [], length, slice_index_or}
+use Rattle.std.specs.Prelude.{◌≡◌, ◌<◌, ℕ, ◌==◌, Bool, ◌&&◌, ◌||◌, List, [], ◌∷◌, length, slice_index_or}
 use Rattle.std.specs.List.{list_any}
 use Rattle.ir_ast.specs.declared.function.Function.{Function}
 use Rattle.block_rules.specs.Edges.{is_predecessor}
+
+-- the one list, and where it is empty the other
+abbrev pub many_or_few : (many few : List ℕ) → List ℕ
+many_or_few [] few = few
+many_or_few (n ∷ many) few = n ∷ many
 
 -- a block is in a list
 abbrev pub is_in : List ℕ → (block : ℕ) → Bool

@@ -17,6 +17,15 @@ const OPAQUE: &str =
 const SHAPES: &str =
     "shapes 1\nlayout Node 1 ref Node\nglobal @g ref Node\nroot @one %s ref Node\n";
 
+/// Certificates of `OPAQUE`.
+const SHAPED: &str =
+    "cert 2\nlayout Node 1 ref Node\nglobal @g ref Node\nroot @one %s ref Node\nfunction @one may\nend\n";
+
+/// A module whose struct has a shape for each of its two words.
+const TWO_POINTERS: &str = "%Node = type { ptr, ptr }\n";
+
+const SHAPES_OF_TWO: &str = "shapes 1\nlayout Node 0 ref Node\nlayout Node 1 ref Node\n";
+
 /// Certificates of `FOUR`.
 const CERTIFICATES: &str =
     "cert 1\nfunction @four may\nblock %no\nblock %ok\n%x ref Node nonnull fresh\nend\n";
@@ -113,6 +122,105 @@ fn are_made_and_fit(alloc: Global) -> Option<bool> {
 #[test]
 fn makes_certificates_with_shapes_beside_the_module(rt: HostRuntime) {
     assert_eq!(rt; are_made_and_fit(rt.alloc()), Some(true));
+}
+
+/// Which shapes of the certificates of `OPAQUE` are taken away.
+enum Missing {
+    Nothing,
+    Words,
+    Globals,
+    Roots,
+}
+
+fn take_away(shapes: &mut Shapes, missing: &Missing) {
+    match missing {
+        Missing::Nothing => {}
+        Missing::Words => shapes.words.clear(),
+        Missing::Globals => shapes.globals.clear(),
+        Missing::Roots => shapes.roots.clear(),
+    }
+}
+
+/// Whether certificates fit a module, and whether it has layouts with their shapes.
+type Fitting = (bool, bool);
+
+fn fitting(alloc: Global, module: Module, certs: Certs) -> Fitting {
+    let mut module = module;
+    let fit = certs.fits(&module);
+    let Certs { sections, shapes } = certs;
+    drop(sections);
+    module.shapes = shapes;
+    let laid_out = layouts(alloc, &module).is_ok();
+    drop(module);
+    (fit, laid_out)
+}
+
+/// `OPAQUE` and its certificates.
+fn opaque_and_certs(alloc: Global) -> Option<(Module, Certs)> {
+    let Ok(module) = read(alloc, OPAQUE.as_bytes()) else {
+        return None;
+    };
+    match read_cert(alloc, SHAPED.as_bytes(), &module) {
+        Ok(certs) => Some((module, certs)),
+        Err(_) => {
+            drop(module);
+            None
+        }
+    }
+}
+
+/// How the certificates of `OPAQUE` fit without these shapes.
+fn fitting_without(alloc: Global, missing: &Missing) -> Option<Fitting> {
+    let (module, mut certs) = opaque_and_certs(alloc)?;
+    if let Some(shapes) = &mut certs.shapes {
+        take_away(shapes, missing);
+    }
+    Some(fitting(alloc, module, certs))
+}
+
+/// The shapes of `TWO_POINTERS`.
+fn shapes_of_two(alloc: Global) -> Option<Shapes> {
+    let Ok(module) = read(alloc, TWO_POINTERS.as_bytes()) else {
+        return None;
+    };
+    let shapes = read_shapes(alloc, SHAPES_OF_TWO.as_bytes(), &module);
+    drop(module);
+    shapes.ok()
+}
+
+/// How the certificates of `OPAQUE` fit with a shape of the integer of its struct.
+fn fitting_with_one_more(alloc: Global) -> Option<Fitting> {
+    let others = shapes_of_two(alloc)?;
+    let Some((module, mut certs)) = opaque_and_certs(alloc) else {
+        drop(others);
+        return None;
+    };
+    if let Some(shapes) = &mut certs.shapes {
+        shapes.words = others.words;
+    }
+    Some(fitting(alloc, module, certs))
+}
+
+/// That certificates fit says nothing of the words. A module has no layouts where one of type `ptr` has no shape, and a shape of another word says nothing.
+#[test]
+fn fits_by_globals_and_root_slots_and_not_by_words(rt: HostRuntime) {
+    let alloc = rt.alloc();
+    assert_eq!(rt;
+        (
+            fitting_without(alloc, &Missing::Nothing),
+            fitting_without(alloc, &Missing::Words),
+            fitting_without(alloc, &Missing::Globals),
+            fitting_without(alloc, &Missing::Roots),
+            fitting_with_one_more(alloc)
+        ),
+        (
+            Some((true, true)),
+            Some((true, false)),
+            Some((false, true)),
+            Some((false, true)),
+            Some((true, true))
+        )
+    );
 }
 
 /// Whether a block of `FOUR` is certified: by itself, and by what was found before.

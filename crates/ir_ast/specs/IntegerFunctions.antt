@@ -54,12 +54,12 @@ width_of (ones ∷ []) = if nat_le 49 ones && nat_le ones 57 then Some (ones - 4
 width_of (tens ∷ ones ∷ []) = if nat_le 49 tens && nat_le tens 54 && nat_le 48 ones && nat_le ones 57 then up_to_64 ((tens - 48) * 10 + (ones - 48)) else None
 width_of _ = None
 
--- there is such a function of integers of so many bits: bytes change places in pairs
+-- there is such a function of integers of `bits` bits: bytes change places in pairs
 abbrev pub has_width : IntegerFunction → (bits : ℕ) → Bool
 has_width SwapBytes bits = bits % 16 == 0
 has_width _ bits = true
 
--- a function of integers of so many bits, if there is one
+-- a function of integers of this width, if there is one
 abbrev pub with_width : IntegerFunction → Option ℕ → Option Runtime
 with_width function None = None
 with_width function (Some bits) = if has_width function bits then Some (Integer function bits) else None
@@ -88,13 +88,13 @@ taken_by ReverseBits = One
 taken_by FunnelLeft = Three
 taken_by FunnelRight = Three
 
--- so many integers of this width; a flag is an i1
+-- the widths of these integers: a flag is an i1, and each other one has `bits` bits
 abbrev pub widths_taken : IntegersTaken → (bits : ℕ) → List ℕ
 widths_taken One bits = bits ∷ []
 widths_taken Flagged bits = bits ∷ 1 ∷ []
 widths_taken Two bits = bits ∷ bits ∷ []
 widths_taken Three bits = bits ∷ bits ∷ bits ∷ []
 
--- the widths of what a function of integers of so many bits takes
+-- the widths of what a function of integers of `bits` bits takes
 abbrev pub widths : IntegerFunction → (bits : ℕ) → List ℕ
 widths function bits = widths_taken (taken_by function) bits

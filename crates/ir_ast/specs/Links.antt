@@ -25,7 +25,7 @@ texts_of bytes spans = map (text_of bytes) spans
 abbrev pub IsWithin : List ℕ → Span → Type 0
 IsWithin bytes span = (span.start ≤ span.end) × (span.end ≤ length bytes)
 
--- the head that a hash leads to, of so many
+-- the head that a hash leads to, where there are `count` heads
 abbrev pub head_place : ℕ → (count : ℕ) → ℕ
 head_place hash count = bit_and hash (count - 1)
 

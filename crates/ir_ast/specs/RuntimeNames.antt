@@ -1,5 +1,5 @@
 -- The names of the runtime's functions, and of the intrinsics.
-use Rattle.std.specs.Prelude.{ℕ, if◌then◌else◌, List, Option, Some, None, codes}
+use Rattle.std.specs.Prelude.{ℕ, if◌then◌else◌, List, Option, Some, codes}
 use Rattle.std.specs.Str.{bytes_eq}
 use Rattle.ir_ast.specs.IntegerFunctions.{integers_named}
 use Rattle.ir_ast.specs.declared.runtime.Runtime.{Runtime}

@@ -27,9 +27,9 @@ pub enum IntegerFunction {
     SwapBytes,
     /// `bitreverse`: the bits in the other order.
     ReverseBits,
-    /// `fshl`: the upper half of two, one behind the other, shifted up.
+    /// `fshl`: the first number above the second, as one of twice the width, shifted up: the upper half.
     FunnelLeft,
-    /// `fshr`: the lower half of two, one behind the other, shifted down.
+    /// `fshr`: the same shifted down: the lower half.
     FunnelRight,
 }
 
@@ -128,7 +128,7 @@ fn up_to_64(bits: u64) -> Option<u64>
     if bits <= 64 { Some(bits) } else { None }
 }
 
-/// Whether there is such a function of integers of so many bits.
+/// Whether there is such a function of integers of `bits` bits.
 fn has_width(function: IntegerFunction, bits: u64) -> bool
     ensures { result ≡ spec.has_width function bits }
 {

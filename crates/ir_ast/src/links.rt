@@ -10,7 +10,8 @@ use crate::hash_key::HashKey;
 use std::alloc::{AllocError, Global};
 use std::hash::{BuildHasher, Hasher};
 
-/// Where no name comes before. Only the last name of a full table has this number, and a walk that goes on to it finds no other name.
+/// What stands in place of a number where no name comes before. The last name of a table of 2^32 names has this number too. A walk that
+/// comes to it goes on from there, and compares the text of each name that it meets.
 const NO_NAME: u32 = 0xffff_ffff;
 
 /// How many heads a table begins with.
@@ -62,7 +63,7 @@ impl Links {
         }
     }
 
-    /// No name is there, but room for so many.
+    /// No name is there, but room for `names` names and a table of `heads` heads.
     fn with_heads(
         alloc: Global,
         key: HashKey,
@@ -144,7 +145,7 @@ impl Links {
         self.heads[place] = number;
     }
 
-    /// Whether a name may be added to so many without a new table of heads.
+    /// Whether a name may be added to `count` names without a new table of heads.
     fn is_ready(&self, count: usize) -> bool
         ensures { result ≡ true → 0 < length self.now.heads.items }
     {
@@ -203,15 +204,5 @@ impl Links {
         links.befores.reserve(1)?;
         *self = links;
         Ok(self.hash_of(text))
-    }
-
-    /// No name is left; the room and the keys stay.
-    pub(crate) fn clear(&mut self)
-        ensures { length self.new.befores.items ≡ 0 }
-    {
-        self.befores.clear();
-        for head in self.heads.iter_mut() {
-            *head = NO_NAME;
-        }
     }
 }

@@ -112,13 +112,4 @@ impl Names {
         self.spans.push_reserved(Span { start, end });
         Ok(number)
     }
-
-    /// No name is left; the room stays.
-    pub fn clear(&mut self)
-        ensures { self.new ≡ [] }
-    {
-        self.bytes.clear();
-        self.spans.clear();
-        self.links.clear();
-    }
 }

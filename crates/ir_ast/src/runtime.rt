@@ -16,7 +16,7 @@ pub enum Runtime {
     GcRead,
     /// `llvm.gcwrite`
     GcWrite,
-    /// `llvm.smax.i32` and its like, of integers of so many bits; the wide forms alone have them.
+    /// `llvm.smax.i32` and its like, of integers of `bits` bits; the wide forms alone have them.
     Integer {
         function: IntegerFunction,
         bits: u64,

@@ -1,11 +1,14 @@
--- The row that tells of each slot whether it is a root.
-use Rattle.std.proofs.Common.{◌≡◌, ◌<◌, ℕ, zero, suc, Bool, true, false, ◌||◌, nat_eq, List, [], ◌∷◌, ◌++◌, length, replicate, slice_set, slice_index_or, refl, ap, sym, ◌∙◌, inl, inr}
-use Rattle.std.specs.Prelude.{slice_get, unwrap_or}
+-- The roots, and the row that tells of each slot whether it is one.
+use Rattle.std.proofs.Common.{◌≡◌, ◌<◌, ℕ, zero, suc, Bool, true, false, ◌||◌, nat_eq, List, [], ◌∷◌, ◌++◌, length, replicate, slice_set, slice_index_or, refl, ap, sym, subst, ◌∙◌, inl, inr}
+use Rattle.std.specs.Prelude.{Option, Some, None, slice_get, unwrap_or}
 use Rattle.std.proofs.lemmas.List.Folds.{list_any-append}
 use Rattle.std.proofs.lemmas.Option.{unwrap_or-slice_get}
 use Rattle.std.proofs.lemmas.List.{get_or-set_same, get_or-set_other}
 use Rattle.std.proofs.lemmas.Bool.{cases_eq, eq-eqb, ne_eqb}
-use Rattle.shadow_stack.specs.Slots.{is_among}
+use Rattle.ir_ast.specs.declared.block.Block.{Block}
+use Rattle.ir_ast.specs.declared.instr.Instr.{Instr}
+use Rattle.ir_ast.specs.declared.module.Module.{Module}
+use Rattle.shadow_stack.specs.Slots.{SlotTable, is_among, slot_rooted_by, with_root, with_roots, with_roots_of}
 
 or_true : (b : Bool) → true ≡ (b || true)
 or_true true = refl
@@ -40,3 +43,24 @@ pub none_rooted : (count slot : ℕ) → unwrap_or (slice_get (replicate count f
 none_rooted zero slot = refl
 none_rooted (suc count) zero = refl
 none_rooted (suc count) (suc slot) = none_rooted count slot
+
+-- where there is no slot, no call makes one a root
+no_root : (m : Module) (slot : Option ℕ) (roots : List ℕ) → with_root m [] slot roots ≡ roots
+no_root m None roots = refl
+no_root m (Some slot) roots = refl
+
+no_roots_in : (m : Module) (names : List (Option ℕ)) (instrs : List Instr) (roots : List ℕ) → with_roots m names [] instrs roots ≡ roots
+no_roots_in m names [] roots = refl
+no_roots_in m names (instr ∷ instrs) roots = ap (with_roots m names [] instrs) (no_root m (slot_rooted_by m names instr.op) roots) ∙ no_roots_in m names instrs roots
+
+pub no_roots : (m : Module) (names : List (Option ℕ)) (blocks : List Block) (roots : List ℕ) → with_roots_of m names [] blocks roots ≡ roots
+no_roots m names [] roots = refl
+no_roots m names (block ∷ blocks) roots = ap (with_roots_of m names [] blocks) (no_roots_in m names block.body roots) ∙ no_roots m names blocks roots
+
+-- so a table without slots has all its roots
+pub all_roots : (m : Module) (table : SlotTable) (blocks : List Block) → table.held ≡ []
+    → table ≡ record { names = table.names; addresses = table.addresses; held = table.held; layouts = table.layouts; roots = with_roots_of m table.names table.held blocks table.roots }
+all_roots m table blocks none =
+    let same : table.roots ≡ with_roots_of m table.names table.held blocks table.roots = subst (λ held. table.roots ≡ with_roots_of m table.names held blocks table.roots) (sym none) (sym (no_roots m table.names blocks table.roots)) in
+    let rooted : List ℕ → SlotTable = λ roots. record { names = table.names; addresses = table.addresses; held = table.held; layouts = table.layouts; roots = roots } in
+    ap rooted same

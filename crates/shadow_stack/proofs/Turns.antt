@@ -1,14 +1,15 @@
 -- Following names back along bitcasts: more turns than there are names show nothing new.
-use Rattle.std.proofs.Common.{◌≡◌, ◌<◌, ◌≤◌, ℕ, zero, suc, ◌+◌, ◌-◌, Bool, true, false, List, [], ◌∷◌, length, slice_index_or, refl, ap, sym, ◌∙◌, subst, arith, rules, inl, inr, ◌⊎◌, zero-add}
+use Rattle.std.proofs.Common.{◌≡◌, ◌<◌, ◌≤◌, ℕ, zero, suc, ◌+◌, ◌-◌, Bool, true, false, List, [], ◌∷◌, length, slice_index_or, slice_set, ◌≢◌, refl, ap, sym, ◌∙◌, subst, arith, rules, inl, inr, ◌⊎◌, zero-add}
 use Rattle.std.proofs.lemmas.Option.{unwrap_or-slice_get}
 use Rattle.std.specs.List.{list_any}
 use Rattle.std.specs.Prelude.{◌||◌, map, Option, Some, None, is_some, slice_get, unwrap_or}
-use Rattle.std.proofs.lemmas.Bool.{cases_lt}
+use Rattle.std.proofs.lemmas.List.{get_or-set_same, get_or-set_other, length-set}
+use Rattle.std.proofs.lemmas.Bool.{cases_eq, cases_lt}
 use Rattle.lemmas.specs.Bools.{yes_or_no, or_neither}
 use Rattle.shadow_stack.specs.declared.draft.Origin.{Origin}
 use Rattle.shadow_stack.specs.declared.draft.Origin.TheVariants.{Nowhere, Slot, Address, Same}
 use Rattle.shadow_stack.specs.Hops.{hops_nowhere, hops_slot, hops_address}
-use Rattle.shadow_stack.specs.Slots.{origin_at, NamesSlot, Given, Renamed, hop, hops, is_same, slot_at, is_address_at, names_of, addresses_of, NamesAreExact}
+use Rattle.shadow_stack.specs.Slots.{origin_at, IsBack, AreBack, NamesSlot, Given, Renamed, hop, hops, is_same, slot_at, is_address_at, names_of, addresses_of, NamesAreExact}
 
 -- some turns, and then more
 hops_add : (origins : List Origin) (m n : ℕ) (o : Origin) → hops origins (m + n) o ≡ hops origins n (hops origins m o)
@@ -23,38 +24,78 @@ at_map f [] v = refl
 at_map f (x ∷ xs) zero = refl
 at_map f (x ∷ xs) (suc v) = at_map f xs v
 
-map_map : {B : Type 0} (f : Origin → Origin) (g : Origin → B) (xs : List Origin) → map g (map f xs) ≡ map (λ o. g (f o)) xs
-map_map f g [] = refl
-map_map f g (x ∷ xs) = ap (λ l. g (f x) ∷ l) (map_map f g xs)
+-- two rows of which tests say the same, place by place
+rows_alike : {B : Type 0} (f g : Origin → B) (xs ys : List Origin) → length xs ≡ length ys → ((v : ℕ) → f (origin_at xs v) ≡ g (origin_at ys v)) → map f xs ≡ map g ys
+rows_alike f g [] [] many same = refl
+rows_alike f g [] (y ∷ ys) many same = absurd (omega (arith, many))
+rows_alike f g (x ∷ xs) [] many same = absurd (omega (arith, many))
+rows_alike f g (x ∷ xs) (y ∷ ys) many same =
+    ap (λ z. z ∷ map f xs) (same zero) ∙ ap (λ l. g y ∷ l) (rows_alike f g xs ys (omega (arith, many)) (λ v. same (suc v)))
 
-map_same : {B : Type 0} (f g : Origin → B) (xs : List Origin) → ((v : ℕ) → f (origin_at xs v) ≡ g (origin_at xs v)) → map f xs ≡ map g xs
-map_same f g [] same = refl
-map_same f g (x ∷ xs) same = ap (λ y. y ∷ map f xs) (same zero) ∙ ap (λ l. g x ∷ l) (map_same f g xs (λ v. same (suc v)))
+-- before the first turn each origin is as it was
+pub none_back : (origins : List Origin) → AreBack origins 0 origins
+none_back origins = record { as_many = refl; back = λ v. (0, (omega arith, refl)) }
 
-map_itself : (xs : List Origin) → xs ≡ map (λ o. o) xs
-map_itself [] = refl
-map_itself (x ∷ xs) = ap (λ l. x ∷ l) (map_itself xs)
+-- some turns back from what is some turns back
+further : (origins : List Origin) (k m : ℕ) (origin o end : Origin) → o ≡ hops origins k origin → end ≡ hops origins m o → end ≡ hops origins (k + m) origin
+further origins k m origin o end before after = after ∙ ap (hops origins m) before ∙ sym (hops_add origins k m origin)
 
--- after no turn each origin is as it was
-pub hops_none : (origins : List Origin) → origins ≡ map (hops origins zero) origins
-hops_none origins = map_itself origins
+-- a hop in a row that is n turns back goes on by more than n turns
+hop_back : (origins row : List Origin) (n : ℕ) → ((v : ℕ) → IsBack origins n (origin_at origins v) (origin_at row v))
+    → (origin o : Origin) → IsBack origins n origin o → IsBack origins (n + suc n) origin (hop row o)
+hop_back origins row n back origin Nowhere b = (b.0 + suc n, (omega (arith, b.1.0), further origins b.0 (suc n) origin Nowhere Nowhere b.1.1 (sym (hops_nowhere origins (suc n)))))
+hop_back origins row n back origin (Slot s) b = (b.0 + suc n, (omega (arith, b.1.0), further origins b.0 (suc n) origin (Slot s) (Slot s) b.1.1 (sym (hops_slot origins (suc n) s))))
+hop_back origins row n back origin Address b = (b.0 + suc n, (omega (arith, b.1.0), further origins b.0 (suc n) origin Address Address b.1.1 (sym (hops_address origins (suc n)))))
+hop_back origins row n back origin (Same w) b =
+    let there : IsBack origins n (origin_at origins w) (origin_at row w) = back w in
+    (b.0 + suc there.0, (omega (arith, b.1.0, there.1.0), further origins b.0 (suc there.0) origin (Same w) (origin_at row w) b.1.1 there.1.1))
 
--- a row of origins after some turns, with one hop in it
-hop_in_row : (origins : List Origin) (n : ℕ) (o : Origin) → hop (map (hops origins n) origins) o ≡ hops origins (suc n) o
-hop_in_row origins n Nowhere = sym (hops_nowhere origins n)
-hop_in_row origins n (Slot s) = sym (hops_slot origins n s)
-hop_in_row origins n Address = sym (hops_address origins n)
-hop_in_row origins n (Same v) =
-    ap (λ d. slice_index_or (map (hops origins n) origins) v d) (sym (hops_nowhere origins n)) ∙ at_map (hops origins n) origins v
+-- a row n turns back, whose names before a place were hopped once more
+pub record AreHopped (origins : List Origin) (n place : ℕ) (row : List Origin) : Type 0 where
+  pub as_many : length row ≡ length origins
+  pub back : (v : ℕ) → IsBack origins n (origin_at origins v) (origin_at row v)
+  pub more : (v : ℕ) → v < place → IsBack origins (n + suc n) (origin_at origins v) (origin_at row v)
 
--- a hop in each place of the row doubles the turns
-pub row_doubled : (origins row next : List Origin) (n : ℕ) → row ≡ map (hops origins n) origins → next ≡ map (hop row) row
-    → next ≡ map (hops origins (n + suc n)) origins
-row_doubled origins row next n is_row is_next =
-    let stands : map (hop row) row ≡ map (hop (map (hops origins n) origins)) (map (hops origins n) origins) = ap (λ r. map (hop r) r) is_row in
-    is_next ∙ stands ∙ map_map (hops origins n) (hop (map (hops origins n) origins)) origins
-    ∙ map_same (λ o. hop (map (hops origins n) origins) (hops origins n o)) (hops origins (n + suc n)) origins
-    (λ v. hop_in_row origins n (hops origins n (origin_at origins v)) ∙ sym (hops_add origins n (suc n) (origin_at origins v)))
+-- no name was hopped
+pub none_hopped : (origins row : List Origin) (n : ℕ) → AreBack origins n row → AreHopped origins n 0 row
+none_hopped origins row n h = record { as_many = h.as_many; back = h.back; more = λ v below. absurd (omega (arith, below)) }
+
+-- one name more was hopped
+pub one_hopped : (origins row next : List Origin) (n place : ℕ) → place < length row → next ≡ slice_set row place (hop row (origin_at row place))
+    → AreHopped origins n place row → AreHopped origins n (place + 1) next
+one_hopped origins row next n place within is_next h =
+    let end : Origin = hop row (origin_at row place) in
+    let here : IsBack origins (n + suc n) (origin_at origins place) end = hop_back origins row n h.back (origin_at origins place) (origin_at row place) (h.back place) in
+    let at : origin_at next place ≡ end = ap (λ r. origin_at r place) is_next ∙ get_or-set_same row place end Nowhere within in
+    let other : (v : ℕ) → v ≢ place → origin_at next v ≡ origin_at row v = λ v not. ap (λ r. origin_at r v) is_next ∙ get_or-set_other row place v end Nowhere not in
+    record {
+      as_many = ap length is_next ∙ length-set row place end ∙ h.as_many;
+      back = λ v. elim (cases_eq v place) [
+        | inl same ↦ subst (λ w. IsBack origins n (origin_at origins w) (origin_at next w)) (sym same) (here.0, (omega (arith, here.1.0), at ∙ here.1.1))
+        | inr not ↦ subst (IsBack origins n (origin_at origins v)) (sym (other v not)) (h.back v)
+      ];
+      more = λ v below. elim (cases_eq v place) [
+        | inl same ↦ subst (λ w. IsBack origins (n + suc n) (origin_at origins w) (origin_at next w)) (sym same) (here.0, (here.1.0, at ∙ here.1.1))
+        | inr not ↦ subst (IsBack origins (n + suc n) (origin_at origins v)) (sym (other v not)) (h.more v (omega (arith, below, not)))
+      ];
+    }
+
+past_end : (row : List Origin) (v : ℕ) → length row ≤ v → origin_at row v ≡ Nowhere
+past_end [] v h = refl
+past_end (o ∷ row) zero h = absurd (omega (arith, h))
+past_end (o ∷ row) (suc v) h = past_end row v (omega (arith, h))
+
+-- each name was hopped
+pub all_hopped : (origins row : List Origin) (n : ℕ) → AreHopped origins n (length row) row → AreBack origins (n + suc n) row
+all_hopped origins row n h = record {
+  as_many = h.as_many;
+  back = λ v. elim (cases_lt v (length row)) [
+    | inl within ↦ h.more v within
+    | inr past ↦
+        let first : origin_at origins v ≡ Nowhere = past_end origins v (omega (arith, past, h.as_many)) in
+        (n + suc n, (omega arith, past_end row v past ∙ sym (ap (hops origins (n + suc n)) first ∙ hops_nowhere origins (n + suc n))))
+  ];
+}
 
 -- what an origin is, by a number: 0 is an address, and the others are slots
 abbrev end_at : Origin → Option ℕ
@@ -251,42 +292,37 @@ abbrev pub IsSettled : (origins row : List Origin) → (n : ℕ) → Type 0
 IsSettled origins row n = (length origins ≤ n) ⊎ (list_any is_same row ≡ false)
 
 -- a row after which no turn is made is settled
-pub settled_at : (origins row shown : List Origin) → shown ≡ row → (reach : ℕ) → 0 < reach → (length origins < reach) ⊎ (list_any is_same shown ≡ false) → IsSettled origins row (reach - 1)
-settled_at origins row shown is reach positive (inl h) = inl (omega (arith, h))
-settled_at origins row shown is reach positive (inr h) = inr (sym (ap (list_any is_same) is) ∙ h)
+pub settled_at : (origins row shown : List Origin) → shown ≡ row → (reach : ℕ) → 0 < reach → AreBack origins (reach - 1) row → (length shown < reach) ⊎ (list_any is_same shown ≡ false) → IsSettled origins row (reach - 1)
+settled_at origins row shown is reach positive back (inl h) = inl (omega (arith, back.as_many, ap length is, h))
+settled_at origins row shown is reach positive back (inr h) = inr (sym (ap (list_any is_same) is) ∙ h)
 
--- where no name is a bitcast, more turns show the same
-rest : (origins row : List Origin) (n v : ℕ) → n ≤ length origins → row ≡ map (hops origins n) origins → list_any is_same row ≡ false
-    → hops origins n (origin_at origins v) ≡ hops origins (length origins) (origin_at origins v)
-rest origins row n v h is_row none =
-    let at : origin_at row v ≡ hops origins n (origin_at origins v) = ap (λ r. origin_at r v) is_row ∙ ap (λ d. slice_index_or (map (hops origins n) origins) v d) (sym (hops_nowhere origins n)) ∙ at_map (hops origins n) origins v in
-    let still : is_same (hops origins n (origin_at origins v)) ≡ false = sym (ap is_same at) ∙ none_same row v none in
-    let on : n + (length origins - n) ≡ length origins = omega (arith, h) in
-    sym (ap (λ k. hops origins k (origin_at origins v)) (sym on) ∙ hops_add origins n (length origins - n) (origin_at origins v) ∙ ended origins (length origins - n) (hops origins n (origin_at origins v)) still)
-
--- what the row shows of each name, where that stays from a turn on
-at_row : {B : Type 0} (f : Origin → B) (origins row : List Origin) (n m : ℕ) → row ≡ map (hops origins n) origins
-    → ((v : ℕ) → f (hops origins n (origin_at origins v)) ≡ f (hops origins m (origin_at origins v)))
-    → map f row ≡ map (λ o. f (hops origins m o)) origins
-at_row f origins row n m is_row same =
-    ap (λ r. map f r) is_row ∙ map_map (hops origins n) f origins ∙ map_same (λ o. f (hops origins n o)) (λ o. f (hops origins m o)) origins same
+-- what is no bitcast after some turns is the same after more
+rest : (origins : List Origin) (k m : ℕ) (origin end : Origin) → k ≤ m → end ≡ hops origins k origin → is_same end ≡ false → end ≡ hops origins m origin
+rest origins k m origin end h is ends =
+    let on : k + (m - k) ≡ m = omega (arith, h) in
+    sym (ended origins (m - k) end ends) ∙ ap (hops origins (m - k)) is ∙ sym (hops_add origins k (m - k) origin) ∙ ap (λ j. hops origins j origin) on
 
 -- a row that is settled shows what as many turns as there are names show
-at_settled : {B : Type 0} (f : Origin → B) (origins row : List Origin) (n : ℕ) → ((v : ℕ) → length origins ≤ n → f (hops origins n (origin_at origins v)) ≡ f (hops origins (length origins) (origin_at origins v)))
-    → IsSettled origins row n → row ≡ map (hops origins n) origins → map f row ≡ map (λ o. f (hops origins (length origins) o)) origins
-at_settled f origins row n late (inl h) is_row = at_row f origins row n (length origins) is_row (λ v. late v h)
-at_settled f origins row n late (inr none) is_row = at_row f origins row n (length origins) is_row (λ v. elim (cases_lt n (length origins)) [
-  | inl less ↦ ap f (rest origins row n v (omega (arith, less)) is_row none)
-  | inr more ↦ late v more
-])
+at_settled : {B : Type 0} (f : Origin → B) (origins row : List Origin) (n : ℕ)
+    → ((k v : ℕ) → length origins ≤ k → f (hops origins k (origin_at origins v)) ≡ f (hops origins (length origins) (origin_at origins v)))
+    → IsSettled origins row n → AreBack origins n row → map f row ≡ map (λ o. f (hops origins (length origins) o)) origins
+at_settled f origins row n late (inl h) back = rows_alike f (λ o. f (hops origins (length origins) o)) row origins back.as_many (λ v.
+    let b : IsBack origins n (origin_at origins v) (origin_at row v) = back.back v in
+    ap f b.1.1 ∙ late b.0 v (omega (arith, h, b.1.0)))
+at_settled f origins row n late (inr none) back = rows_alike f (λ o. f (hops origins (length origins) o)) row origins back.as_many (λ v.
+    let b : IsBack origins n (origin_at origins v) (origin_at row v) = back.back v in
+    elim (cases_lt b.0 (length origins)) [
+      | inl less ↦ ap f (rest origins b.0 (length origins) (origin_at origins v) (origin_at row v) (omega (arith, less)) b.1.1 (none_same row v none))
+      | inr more ↦ ap f b.1.1 ∙ late b.0 v more
+    ])
 
 -- the names as the row shows them
-pub names_at_row : (origins row : List Origin) (names : List (Option ℕ)) (n : ℕ) → IsSettled origins row n → row ≡ map (hops origins n) origins → names ≡ map slot_at row → names ≡ names_of origins
-names_at_row origins row names n h is_row is_names = is_names ∙ at_settled slot_at origins row n (λ v. slot_settled origins n v) h is_row
+pub names_at_row : (origins row : List Origin) (n : ℕ) → IsSettled origins row n → AreBack origins n row → map slot_at row ≡ names_of origins
+names_at_row origins row n h back = at_settled slot_at origins row n (slot_settled origins) h back
 
 -- and whether each is an address
-pub addresses_at_row : (origins row : List Origin) (addresses : List Bool) (n : ℕ) → IsSettled origins row n → row ≡ map (hops origins n) origins → addresses ≡ map is_address_at row → addresses ≡ addresses_of origins
-addresses_at_row origins row addresses n h is_row is_addresses = is_addresses ∙ at_settled is_address_at origins row n (λ v. address_settled origins n v) h is_row
+pub addresses_at_row : (origins row : List Origin) (n : ℕ) → IsSettled origins row n → AreBack origins n row → map is_address_at row ≡ addresses_of origins
+addresses_at_row origins row n h back = at_settled is_address_at origins row n (address_settled origins) h back
 
 sound : (origins : List Origin) (k : ℕ) (o : Origin) (s : ℕ) → slot_at (hops origins k o) ≡ Some s → NamesSlot origins o s
 sound origins zero Nowhere s e = absurd (no_true (ap is_some e))

@@ -1,48 +1,32 @@
-ghost use Rattle.std.specs.Prelude.{◌≡◌, ◌≤◌, ◌<◌, ◌⊎◌, true, false, map, IfOk};
+ghost use Rattle.std.specs.Prelude.{ℕ, ◌≡◌, ◌<◌, ◌≤◌, ◌+◌, ◌⊎◌, suc, true, false, List, map, length, slice_set};
 ghost use Rattle.std.specs.List.{list_any};
-ghost use Rattle.shadow_stack.specs.Slots.{hop, is_same, slot_at, is_address_at, names_of, addresses_of, origin_at, NamesAreExact};
+ghost use Rattle.shadow_stack.specs.Slots.{hop, is_same, slot_at, is_address_at, names_of, addresses_of, origin_at, AreBack, NamesAreExact};
+ghost use Rattle.shadow_stack.specs.declared.draft.Origin.{Origin as AnOrigin};
 
 use crate::draft::Origin;
 use crate::slot_id::SlotId;
 use items::Items;
-use std::alloc::{AllocError, Global};
 
-/// What the local names of a function name.
-#[derive(Drop)]
-pub struct Named {
-    /// The slot of each name, if it names one.
-    pub slots: Items<Option<SlotId>>,
-    /// Whether each name is an address.
-    pub addresses: Items<bool>,
-}
-
-/// The slot of each name, and whether it is an address. The way that is followed for each name doubles in each turn, until no name is a
-/// bitcast of another one, or only those that are bitcasts of themselves.
-pub fn named_by(alloc: Global, origins: &[Origin]) -> Result<Named, AllocError>
-    ensures slots { IfOk result (λ named. named.slots ≡ names_of origins.now) }
-    ensures addresses { IfOk result (λ named. named.addresses ≡ addresses_of origins.now) }
-    ensures exact { IfOk result (λ named. NamesAreExact origins.now named.slots) }
+/// Puts in the place of each name's origin what it is behind the bitcasts. The way that is followed for each name at least doubles in
+/// each turn, until no name is a bitcast of another one, or only those that are bitcasts of themselves.
+pub fn follow(origins: &mut Items<Origin>)
+    ensures slots { map slot_at origins.new ≡ names_of origins.old }
+    ensures addresses { map is_address_at origins.new ≡ addresses_of origins.old }
+    ensures exact { NamesAreExact origins.old (map slot_at origins.new) }
 {
-    let mut row = Vec::from_slice(alloc, origins)?;
     let mut reach: u128 = 1;
-    while goes_on(row.as_slice(), reach, origins.len()) {
-        row = doubled(alloc, row.as_slice())?;
+    while goes_on(origins.as_slice(), reach) {
+        hop_each(origins);
         reach *= 2;
     }
-    let slots = slots_at(alloc, row.as_slice())?;
-    let addresses = addresses_at(alloc, row.as_slice())?;
-    Ok(Named {
-        slots: Items::from_vec(slots),
-        addresses: Items::from_vec(addresses),
-    })
 }
 
 /// Whether another turn may show more: fewer turns were made than there are names, and some name is a bitcast of another one.
-fn goes_on(row: &[Origin], reach: u128, names: usize) -> bool
-    ensures on { result ≡ true → reach ≤ names }
-    ensures settled { result ≡ false → (names < reach) ⊎ (list_any is_same row.now ≡ false) }
+fn goes_on(row: &[Origin], reach: u128) -> bool
+    ensures on { result ≡ true → reach ≤ length row.now }
+    ensures settled { result ≡ false → (length row.now < reach) ⊎ (list_any is_same row.now ≡ false) }
 {
-    reach <= names as u128 && some_same(row)
+    reach <= row.len() as u128 && some_same(row)
 }
 
 /// Whether some name is a bitcast of another one.
@@ -58,39 +42,43 @@ fn is_same(origin: Origin) -> bool
     matches!(origin, Origin::Same(_))
 }
 
-fn doubled(alloc: Global, row: &[Origin]) -> Result<Vec<Origin>, AllocError>
-    ensures { IfOk result (λ next. next.items ≡ map (hop row.now) row.now) }
+/// One hop for each name, in order: a name that was hopped before is found where it is then, so that a way may grow by more.
+fn hop_each(row: &mut Items<Origin>)
+    ensures { (origins : List AnOrigin) (n : ℕ) → AreBack origins n row.old → AreBack origins (n + suc n) row.new }
 {
-    row.iter().map(|origin| hop(row, *origin)).collect(alloc)
+    for at in 0..row.len() {
+        hop_at(row, at);
+    }
 }
 
-fn slots_at(alloc: Global, row: &[Origin]) -> Result<Vec<Option<SlotId>>, AllocError>
-    ensures { IfOk result (λ slots. slots.items ≡ map slot_at row.now) }
+fn hop_at(row: &mut Items<Origin>, at: usize)
+    requires { at < length row.old }
+    ensures { row.new ≡ slice_set row.old at (hop row.old (origin_at row.old at)) }
 {
-    row.iter().map(|origin| slot_at(*origin)).collect(alloc)
-}
-
-fn addresses_at(alloc: Global, row: &[Origin]) -> Result<Vec<bool>, AllocError>
-    ensures { IfOk result (λ addresses. addresses.items ≡ map is_address_at row.now) }
-{
-    row.iter()
-        .map(|origin| is_address_at(*origin))
-        .collect(alloc)
+    let end = hop(row.as_slice(), origin_at(row.as_slice(), at));
+    row.set(at, end);
 }
 
 fn hop(row: &[Origin], origin: Origin) -> Origin
     ensures { result ≡ hop row.now origin }
 {
     match origin {
-        Origin::Same(value) => match row.get(value.number() as usize) {
-            Some(origin) => *origin,
-            None => Origin::Nowhere,
-        },
+        Origin::Same(value) => origin_at(row, value.number() as usize),
         origin => origin,
     }
 }
 
-fn slot_at(origin: Origin) -> Option<SlotId>
+fn origin_at(row: &[Origin], at: usize) -> Origin
+    ensures { result ≡ origin_at row.now at }
+{
+    match row.get(at) {
+        Some(origin) => *origin,
+        None => Origin::Nowhere,
+    }
+}
+
+/// The slot that is an origin.
+pub fn slot_at(origin: Origin) -> Option<SlotId>
     ensures { result ≡ slot_at origin }
 {
     match origin {
@@ -99,7 +87,8 @@ fn slot_at(origin: Origin) -> Option<SlotId>
     }
 }
 
-fn is_address_at(origin: Origin) -> bool
+/// Whether an origin is an address.
+pub fn is_address_at(origin: Origin) -> bool
     ensures { result ≡ is_address_at origin }
 {
     matches!(origin, Origin::Address)
