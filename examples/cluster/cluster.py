@@ -1,7 +1,8 @@
 #!/usr/bin/env python3
-"""Makes a soak, or a list of checks, of many pieces on the nodes of a Slurm cluster, and joins their answers (docs/SCALE.md).
+"""Makes a soak, a hunt, or a list of checks, of many pieces on the nodes of a Slurm cluster, and joins their answers (docs/SCALE.md).
 
     cluster.py [OPTIONS] soak MODULE TRACE --seeds N --steps S [OTHER OPTIONS OF dgc soak]
+    cluster.py [OPTIONS] hunt MODULE [--seeds N] [--steps S] [OTHER OPTIONS OF dgc hunt]
     cluster.py [OPTIONS] check LIST [OPTIONS OF dgc check]      a line `MODULE CERT` each
     cluster.py [OPTIONS] join FOLDER                            goes on with what an earlier call began
 
@@ -14,7 +15,7 @@
     --wait SECONDS      for how long answers are waited for (without it: until there are all)
     --each              of a list also the modules that are accepted
 
-Of a soak it prints what one call of dgc prints. Of a list it prints what one call of dgc prints of each module that is not accepted,
+Of a soak or a hunt it prints what one call of dgc prints. Of a list it prints what one call of dgc prints of each module that is not accepted,
 in the order of the list, and how many were. The status is that of dgc, of a list the highest; and 5 where answers are missing, which
 standard error then names.
 """
@@ -63,16 +64,18 @@ def folder_of(options):
     return os.path.abspath(options.folder or tempfile.mkdtemp(prefix="dgc-cluster-", dir="."))
 
 
-def soak_words(words):
-    """What the command line of a soak says of seeds and of what is made of a broken one; and its other words."""
-    parser = Parser(prog="cluster.py soak", add_help=False)
-    parser.add_argument("--seeds", type=int, required=True)
+def seed_words(kind, words):
+    """What the command line of a soak or of a hunt says of seeds and of what is made of a broken one; and its other words."""
+    parser = Parser(prog=f"cluster.py {kind}", add_help=False)
+    parser.add_argument("--seeds", type=int, **({"required": True} if kind == "soak" else {"default": 10000}))
     parser.add_argument("--first", type=int, default=0)
     parser.add_argument("--save")
-    parser.add_argument("--tries")
-    parser.add_argument("--shrink", action="store_true")
     for word in ("--seconds", "--explain"):
         parser.add_argument(word)
+    parser.set_defaults(tries=None, shrink=False)
+    if kind == "soak":
+        parser.add_argument("--tries")
+        parser.add_argument("--shrink", action="store_true")
     asked, rest = parser.parse_known_args(words)
     if asked.seconds or asked.explain:
         pieces.refuse("--seconds and --explain are not for pieces: what they say is of one call")
@@ -84,14 +87,33 @@ def soak_words(words):
 
 def begin_soak(options, words):
     """The work of a soak. Where one call ends before its first seed, this call ends so too."""
-    first, seeds, more, rest = soak_words(words)
+    first, seeds, more, rest = seed_words("soak", words)
     status, out, error = pieces.ran([options.dgc, "soak", *rest, *more, "--first", str(first), "--seeds", "0"])
     if status or not seeds:
-        sys.stdout.write(out)
-        sys.stderr.write(error)
-        sys.exit(status)
+        end(status, out, error)
+    return begin_seeds(options, "soak", first, seeds, more, rest)
+
+
+def begin_hunt(options, words):
+    """The work of a hunt. Where one call ends with its first seed, since that breaks or nothing can start, this call ends so too."""
+    first, seeds, more, rest = seed_words("hunt", words)
+    status, out, error = pieces.ran([options.dgc, "hunt", *rest, *more, "--first", str(first), "--seeds", str(min(seeds, 1))])
+    if status or out.startswith("sound 0 "):
+        end(status, out, error)
+    return begin_seeds(options, "hunt", first, seeds, more, rest)
+
+
+def end(status, out, error):
+    """Ends as a call of dgc did."""
+    sys.stdout.write(out)
+    sys.stderr.write(error)
+    sys.exit(status)
+
+
+def begin_seeds(options, kind, first, seeds, more, rest):
+    """The work of these seeds."""
     files = [file for word in rest for file in [word.partition("=")[2] if word.startswith("--") else word] if os.path.isfile(file)]
-    plan = plan_of(options, "soak", rest, pieces.cut(first, seeds, options.pieces), files, first=first, seeds=seeds, after=more)
+    plan = plan_of(options, kind, rest, pieces.cut(first, seeds, options.pieces), files, first=first, seeds=seeds, after=more)
     return pieces.Work.begin(folder_of(options), plan)
 
 
@@ -133,7 +155,7 @@ def begun(_, words):
 
 def needed(work, answers):
     """The pieces that have no answer and are not above a broken seed that was found."""
-    broken = [number for number, answer in answers.items() if work.plan["kind"] == "soak" and answer["said"][0][0] == 1]
+    broken = [number for number, answer in answers.items() if work.plan["kind"] != "check" and answer["said"][0][0] == 1]
     return set(range(min(broken, default=len(work.pieces())))) - answers.keys()
 
 
@@ -187,15 +209,16 @@ def missing(work, numbers):
     """Names what has no answer."""
     for number in sorted(numbers):
         first, count = work.pieces()[number]
-        what = f"seeds {first} to {first + count - 1}" if work.plan["kind"] == "soak" else f"pairs {first + 1} to {first + count} of {work.plan['list']}"
+        what = f"seeds {first} to {first + count - 1}" if work.plan["kind"] != "check" else f"pairs {first + 1} to {first + count} of {work.plan['list']}"
         fault = work.path("faults", number)
         say(f"no answer: piece {number}, {what}{': ' + pieces.text_of(fault).strip() if os.path.exists(fault) else ''}")
     say(f"what is there is kept: cluster.py join {work.folder}")
     return INCOMPLETE
 
 
-def join_soak(work, answers):
-    """Prints the answer of a soak, if it is whole. A broken seed is made once more, here."""
+def join_seeds(work, answers):
+    """Prints the answer of a soak or of a hunt, if it is whole. A broken seed is made once more, here."""
+    kind = work.plan["kind"]
     broken = [number for number in sorted(answers) if answers[number]["said"][0][0] == 1]
     left = needed(work, answers)
     if left and broken:
@@ -203,20 +226,41 @@ def join_soak(work, answers):
     if left:
         return missing(work, left)
     if not broken:
-        biased = " biased" if "--bias" in work.plan["words"] else ""
-        print(f"sound {work.plan['seeds']}{biased} seeds")
+        sys.stdout.write(all_sound(work))
         return 0
     answer = answers[broken[0]]
     line = answer["said"][0][1]
-    seed = line.split()[line.split().index("seed") + 1]
+    seed = pieces.broken_seed(kind, work.pieces()[broken[0]][0], line)
     os.chdir(work.plan["cwd"])
-    status, out, error = pieces.ran([work.plan["dgc"], "soak", *work.plan["words"], *work.plan["after"], "--first", seed, "--seeds", "1"])
-    if status in (0, 1) and not out.startswith(line):
-        say(f"two answers of one seed: node {answer['node']} says {line.strip()}, and here it is {out.strip() or error.strip()}")
+    status, out, error = pieces.ran([work.plan["dgc"], kind, *work.plan["words"], *work.plan["after"], "--first", str(seed), "--seeds", "1"])
+    if status in (0, 1) and not is_same(kind, line, out):
+        say(f"two answers of seed {seed}: node {answer['node']} says {line.strip()}, and here it is {out.strip() or error.strip()}")
         return INCOMPLETE
-    sys.stdout.write(out)
+    sys.stdout.write(of_whole(work.plan["first"], seed, out) if kind == "hunt" and status == 1 else out)
     sys.stderr.write(error)
     return status
+
+
+def all_sound(work):
+    """What one call prints where all seeds are sound."""
+    first, seeds = work.plan["first"], work.plan["seeds"]
+    if work.plan["kind"] == "hunt":
+        return f"sound {seeds} seeds\nstarts {pieces.starts_of(first, first + seeds)}\n"
+    return f"sound {seeds}{' biased' if '--bias' in work.plan['words'] else ''} seeds\n"
+
+
+def is_same(kind, line, out):
+    """Whether a node and a call here say the same of a broken seed. How many seeds a hunt tried before does not matter."""
+    if kind == "soak":
+        return out.startswith(line)
+    known, found = (pieces.SAID["hunt"].fullmatch(text) for text in (line, out))
+    return bool(found) and known.group("line", "tries") == found.group("line", "tries")
+
+
+def of_whole(first, seed, out):
+    """What one call of a hunt from the first seed on prints of a seed, by what it prints of that seed alone."""
+    found = pieces.SAID["hunt"].fullmatch(out)
+    return f"{found['line']}\nstarts {pieces.starts_of(first, seed + 1)} seeds {seed + 1 - first} {found['tries']}\n"
 
 
 def line_of(work, pair, said):
@@ -260,7 +304,7 @@ def command_line():
     parser.add_argument("--again", type=int, default=4)
     parser.add_argument("--wait", type=float)
     parser.add_argument("--each", action="store_true")
-    parser.add_argument("command", choices=["soak", "check", "join"])
+    parser.add_argument("command", choices=["soak", "hunt", "check", "join"])
     parser.add_argument("words", nargs=argparse.REMAINDER)
     options = parser.parse_args()
     if options.command != "join":
@@ -274,7 +318,7 @@ def command_line():
 def main():
     options = command_line()
     try:
-        work = {"soak": begin_soak, "check": begin_check, "join": begun}[options.command](options, options.words)
+        work = {"soak": begin_soak, "hunt": begin_hunt, "check": begin_check, "join": begun}[options.command](options, options.words)
     except OSError as error:
         pieces.refuse(f"{error.filename}: {error.strerror}")
     except ValueError as error:
@@ -287,7 +331,7 @@ def main():
     except KeyboardInterrupt:
         say(f"stopped; the tasks go on. To wait for them: cluster.py join {work.folder}")
         return INCOMPLETE
-    return join_soak(work, answers) if work.plan["kind"] == "soak" else join_check(work, answers, options.each)
+    return join_seeds(work, answers) if work.plan["kind"] != "check" else join_check(work, answers, options.each)
 
 
 if __name__ == "__main__":

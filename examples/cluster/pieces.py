@@ -1,11 +1,11 @@
-"""Pieces of a soak or of a list of checks: how they are cut, how a node makes one, and what its answer is.
+"""Pieces of a soak, of a hunt or of a list of checks: how they are cut, how a node makes one, and what its answer is.
 
 A folder that all nodes see holds the work:
 
     plan.json      what is asked, how it is cut, and the sums of the program and of the texts that all pieces read
     parts/N        of a list: the pairs of piece N
     answers/N      the answer of piece N. It is moved into place whole, so a half-written one is never read
-    broken/N       a piece of a soak found a broken seed. A task of a piece above ends at once where it sees that
+    broken/N       a piece found a broken seed. A task of a piece above ends at once where it sees that
     faults/N       why the last task of piece N had no answer, and on which node
     log/           what tasks write to their outputs
 """
@@ -18,8 +18,12 @@ import subprocess
 import sys
 import time
 
-ENDED = {"soak": (0, 1), "check": (0, 1, 2)}    # the statuses of dgc that answer; the others are of the node, its memory or its files
-SAID = re.compile(r"(?:sound (?P<sound>\d+)|broken)(?P<biased> biased)? seeds?(?: (?P<seed>\d+) .+)?\n")
+ENDED = {"soak": (0, 1), "hunt": (0, 1), "check": (0, 1, 2)}    # the statuses of dgc that answer; the others are of the node, its memory or its files
+SAID = {    # of seeds that are sound how many, and of a broken one: its number, or how many were tried up to it
+    "soak": re.compile(r"(?:sound (?P<sound>\d+)|broken)(?P<biased> biased)? seeds?(?: (?P<at>\d+) .+)?\n"),
+    "hunt": re.compile(r"(?:sound (?P<sound>\d+) seeds\nstarts \d+|(?P<line>broken .+)\nstarts \d+ seeds (?P<at>\d+) (?P<tries>tries \d+))\n"),
+}
+ALIKE = 64    # so many seeds of a hunt, counted from 0, have one start
 
 
 def refuse(text):
@@ -54,6 +58,19 @@ def cut(first, count, pieces):
     pieces = max(1, min(pieces, count))
     size, more = divmod(count, pieces)
     return [(first + number * size + min(number, more), size + (number < more)) for number in range(pieces)]
+
+
+def broken_seed(kind, first, out):
+    """The broken seed that this answer names of seeds from the first one on, or None."""
+    found = SAID[kind].fullmatch(out)
+    if not found or not found["at"]:
+        return None
+    return int(found["at"]) if kind == "soak" else first + int(found["at"]) - 1
+
+
+def starts_of(first, past):
+    """How many starts a hunt draws for the seeds from the first one to below the last."""
+    return -(-past // ALIKE) - first // ALIKE if first < past else 0
 
 
 class Work:
@@ -93,9 +110,10 @@ class Work:
         return json.loads(text_of(self.path("parts", number)))
 
     def words(self, number):
-        """The words of a piece of a soak, after the program."""
+        """The words of a piece of a soak or of a hunt, after the program."""
         first, count = self.pieces()[number]
-        return ["soak", *self.plan["words"], "--first", str(first), "--seeds", str(count), "--explain", "never"]
+        kind = self.plan["kind"]
+        return [kind, *self.plan["words"], "--first", str(first), "--seeds", str(count), *(["--explain", "never"] if kind == "soak" else [])]
 
     def there(self, name):
         """The numbers of the files of a folder that are whole."""
@@ -113,17 +131,18 @@ class Work:
     def fits(self, number, said):
         """Whether this may be said of a piece: of each pair one thing, and of seeds that all are sound, or that one of these breaks."""
         first, count = self.pieces()[number]
-        if not isinstance(said, list) or len(said) != (count if self.plan["kind"] == "check" else 1):
+        kind = self.plan["kind"]
+        if not isinstance(said, list) or len(said) != (count if kind == "check" else 1):
             return False
-        if self.plan["kind"] == "check":
+        if kind == "check":
             return True
         status, out, _ = said[0]
-        found = SAID.fullmatch(out)
-        if status not in ENDED["soak"] or not found or bool(found["biased"]) != ("--bias" in self.plan["words"]):
+        found = SAID[kind].fullmatch(out)
+        if status not in ENDED[kind] or not found or (kind == "soak" and bool(found["biased"]) != ("--bias" in self.plan["words"])):
             return False
         if status == 0:
             return found["sound"] == str(count)
-        return bool(found["seed"]) and first <= int(found["seed"]) < first + count
+        return broken_seed(kind, first, out) in range(first, first + count)
 
     def changed(self):
         """The first file that is another one than the plan has, or none."""
@@ -143,9 +162,9 @@ def ran(words):
 
 
 def made(work, number):
-    """What the program says of a piece: a status, an output and errors of its soak, or of each of its checks."""
+    """What the program says of a piece: a status, an output and errors of its seeds, or of each of its checks."""
     program = work.plan["dgc"]
-    if work.plan["kind"] == "soak":
+    if work.plan["kind"] != "check":
         return [ran([program, *work.words(number)])]
     checks = [[program, "check", *pair, *work.plan["words"]] for pair in work.part(number)]
     processors = int(os.environ.get("SLURM_CPUS_PER_TASK", "1"))
@@ -178,7 +197,7 @@ def make(folder, number):
         "own": round(used[0].ru_utime + used[0].ru_stime, 4), "dgc": round(used[1].ru_utime + used[1].ru_stime, 4),
     }
     put(work.path("answers", number), json.dumps(answer) + "\n")
-    if work.plan["kind"] == "soak" and said[0][0] == 1:
+    if work.plan["kind"] != "check" and said[0][0] == 1:
         put(work.path("broken", number), "")
     return 0
 

@@ -3,8 +3,8 @@
 
     try.py DGC [--at-once N] [--cpus "0 1"] [--modules N] [--only WORD ..] [--keep FOLDER]
 
-Each case makes a soak or a list of checks by cluster.py and by one call of dgc for each, and compares what they print and how they end. The
-soak has a bug in a late seed; the list has modules that are accepted, refused and not read, and files that are not there. While the array
+Each case makes a soak, a hunt or a list of checks by cluster.py and by one call of dgc for each, and compares what they print and how they
+end. The soak and the hunt have a bug in a late seed; the list has modules that are accepted, refused and not read, and files that are not there. While the array
 runs, a node is killed with all that it runs, or the script that waits is, or the controller; or its time is over before the first answer,
 or an answer is cut short, and the script goes on. Where an answer was changed, none may be given. An array has four tasks at most, so that
 each case makes two of them. A line is printed for each case: what was killed, how many answers there were then, and how many pieces were
@@ -35,8 +35,8 @@ SWAP = os.path.join(TOP, "examples", "swap")
 PIECES = 8
 NODES = 3
 WAITING = """#!/bin/sh
-# dgc, after some time: a piece of a soak is one call, a piece of a list has 25.
-case $1 in soak) sleep 3 ;; *) sleep 0.1 ;; esac
+# dgc, after some time: a piece of a soak or of a hunt is one call, a piece of a list has 25.
+case $1 in soak | hunt) sleep 3 ;; *) sleep 0.1 ;; esac
 exec {dgc} "$@"
 """
 
@@ -87,7 +87,7 @@ class Cluster:
         for node in (f"n{number}" for number in range(1, NODES + 1)):
             words = [read(f"/proc/{pid}/cmdline").split(b"\0") for pid in self.of_node(node)]
             numbers = [int(of[-2]) for of in words if any(word.endswith(b"pieces.py") for word in of) and of[-2].isdigit()]
-            if numbers and any({b"soak", b"check"} & set(of) for of in words):
+            if numbers and any({b"soak", b"hunt", b"check"} & set(of) for of in words):
                 found.append((min(numbers), node))
         return min(found) if found else (None, None)
 
@@ -138,6 +138,12 @@ def soak_of(late):
     return [*files, "--steps", "100000", "--seeds", str(PIECES * 10)]
 
 
+def hunt_of(late):
+    """A hunt whose first broken seed, 398, is in the seventh piece, or one whose seeds are sound."""
+    module = os.path.join(SWAP, "plain.ll" if late else "barrier.ll")
+    return [module, "--cert", os.path.join(SWAP, "swap.cert"), "--seeds", "480"]
+
+
 def list_of(options, folder):
     """A list of checks: most are accepted; some are refused, are not read, or have no file."""
     subprocess.run([sys.executable, os.path.join(TOP, "bench", "generate.py"), "--functions", "400", os.path.join(folder, "drawn")], check=True, stdout=subprocess.DEVNULL)
@@ -165,8 +171,8 @@ def list_of(options, folder):
 
 def by_one_call(options, kind, words):
     """What dgc prints by one call of it, of a list by one for each pair; and the status, of a list the highest."""
-    if kind == "soak":
-        done = subprocess.run([options.dgc, "soak", *words], capture_output=True, text=True)
+    if kind != "check":
+        done = subprocess.run([options.dgc, kind, *words], capture_output=True, text=True)
         return done.stdout, done.returncode
     told, worst = [], 0
     for line in read(words[0]).decode().splitlines():
@@ -227,7 +233,7 @@ def begun_again(cluster, script, folder, victim):
     if victim == "answer":
         os.truncate(answer, os.path.getsize(answer) // 2)
     if victim == "lie":
-        pieces.put(answer, pieces.text_of(answer).replace("seed 5068", "seed 5067"))
+        pieces.put(answer, pieces.text_of(answer).replace("seed 5068", "seed 5067").replace("seeds 39 ", "seeds 38 "))
     return begun(cluster, ["--each", "join", folder], f"{folder}.errors")
 
 
@@ -237,13 +243,16 @@ CASES = {
     "soak-late-time": ("soak", True, ("time", 0)), "soak-late-answer": ("soak", True, ("answer", 0)), "soak-late-lie": ("soak", True, ("lie", 0)),
     "soak-late-shrink": ("soak", True, ("shrink", 0)),
     "soak-sound-middle": ("soak", False, ("node", 4)),
+    "hunt-late": ("hunt", True, (None, 0)), "hunt-late-middle": ("hunt", True, ("node", 3)), "hunt-late-script": ("hunt", True, ("script", 2)),
+    "hunt-late-answer": ("hunt", True, ("answer", 0)), "hunt-late-lie": ("hunt", True, ("lie", 0)), "hunt-late-save": ("hunt", True, ("save", 0)),
+    "hunt-sound": ("hunt", False, (None, 0)),
     "check": ("check", False, (None, 0)), "check-first": ("check", False, ("node", 0)), "check-middle": ("check", False, ("node", 4)),
     "check-script": ("check", False, ("script", 3)),
 }
 
 
 EVENTS = {
-    None: "nothing was killed", "shrink": "nothing was killed", "node": "node {} was killed", "controller": "the controller was killed",
+    None: "nothing was killed", "shrink": "nothing was killed", "save": "nothing was killed", "node": "node {} was killed", "controller": "the controller was killed",
     "script": "the script was killed", "time": "its time was over", "answer": "an answer was cut short", "lie": "an answer was changed",
 }
 
@@ -252,9 +261,9 @@ def compare(options, cluster, name, known):
     """Makes a case, prints its line, and returns whether all is as it should be."""
     kind, late, case = CASES[name]
     began = time.monotonic()
-    words = soak_of(late) if kind == "soak" else [options.list]
-    saves = [os.path.join(options.folder, f"{name}.{by}") for by in ("one", "many")] if case[0] == "shrink" else []
-    asked = [[*words, *(["--shrink", "--save", save] if save else [])] for save in saves or [None, None]]
+    words = {"soak": soak_of, "hunt": hunt_of}[kind](late) if kind != "check" else [options.list]
+    saves = [os.path.join(options.folder, f"{name}.{by}") for by in ("one", "many")] if case[0] in ("shrink", "save") else []
+    asked = [[*words, *(["--shrink"] if case[0] == "shrink" else []), *(["--save", save] if save else [])] for save in saves or [None, None]]
     if (kind, late, len(saves)) not in known:
         known[kind, late, len(saves)] = by_one_call(options, kind, asked[0])
     wanted, status = known[kind, late, len(saves)]
@@ -265,7 +274,7 @@ def compare(options, cluster, name, known):
     wanted, status = ("", 5) if case[0] == "lie" else (wanted, status)
     same = (out, ended) == (wanted, status) and len({read(save) for save in saves}) < 2
     right = same and (case[0] != "node" or again > 0) and (not late or status in (1, 5))
-    said = (wanted.strip().replace("\n", ", ") or "none") if kind == "soak" else f"{len(wanted.splitlines())} lines"
+    said = (wanted.strip().replace("\n", ", ") or "none") if kind != "check" else f"{len(wanted.splitlines())} lines"
     print(f"{'ok   ' if right else 'WRONG'} {name}: {said}, status {status}; {EVENTS[case[0]].format(node)} at {there} answers", end="; ")
     print(f"begun again {again}; {time.monotonic() - began:.0f} s", flush=True)
     if not same:

@@ -126,10 +126,10 @@ command_apps =
     (file_rule (codes "MODULE") ∷ file_rule (codes "TRACE") ∷ valued_rule (codes "shapes") ∷ number_rule (codes "seeds") ∷ number_rule (codes "steps") ∷ default_rule (codes "first") (codes "0")
     ∷ valued_rule (codes "save") ∷ flag_rule (codes "bias") ∷ optional_rule (codes "seconds") ∷ flag_rule (codes "shrink") ∷ optional_rule (codes "tries") ∷ explain_rule ∷ forms_rule ∷ [])
     ∷
-    -- hunt MODULE [--shapes FILE] [--cert FILE] [--seeds N] [--steps S] [--tries N] [--seconds N] [--save FILE] [--forms FORMS]
+    -- hunt MODULE [--shapes FILE] [--cert FILE] [--seeds N] [--steps S] [--first F] [--tries N] [--seconds N] [--save FILE] [--forms FORMS]
     command_app (codes "hunt")
     (file_rule (codes "MODULE") ∷ valued_rule (codes "shapes") ∷ valued_rule (codes "cert") ∷ default_rule (codes "seeds") (codes "10000")
-    ∷ default_rule (codes "steps") (codes "1000") ∷ default_rule (codes "tries") (codes "10000") ∷ optional_rule (codes "seconds") ∷ valued_rule (codes "save") ∷ forms_rule ∷ [])
+    ∷ default_rule (codes "steps") (codes "1000") ∷ default_rule (codes "first") (codes "0") ∷ default_rule (codes "tries") (codes "10000") ∷ optional_rule (codes "seconds") ∷ valued_rule (codes "save") ∷ forms_rule ∷ [])
     ∷
     -- run MODULE CERT TRACE [--turns N] [--steps S] [--explain WHEN] [--forms FORMS]
     command_app (codes "run")
@@ -290,11 +290,11 @@ shrink_of given =
 abbrev pub soak_of : List Row → Option Asked
 soak_of given = option_and_then (λ search. option_map (λ shrink. soak (record { search = search; shrink = shrink })) (shrink_of given)) (search_of given)
 
--- the options of `hunt`, if they are three numbers
+-- the options of `hunt`, if they are four numbers
 abbrev pub hunt_of : List Row → Option Asked
 hunt_of given =
-    option_and_then (λ seeds. option_and_then (λ steps. option_map (λ tries. hunt (record { seeds = seeds; steps = steps; tries = tries; seconds = number_of (codes "seconds") given }))
-    (number_of (codes "tries") given)) (number_of (codes "steps") given)) (number_of (codes "seeds") given)
+    option_and_then (λ seeds. option_and_then (λ steps. option_and_then (λ first. option_map (λ tries. hunt (record { first = first; seeds = seeds; steps = steps; tries = tries; seconds = number_of (codes "seconds") given }))
+    (number_of (codes "tries") given)) (number_of (codes "first") given)) (number_of (codes "steps") given)) (number_of (codes "seeds") given)
 
 -- the options of `run`, if they are both limits
 abbrev pub run_of : List Row → Option Asked

@@ -92,10 +92,12 @@ pub struct SoakOptions {
     pub shrink: Shrink,
 }
 
-/// Search for a schedule of a module that breaks its run: `seeds` seeds draw `steps` steps each. A schedule that does is made shorter by
-/// `tries` tries.
+/// Search for a schedule of a module that breaks its run: `seeds` seeds from the first one on draw `steps` steps each. A schedule that does
+/// is made shorter by `tries` tries.
 #[derive(Clone, Copy)]
 pub struct HuntOptions {
+    /// The first seed.
+    pub first: u32,
     pub seeds: u32,
     pub steps: u32,
     pub tries: u32,
@@ -336,8 +338,10 @@ fn hunt_given<'a>(given: &ArgMatches<'a>) -> Option<What<'a>>
     let seconds = number_given(given, "seconds");
     let seeds = number_given(given, "seeds")?;
     let steps = number_given(given, "steps")?;
+    let first = number_given(given, "first")?;
     let tries = number_given(given, "tries")?;
     Some(What::Hunt(HuntOptions {
+        first,
         seeds,
         steps,
         tries,

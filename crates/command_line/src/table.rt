@@ -305,8 +305,14 @@ const HUNT: CommandRow = CommandRow {
             "cert",
             "A certificate, which then has the shapes; arguments keep what it promises of parameters",
         ),
-        Argument::NumberOr("seeds", "10000", "N", "How many seeds"),
+        Argument::NumberOr(
+            "seeds",
+            "10000",
+            "N",
+            "How many seeds; without --first they are 0 to N-1",
+        ),
         Argument::NumberOr("steps", "1000", "S", STEPS),
+        Argument::NumberOr("first", "0", "F", "The first seed"),
         Argument::NumberOr(
             "tries",
             "10000",
@@ -318,14 +324,15 @@ const HUNT: CommandRow = CommandRow {
         FORMS,
     ],
     after: "\
-Needs no trace. Every 64 seeds the next one draws a start: one to three threads at functions
-that take no reference, with integers of their types, and pools of one to four cells. Each
-seed draws S steps, many of them with few switches between threads and the collector. The
-first schedule that breaks its run is made shorter, as by `dgc soak --shrink`. Prints
-`broken 60 c reach-blue 2` and what was tried, as `starts 3 seeds 192 tries 412`.
-`dgc replay` of what --save writes prints that first line. Or prints `sound 10000 seeds` and
-`starts 157`: none of these schedules breaks its run. With --seconds no further seeds are
-tried once that time is over, and the line says how many were.
+Needs no trace. Each 64 seeds begin alike, as the first of them draws: one to three threads
+at functions that take no reference, with integers of their types, and pools of one to four
+cells. Each seed draws S steps, many of them with few switches between threads and the
+collector. The first schedule that breaks its run is made shorter, as by `dgc soak --shrink`.
+Prints `broken 60 c reach-blue 2` and what was tried, as `starts 3 seeds 192 tries 412`: the
+last of these seeds is the broken one. `dgc replay` of what --save writes prints that first
+line. Or prints `sound 10000 seeds` and `starts 157`: none of these schedules breaks its run.
+No seed is above 4294967294, and with any --first a seed draws the same. With --seconds no
+further seeds are tried once that time is over, and the line says how many were.
 
 Of a text that is not read, one line goes to standard error, as `error L4 23:13` (a line
 and a column) or `error C6 @g`. A module that writes `ptr` needs its shapes: without --shapes

@@ -20,7 +20,7 @@ OfCommand (Make options) files before after = OfMake options.why files.of_module
 OfCommand Recheck files before after = OfCertified (OfEditsFile files.edits) files.of_module files.certificate
 OfCommand (Replay options) files before after = OfRun OfTrace files.of_module files.trace files.shapes
 OfCommand (Soak options) files before after = OfRun (λ p t. OfSeeds options files.saves p t before after) files.of_module files.trace files.shapes
-OfCommand (Hunt options) files before after = OfHuntFiles files.saves files.of_module files.certificate files.shapes before after
+OfCommand (Hunt options) files before after = OfHuntFiles options files.saves files.of_module files.certificate files.shapes before after
 OfCommand (Run options) files before after =
     OfCertified (OfRunCerts (record { turns = options.turns; steps = options.steps }) files.trace) files.of_module files.certificate
 OfCommand Conform files before after = OfRun (OfRecord files.of_record) files.of_module files.trace files.shapes

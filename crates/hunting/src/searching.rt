@@ -1,8 +1,7 @@
 //! The search that also draws how runs begin.
-ghost use Rattle.std.specs.Prelude.{◌≤◌, IfOk, IfSome};
+ghost use Rattle.std.specs.Prelude.{◌<◌, ◌≤◌, IfOk, IfSome};
 ghost use Rattle.trace_text.specs.Traces.{IsTraceOf};
-ghost use Rattle.hunting.specs.Hunts.{IsHunted};
-ghost use Rattle.hunting.specs.Shorter.{IsBreaking};
+ghost use Rattle.hunting.specs.Hunts.{IsBrokenIn, IsHunted};
 
 use crate::biased_searching::{BiasedOutcome, BrokenSeed, first_broken};
 use crate::starts::drawn_start;
@@ -35,7 +34,7 @@ fn broken_from(
     schedules: Schedules,
 ) -> Result<Option<BrokenSeed>, AllocError>
     requires { IsTraceOf program.now start.now }
-    ensures { IfOk result (λ found. IfSome found (λ b. IsBreaking program.now b.found.trace b.found.broken)) }
+    ensures { IfOk result (λ found. IfSome found (IsBrokenIn program.now schedules.first schedules.past)) }
 {
     match first_broken(alloc, program, start, schedules) {
         Ok(BiasedOutcome::Broken(broken)) => Ok(Some(broken)),
@@ -44,8 +43,22 @@ fn broken_from(
     }
 }
 
-/// Searches for a schedule that breaks a run: of each 64 seeds the first one draws how runs begin, and each seed draws the steps. Where
-/// certificates are given, the arguments are below what they promise.
+/// The seed that draws how the run of this one begins: the first of its 64.
+fn seed_of_start(seed: u32) -> u32 {
+    seed - seed % ALIKE
+}
+
+/// One past the last of the seeds that begin as this one, or past those of a search.
+fn end_of_alike(seed: u32, past: u32) -> u32
+    requires { seed < past }
+    ensures later { seed < result }
+    ensures within { result ≤ past }
+{
+    seed + (ALIKE - seed % ALIKE).min(past - seed)
+}
+
+/// Searches for a schedule that breaks a run: of each 64 seeds, counted from 0, the first one draws how runs begin, and each seed draws the
+/// steps. So a seed has the same run in each search. Where certificates are given, the arguments are below what they promise.
 pub fn hunt(
     alloc: Global,
     program: &Program,
@@ -53,13 +66,13 @@ pub fn hunt(
     schedules: Schedules,
 ) -> Result<Hunted, AllocError>
     requires { schedules.first ≤ schedules.past }
-    ensures { IfOk result (IsHunted program.now) }
+    ensures { IfOk result (IsHunted program.now schedules.first schedules.past) }
 {
     let Schedules { first, past, steps } = schedules;
     let mut next = first;
     while next < past {
-        let end = next + ALIKE.min(past - next);
-        let Some(start) = drawn_start(alloc, program, sections, next)? else {
+        let end = end_of_alike(next, past);
+        let Some(start) = drawn_start(alloc, program, sections, seed_of_start(next))? else {
             return Ok(Hunted::NoStart(next));
         };
         let alike = Schedules {

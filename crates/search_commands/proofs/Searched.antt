@@ -18,7 +18,7 @@ use Rattle.search_commands.specs.declared.sources.Searched.TheVariants.{SoundBel
 use Rattle.search_commands.specs.declared.sources.Source.{Source}
 use Rattle.search_commands.specs.declared.sources.Source.TheVariants.{Soak, Hunt}
 use Rattle.search_commands.specs.Searches.{IsAdded, IsDrawnIf}
-use Rattle.search_commands.specs.Sources.{AreSound, AreSoundBy, AreTried, IsBreakBy, IsFound, IsSearched, IsSoaked, IsTried, past_seed, seed_break}
+use Rattle.search_commands.specs.Sources.{AreSound, AreSoundBy, AreTried, IsBreakBy, IsFound, IsHuntEnd, IsSearched, IsSoaked, IsTried, past_seed, seed_break}
 
 -- the seeds before some, and those
 sound_by : (draws : Draws) (traced : Traced) (steps first next end : ℕ) → AreSoundBy draws traced steps first next → AreSoundBy draws traced steps next end → AreSoundBy draws traced steps first end
@@ -49,16 +49,23 @@ broken_by Biased search traced next end (Found found) low within sound broken = 
 broken_by Biased search traced next end (SoundBelow past) low within sound broken = absurd broken
 broken_by Biased search traced next end (BrokenAt at) low within sound broken = absurd broken
 
+-- the same of a hunt
+hunted_by : (p : LaidOut) (search : Search) (next end : ℕ) (searched : Searched) → search.first ≤ next → end ≤ past_seed search
+    → IsHuntEnd p next end searched → IsHuntEnd p search.first (past_seed search) searched
+hunted_by p search next end (SoundBelow past) low within ended = let from = ended.0 in let below = ended.1 in (omega (arith, low, from), omega (arith, below, within))
+hunted_by p search next end (BrokenAt at) low within ended = absurd ended
+hunted_by p search next end (Found broken) low within ended = let from = ended.0 in let below = ended.1 in (omega (arith, low, from), omega (arith, below, within), ended.2)
+
 -- and so of any source
 pub ends_with : (source : Source) (search : Search) (next end : ℕ) (searched : Searched) → search.first ≤ next → end ≤ past_seed search
     → AreSound source search.steps search.first next → IsTried source (record { first = next; past = end; steps = search.steps }) (Some searched) → IsSearched source search searched
 ends_with (Soak traced draws) search next end searched low within sound tried = broken_by draws search traced.now next end searched low within sound tried
-ends_with (Hunt of) search next end searched low within sound tried = tried
+ends_with (Hunt of) search next end searched low within sound tried = hunted_by of.program.now search next end searched low within tried
 
 -- a search that found nothing
 pub finds_nothing : (source : Source) (search : Search) (past : ℕ) → AreTried search past → AreSound source search.steps search.first past → IsSearched source search (SoundBelow past)
 finds_nothing (Soak traced draws) search past tried sound = (tried, sound)
-finds_nothing (Hunt of) search past tried sound = tt
+finds_nothing (Hunt of) search past tried sound = (tried.from, tried.within)
 
 -- a seed of which the steps are not at hand was drawn uniformly
 pub drawn_uniformly : (draws : Draws) (traced : Traced) (steps first past : ℕ) (at : SeedBreak) → IsBreakBy draws traced steps first past (BrokenAt at)

@@ -1,5 +1,5 @@
 -- What `soak` and `hunt` say of their files, and what they save.
-use Rattle.std.specs.Prelude.{◌≡◌, ◌≢◌, ◌<◌, ◌≤◌, ◌+◌, ◌-◌, ◌/◌, ℕ, Bool, true, false, List, [], ◌∷◌, ◌++◌, codes, Option, Some, None}
+use Rattle.std.specs.Prelude.{◌≡◌, ◌≢◌, ◌==◌, ◌<◌, ◌≤◌, ◌+◌, ◌-◌, ◌/◌, if◌then◌else◌, ℕ, Bool, true, false, List, [], ◌∷◌, ◌++◌, codes, Option, Some, None}
 use Rattle.std.specs.Fmt.{decimal}
 use Rattle.ir_ast.specs.declared.module.Module.{Module}
 use Rattle.layout.specs.Layouts.{LaidOut, AreLayouts}
@@ -8,6 +8,7 @@ use Rattle.module_check.specs.Accepted.{IsLayoutReason, shaped}
 use Rattle.module_check.specs.declared.verdict.Reason.{Reason}
 use Rattle.command_line.specs.declared.options.Draws.{Draws}
 use Rattle.command_line.specs.declared.options.Draws.TheVariants.{Uniform, Biased}
+use Rattle.command_line.specs.declared.options.HuntOptions.{HuntOptions}
 use Rattle.command_line.specs.declared.options.Search.{Search}
 use Rattle.command_line.specs.declared.options.Shrink.TheVariants.{AsDrawn, WithTries}
 use Rattle.command_line.specs.declared.options.SoakOptions.{SoakOptions}
@@ -118,41 +119,46 @@ pub data OfSeeds (options : SoakOptions) (wanted : Bool) (p : LaidOut) (t : Trac
 
 -- ---- hunt
 
--- how many starts this number of seeds draws: of each 64 seeds the first one draws one
-abbrev pub starts_of : (seeds : ℕ) → ℕ
-starts_of seeds = (seeds + 63) / 64
+-- the schedules that a hunt draws
+abbrev pub search_of_hunt : HuntOptions → Search
+search_of_hunt options = record { first = options.first; seeds = options.seeds; steps = options.steps; draws = Biased; seconds = options.seconds }
+
+-- how many starts the seeds from the first one to below the last have: each 64 seeds, counted from 0, have one
+abbrev pub starts_of : (first past : ℕ) → ℕ
+starts_of first past = if first == past then 0 else (past + 63) / 64 - first / 64
 
 -- how many starts, seeds and shorter traces were tried
-abbrev pub tried_text : (seeds tries : ℕ) → List ℕ
-tried_text seeds tries = codes "starts " ++ decimal (starts_of seeds) ++ codes " seeds " ++ decimal seeds ++ codes " tries " ++ decimal tries ++ 10 ∷ []
+abbrev pub tried_text : (first past tries : ℕ) → List ℕ
+tried_text first past tries = codes "starts " ++ decimal (starts_of first past) ++ codes " seeds " ++ decimal (past - first) ++ codes " tries " ++ decimal tries ++ 10 ∷ []
 
 -- the break that a hunt found, with what was tried
-abbrev pub of_broken : Break → (seeds tries : ℕ) → Answer
-of_broken b seeds tries = record { text = codes "broken " ++ break_text b ++ tried_text seeds tries; status = 1 }
+abbrev pub of_broken : Break → (first past tries : ℕ) → Answer
+of_broken b first past tries = record { text = codes "broken " ++ break_text b ++ tried_text first past tries; status = 1 }
 
--- nothing was found with that number of seeds
-abbrev pub of_nothing : (seeds : ℕ) → Answer
-of_nothing seeds = record { text = codes "sound " ++ decimal seeds ++ codes " seeds" ++ 10 ∷ codes "starts " ++ decimal (starts_of seeds) ++ 10 ∷ []; status = 0 }
+-- nothing was found with these seeds
+abbrev pub of_nothing : (first past : ℕ) → Answer
+of_nothing first past = record { text = codes "sound " ++ decimal (past - first) ++ codes " seeds" ++ 10 ∷ codes "starts " ++ decimal (starts_of first past) ++ 10 ∷ []; status = 0 }
 
--- what `hunt` says of a program: a break that was replayed, what was tried, or out of memory. Before and after it these bytes are saved
-pub data OfHunt (wanted : Bool) (p : LaidOut) (before after : List ℕ) : Said → Type 0 where
-  broke : (b : Break) (seeds tries : ℕ) → IsShorter p wanted b before after → OfHunt wanted p before after (OnOutput (of_broken b seeds tries))
-  nothing : (seeds : ℕ) → after ≡ before → OfHunt wanted p before after (OnOutput (of_nothing seeds))
-  not_hunted : after ≡ before → OfHunt wanted p before after (OnError no_memory)
+-- what `hunt` says of a program: a break that was replayed, what was tried, up to the broken seed or to below the last one, or out of memory. Before and after it these bytes are saved
+pub data OfHunt (options : HuntOptions) (wanted : Bool) (p : LaidOut) (before after : List ℕ) : Said → Type 0 where
+  broke : (b : Break) (seed tries : ℕ) → options.first ≤ seed → seed < past_seed (search_of_hunt options) → IsShorter p wanted b before after
+      → OfHunt options wanted p before after (OnOutput (of_broken b options.first (seed + 1) tries))
+  nothing : (past : ℕ) → options.first ≤ past → past ≤ past_seed (search_of_hunt options) → after ≡ before → OfHunt options wanted p before after (OnOutput (of_nothing options.first past))
+  not_hunted : after ≡ before → OfHunt options wanted p before after (OnError no_memory)
 
 -- what it says of the files of a module and of its shapes
-pub data OfHuntShaped (wanted : Bool) (first : Option ModuleFile) (shapes : Option File) (before after : List ℕ) : Said → Type 0 where
-  no_program : (unread : Unread) → IsNoProgram first shapes unread → after ≡ before → OfHuntShaped wanted first shapes before after (OnError (of_unread unread))
-  of_program : (p : LaidOut) (said : Said) → HasProgram first shapes p → OfHunt wanted p before after said → OfHuntShaped wanted first shapes before after said
+pub data OfHuntShaped (options : HuntOptions) (wanted : Bool) (first : Option ModuleFile) (shapes : Option File) (before after : List ℕ) : Said → Type 0 where
+  no_program : (unread : Unread) → IsNoProgram first shapes unread → after ≡ before → OfHuntShaped options wanted first shapes before after (OnError (of_unread unread))
+  of_program : (p : LaidOut) (said : Said) → HasProgram first shapes p → OfHunt options wanted p before after said → OfHuntShaped options wanted first shapes before after said
 
 -- what it says of a module with certificates, whose shapes it then has
-pub data OfHuntCerts (wanted : Bool) (m : Module) (certs : Certs) (before after : List ℕ) : Said → Type 0 where
+pub data OfHuntCerts (options : HuntOptions) (wanted : Bool) (m : Module) (certs : Certs) (before after : List ℕ) : Said → Type 0 where
   not_laid_out : (reason : Reason) → IsLayoutReason (shaped m certs) reason → after ≡ before
-      → OfHuntCerts wanted m certs before after (OnError (of_layout_reason m reason))
-  of_shaped : (p : LaidOut) (said : Said) → p.of_module ≡ shaped m certs → AreLayouts p.of_module p.layouts → OfHunt wanted p before after said
-      → OfHuntCerts wanted m certs before after said
+      → OfHuntCerts options wanted m certs before after (OnError (of_layout_reason m reason))
+  of_shaped : (p : LaidOut) (said : Said) → p.of_module ≡ shaped m certs → AreLayouts p.of_module p.layouts → OfHunt options wanted p before after said
+      → OfHuntCerts options wanted m certs before after said
 
 -- what it says of its files: of the module, and of its certificates where they are given, or else of its shapes
-abbrev pub OfHuntFiles : (wanted : Bool) → (first : Option ModuleFile) → (certificate shapes : Option File) → (before after : List ℕ) → Said → Type 0
-OfHuntFiles wanted first None shapes before after = OfHuntShaped wanted first shapes before after
-OfHuntFiles wanted first (Some certificate) shapes before after = OfCertified (λ m certs. OfHuntCerts wanted m certs before after) first (Some certificate)
+abbrev pub OfHuntFiles : HuntOptions → (wanted : Bool) → (first : Option ModuleFile) → (certificate shapes : Option File) → (before after : List ℕ) → Said → Type 0
+OfHuntFiles options wanted first None shapes before after = OfHuntShaped options wanted first shapes before after
+OfHuntFiles options wanted first (Some certificate) shapes before after = OfCertified (λ m certs. OfHuntCerts options wanted m certs before after) first (Some certificate)

@@ -11,6 +11,7 @@ use Rattle.program_runner.specs.declared.setup_fault.SetupFault.{SetupFault}
 use Rattle.replay.specs.Soaks.{AreSoundFrom, IsLeastBreak}
 use Rattle.replay.specs.declared.outcome.SeedBreak.{SeedBreak}
 use Rattle.replay.specs.declared.soaking.Schedules.{Schedules}
+use Rattle.hunting.specs.Hunts.{IsBrokenIn}
 use Rattle.hunting.specs.Shorter.{IsBreaking}
 use Rattle.hunting.specs.declared.biased_searching.BrokenSeed.{BrokenSeed}
 use Rattle.reports.specs.declared.files.Traced.{Traced}
@@ -67,16 +68,16 @@ IsSoaked draws search traced broken = IsBreakBy draws traced search.steps search
 
 -- ---- from starts that are drawn too
 
--- what is found is a trace whose last step is the first that breaks its run. Where nothing is found, nothing is said
-abbrev pub IsHuntEnd : LaidOut → Searched → Type 0
-IsHuntEnd p (SoundBelow past) = Unit {0}
-IsHuntEnd p (BrokenAt at) = ⊥
-IsHuntEnd p (Found broken) = IsBreaking p broken.found.trace broken.found.broken
+-- one of these seeds is broken, by a trace whose last step is the first that breaks its run. Where nothing is found, nothing is said but how far the seeds were tried
+abbrev pub IsHuntEnd : LaidOut → (first past : ℕ) → Searched → Type 0
+IsHuntEnd p first past (SoundBelow next) = (first ≤ next) × (next ≤ past)
+IsHuntEnd p first past (BrokenAt at) = ⊥
+IsHuntEnd p first past (Found broken) = IsBrokenIn p first past broken
 
 -- what comes of some seeds: with what the search is over, if it is
-abbrev pub IsHuntTried : LaidOut → Option Searched → Type 0
-IsHuntTried p None = Unit {0}
-IsHuntTried p (Some searched) = IsHuntEnd p searched
+abbrev pub IsHuntTried : LaidOut → Schedules → Option Searched → Type 0
+IsHuntTried p seeds None = Unit {0}
+IsHuntTried p seeds (Some searched) = IsHuntEnd p seeds.first seeds.past searched
 
 -- ---- from any source
 
@@ -103,9 +104,9 @@ AreSound (Hunt of) steps first past = Unit {0}
 -- what comes of some seeds
 abbrev pub IsTried : Source → Schedules → Option Searched → Type 0
 IsTried (Soak traced draws) seeds tried = IsSoakTried draws traced.now seeds tried
-IsTried (Hunt of) seeds tried = IsHuntTried of.program.now tried
+IsTried (Hunt of) seeds tried = IsHuntTried of.program.now seeds tried
 
 -- what comes of the seeds of a search
 abbrev pub IsSearched : Source → Search → Searched → Type 0
 IsSearched (Soak traced draws) search searched = IsSoaked draws search traced.now searched
-IsSearched (Hunt of) search searched = IsHuntEnd of.program.now searched
+IsSearched (Hunt of) search searched = IsHuntEnd of.program.now search.first (past_seed search) searched

@@ -1,10 +1,11 @@
 //! The command `hunt`.
-ghost use Rattle.std.specs.Prelude.{◌≡◌, false, IfOk, OnOk};
+ghost use Rattle.std.specs.Prelude.{◌≡◌, ◌≤◌, false, IfOk, OnOk};
 ghost use Rattle.std.specs.Io.KnownBytes.{Appends};
 ghost use Rattle.reports.specs.Report.{IsTold};
 ghost use Rattle.reports.specs.Said.{Saves};
-ghost use Rattle.search_commands.specs.Searches.{OfHunt, OfHuntCerts, OfHuntFiles, OfHuntShaped, of_broken, of_nothing, starts_of, tried_text};
-ghost use Rattle.hunting.specs.Shorter.{IsBreaking};
+ghost use Rattle.search_commands.specs.Searches.{OfHunt, OfHuntCerts, OfHuntFiles, OfHuntShaped, of_broken, of_nothing, search_of_hunt, starts_of, tried_text};
+ghost use Rattle.search_commands.specs.Sources.{past_seed};
+ghost use Rattle.hunting.specs.Hunts.{IsBrokenIn};
 
 use crate::onlooker::Onlooker;
 use crate::searching::search_for;
@@ -31,36 +32,52 @@ struct Asked {
     saves: bool,
 }
 
-/// How many starts this number of seeds draws.
-fn starts_of(seeds: u32) -> u32
-    ensures { result ≡ starts_of seeds }
+/// The seeds that were tried: from the first one to below the last.
+#[derive(Clone, Copy)]
+struct Tried {
+    first: u32,
+    past: u32,
+}
+
+/// How many starts these seeds have.
+fn starts_of(tried: Tried) -> u32
+    requires { tried.first ≤ tried.past }
+    ensures { result ≡ starts_of tried.first tried.past }
 {
-    seeds.div_ceil(ALIKE)
+    if tried.first == tried.past {
+        return 0;
+    }
+    tried.past.div_ceil(ALIKE) - tried.first / ALIKE
 }
 
 /// What was tried.
-fn write_tried<W: Write>(out: &mut W, seeds: u32, tries: u32) -> io::Result<()>
-    ensures { OnOk result (Appends (W.contents out.old) (W.contents out.new) (tried_text seeds tries)) }
+fn write_tried<W: Write>(out: &mut W, tried: Tried, tries: u32) -> io::Result<()>
+    requires { tried.first ≤ tried.past }
+    ensures { OnOk result (Appends (W.contents out.old) (W.contents out.new) (tried_text tried.first tried.past tries)) }
 {
-    let starts = starts_of(seeds);
+    let starts = starts_of(tried);
+    let seeds = tried.past - tried.first;
     writeln!(out, "starts {starts} seeds {seeds} tries {tries}")
 }
 
 /// A break that was found, and what was tried.
-fn broken<W: Write>(out: &mut W, shorter: ShorterBreak, seeds: u32) -> io::Result<u8>
-    ensures { IfOk result (λ status. IsTold (W.contents out.old) (W.contents out.new) status (of_broken shorter.broken seeds shorter.tries)) }
+fn broken<W: Write>(out: &mut W, shorter: ShorterBreak, tried: Tried) -> io::Result<u8>
+    requires { tried.first ≤ tried.past }
+    ensures { IfOk result (λ status. IsTold (W.contents out.old) (W.contents out.new) status (of_broken shorter.broken tried.first tried.past shorter.tries)) }
 {
     write!(out, "broken ")?;
     write_break(out, &shorter.broken)?;
-    write_tried(out, seeds, shorter.tries)?;
+    write_tried(out, tried, shorter.tries)?;
     Ok(STATUS_NO)
 }
 
 /// What was tried, where nothing was found.
-fn nothing<W: Write>(out: &mut W, seeds: u32) -> io::Result<u8>
-    ensures { IfOk result (λ status. IsTold (W.contents out.old) (W.contents out.new) status (of_nothing seeds)) }
+fn nothing<W: Write>(out: &mut W, tried: Tried) -> io::Result<u8>
+    requires { tried.first ≤ tried.past }
+    ensures { IfOk result (λ status. IsTold (W.contents out.old) (W.contents out.new) status (of_nothing tried.first tried.past)) }
 {
-    let starts = starts_of(seeds);
+    let starts = starts_of(tried);
+    let seeds = tried.past - tried.first;
     writeln!(out, "sound {seeds} seeds")?;
     writeln!(out, "starts {starts}")?;
     Ok(STATUS_YES)
@@ -75,17 +92,20 @@ fn tell_shorter(
     results: &mut Results,
     onlooker: &mut impl Onlooker,
 ) -> io::Result<u8>
-    requires { IsBreaking program.now found.found.trace found.found.broken }
-    ensures said { IfOk result (Saves (OfHunt asked.saves program.now) results.old results.new) }
+    requires { IsBrokenIn program.now asked.options.first (past_seed (search_of_hunt asked.options)) found }
+    ensures said { IfOk result (Saves (OfHunt asked.options asked.saves program.now) results.old results.new) }
     ensures kept { asked.saves ≡ false → results.new.saved.items ≡ results.old.saved.items }
 {
-    let seeds = found.seed.saturating_add(1);
+    let tried = Tried {
+        first: asked.options.first,
+        past: found.seed + 1,
+    };
     let wish = Wish {
         tries: asked.options.tries,
         saves: asked.saves,
     };
     match shorten(alloc, program, found, wish, &mut results.saved, onlooker) {
-        Ok(shorter) => broken(&mut results.outputs.out, shorter, seeds),
+        Ok(shorter) => broken(&mut results.outputs.out, shorter, tried),
         Err(_refused) => memory(&mut results.outputs.err),
     }
 }
@@ -99,17 +119,18 @@ fn hunt_program(
     results: &mut Results,
     onlooker: &mut impl Onlooker,
 ) -> io::Result<u8>
-    ensures said { IfOk result (Saves (OfHunt asked.saves of.entry.program.now) results.old results.new) }
+    ensures said { IfOk result (Saves (OfHunt asked.options asked.saves of.entry.program.now) results.old results.new) }
     ensures kept { asked.saves ≡ false → results.new.saved.items ≡ results.old.saved.items }
 {
     let HuntOptions {
+        first,
         seeds,
         steps,
         seconds,
         ..
     } = asked.options;
     let search = Search {
-        first: 0,
+        first,
         seeds,
         steps,
         draws: Draws::Biased,
@@ -121,7 +142,9 @@ fn hunt_program(
         Ok(Searched::Found(found)) => {
             tell_shorter(alloc, of.program, found, asked, results, onlooker)
         }
-        Ok(Searched::SoundBelow(past)) => nothing(&mut results.outputs.out, past),
+        Ok(Searched::SoundBelow(past)) => {
+            nothing(&mut results.outputs.out, Tried { first, past })
+        }
         Ok(Searched::BrokenAt(_)) => unreachable!(),
         Err(_refused) => memory(&mut results.outputs.err),
     }
@@ -136,7 +159,7 @@ fn hunt_certified(
     results: &mut Results,
     onlooker: &mut impl Onlooker,
 ) -> io::Result<u8>
-    ensures said { IfOk result (Saves (OfHuntCerts asked.saves certified.of_module certified.certs) results.old results.new) }
+    ensures said { IfOk result (Saves (OfHuntCerts asked.options asked.saves certified.of_module certified.certs) results.old results.new) }
     ensures kept { asked.saves ≡ false → results.new.saved.items ≡ results.old.saved.items }
 {
     match UnderCheck::new(alloc, certified.of_module, certified.certs) {
@@ -166,7 +189,7 @@ fn hunt_shaped(
     results: &mut Results,
     onlooker: &mut impl Onlooker,
 ) -> io::Result<u8>
-    ensures said { IfOk result (Saves (OfHuntShaped asked.saves files.now.of_module files.now.shapes) results.old results.new) }
+    ensures said { IfOk result (Saves (OfHuntShaped asked.options asked.saves files.now.of_module files.now.shapes) results.old results.new) }
     ensures kept { asked.saves ≡ false → results.new.saved.items ≡ results.old.saved.items }
 {
     match program_in(alloc, files) {
@@ -193,7 +216,7 @@ pub fn hunt_files(
     results: &mut Results,
     onlooker: &mut impl Onlooker,
 ) -> io::Result<u8>
-    ensures said { IfOk result (Saves (OfHuntFiles files.now.saves files.now.of_module files.now.certificate files.now.shapes) results.old results.new) }
+    ensures said { IfOk result (Saves (OfHuntFiles options files.now.saves files.now.of_module files.now.certificate files.now.shapes) results.old results.new) }
     ensures kept { files.now.saves ≡ false → results.new.saved.items ≡ results.old.saved.items }
 {
     let asked = Asked {

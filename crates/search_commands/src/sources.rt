@@ -81,7 +81,7 @@ fn try_biased(
 /// Tries draws of starts and of steps. Where no start can be drawn, the search is over.
 fn try_hunt(alloc: Global, of: Hunt<'_>, seeds: Schedules) -> Result<Option<Searched>, ReplayFault>
     requires { seeds.first ≤ seeds.past }
-    ensures tried { IfOk result (IsHuntTried of.entry.program.now) }
+    ensures tried { IfOk result (IsHuntTried of.entry.program.now seeds) }
     ensures fault { IfErr result (λ e. e ≡ fault.Memory) }
 {
     match hunt(alloc, of.program, of.sections, seeds) {

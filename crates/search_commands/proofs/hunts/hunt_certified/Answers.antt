@@ -24,5 +24,5 @@ returns-in-Ok-clause-said g c =
     let shaped = c.in-Ok.ensures.of_module in
     let laid = subst (λ (m : Module). AreLayouts m under.program.layouts) (sym shaped) c.in-Ok.ensures.laid_out.0 in
     IfOk-weaker c.hunt_program-status.result _ _
-    (λ status told. (told.0, of_shaped under.program told.0 shaped laid (subst (λ (p : LaidOut). OfHunt c.args.asked.saves p c.args.results.now.saved.items c.hunt_program-status.new.results.saved.items told.0) c.program.ensures told.1), told.2))
+    (λ status told. (told.0, of_shaped under.program told.0 shaped laid (subst (λ (p : LaidOut). OfHunt c.args.asked.options c.args.asked.saves p c.args.results.now.saved.items c.hunt_program-status.new.results.saved.items told.0) c.program.ensures told.1), told.2))
     c.hunt_program-status.ensures.said

@@ -10,7 +10,7 @@ pub returns-in-Ok-clause-said : goal.returns-in-Ok-clause-said
 returns-in-Ok-clause-said g c =
     let certified = c.in-Ok.certified in
     let files = c.args.files.now in
-    let says = λ (file : Option File). IfOk c.hunt_certified.result (Saves (λ before after. OfCertified (λ m certs. OfHuntCerts files.saves m certs before after) files.of_module file) c.args.results.now c.hunt_certified.new.results) in
+    let says = λ (file : Option File). IfOk c.hunt_certified.result (Saves (λ before after. OfCertified (λ m certs. OfHuntCerts c.args.options files.saves m certs before after) files.of_module file) c.args.results.now c.hunt_certified.new.results) in
     rw c.in-Some.is
     (subst says c.in-Some.is
     (IfOk-weaker c.hunt_certified.result _ _
@@ -22,7 +22,7 @@ returns-in-Err-clause-said g c =
     let files = c.args.files.now in
     let before = c.args.results.now in
     let after : Results = record { outputs = record { out = before.outputs.out; err = c.unread.new.err }; saved = before.saved } in
-    let says = λ (file : Option File). IfOk c.unread.result (Saves (λ old new. OfCertified (λ m certs. OfHuntCerts files.saves m certs old new) files.of_module file) before after) in
+    let says = λ (file : Option File). IfOk c.unread.result (Saves (λ old new. OfCertified (λ m certs. OfHuntCerts c.args.options files.saves m certs old new) files.of_module file) before after) in
     rw c.in-Some.is
     (subst says c.in-Some.is
     (IfOk-weaker c.unread.result _ _ (λ status told. (OnError _, not_certified c.in-Err.fault c.in-Err.ensures.err, (refl, told))) c.unread.ensures))

@@ -6,7 +6,7 @@ use Rattle.search_commands.proofs.hunts.tell_shorter.Goals as goal
 
 pub returns-in-Ok-clause-said : goal.returns-in-Ok-clause-said
 returns-in-Ok-clause-said g c =
-    IfOk-weaker c.broken.result _ _ (λ status told. (OnOutput _, broke c.in-Ok.shorter.broken _ c.in-Ok.shorter.tries c.in-Ok.ensures.shorter, (told, refl))) c.broken.ensures
+    IfOk-weaker c.broken.result _ _ (λ status told. (OnOutput _, broke c.in-Ok.shorter.broken c.args.found.seed c.in-Ok.shorter.tries c.requires.0 c.requires.1 c.in-Ok.ensures.shorter, (told, refl))) c.broken.ensures
 
 pub returns-in-Err-clause-said : goal.returns-in-Err-clause-said
 returns-in-Err-clause-said g c =
