@@ -15,6 +15,8 @@ import sys
 
 TOP = os.path.dirname(os.path.dirname(os.path.abspath(__file__)))
 PAGE = os.path.join(TOP, "docs", "CRATES.md")
+# The crates of which the standard library of the kit is made.
+STANDARD = {"core", "std_alloc", "std_heap"}
 
 HEAD = """# Crates
 
@@ -91,7 +93,7 @@ def page():
         within = " ".join(f"`{use}`" for use in uses if use in names)
         lines.append(f"| `{name}` | {described(name)} | {within} | {count:,} | {made} |")
     lines.append(f"| {len(own)} crates | | | {total:,} | {all_edits} |")
-    kit = sorted({use for _, _, uses in own for use in uses if use not in names})
+    kit = sorted({use for _, _, uses in own for use in uses if use not in names} - STANDARD)
     foot = "\n\nCrates of the kit, other than its standard library, that are used: " + ", ".join(f"`{name}`" for name in kit) + ".\n"
     return HEAD + "\n".join(lines) + foot
 

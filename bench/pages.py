@@ -13,6 +13,7 @@ docs/ARCHITECTURE.md, docs/GLOSSARY.md, docs/ASSURANCE.md and the others say of 
     links       each link of a document leads to a file, and each heading of it that is named is there
     glossary    each file to which a name of two things leads has the name
     counts      the numbers of crates, edits and rows
+    version     the version, and the number of the library's interface, are the same wherever they stand
 
 It prints what is not as it should be, and ends with 1 where there is something. --only runs those checks alone.
 """
@@ -213,6 +214,25 @@ def check_counts():
         yield f"crates.txt and crates/ differ in {crate}"
 
 
+def check_version():
+    places = {
+        "version": {
+            "crates/command_line/src/grammar.rt": r'\.version\("([^"]+)"\)',
+            "crates/dgc_c/src/version.rt": r'"dgc ([^,]+), proved"',
+            "CHANGES.md": r"\n## (\S+)",
+        },
+        "interface": {
+            "crates/dgc_c/src/version.rt": r"INTERFACE: u32 = (\d+)",
+            "include/dgc.h": r"DGC_INTERFACE (\d+)",
+            "examples/c/make.rs": r"INTERFACE: u32 = (\d+)",
+        },
+    }
+    for thing, files in places.items():
+        said = {path: re.search(pattern, read(path))[1] for path, pattern in files.items()}
+        if len(set(said.values())) > 1:
+            yield f"{thing}: {said}"
+
+
 def check_page(*words):
     """A check that is a script of its own."""
     def run():
@@ -224,7 +244,7 @@ def check_page(*words):
 
 CHECKS = {
     "crates": check_page("crates.py", "--check"), "rules": check_page("rules.py", "--check"), "names": check_page("names.py", "--check"), "examples": check_page("examples.py"), "layers": check_layers, "picture": check_picture,
-    "shared": check_shared, "touched": check_touched, "links": check_links, "glossary": check_glossary, "counts": check_counts,
+    "shared": check_shared, "touched": check_touched, "links": check_links, "glossary": check_glossary, "counts": check_counts, "version": check_version,
 }
 
 

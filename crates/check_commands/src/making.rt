@@ -24,7 +24,12 @@ use std::io;
 use std::io::Write;
 
 /// Prints the certificates with which a module is accepted.
-fn print_made(alloc: Global, accepted: &Accepted, why: Why, outputs: &mut Outputs) -> io::Result<u8>
+pub fn print_made(
+    alloc: Global,
+    accepted: &Accepted,
+    why: Why,
+    outputs: &mut Outputs,
+) -> io::Result<u8>
     requires fits { fits accepted.now.program.of_module accepted.now.certs.sections ≡ true }
     requires shapes { accepted.now.certs.shapes ≡ accepted.now.program.of_module.shapes }
     requires certified { IsAccepted accepted.now.program.of_module accepted.now.certs.sections }
@@ -92,7 +97,12 @@ fn print_tried(
 }
 
 /// Prints why no certificates are made.
-fn print_unmade(alloc: Global, unmade: &NotMade, why: Why, outputs: &mut Outputs) -> io::Result<u8>
+pub fn print_unmade(
+    alloc: Global,
+    unmade: &NotMade,
+    why: Why,
+    outputs: &mut Outputs,
+) -> io::Result<u8>
     requires plain { unmade.now.fault ≡ fault.NoAnswer → IsPlainlyRefused unmade.now.of_module }
     requires layout { IfLayout unmade.now.fault (IsLayoutFault unmade.now.of_module) }
     requires refused { IfSome unmade.now.refused (IsRefusedWith unmade.now.of_module) }

@@ -20,7 +20,7 @@ use std::io;
 use std::io::Write;
 
 /// Writes the verdict on a session, as `check` prints it. Returns the status that goes with it.
-fn write_verdict<W: Write>(alloc: Global, session: &Session, lines: &mut W) -> io::Result<u8>
+pub fn write_verdict<W: Write>(alloc: Global, session: &Session, lines: &mut W) -> io::Result<u8>
     ensures { IfOk result (λ status. (verdict : Answer) × OfSession session.now verdict × IsTold (W.contents lines.old) (W.contents lines.new) status verdict) }
 {
     let of_module = session.program().module();
@@ -78,7 +78,7 @@ fn write_edit<W: Write>(
 }
 
 /// Applies edits and writes the line of each, numbered from 1.
-fn write_edits<W: Write>(
+pub fn write_edits<W: Write>(
     alloc: Global,
     session: &mut Session,
     edits: &[Edit],

@@ -1,0 +1,4 @@
+pub mod Accepted
+pub mod Answered
+pub mod Codes
+pub mod Verdicts

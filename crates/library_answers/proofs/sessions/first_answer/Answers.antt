@@ -1,0 +1,18 @@
+use Rattle.std.proofs.Common.{inr, refl}
+use Rattle.std.proofs.lemmas.Result.{IfOk-weaker}
+use Rattle.reports.specs.Said.{OnOutput}
+use Rattle.reports.specs.declared.outputs.Outputs.{Outputs}
+use Rattle.library_answers.specs.Sessions.{IsOfSession}
+use Rattle.library_answers.proofs.Answered.{answered}
+use Rattle.library_answers.proofs.sessions.first_answer.Goals as goal
+
+pub returns-in-Ok : goal.returns-in-Ok
+returns-in-Ok c =
+    let old = c.nothing-outputs.result in
+    let new : Outputs = record { out = c.write_verdict-printed.new.lines; err = old.err } in
+    answered (IsOfSession c.args.session.now) old new c.write_verdict-printed.result _ _ c.answer_of.result c.nothing-outputs.ensures.out c.nothing-outputs.ensures.err
+    (IfOk-weaker c.write_verdict-printed.result _ _ (λ status told. (OnOutput told.0, (told.0, told.1, refl), (told.2, refl))) c.write_verdict-printed.ensures)
+    c.answer_of.ensures.printed c.answer_of.ensures.failed
+
+pub returns-in-Err : goal.returns-in-Err
+returns-in-Err c = inr c.no_memory.ensures.memory

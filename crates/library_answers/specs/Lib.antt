@@ -1,0 +1,4 @@
+pub mod Checked
+pub mod Sessions
+pub mod Texts
+pub mod Told
