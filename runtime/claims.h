@@ -43,7 +43,7 @@ static bool take_share(struct pool *pool, struct share *share) {
             uint64_t bits = atomic_exchange(&pool->hints[64 * j + i], 0);
             if (!bits) continue;
             int64_t left = atomic_fetch_sub(&pool->left, __builtin_popcountll(bits));
-            if (2 * left < atomic_load_explicit(&pool->swept, memory_order_relaxed)) want_cells();
+            if (left < atomic_load_explicit(&pool->reserve, memory_order_relaxed)) want_cells();
             share->at = 64 * j + i;
             share->base = pool->base + ((uint64_t)share->at << pool->shift) * pool->stride;
             share->bits = bits;
@@ -78,16 +78,26 @@ static void *by_hints(struct pool *pool, struct share *share, struct tried *trie
     return 0;
 }
 
-/* Waits for the sweep, about a millisecond at most, and not where the collector waits for this thread. A recorder does not wait. */
-static void rest(struct pool *pool) {
-#ifndef RECORD
-    want_cells();
-    for (int n = 0; n < 10 && atomic_load_explicit(&pool->left, memory_order_relaxed) <= 0; n++) {
-        if (atomic_load_explicit(&posted, memory_order_relaxed) != me.stage) return;
-        nanosleep(&(struct timespec){0, 50000}, 0);
-    }
+/* Waits a moment, but not where the collector waits for this thread. A recorder does not wait. Gives whether it waited. */
+static bool wait_a_moment(void) {
+#ifdef RECORD
+    return false;
+#else
+    if (atomic_load_explicit(&posted, memory_order_relaxed) != me.stage) return false;
+    nanosleep(&(struct timespec){0, 50000}, 0);
+    return true;
 #endif
-    (void)pool;
+}
+
+/* A thread that takes hints where few are left lets the collector get ahead. */
+static void hold_back(struct pool *pool) {
+    if (atomic_load_explicit(&pool->left, memory_order_relaxed) < atomic_load_explicit(&pool->low, memory_order_relaxed)) wait_a_moment();
+}
+
+/* Waits for the sweep, about two milliseconds at most. */
+static void rest(struct pool *pool) {
+    want_cells();
+    for (int n = 0; n < 20 && atomic_load_explicit(&pool->left, memory_order_relaxed) <= 0 && wait_a_moment(); n++) { }
 }
 
 static void *by_turns(struct pool *pool, const struct tried *tried) {
@@ -100,6 +110,7 @@ static void *by_turns(struct pool *pool, const struct tried *tried) {
 static __attribute__((noinline)) void *request(struct pool *pool, struct share *share, char *lost) {
     struct tried tried = {lost != 0, {lost}};
     uint64_t begun = now(CLOCK_MONOTONIC);
+    hold_back(pool);
     void *cell = by_hints(pool, share, &tried);
     if (!cell) rest(pool);
     if (!cell) cell = by_hints(pool, share, &tried);

@@ -36,8 +36,10 @@ struct pool {
        no words of the heap. A wrong one costs a lost try, and none is asked before a request that fails. */
     uint32_t shift, filled_count;
     word *hints, *filled;
-    _Atomic int64_t left;  /* how many hints there are */
-    _Atomic int64_t swept; /* how many there were after the last sweep */
+    _Atomic int64_t left;    /* how many hints there are */
+    _Atomic int64_t reserve; /* a cycle begins when fewer are left */
+    _Atomic int64_t low;     /* threads hold back when fewer are left */
+    int64_t at_start;        /* how many there were when the cycle began */
 };
 static struct { struct pool *pools; uint32_t cells, threads; pthread_t collector; } heap;
 static _Alignas(64) word posted;
@@ -277,20 +279,30 @@ static bool pass(uint64_t grey) {
     return met;
 }
 
-/* ReadColour; of a white cell ClearWord of each word, and Free. Gives whether the cell was freed. */
+/* ReadColour; of a white cell ClearWord of each word, and Free. Gives whether the cell was freed. No thread looks at a word of a white cell,
+   and who claims the cell has seen Free: so the order of the clears among themselves is seen by nobody. */
 static bool sweep_cell(char *cell, const struct pool *pool, uint64_t grey) {
     word *colour = (word *)cell;
     uint64_t found;
     STEP(found = atomic_load(colour), DG_COLLECTOR, DG_READ_COLOUR, dg_number(cell), 0, found);
     if (found == 0 || found >= grey) return false;
-    for (uint32_t at = 0; at < pool->words; at++) STEP(atomic_store(colour + 1 + at, 0), DG_COLLECTOR, DG_CLEAR, dg_number(cell), at, 0);
+    for (uint32_t at = 0; at < pool->words; at++) STEP(atomic_store_explicit(colour + 1 + at, 0, memory_order_relaxed), DG_COLLECTOR, DG_CLEAR, dg_number(cell), at, 0);
     ASAN_POISON_MEMORY_REGION(cell + 8, 8 * pool->words);
     STEP(atomic_store(colour, 0), DG_COLLECTOR, DG_FREE, dg_number(cell), 0, 0);
     counts.frees++;
     return true;
 }
 
+/* The next cycle begins when half of the hints that there are is taken, or earlier: when fewer are left than are wanted. */
+static void set_reserve(struct pool *pool, int64_t wanted_hints) {
+    int64_t left = atomic_load(&pool->left);
+    atomic_store(&pool->reserve, wanted_hints > left / 2 ? wanted_hints : left / 2);
+    atomic_store(&pool->low, left / 4);
+}
+
+/* A cell is looked at once. Twice as many hints are wanted as were taken in this cycle before the sweep; where all were, each one that there is. */
 static void sweep(struct pool *pool, uint64_t grey) {
+    int64_t unused = atomic_load(&pool->left), taken = pool->at_start - unused;
     uint64_t bits = 0;
     for (uint32_t i = 0; i < pool->count; i++) {
         uint32_t last = (1u << pool->shift) - 1;
@@ -299,10 +311,10 @@ static void sweep(struct pool *pool, uint64_t grey) {
         keep_hints(pool, i >> pool->shift, bits);
         bits = 0;
     }
-    atomic_store(&pool->swept, atomic_load(&pool->left));
+    set_reserve(pool, unused > 0 ? 2 * taken : pool->count);
 }
 
-/* Waits until half of the hints of a pool are taken, or a request finds none. A recorder goes on at once. */
+/* Waits until a pool has less than its reserve of hints, or a request finds none. A recorder goes on at once. */
 static void wait_for_work(void) {
 #ifndef RECORD
     while (sem_wait(&due)) { }
@@ -312,6 +324,7 @@ static void wait_for_work(void) {
 
 static bool cycle(uint64_t k) {
     uint64_t before, begun = now(CLOCK_MONOTONIC);
+    for (uint64_t i = 0; i < dg_layout_count; i++) heap.pools[i].at_start = atomic_load(&heap.pools[i].left);
     if (!post(3 * k - 2) || !post(3 * k - 1)) return false;
     STEP(before = raise_to(&globals_colour, 2 * k), DG_COLLECTOR, DG_MARK_FOUND, 0, 0, before);
     (void)before;
@@ -411,7 +424,7 @@ static bool make_pool(struct pool *pool, const struct dg_layout *layout, uint32_
         keep_hints(pool, i >> pool->shift, 1ull << (i & ((1u << pool->shift) - 1)));
         ASAN_POISON_MEMORY_REGION(pool->base + i * pool->stride + 8, 8 * pool->words);
     }
-    atomic_store(&pool->swept, atomic_load(&pool->left));
+    set_reserve(pool, 0);
     return true;
 }
 
