@@ -293,14 +293,15 @@ static bool sweep_cell(char *cell, const struct pool *pool, uint64_t grey) {
     return true;
 }
 
-/* The next cycle begins when half of the hints that there are is taken, or earlier: when fewer are left than are wanted. */
-static void set_reserve(struct pool *pool, int64_t wanted_hints) {
+/* A cycle begins when fewer hints are left than these, or than half of those that there are. */
+static void set_reserve(struct pool *pool, int64_t hints) {
     int64_t left = atomic_load(&pool->left);
-    atomic_store(&pool->reserve, wanted_hints > left / 2 ? wanted_hints : left / 2);
+    atomic_store(&pool->reserve, hints > left / 2 ? hints : left / 2);
     atomic_store(&pool->low, left / 4);
 }
 
-/* A cell is looked at once. Twice as many hints are wanted as were taken in this cycle before the sweep; where all were, each one that there is. */
+/* Looks at each cell once. Then it sets how many hints have to be left: twice as many as threads took in this cycle before the sweep, and every one
+   where they took all. */
 static void sweep(struct pool *pool, uint64_t grey) {
     int64_t unused = atomic_load(&pool->left), taken = pool->at_start - unused;
     uint64_t bits = 0;
