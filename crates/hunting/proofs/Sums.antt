@@ -1,13 +1,14 @@
 -- Lines of steps in parts: who makes them, and how many steps they are.
-use Rattle.std.proofs.Common.{◌≡◌, ◌+◌, ◌-◌, ◌≤◌, ◌<◌, ℕ, zero, suc, Some, List, [], ◌∷◌, ◌++◌, length, map, take, drop, slice_get, refl, sym, ap, subst, ◌∙◌, add-one, arith}
+use Rattle.std.proofs.Common.{◌≡◌, ◌+◌, ◌-◌, ◌≤◌, ◌<◌, ℕ, zero, suc, Some, List, [], ◌∷◌, ◌++◌, length, map, take, drop, slice_get, min, refl, sym, ap, ap₂, subst, ◌∙◌, add-one, arith}
 use Rattle.std.specs.List.{AllByRecursion}
 use Rattle.std.proofs.lemmas.List.Sums.{sum_by-cons}
 use Rattle.lemmas.specs.Lists.{first_more}
 use Rattle.moves.specs.Runs.{IsActor}
+use Rattle.moves.specs.declared.actor.Actor.{Actor}
 use Rattle.lemmas.specs.All.{all_join, all_get}
 use Rattle.trace_text.specs.Traces.{step_sum}
 use Rattle.trace_text.specs.declared.trace.Steps.{Steps}
-use Rattle.hunting.specs.Parts.{AreOfActors, between}
+use Rattle.hunting.specs.Parts.{AreOfActors, between, with_at_most}
 
 -- ---- parts of lists
 
@@ -74,6 +75,18 @@ sum_more lines i line is =
     omega (arith, more, parts, one)
 
 -- ---- lines in the place of others
+
+-- lines that are joined of the first ones of a list, others, and the last ones of it
+pub joined_parts : (from to : ℕ) (lines seen first others last steps : List Steps) → seen ≡ lines → first ≡ take from seen → last ≡ drop to seen → steps ≡ first ++ others ++ last
+    → steps ≡ take from lines ++ others ++ drop to lines
+joined_parts from to lines seen first others last steps same front back is =
+    is ∙ ap₂ (λ (f l : List Steps). f ++ others ++ l) front back ∙ ap (λ (l : List Steps). take from l ++ others ++ drop to l) same
+
+-- a line that has the actor of another one and no more than a number of its steps
+pub cut_line : (count : ℕ) (cut found line : Steps) → cut.actor ≡ found.actor → cut.count ≡ min count found.count → found ≡ line → cut ≡ with_at_most count line
+cut_line count cut found line actor least same =
+    let made : Actor → ℕ → Steps = λ a n. record { actor = a; count = n } in
+    ap₂ made (actor ∙ ap (λ (s : Steps). s.actor) same) (least ∙ ap (λ (s : Steps). min count s.count) same)
 
 pub all_replaced : (threads from to : ℕ) (lines others : List Steps) → AreOfActors threads lines → AreOfActors threads others → AreOfActors threads (take from lines ++ others ++ drop to lines)
 all_replaced threads from to lines others are these =

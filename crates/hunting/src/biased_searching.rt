@@ -1,7 +1,7 @@
 //! The search for a seed whose schedule breaks its run.
-ghost use Rattle.std.specs.Prelude.{◌≡◌, ◌≢◌, None, List, IfOk, IfErr, IfSome};
+ghost use Rattle.std.specs.Prelude.{◌≡◌, ◌≢◌, ◌≤◌, min, None, List, IfOk, IfErr, IfSome};
 ghost use Rattle.certs.specs.declared.section.Section.{Section};
-ghost use Rattle.trace_text.specs.Traces.{IsTraceOf};
+ghost use Rattle.trace_text.specs.Traces.{IsTraceOf, step_sum};
 ghost use Rattle.program_runner.specs.Setups.{IsSetupFault, HasNoFault, IsCertifiedSetup};
 ghost use Rattle.program_runner.specs.declared.setup_fault.SetupFault.TheVariants as fault;
 ghost use Rattle.hunting.specs.Shorter.{IsBreaking};
@@ -68,6 +68,7 @@ pub fn biased_trace(
     requires { IsTraceOf program.now start.now }
     ensures is_trace { IfOk result (IsTraceOf program.now) }
     ensures setup { IfOk result (λ made. made.setup ≡ start.now.setup) }
+    ensures few { IfOk result (λ made. step_sum made.steps ≤ min steps 10000000) }
     ensures fault { IfErr result (λ e. e ≢ fault.Memory → IsSetupFault program.now start.now.setup e) }
 {
     let steps = steps.min(STEP_LIMIT as u32);

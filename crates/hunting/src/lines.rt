@@ -1,5 +1,5 @@
 //! Lines of steps in the place of others.
-ghost use Rattle.std.specs.Prelude.{◌≡◌, ◌++◌, ◌+◌, ℕ, take, drop, IfOk, OnOk};
+ghost use Rattle.std.specs.Prelude.{◌≡◌, [], ◌∷◌, ◌++◌, ◌+◌, ℕ, take, drop, IfOk, OnOk};
 ghost use Rattle.moves.specs.Runs.{IsActor};
 ghost use Rattle.trace_text.specs.Traces.{step_sum};
 ghost use Rattle.hunting.specs.Parts.{AreOfActors};
@@ -49,6 +49,7 @@ pub(crate) fn joined(
 pub fn add_line(lines: &mut Items<Steps>, line: Steps) -> Result<(), AllocError>
     ensures actors { (threads : ℕ) → AreOfActors threads lines.old → IsActor threads line.actor → OnOk result (AreOfActors threads lines.new) }
     ensures sum { OnOk result (step_sum lines.new ≡ step_sum lines.old + line.count) }
+    ensures lines { OnOk result (lines.new ≡ lines.old ++ line ∷ []) }
 {
     lines.push(line)?;
     Ok(())

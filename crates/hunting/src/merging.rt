@@ -103,6 +103,7 @@ pub fn merged(alloc: Global, steps: &[Steps]) -> Result<Items<Steps>, AllocError
 pub fn in_fewer_lines(alloc: Global, trace: Trace) -> Result<Trace, AllocError>
     ensures is_trace { (p : LaidOut) → IsTraceOf p trace → IfOk result (IsTraceOf p) }
     ensures setup { IfOk result (λ merged. merged.setup ≡ trace.setup) }
+    ensures actors { IfOk result (λ merged. actors_of merged.steps ≡ actors_of trace.steps) }
 {
     let Trace { setup, steps } = trace;
     match merged(alloc, steps.as_slice()) {

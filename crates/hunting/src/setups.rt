@@ -1,5 +1,5 @@
 //! Traces with a thread less, or with fewer cells.
-ghost use Rattle.std.specs.Prelude.{ℕ, ◌≡◌, ◌<◌, ◌≤◌, ◌-◌, ◌^◌, ◌++◌, take, drop, suc, length, ◌+◌, IfOk, IfSome, OnOk};
+ghost use Rattle.std.specs.Prelude.{ℕ, ◌≡◌, ◌<◌, ◌≤◌, ◌-◌, ◌^◌, ◌++◌, take, drop, suc, length, slice_set, ◌+◌, IfOk, IfSome, OnOk};
 ghost use Rattle.moves.specs.Runs.{IsActor};
 ghost use Rattle.pools.specs.Heap.{cells_in};
 ghost use Rattle.trace_text.specs.Traces.{IsTraceOf, step_sum};
@@ -107,7 +107,9 @@ pub fn without_thread(
 ) -> Result<Trace, AllocError>
     requires is_trace { IsTraceOf program.now trace.now }
     requires thread { thread < length trace.now.setup.starts }
-    ensures { IfOk result (IsTraceOf program.now) }
+    ensures is_trace { IfOk result (IsTraceOf program.now) }
+    ensures pools { IfOk result (λ fewer. fewer.setup.pools ≡ trace.now.setup.pools) }
+    ensures starts { IfOk result (λ fewer. fewer.setup.starts ≡ take thread trace.now.setup.starts ++ drop (suc thread) trace.now.setup.starts) }
 {
     let pools = pools_copied(alloc, program, &trace.setup.pools)?;
     let starts = starts_without(alloc, trace.setup.starts.as_slice(), thread as usize)?;
@@ -116,6 +118,16 @@ pub fn without_thread(
         setup: Setup { pools, starts },
         steps,
     })
+}
+
+/// Puts a count in the place of that of a layout, if there is such a layout.
+fn put_count(counts: &mut Items<u32>, layout: usize, count: u32)
+    ensures as_many { length counts.new ≡ length counts.old }
+    ensures counts { layout < length counts.old → counts.new ≡ slice_set counts.old layout count }
+{
+    if layout < counts.len() {
+        counts.set(layout, count);
+    }
 }
 
 /// The pools with this count of cells of one layout.
@@ -129,14 +141,13 @@ fn pools_with_fewer(
     requires { length pools.now ≡ length program.now.layouts }
     ensures one_each { IfOk result (λ fewer. length fewer ≡ length program.now.layouts) }
     ensures few { IfOk result (λ fewer. cells_in fewer ≤ 2 ^ 20) }
+    ensures pools { layout < length pools.now → IfOk result (λ fewer. fewer ≡ slice_set pools.now layout count) }
 {
     let Ok(layouts) = u32::try_from(program.layouts().count()) else {
         return Err(AllocError);
     };
     let mut counts = counts_in(alloc, pools, layouts)?;
-    if layout < counts.len() {
-        counts.set(layout, count);
-    }
+    put_count(&mut counts, layout, count);
     pools_with(alloc, program, counts.as_slice())
 }
 
@@ -149,7 +160,10 @@ pub fn with_fewer_cells(
     count: u32,
 ) -> Result<Trace, AllocError>
     requires { IsTraceOf program.now trace.now }
-    ensures { IfOk result (IsTraceOf program.now) }
+    ensures is_trace { IfOk result (IsTraceOf program.now) }
+    ensures pools { layout < length trace.now.setup.pools → IfOk result (λ fewer. fewer.setup.pools ≡ slice_set trace.now.setup.pools layout count) }
+    ensures starts { IfOk result (λ fewer. fewer.setup.starts ≡ trace.now.setup.starts) }
+    ensures steps { IfOk result (λ fewer. fewer.steps ≡ trace.now.steps) }
 {
     let pools = pools_with_fewer(alloc, program, &trace.setup.pools, layout, count)?;
     let starts = starts_copied(alloc, trace.setup.starts.as_slice())?;

@@ -1,7 +1,8 @@
 //! Traces with other steps.
-ghost use Rattle.std.specs.Prelude.{◌≡◌, ◌≤◌, ◌<◌, ◌+◌, ℕ, length, IfOk, IfSome};
+ghost use Rattle.std.specs.Prelude.{◌≡◌, ◌≤◌, ◌<◌, ◌+◌, ◌∷◌, ◌++◌, ℕ, length, take, drop, slice_get, Some, IfOk, IfSome};
 ghost use Rattle.trace_text.specs.Traces.{IsTraceOf, step_sum};
-ghost use Rattle.hunting.specs.Parts.{AreOfActors, between};
+ghost use Rattle.trace_text.specs.declared.trace.Steps.{Steps as SomeSteps};
+ghost use Rattle.hunting.specs.Parts.{AreOfActors, between, with_at_most};
 
 use crate::lines::{back, front, joined};
 use crate::setups::setup_copied;
@@ -34,6 +35,7 @@ pub fn with_steps(
     requires few { step_sum steps ≤ 10000000 }
     ensures is_trace { IfOk result (IsTraceOf program.now) }
     ensures setup { IfOk result (λ made. made.setup ≡ trace.now.setup) }
+    ensures steps { IfOk result (λ made. made.steps ≡ steps) }
 {
     match setup_copied(alloc, program, &trace.setup) {
         Ok(setup) => Ok(Trace { setup, steps }),
@@ -55,6 +57,7 @@ fn replaced(
     requires few { step_sum others.now ≤ step_sum (between places.0 places.1 trace.now.steps) }
     ensures is_trace { IfOk result (IsTraceOf program.now) }
     ensures setup { IfOk result (λ made. made.setup ≡ trace.now.setup) }
+    ensures steps { IfOk result (λ made. made.steps ≡ take places.0 trace.now.steps ++ others.now ++ drop places.1 trace.now.steps) }
 {
     let lines = trace.steps.as_slice();
     let steps = joined(alloc, front(lines, places.0), others, back(lines, places.1))?;
@@ -73,6 +76,7 @@ pub fn without_lines(
     requires order { from ≤ to }
     ensures is_trace { IfOk result (IsTraceOf program.now) }
     ensures setup { IfOk result (λ made. made.setup ≡ trace.now.setup) }
+    ensures steps { IfOk result (λ made. made.steps ≡ take from trace.now.steps ++ drop to trace.now.steps) }
 {
     replaced(alloc, program, trace, (from, to), &[])
 }
@@ -90,6 +94,7 @@ fn with_line_cut(
     requires place { places.0 < length trace.now.steps }
     ensures is_trace { IfOk result (IsTraceOf program.now) }
     ensures setup { IfOk result (λ made. made.setup ≡ trace.now.setup) }
+    ensures steps { (line : SomeSteps) → slice_get trace.now.steps places.0 ≡ Some line → IfOk result (λ made. made.steps ≡ take places.0 trace.now.steps ++ with_at_most count line ∷ drop places.1 trace.now.steps) }
 {
     let line = trace.steps.as_slice()[places.0];
     let shorter = Steps {
@@ -119,6 +124,8 @@ pub fn with_fewer_steps(
     requires is_trace { IsTraceOf program.now trace.now }
     requires place { place < length trace.now.steps }
     ensures is_trace { IfOk result (IsTraceOf program.now) }
+    ensures setup { IfOk result (λ made. made.setup ≡ trace.now.setup) }
+    ensures steps { (line : SomeSteps) → slice_get trace.now.steps place ≡ Some line → IfOk result (λ made. made.steps ≡ take place trace.now.steps ++ with_at_most count line ∷ drop (place + 1) trace.now.steps) }
 {
     let places = (place, after(trace.steps.as_slice(), place));
     with_line_cut(alloc, program, trace, places, count)
@@ -134,6 +141,8 @@ pub fn with_lines_swapped(
     requires is_trace { IsTraceOf program.now trace.now }
     requires place { place + 1 < length trace.now.steps }
     ensures is_trace { IfOk result (IsTraceOf program.now) }
+    ensures setup { IfOk result (λ made. made.setup ≡ trace.now.setup) }
+    ensures steps { (line next : SomeSteps) → slice_get trace.now.steps place ≡ Some line → slice_get trace.now.steps (place + 1) ≡ Some next → IfOk result (λ made. made.steps ≡ take place trace.now.steps ++ next ∷ line ∷ drop (place + 2) trace.now.steps) }
 {
     let lines = trace.steps.as_slice();
     let next = after(lines, place);

@@ -60,19 +60,21 @@ pub record IsGoingOn (start : Recorder) (actors : List Actor) (count : ℕ) (r :
   pub count_is : length made ≡ count
   pub whole : reverse made ++ actors_in u ≡ actors
   pub are_actors : AreActors (length r.world.setup.starts) (actors_in u)
+  pub before : r.before ≡ start.before
   pub recorded : (p : LaidOut) (setup : Setup) (first : List Actor) → IsRecorded p setup first first start → IsRecorded p setup first (made ++ first) r
 
 -- with one step more
 pub goes_on : (start : Recorder) (actors : List Actor) (count : ℕ) (r s : Recorder) (u v : Upcoming) (actor : Actor) → IsGoingOn start actors count r u → actors_in u ≡ actor ∷ actors_in v
-    → s.world.setup ≡ r.world.setup → ((p : LaidOut) (setup : Setup) (first before : List Actor) → IsRecorded p setup first before r → IsRecorded p setup first (actor ∷ before) s)
+    → s.world.setup ≡ r.world.setup → s.before ≡ r.before → ((p : LaidOut) (setup : Setup) (first before : List Actor) → IsRecorded p setup first before r → IsRecorded p setup first (actor ∷ before) s)
     → IsGoingOn start actors (suc count) s v
-goes_on start actors count r s u v actor is next same more = record {
+goes_on start actors count r s u v actor is next same alike more = record {
   made = actor ∷ is.made;
   count_is = ap suc is.count_is;
   whole =
       ap (λ l. l ++ actors_in v) (reverse-append (actor ∷ []) is.made) ∙ append_assoc (reverse is.made) (actor ∷ []) (actors_in v)
       ∙ ap (λ l. reverse is.made ++ l) (sym next) ∙ is.whole;
   are_actors = subst (λ (setup : Setup). AreActors (length setup.starts) (actors_in v)) (sym same) ((subst (AreActors (length r.world.setup.starts)) next is.are_actors).1);
+  before = alike ∙ is.before;
   recorded = λ p setup first begun. more p setup first (is.made ++ first) (is.recorded p setup first begun);
 }
 
@@ -136,5 +138,5 @@ forgotten p setup before log r same none is = record {
 
 -- what is recorded is what a log has
 pub logged : (p : LaidOut) (setup : Setup) (first before left : List Actor) (r : Recorder) → IsRecorded p setup first before r
-    → IsAt p setup before (record { world = r.world; steps = r.steps; left = left }) × AreSteps p setup first before r.steps
+    → IsAt p setup before (record { world = r.world; before = r.before; steps = r.steps; left = left }) × AreSteps p setup first before r.steps
 logged p setup first before left r is = (record { program = is.program; setup_is = is.setup_is; afterwards = is.afterwards }, is.steps)

@@ -7,7 +7,7 @@ use Rattle.step_log.specs.declared.stretch.StepLog.TheInside.{Inside}
 
 -- the log that the code holds
 abbrev pub log_seen : Inside → Log
-log_seen i = record { world = i.recorder.world; steps = i.recorder.steps; left = actors_in i.upcoming }
+log_seen i = record { world = i.recorder.world; before = i.recorder.before; steps = i.recorder.steps; left = actors_in i.upcoming }
 
 -- the actors that are left are those of the world
 abbrev pub IsKept : Inside → Type 0

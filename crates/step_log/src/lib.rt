@@ -10,3 +10,4 @@ mod upcoming;
 
 pub use log::{FrameNote, LogStep};
 pub use stretch::StepLog;
+pub use upcoming::Upcoming;

@@ -1,4 +1,4 @@
-ghost use Rattle.std.specs.Prelude.{◌≡◌, ◌≢◌, List, [], ◌∷◌, ◌++◌, length, reverse, take, drop, IfOk, IfErr, OnOk};
+ghost use Rattle.std.specs.Prelude.{◌≡◌, ◌≢◌, ◌+◌, ◌-◌, ◌^◌, min, List, [], ◌∷◌, ◌++◌, length, reverse, take, drop, IfOk, IfErr, OnOk};
 ghost use Rattle.moves.specs.Runs.{IsActor, AreActors};
 ghost use Rattle.layout.specs.Layouts.{LaidOut};
 ghost use Rattle.moves.specs.declared.actor.Actor.{Actor as AnActor};
@@ -84,6 +84,7 @@ impl<'a> Recorder<'a> {
     pub fn new(alloc: Global, program: &'a Program, setup: &'a Setup) -> Result<Self, SetupFault>
         requires { IsSetupOf program.now setup.now }
         ensures ok { IfOk result (IsRecorded program.now setup.now [] []) }
+        ensures before { IfOk result (λ recorder. recorder.before ≡ 0) }
         ensures fault { IfErr result (λ e. e ≢ fault.Memory → IsSetupFault program.now setup.now e) }
     {
         let world = World::new(alloc, program, setup)?;
@@ -111,6 +112,7 @@ impl<'a> Recorder<'a> {
         ensures made { (p : LaidOut) (setup : ASetup) (first before : List AnActor) → IsRecorded p setup first before self.old
             → OnOk result (IsRecorded p setup first (actor ∷ before) self.new) }
         ensures same { self.new.world.setup ≡ self.old.world.setup }
+        ensures before { self.new.before ≡ self.old.before }
     {
         let place = place_of(&self.world, actor);
         let notes = self.notes.len();
@@ -133,6 +135,7 @@ impl<'a> Recorder<'a> {
         ensures left { OnOk result (actors_in upcoming.new ≡ drop count (actors_in upcoming.old)) }
         ensures made { (p : LaidOut) (setup : ASetup) (first : List AnActor) → IsRecorded p setup first first self.old
             → OnOk result (IsRecorded p setup first (reverse (take count (actors_in upcoming.old)) ++ first) self.new) }
+        ensures before { self.new.before ≡ self.old.before }
     {
         for _step in 0..count {
             let Some(actor) = upcoming.next() else {
@@ -146,6 +149,7 @@ impl<'a> Recorder<'a> {
     /// Forgets the steps that are logged, and what was noted of frames that are over.
     pub fn forget(&mut self) -> Result<(), AllocError>
         ensures world { self.new.world ≡ self.old.world }
+        ensures before { self.new.before ≡ min (self.old.before + length self.old.steps) (2 ^ 64 - 1) }
         ensures steps { self.new.steps ≡ [] }
     {
         self.before = self.before.saturating_add(self.steps.len());

@@ -1,4 +1,4 @@
-ghost use Rattle.std.specs.Prelude.{◌≡◌, ◌≢◌, List, [], ◌++◌, reverse, take, drop, IfOk, IfErr, OnOk};
+ghost use Rattle.std.specs.Prelude.{◌≡◌, ◌≢◌, ◌+◌, ◌-◌, ◌^◌, min, length, List, [], ◌++◌, reverse, take, drop, IfOk, IfErr, OnOk};
 ghost use Rattle.moves.specs.declared.actor.Actor.{Actor as AnActor};
 ghost use Rattle.layout.specs.Layouts.{LaidOut};
 ghost use Rattle.trace_text.specs.Traces.{IsTraceOf};
@@ -43,6 +43,7 @@ impl<'a> StepLog<'a> {
     pub fn new(alloc: Global, program: &'a Program, trace: &'a Trace) -> Result<Self, SetupFault>
         requires { IsTraceOf program.now trace.now }
         ensures ok { IfOk result (λ log. IsAt program.now trace.now.setup [] log × (log.left ≡ actors_of trace.now.steps)) }
+        ensures before { IfOk result (λ log. log.before ≡ 0) }
         ensures fault { IfErr result (λ e. e ≢ fault.Memory → IsSetupFault program.now trace.now.setup e) }
     {
         let recorder = Recorder::new(alloc, program, &trace.setup)?;
@@ -56,6 +57,7 @@ impl<'a> StepLog<'a> {
     /// Where memory is refused, some of them may have been made, and not all of these are logged.
     pub fn go_on(&mut self, count: usize) -> Result<(), AllocError>
         ensures left { OnOk result (self.new.left ≡ drop count self.old.left) }
+        ensures before { OnOk result (self.new.before ≡ min (self.old.before + length self.old.steps) (2 ^ 64 - 1)) }
         // The log has a step for each of their actors: what it made after the run of those before it.
         ensures made { (p : LaidOut) (setup : ASetup) (before : List AnActor) → IsAt p setup before self.old
             → OnOk result (IsAt p setup (reverse (take count self.old.left) ++ before) self.new × AreSteps p setup before (reverse (take count self.old.left) ++ before) self.new.steps) }
@@ -73,12 +75,16 @@ impl<'a> StepLog<'a> {
     }
 
     /// How many steps come before them.
-    pub fn before(&self) -> usize {
+    pub fn before(&self) -> usize
+        ensures { result ≡ self.now.before }
+    {
         self.recorder.before
     }
 
     /// The number of the logged step at this place. Steps are counted from 1.
-    pub fn number_at(&self, at: usize) -> usize {
+    pub fn number_at(&self, at: usize) -> usize
+        ensures { result ≡ min (min (self.now.before + at) (2 ^ 64 - 1) + 1) (2 ^ 64 - 1) }
+    {
         self.recorder.before.saturating_add(at).saturating_add(1)
     }
 

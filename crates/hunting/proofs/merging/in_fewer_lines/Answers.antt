@@ -14,3 +14,6 @@ returns-in-Ok-clause-is_trace c p is =
     let P = λ (s : Steps). IsActor (length trace.setup.starts) s.actor in
     same_trace p trace trace.setup c.in-Ok.steps refl is (lines.actors ∙ ap actors_of same)
     (lines.either (length trace.setup.starts) (subst (AllByRecursion P) (sym same) is.actors))
+
+pub returns-in-Ok-clause-actors : goal.returns-in-Ok-clause-actors
+returns-in-Ok-clause-actors c = c.in-Ok.ensures.actors ∙ ap actors_of c.as_slice.ensures

@@ -8,8 +8,8 @@ use Rattle.hunting.specs.Parts.{AreOfActors}
 use Rattle.hunting.proofs.Sums.{all_take, all_drop, length_without}
 use Rattle.hunting.proofs.setups.without_thread.Goals as goal
 
-pub returns : goal.returns
-returns c =
+pub returns-clause-is_trace : goal.returns-clause-is_trace
+returns-clause-is_trace c =
     let p = c.args.program.now in
     let t = c.args.thread in
     let starts = c.args.trace.now.setup.starts in
@@ -26,3 +26,6 @@ returns c =
       actors = subst (λ n. AreOfActors n c.in_ok-steps.steps) (sym count) (c.in_ok-steps.ensures.actors (length starts) c.requires.thread (subst (λ l. AreOfActors (length starts) l) (sym lines) traced.actors));
       steps = let same = ap step_sum lines in omega (arith, c.in_ok-steps.ensures.sum, traced.steps, same);
     }
+
+pub returns-clause-starts : goal.returns-clause-starts
+returns-clause-starts c = c.in_ok-starts.ensures ∙ ap (λ (l : List Start). take c.args.thread l ++ drop (suc c.args.thread) l) c.as_slice.ensures

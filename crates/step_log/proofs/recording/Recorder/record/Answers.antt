@@ -6,7 +6,7 @@ use Rattle.step_log.proofs.Logged.{IsGoingOn, IsMadeOf, goes_on, still_actors, m
 use Rattle.step_log.proofs.recording.Recorder.record.Goals as goal
 
 pub loop-step-init : goal.loop-step-init
-loop-step-init c = record { made = []; count_is = refl; whole = refl; are_actors = c.requires; recorded = λ p setup first is. is }
+loop-step-init c = record { made = []; count_is = refl; whole = refl; are_actors = c.requires; before = refl; recorded = λ p setup first is. is }
 
 pub step-requires : goal.step-requires
 step-requires c = (subst (AreActors (length c.loop-step.self.world.setup.starts)) c.in-Some.ensures c.loop-step.invariant.are_actors).0
@@ -21,7 +21,7 @@ loop-step-preserved c =
     let actors = actors_in c.args.upcoming.now in
     let i = c.loop-step._step in
     subst (λ n. IsGoingOn start actors n c.step.new.self c.next.new.self) (sym (add-one i))
-    (goes_on start actors i c.loop-step.self c.step.new.self c.loop-step.upcoming c.next.new.self c.in-Some.actor c.loop-step.invariant c.in-Some.ensures c.step.ensures.same c.in_ok-step.ensures.made)
+    (goes_on start actors i c.loop-step.self c.step.new.self c.loop-step.upcoming c.next.new.self c.in-Some.actor c.loop-step.invariant c.in-Some.ensures c.step.ensures.same c.step.ensures.before c.in_ok-step.ensures.made)
 
 -- ---- all were made that there were
 
@@ -56,3 +56,6 @@ returns-clause-left c = (all_asked c).left
 
 pub returns-clause-made : goal.returns-clause-made
 returns-clause-made c = (all_asked c).recorded
+
+pub returns-clause-before : goal.returns-clause-before
+returns-clause-before c = c.loop-step.invariant.before
