@@ -1,3 +1,4 @@
 pub mod Entries
 pub mod Recorded
 pub mod Records
+pub mod Written

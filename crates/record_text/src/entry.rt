@@ -4,6 +4,9 @@ ghost use Rattle.record_text.specs.Entries.{entry_at};
 /// How many bytes an entry has.
 pub const ENTRY_BYTES: usize = 16;
 
+/// How many bytes a record has at most.
+pub const RECORD_LIMIT: usize = 1 << 30;
+
 /// One entry of a record: the actor, the kind of the step, and its numbers. The numbers of a record have their lowest byte first.
 #[derive(Clone, Copy)]
 pub struct Entry {

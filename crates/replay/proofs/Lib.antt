@@ -3,6 +3,7 @@ pub mod Ends
 pub mod Endings
 pub mod WorldSteps
 pub mod Told
+pub mod NamedLemmas
 pub mod Lists
 pub mod StepsTaken
 pub mod StartsLemmas

@@ -3,6 +3,7 @@ pub mod Runs
 pub mod Worlds
 pub mod ThreadEnds
 pub mod Keeping
+pub mod Named
 pub mod WorldView
 pub mod Lists
 pub mod Outcomes

@@ -1,4 +1,4 @@
-ghost use Rattle.std.specs.Prelude.{◌≡◌, ◌≢◌, ◌<◌, None, Some, List, [], ◌∷◌, length, slice_get, unwrap_or, IfOk, IfErr, OnErr};
+ghost use Rattle.std.specs.Prelude.{◌≡◌, ◌≢◌, ◌<◌, Option, None, Some, List, [], ◌∷◌, length, slice_get, unwrap_or, IfOk, IfErr, OnErr};
 ghost use Rattle.moves.specs.Runs.{IsActor};
 ghost use Rattle.certs.specs.declared.section.Section.{Section};
 ghost use Rattle.moves.specs.declared.actor.Actor.{Actor as AnActor};
@@ -6,6 +6,8 @@ ghost use Rattle.program_runner.specs.Setups.{IsSetupOf, IsSetupFault, HasNoFaul
 ghost use Rattle.replay.specs.Worlds.{IsAfter, ended_by, IsStepAfter, IsBrokenWorld, IsCoveredWorld, IsOverIn, IsFirstGoneOf};
 ghost use Rattle.replay.specs.Keeping.{ending_after, ending_to_keep, end_told};
 ghost use Rattle.replay.specs.ThreadEnds.{AreEndsOf};
+ghost use Rattle.replay.specs.Named.{IsToldWith, AreNamedBy};
+ghost use Rattle.stepping.specs.declared.happening.MadeStep.{MadeStep as AMadeStep};
 ghost use Rattle.program_runner.specs.declared.setup_fault.SetupFault.TheVariants as fault;
 ghost use Rattle.replay.specs.declared.thread_outcome.ThreadOutcome.TheVariants as end;
 
@@ -13,7 +15,7 @@ use crate::thread_outcome::ThreadOutcome;
 use items::Items;
 use layout::Program;
 use machine::{Ending, Thread};
-use moves::{Actor, CallPhase, ThreadState};
+use moves::{Actor, CallPhase, Runner, ThreadState, WordValue};
 use program_runner::{
     ProgramThread, SetupFault, begun_law, begun_threads, program_law, values_at_start,
 };
@@ -126,6 +128,18 @@ impl<'a> World<'a> {
         }
     }
 
+    /// The roots that the actor names where its next step is an answer to a stage.
+    pub fn roots_to_name(&self, actor: Actor) -> Result<Vec<WordValue>, AllocError>
+        requires { IsActor (length self.now.setup.starts) actor }
+        ensures { (before : List AnActor) (made : Option AMadeStep) → IsAfter self.now before → IsStepAfter self.now before actor made
+            → IfOk result (λ roots. IsToldWith self.now before actor roots.items made) }
+    {
+        match actor {
+            Actor::Thread(thread) => roots_named(&self.actors, thread as usize, self.alloc),
+            Actor::Collector => Ok(Vec::new(self.alloc)),
+        }
+    }
+
     /// Where each thread is.
     pub fn ends(&self) -> Result<Items<ThreadOutcome>, AllocError>
         ensures { (before : List AnActor) → IsAfter self.now before → IfOk result (AreEndsOf self.now before) }
@@ -135,6 +149,23 @@ impl<'a> World<'a> {
             ends.push(end_told(&self.actors, self.endings.as_slice(), thread))?;
         }
         Ok(ends)
+    }
+}
+
+/// The roots of a thread that answers a stage.
+fn roots_named(
+    actors: &Actors<'_, ProgramThread<'_>>,
+    thread: usize,
+    alloc: Global,
+) -> Result<Vec<WordValue>, AllocError>
+    ensures { IfOk result (λ roots. AreNamedBy (slice_get actors.now.threads.items thread) roots.items) }
+{
+    match actors.thread(thread) {
+        Some(thread_state) => match thread_state.call_phase {
+            CallPhase::Answering { .. } => thread_state.state.root_references(),
+            _ => Ok(Vec::new(alloc)),
+        },
+        None => Ok(Vec::new(alloc)),
     }
 }
 
