@@ -7,4 +7,4 @@ mod plain;
 mod tried;
 
 pub use made::{MakeFault, NotMade, Refused};
-pub use maker::{make, make_with};
+pub use maker::{make, make_seen, make_with};

@@ -11,7 +11,7 @@ use certs::Certs;
 use copies::copy_shapes;
 use ir_ast::{Module, Shapes};
 use layout::Program;
-use module_check::Accepted;
+use module_check::{Accepted, Unseen, Witness};
 use proposals::Boldness;
 use std::alloc::Global;
 
@@ -28,6 +28,17 @@ struct NoCerts {
 pub fn make(alloc: Global, of_module: Module) -> Result<Accepted, NotMade>
     ensures { IsMade of_module result }
 {
+    make_seen(alloc, of_module, &mut Unseen)
+}
+
+/// The same certificates. Where none is accepted, a witness sees the first refusal with the boldest, before the module is given back.
+pub fn make_seen(
+    alloc: Global,
+    of_module: Module,
+    seen: &mut impl Witness,
+) -> Result<Accepted, NotMade>
+    ensures { IsMade of_module result }
+{
     let program = match Program::new(alloc, of_module) {
         Ok(program) => program,
         Err(refused) => {
@@ -40,11 +51,21 @@ pub fn make(alloc: Global, of_module: Module) -> Result<Accepted, NotMade>
     };
     match shaped_certs_for(alloc, &program) {
         Ok(certs) => Ok(Accepted::of(program, certs)),
-        Err(none) => Err(NotMade {
-            fault: MakeFault::from(none.make_failure),
-            of_module: program.into_module(),
-            refused: none.refused,
-        }),
+        Err(none) => {
+            show(seen, &program, &none);
+            Err(NotMade {
+                fault: MakeFault::from(none.make_failure),
+                of_module: program.into_module(),
+                refused: none.refused,
+            })
+        }
+    }
+}
+
+/// The witness sees the refusal with certificates, if some were refused.
+fn show(seen: &mut impl Witness, program: &Program, none: &NoCerts) {
+    if let Some(tried) = &none.refused {
+        seen.refused(program, &tried.certs, [tried.refusal].as_slice());
     }
 }
 

@@ -1,1 +1,2 @@
 mod Edits
+mod Rejected

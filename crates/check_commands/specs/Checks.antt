@@ -1,5 +1,5 @@
 -- What `check` and `make` say of their files.
-use Rattle.std.specs.Prelude.{◌≡◌, ◌++◌, List, [], ◌∷◌, ℕ, Option, true, length, take, codes}
+use Rattle.std.specs.Prelude.{◌≡◌, ◌++◌, List, [], ◌∷◌, ℕ, Option, Some, None, true, length, take, codes}
 use Rattle.std.specs.Fmt.{decimal}
 use Rattle.std.specs.List.{flat_map}
 use Rattle.ir_ast.specs.declared.module.Module.{Module}
@@ -46,6 +46,11 @@ pub data OfRefusals (limit : ℕ) (program : LaidOut) (certs : List Section) : S
   refusals_told : (refusals : List Refusal) → AreOfFunctions program certs (length program.of_module.functions) refusals
       → OfRefusals limit program certs (OnOutput (all_refused program.of_module certs limit refusals))
   refusals_not_told : OfRefusals limit program certs (OnError no_memory)
+
+-- what is said of a laid out program that is refused, by what is refused of it; none is said where memory was refused
+abbrev pub OfRejected : (limit : ℕ) → LaidOut → List Section → Option (List Refusal) → Said → Type 0
+OfRejected limit program certs None said = said ≡ OnError no_memory
+OfRejected limit program certs (Some refusals) said = OfRefusals limit program certs said
 
 -- what is said of a module and its certificates that are not accepted, where all blocks are asked for: the refusals of the program that it
 -- is with the shapes of the certificates; the fault of the layouts; or that memory was refused

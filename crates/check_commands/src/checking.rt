@@ -1,35 +1,89 @@
 //! The command `check`.
-ghost use Rattle.std.specs.Prelude.{◌≤◌, IfOk};
-ghost use Rattle.reports.specs.Said.{OfCertified, Says};
-ghost use Rattle.check_commands.specs.Checks.{OfCerts, OfUnaccepted};
-ghost use Rattle.module_check.specs.Accepted.{IsVerdictOf, shaped};
+ghost use Rattle.std.specs.Prelude.{◌≡◌, ◌≤◌, length, IfOk};
+ghost use Rattle.command_line.specs.declared.options.Refusals.TheVariants.{First, OfBlocks};
+ghost use Rattle.reports.specs.Report.{yes};
+ghost use Rattle.reports.specs.Said.{OfCertified, OnOutput, Says};
+ghost use Rattle.check_commands.specs.Checks.{OfCerts};
 
-use crate::refusing::report_all;
+use crate::refusing::print_rejected;
 use command_line::{CheckOptions, Refusals};
-use module_check::NotAccepted;
-use parallel_check::{OpenGate, check_with};
-use reports::{Certified, Files, Outputs, read_certified, report_verdict, unread};
+use module_check::{Accepted, UnderCheck};
+use parallel_check::{check_all, check_seen};
+use reports::{
+    Certified, Files, Findings, Outputs, not_laid_out, read_certified, report_verdict,
+    show_layouts, unread,
+};
 use std::alloc::Global;
 use std::io;
 use std::thread::Threads;
 
-/// Prints why a module is not accepted.
-fn print_unaccepted(
-    alloc: Global,
-    answer: NotAccepted,
-    refusals: Refusals,
-    outputs: &mut Outputs,
-) -> io::Result<u8>
-    requires { IsVerdictOf (shaped answer.of_module answer.certs) answer.certs.sections answer.verdict }
-    ensures { IfOk result (Says (OfUnaccepted refusals answer.of_module answer.certs) outputs.old outputs.new) }
+/// How all refusals are found and told.
+#[derive(Clone, Copy)]
+struct AllBlocks {
+    workers: u32,
+    /// How many are told at most.
+    limit: u32,
+}
+
+/// Prints that a module is accepted.
+fn print_accepted(accepted: Accepted, outputs: &mut Outputs) -> io::Result<u8>
+    ensures { IfOk result (Says (λ said. said ≡ OnOutput (yes (length accepted.program.of_module.functions))) outputs.old outputs.new) }
 {
-    match refusals {
-        Refusals::First => {
+    let count = accepted.program().module().functions.len();
+    drop(accepted);
+    reports::accepted(&mut outputs.out, count)
+}
+
+/// Checks a module and its certificates up to the first refusal.
+fn check_first(
+    rt: &(impl Threads + Sync),
+    alloc: Global,
+    certified: Certified,
+    workers: u32,
+    outputs: &mut Outputs,
+    seen: &mut impl Findings,
+) -> io::Result<u8>
+    requires some { 1 ≤ workers }
+    requires few { workers ≤ 64 }
+    ensures { IfOk result (Says (OfCerts First certified.of_module certified.certs) outputs.old outputs.new) }
+{
+    let Certified { of_module, certs } = certified;
+    match check_seen(rt, alloc, workers, of_module, certs, seen) {
+        Ok(accepted) => print_accepted(accepted, outputs),
+        Err(answer) => {
+            show_layouts(seen, answer.verdict);
             let status = report_verdict(alloc, &answer, outputs);
             drop(answer);
             status
         }
-        Refusals::OfBlocks(limit) => report_all(alloc, answer, limit, outputs),
+    }
+}
+
+/// Checks all blocks of a module with its certificates.
+fn check_blocks(
+    rt: &(impl Threads + Sync),
+    alloc: Global,
+    certified: Certified,
+    blocks: AllBlocks,
+    outputs: &mut Outputs,
+    seen: &mut impl Findings,
+) -> io::Result<u8>
+    requires { 1 ≤ blocks.workers }
+    ensures { IfOk result (Says (OfCerts (OfBlocks blocks.limit) certified.of_module certified.certs) outputs.old outputs.new) }
+{
+    let Certified { of_module, certs } = certified;
+    let under = match UnderCheck::new(alloc, of_module, certs) {
+        Ok(under) => under,
+        Err(answer) => {
+            show_layouts(seen, answer.verdict);
+            let status = not_laid_out(&mut outputs.err, &answer);
+            drop(answer);
+            return status;
+        }
+    };
+    match check_all(rt, alloc, blocks.workers, under) {
+        Ok(accepted) => print_accepted(accepted, outputs),
+        Err(rejected) => print_rejected(alloc, rejected, blocks.limit, outputs, seen),
     }
 }
 
@@ -40,37 +94,41 @@ fn check_certified(
     certified: Certified,
     options: CheckOptions,
     outputs: &mut Outputs,
+    seen: &mut impl Findings,
 ) -> io::Result<u8>
     requires some { 1 ≤ options.workers }
     requires few { options.workers ≤ 64 }
     ensures { IfOk result (Says (OfCerts options.refusals certified.of_module certified.certs) outputs.old outputs.new) }
 {
-    let Certified { of_module, certs } = certified;
-    match check_with(rt, alloc, options.workers, &OpenGate, of_module, certs) {
-        Ok(accepted) => {
-            let count = accepted.program().module().functions.len();
-            drop(accepted);
-            reports::accepted(&mut outputs.out, count)
+    let workers = options.workers;
+    match options.refusals {
+        Refusals::First => check_first(rt, alloc, certified, workers, outputs, seen),
+        Refusals::OfBlocks(limit) => {
+            let blocks = AllBlocks { workers, limit };
+            check_blocks(rt, alloc, certified, blocks, outputs, seen)
         }
-        Err(answer) => print_unaccepted(alloc, answer, options.refusals, outputs),
     }
 }
 
 /// Checks the module and the certificate, by so many workers as the options say. The first fault counts: of each of the two files, its
-/// path and then its text, then of the layouts, then of the check.
+/// path and then its text, then of the layouts, then of the check. It is seen, and so is each refusal that is told.
 pub fn check_files(
     rt: &(impl Threads + Sync),
     alloc: Global,
     options: CheckOptions,
     files: &Files<'_>,
     outputs: &mut Outputs,
+    seen: &mut impl Findings,
 ) -> io::Result<u8>
     requires some { 1 ≤ options.workers }
     requires few { options.workers ≤ 64 }
     ensures { IfOk result (Says (OfCertified (OfCerts options.refusals) files.now.of_module files.now.certificate) outputs.old outputs.new) }
 {
     match read_certified(alloc, files) {
-        Ok(certified) => check_certified(rt, alloc, certified, options, outputs),
-        Err(fault) => unread(&mut outputs.err, fault),
+        Ok(certified) => check_certified(rt, alloc, certified, options, outputs, seen),
+        Err(fault) => {
+            seen.not_read(&fault);
+            unread(&mut outputs.err, fault)
+        }
     }
 }

@@ -10,14 +10,14 @@ ghost use Rattle.reports.specs.Said.{Says};
 ghost use Rattle.command_line.specs.declared.options.Why.TheVariants.{Wanted};
 ghost use Rattle.reports.specs.Report.{IsTold, made_text, no_answer};
 
-use cert_maker::{MakeFault, NotMade, Refused, make};
+use cert_maker::{MakeFault, NotMade, Refused, make_seen};
 use certificate::print_cert;
 use command_line::{MakeOptions, Why};
 use ir_ast::Module;
 use module_check::Accepted;
 use reports::{
-    Files, Outputs, STATUS_NO, STATUS_YES, line_of_refusal, memory, no_layouts, refused, shaped_in,
-    unread,
+    Files, Findings, Outputs, STATUS_NO, STATUS_YES, line_of_refusal, memory, no_layouts, refused,
+    shaped_in, unread,
 };
 use std::alloc::Global;
 use std::io;
@@ -118,17 +118,31 @@ pub fn print_unmade(
     }
 }
 
+/// Shows the fault of the layouts, if it is one.
+fn show_fault(seen: &mut impl Findings, fault: MakeFault) {
+    if let MakeFault::Layout(fault) = fault {
+        seen.no_layouts(fault);
+    }
+}
+
 /// Makes certificates of a module.
-fn make_of(alloc: Global, of_module: Module, why: Why, outputs: &mut Outputs) -> io::Result<u8>
+fn make_of(
+    alloc: Global,
+    of_module: Module,
+    why: Why,
+    outputs: &mut Outputs,
+    seen: &mut impl Findings,
+) -> io::Result<u8>
     ensures { IfOk result (Says (OfMade why of_module) outputs.old outputs.new) }
 {
-    match make(alloc, of_module) {
+    match make_seen(alloc, of_module, seen) {
         Ok(accepted) => {
             let status = print_made(alloc, &accepted, why, outputs);
             drop(accepted);
             status
         }
         Err(unmade) => {
+            show_fault(seen, unmade.fault);
             let status = print_unmade(alloc, &unmade, why, outputs);
             drop(unmade);
             status
@@ -137,17 +151,21 @@ fn make_of(alloc: Global, of_module: Module, why: Why, outputs: &mut Outputs) ->
 }
 
 /// Makes certificates of the module, with the shapes where it writes `ptr`. The first fault counts: of the module, its path and then its
-/// text, then of the shapes, their path and then their text, then of the layouts.
+/// text, then of the shapes, their path and then their text, then of the layouts. It is seen, and so is what is refused.
 pub fn make_file(
     alloc: Global,
     options: MakeOptions,
     files: &Files<'_>,
     outputs: &mut Outputs,
+    seen: &mut impl Findings,
 ) -> io::Result<u8>
     ensures { IfOk result (Says (OfMake options.why files.now.of_module files.now.shapes) outputs.old outputs.new) }
 {
     match shaped_in(alloc, files) {
-        Ok(of_module) => make_of(alloc, of_module, options.why, outputs),
-        Err(fault) => unread(&mut outputs.err, fault),
+        Ok(of_module) => make_of(alloc, of_module, options.why, outputs, seen),
+        Err(fault) => {
+            seen.not_read(&fault);
+            unread(&mut outputs.err, fault)
+        }
     }
 }

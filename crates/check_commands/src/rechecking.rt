@@ -12,8 +12,8 @@ ghost use Rattle.recheck.specs.declared.edit_fault.EditFault.TheVariants as edit
 use crate::codes::code_of_edit;
 use recheck::{Edit, EditFault, Session};
 use reports::{
-    Certified, Files, Outputs, STATUS_NO, STATUS_YES, accepted, edits_in, line_of_refusal, memory,
-    not_laid_out, read_certified, refused, unread,
+    Certified, Files, Findings, Outputs, STATUS_NO, STATUS_YES, accepted, edits_in,
+    line_of_refusal, memory, not_laid_out, read_certified, refused, show_layouts, unread,
 };
 use std::alloc::{AllocError, Global};
 use std::io;
@@ -57,19 +57,21 @@ fn write_refused<W: Write>(number: usize, fault: &EditFault, lines: &mut W) -> i
     }
 }
 
-/// Applies an edit and writes its line.
+/// Applies an edit and writes its line. It is seen where it is refused.
 fn write_edit<W: Write>(
     alloc: Global,
     number: usize,
     session: &mut Session,
     edit: &Edit,
     lines: &mut W,
+    seen: &mut impl Findings,
 ) -> io::Result<()>
     ensures { OnOk result ((line : List ℕ) × OfEdit number session.old edit.now session.new line × Appends (W.contents lines.old) (W.contents lines.new) line) }
 {
     match session.apply(alloc, edit) {
         Ok(()) => write_accepted(alloc, number, session, lines),
         Err(fault) => {
+            seen.edit_refused(session, number, edit, &fault);
             let written = write_refused(number, &fault, lines);
             drop(fault);
             written
@@ -77,17 +79,18 @@ fn write_edit<W: Write>(
     }
 }
 
-/// Applies edits and writes the line of each, numbered from 1.
+/// Applies edits and writes the line of each, numbered from 1. Each that is refused is seen.
 pub fn write_edits<W: Write>(
     alloc: Global,
     session: &mut Session,
     edits: &[Edit],
     lines: &mut W,
+    seen: &mut impl Findings,
 ) -> io::Result<()>
     ensures { OnOk result ((told : List ℕ) × OfEdits 1 session.old edits.now session.new told × Appends (W.contents lines.old) (W.contents lines.new) told) }
 {
     for (place, edit) in edits.iter().enumerate() {
-        write_edit(alloc, place + 1, session, edit, lines)?;
+        write_edit(alloc, place + 1, session, edit, lines, seen)?;
     }
     Ok(())
 }
@@ -104,12 +107,19 @@ fn status_of_verdict(session: &Session) -> u8
 
 /// The lines of a session that is edited: the first verdict, and one for each edit. A write to them fails only where memory is
 /// refused.
-fn lines_of(alloc: Global, session: &mut Session, edits: &[Edit]) -> io::Result<Vec<u8>>
+fn lines_of(
+    alloc: Global,
+    session: &mut Session,
+    edits: &[Edit],
+    seen: &mut impl Findings,
+) -> io::Result<Vec<u8>>
     ensures { IfOk result (λ lines. (first : Answer) × (told : List ℕ) × OfSession session.old first × OfEdits 1 session.old edits.now session.new told × (lines.items ≡ first.text ++ told)) }
 {
     let mut lines = Vec::new(alloc);
     write_verdict(alloc, session, &mut lines)?;
-    write_edits(alloc, session, edits, &mut lines)?;
+    seen.begun(session);
+    write_edits(alloc, session, edits, &mut lines, seen)?;
+    seen.edited(session);
     Ok(lines)
 }
 
@@ -119,10 +129,11 @@ fn edit_session(
     session: &mut Session,
     edits: &[Edit],
     outputs: &mut Outputs,
+    seen: &mut impl Findings,
 ) -> io::Result<u8>
     ensures { IfOk result (Says (OfEdited session.old edits.now) outputs.old outputs.new) }
 {
-    match lines_of(alloc, session, edits) {
+    match lines_of(alloc, session, edits, seen) {
         Ok(lines) => {
             outputs.out.write_all(lines.as_slice())?;
             Ok(status_of_verdict(session))
@@ -137,17 +148,19 @@ fn recheck_certified(
     certified: Certified,
     edits: &[Edit],
     outputs: &mut Outputs,
+    seen: &mut impl Findings,
 ) -> io::Result<u8>
     requires { fits certified.of_module certified.certs.sections ≡ true }
     ensures { IfOk result (Says (OfRechecked certified.of_module certified.certs edits.now) outputs.old outputs.new) }
 {
     match Session::new(alloc, certified.of_module, certified.certs) {
         Ok(mut session) => {
-            let status = edit_session(alloc, &mut session, edits, outputs);
+            let status = edit_session(alloc, &mut session, edits, outputs, seen);
             drop(session);
             status
         }
         Err(answer) => {
+            show_layouts(seen, answer.verdict);
             let status = not_laid_out(&mut outputs.err, &answer);
             drop(answer);
             status
@@ -161,30 +174,40 @@ fn recheck_edits(
     certified: Certified,
     files: &Files<'_>,
     outputs: &mut Outputs,
+    seen: &mut impl Findings,
 ) -> io::Result<u8>
     requires { fits certified.of_module certified.certs.sections ≡ true }
     ensures { IfOk result (Says (OfEditsFile files.now.edits certified.of_module certified.certs) outputs.old outputs.new) }
 {
     match edits_in(alloc, files) {
         Ok(edits) => {
-            let status = recheck_certified(alloc, certified, edits.as_slice(), outputs);
+            let status = recheck_certified(alloc, certified, edits.as_slice(), outputs, seen);
             drop(edits);
             status
         }
         Err(fault) => {
             drop(certified);
+            seen.not_read(&fault);
             unread(&mut outputs.err, fault)
         }
     }
 }
 
 /// Checks the module against the certificate, and again after each of the edits. The first fault counts: of each of the three files, its
-/// path and then its text, of the edits their frame; then of the layouts.
-pub fn recheck_files(alloc: Global, files: &Files<'_>, outputs: &mut Outputs) -> io::Result<u8>
+/// path and then its text, of the edits their frame; then of the layouts. It is seen, and so are the verdicts and each refused edit.
+pub fn recheck_files(
+    alloc: Global,
+    files: &Files<'_>,
+    outputs: &mut Outputs,
+    seen: &mut impl Findings,
+) -> io::Result<u8>
     ensures { IfOk result (Says (OfCertified (OfEditsFile files.now.edits) files.now.of_module files.now.certificate) outputs.old outputs.new) }
 {
     match read_certified(alloc, files) {
-        Ok(certified) => recheck_edits(alloc, certified, files, outputs),
-        Err(fault) => unread(&mut outputs.err, fault),
+        Ok(certified) => recheck_edits(alloc, certified, files, outputs, seen),
+        Err(fault) => {
+            seen.not_read(&fault);
+            unread(&mut outputs.err, fault)
+        }
     }
 }

@@ -1,19 +1,17 @@
 //! The refusals of all blocks, as `check --all` prints them. The lines are kept until the last one, so that nothing is printed where
 //! memory is refused on the way.
-ghost use Rattle.std.specs.Prelude.{◌≡◌, List, length, IfOk, OnOk};
+ghost use Rattle.std.specs.Prelude.{◌≡◌, length, IfOk, IfSome, OnOk};
 ghost use Rattle.std.specs.Io.KnownBytes.{Appends};
-ghost use Rattle.block_rules.specs.declared.block_fault.Refusal.{Refusal};
-ghost use Rattle.module_check.specs.Accepted.{IsFirstRefusal, IsVerdictOf, shaped};
 ghost use Rattle.module_check.specs.Refusals.{AreOfFunctions};
 ghost use Rattle.reports.specs.Said.{Says};
 ghost use Rattle.check_commands.specs.Checks as spec;
-ghost use Rattle.check_commands.specs.Checks.{OfAll, OfRefusals};
+ghost use Rattle.check_commands.specs.Checks.{OfRefusals, OfRejected};
 
 use certs::Certs;
 use ir_ast::Module;
 use layout::Program;
-use module_check::{NotAccepted, Reason, Refusal, Refusals, UnderCheck, first_refusals};
-use reports::{Certified, Outputs, STATUS_NO, line_of_refusal, memory, no_layouts, refused};
+use module_check::{Refusal, Refusals, Rejected, UnderCheck};
+use reports::{Findings, Outputs, STATUS_NO, line_of_refusal, memory, refused};
 use std::alloc::Global;
 use std::io;
 use std::io::Write;
@@ -38,44 +36,36 @@ fn write_refusals<W: Write>(
 /// The lines of the refusals up to the limit, and how many there are. A write to them fails only where memory is refused.
 fn lines_of(
     alloc: Global,
-    of_module: &Module,
+    program: &Program,
     certs: &Certs,
     refusals: &Refusals,
     limit: u32,
 ) -> io::Result<Vec<u8>>
-    ensures { IfOk result (λ lines. lines.items ≡ (spec.all_refused of_module.now certs.now.sections limit refusals.now).text) }
+    ensures { IfOk result (λ lines. lines.items ≡ (spec.all_refused program.now.of_module certs.now.sections limit refusals.now).text) }
 {
     let mut lines = Vec::new(alloc);
     let first = refusals.up_to(limit as usize);
-    write_refusals(alloc, of_module, certs, first, &mut lines)?;
+    write_refusals(alloc, program.module(), certs, first, &mut lines)?;
     writeln!(lines, "refusals {}", refusals.beyond(0))?;
     Ok(lines)
 }
 
-/// The lines of the refusals of a program.
-fn lines_of_program(
-    alloc: Global,
-    program: &Program,
-    certs: &Certs,
-    limit: u32,
-) -> io::Result<Vec<u8>>
-    ensures { IfOk result (λ lines. (each : List Refusal) × AreOfFunctions program.now certs.now.sections (length program.now.of_module.functions) each × (lines.items ≡ (spec.all_refused program.now.of_module certs.now.sections limit each).text)) }
-{
-    let refusals = first_refusals(alloc, program, certs)?;
-    lines_of(alloc, program.module(), certs, &refusals, limit)
-}
-
-/// Prints the refusals of a program.
+/// Prints the refusals of a module. Those up to the limit are seen.
 fn print_refusals(
     alloc: Global,
-    program: &Program,
-    certs: &Certs,
+    under: &UnderCheck,
+    refusals: &Refusals,
     limit: u32,
     outputs: &mut Outputs,
+    seen: &mut impl Findings,
 ) -> io::Result<u8>
-    ensures { IfOk result (Says (OfRefusals limit program.now certs.now.sections) outputs.old outputs.new) }
+    requires { AreOfFunctions under.now.program under.now.certs.sections (length under.now.program.of_module.functions) refusals.now }
+    ensures { IfOk result (Says (OfRefusals limit under.now.program under.now.certs.sections) outputs.old outputs.new) }
 {
-    match lines_of_program(alloc, program, certs, limit) {
+    let program = under.program();
+    let certs = under.certs();
+    seen.refused(program, certs, refusals.up_to(limit as usize));
+    match lines_of(alloc, program, certs, refusals, limit) {
         Ok(lines) => {
             outputs.out.write_all(lines.as_slice())?;
             Ok(STATUS_NO)
@@ -84,55 +74,27 @@ fn print_refusals(
     }
 }
 
-/// Prints the refusals of a module that is not accepted because of one.
-fn refuse_all(
+/// Prints why a module is not accepted.
+pub(crate) fn print_rejected(
     alloc: Global,
-    certified: Certified,
+    rejected: Rejected,
     limit: u32,
     outputs: &mut Outputs,
+    seen: &mut impl Findings,
 ) -> io::Result<u8>
-    requires { (refusal : Refusal) × IsFirstRefusal (shaped certified.of_module certified.certs) certified.certs.sections refusal }
-    ensures { IfOk result (Says (OfAll limit certified.of_module certified.certs) outputs.old outputs.new) }
+    requires { IfSome rejected.refusals (AreOfFunctions rejected.under.program rejected.under.certs.sections (length rejected.under.program.of_module.functions)) }
+    ensures { IfOk result (Says (OfRejected limit rejected.under.program rejected.under.certs.sections rejected.refusals) outputs.old outputs.new) }
 {
-    let Certified { of_module, certs } = certified;
-    match UnderCheck::new(alloc, of_module, certs) {
-        Ok(under) => {
-            let status = print_refusals(alloc, under.program(), under.certs(), limit, outputs);
+    let Rejected { under, refusals } = rejected;
+    match refusals {
+        Some(refusals) => {
+            let status = print_refusals(alloc, &under, &refusals, limit, outputs, seen);
+            drop(refusals);
             drop(under);
             status
         }
-        Err(refused) => {
-            drop(refused);
-            memory(&mut outputs.err)
-        }
-    }
-}
-
-/// Prints why a module is not accepted, by the refusals of all its blocks.
-pub(crate) fn report_all(
-    alloc: Global,
-    answer: NotAccepted,
-    limit: u32,
-    outputs: &mut Outputs,
-) -> io::Result<u8>
-    requires { IsVerdictOf (shaped answer.of_module answer.certs) answer.certs.sections answer.verdict }
-    ensures { IfOk result (Says (OfAll limit answer.of_module answer.certs) outputs.old outputs.new) }
-{
-    let NotAccepted {
-        verdict,
-        of_module,
-        certs,
-    } = answer;
-    let certified = Certified { of_module, certs };
-    match verdict {
-        Reason::Refused(_) => refuse_all(alloc, certified, limit, outputs),
-        Reason::Layout(fault) => {
-            let status = no_layouts(&mut outputs.err, &certified.of_module, fault);
-            drop(certified);
-            status
-        }
-        Reason::Memory => {
-            drop(certified);
+        None => {
+            drop(under);
             memory(&mut outputs.err)
         }
     }

@@ -112,7 +112,8 @@ fn hand_out(
     room: &mut [u8],
     session: &mut *mut u8,
 ) -> Answer
-    ensures { IsAnswered (IsOfSession kept.value.session) room.old room.new result }
+    ensures said { IsAnswered (IsOfSession kept.value.session) room.old room.new result }
+    ensures accepted { result.status ≡ 0 → IsAcceptedNow kept.value.session }
 {
     let answer = first_answer(alloc, &kept.session, of_module, room);
     if answer.status <= 1 {
@@ -131,7 +132,8 @@ fn keep(
     room: &mut [u8],
     session: &mut *mut u8,
 ) -> Answer
-    ensures { IsAnswered (IsOfSession begun) room.old room.new result ⊎ IsNoVerdict result }
+    ensures said { IsAnswered (IsOfSession begun) room.old room.new result ⊎ IsNoVerdict result }
+    ensures accepted { result.status ≡ 0 → IsAcceptedNow begun }
 {
     match Box::new(alloc, Kept { session: begun }) {
         Ok(kept) => hand_out(alloc, kept, of_module, room, session),
@@ -177,18 +179,18 @@ pub extern "C" fn dgc_open(
     answer.status
 }
 
-/// Applies the edits of a text to a session, and writes where it is then into `moved`.
-fn applied(alloc: Global, held: Held, edits: &[u8], room: &mut [u8], moved: &mut *mut u8) -> Answer
-    ensures { (next : State) × IsAppliedTo edits.now held.kept.session next room.old room.new result × (result.status ≡ 0 → IsAcceptedNow next) }
+/// A session after the edits of a text, and what is told of them.
+fn applied(alloc: Global, held: Held, edits: &[u8], room: &mut [u8]) -> (Box<Kept>, Answer)
+    ensures said { IsAppliedTo edits.now held.kept.session result.0.value.session room.old room.new result.1 }
+    ensures accepted { result.1.status ≡ 0 → IsAcceptedNow result.0.value.session }
 {
     let mut kept = held.into_parts().into_box();
     let answer = apply_edits(alloc, &mut kept.session, edits, room);
-    *moved = Box::into_raw(kept) as *mut u8;
-    answer
+    (kept, answer)
 }
 
-/// Applies the edits of a text to a session: the lines of `dgc recheck`, and the last verdict. Status 0 is only of a session whose module is
-/// accepted then.
+/// Applies the edits of a text to a session, and writes where it is then into `moved`: the lines of `dgc recheck`, and the last verdict.
+/// Status 0 is only of a session whose module is accepted then.
 #[unsafe(no_mangle)]
 pub extern "C" fn dgc_apply(
     alloc: Global,
@@ -201,7 +203,9 @@ pub extern "C" fn dgc_apply(
     ensures said { (next : State) × IsAppliedTo edits.now session.kept.session next room.old room.new answer.new × (answer.new.status ≡ 0 → IsAcceptedNow next) }
     ensures status { result ≡ answer.new.status }
 {
-    *answer = applied(alloc, session, edits, room, moved);
+    let (kept, told) = applied(alloc, session, edits, room);
+    *moved = Box::into_raw(kept) as *mut u8;
+    *answer = told;
     answer.status
 }
 

@@ -1,18 +1,11 @@
-//! Makes the edits of a recheck again, and explains the first verdict, each edit that is refused, and the last verdict.
-ghost use Rattle.std.specs.Prelude.{◌≡◌, true};
-ghost use Rattle.certs.specs.Fits.{fits};
-
-use crate::explained::{named, put_in_program, put_unread};
+//! Explains each edit of a session that is refused, and the last verdict.
+use crate::explained::put_in_program;
 use certificate::{CertFault, print_cert};
 use explain::Code;
-use fault_texts::{
-    CheckedTexts, put_cert_fault, put_edits_fault, put_fault_of, put_layout_fault, put_read_fault,
-};
+use fault_texts::{CheckedTexts, put_cert_fault, put_fault_of, put_read_fault};
 use ir_print::print;
 use messages::{Message, NamedText, Pen};
-use module_check::Reason;
 use recheck::{Edit, EditFault, Session};
-use reports::{Certified, Files, Unread, edits_in, file_of, is_wide, read_certified};
 use std::alloc::{AllocError, Global};
 
 /// How a module is named that stands in no file.
@@ -161,7 +154,7 @@ fn edit_name(alloc: Global, number: usize) -> Result<String, AllocError> {
 }
 
 /// Explains why the edit with this number is refused.
-fn put_refused_edit(
+pub(crate) fn put_refused_edit(
     pen: Pen,
     out: &mut Message,
     session: &Session,
@@ -175,26 +168,8 @@ fn put_refused_edit(
     put_edit_fault(pen, out, session, name.as_str(), edit, fault)
 }
 
-/// Makes an edit, and explains why it is refused.
-fn put_edit(pen: Pen, out: &mut Message, session: &mut Session, number: usize, edit: &Edit) {
-    match session.apply(pen.alloc, edit) {
-        Ok(()) => {}
-        Err(fault) => {
-            put_refused_edit(pen, out, session, number, edit, &fault);
-            drop(fault);
-        }
-    }
-}
-
-/// Makes edits, and explains each that is refused.
-fn put_edits(pen: Pen, out: &mut Message, session: &mut Session, edits: &[Edit]) {
-    for (place, edit) in edits.iter().enumerate() {
-        put_edit(pen, out, session, place + 1, edit);
-    }
-}
-
 /// Explains the verdict on the edited module, by the text that is printed of it.
-fn put_last(pen: Pen, out: &mut Message, session: &Session) {
+pub(crate) fn put_last(pen: Pen, out: &mut Message, session: &Session) {
     let Some(refusal) = session.verdict() else {
         return;
     };
@@ -216,86 +191,4 @@ fn put_last(pen: Pen, out: &mut Message, session: &Session) {
         },
     };
     put_in_program(pen, out, texts, program, session.certs(), refusal)
-}
-
-/// Explains the first verdict on a session, and then the edits. If the first verdict is yes, the last one is explained after them.
-fn put_session(
-    pen: Pen,
-    out: &mut Message,
-    texts: CheckedTexts,
-    session: &mut Session,
-    edits: &[Edit],
-) {
-    match session.verdict() {
-        Some(refusal) => {
-            put_in_program(pen, out, texts, session.program(), session.certs(), refusal);
-            put_edits(pen, out, session, edits)
-        }
-        None => {
-            put_edits(pen, out, session, edits);
-            put_last(pen, out, session)
-        }
-    }
-}
-
-/// Begins a session of what was read of the files, and explains what comes of the edits.
-fn put_begun(pen: Pen, out: &mut Message, texts: CheckedTexts, certified: Certified, edits: &[Edit])
-    requires { fits certified.of_module certified.certs.sections ≡ true }
-{
-    match Session::new(pen.alloc, certified.of_module, certified.certs) {
-        Ok(mut session) => {
-            put_session(pen, out, texts, &mut session, edits);
-            drop(session);
-        }
-        Err(answer) => {
-            let told = match answer.verdict {
-                Reason::Layout(fault) => put_layout_fault(pen, out, texts.of_module, fault),
-                _ => out.refuse(),
-            };
-            drop(answer);
-            told
-        }
-    }
-}
-
-/// Reads the edits, and explains what comes of them.
-fn put_with_edits(
-    pen: Pen,
-    out: &mut Message,
-    texts: CheckedTexts,
-    certified: Certified,
-    files: &Files<'_>,
-)
-    requires { fits certified.of_module certified.certs.sections ≡ true }
-{
-    match edits_in(pen.alloc, files) {
-        Ok(edits) => {
-            put_begun(pen, out, texts, certified, edits.as_slice());
-            drop(edits);
-        }
-        Err(unread) => {
-            drop(certified);
-            let told = match &unread {
-                Unread::NoEdits(fault) => put_edits_fault(pen, out, named(files.edits), fault),
-                _ => {}
-            };
-            drop(unread);
-            told
-        }
-    }
-}
-
-/// What is told of the files: a module, a certificate and edits.
-pub(crate) fn put_recheck(pen: Pen, out: &mut Message, files: &Files<'_>) {
-    let texts = CheckedTexts {
-        of_module: named(file_of(files.of_module)),
-        of_certs: named(files.certificate),
-    };
-    match read_certified(pen.alloc, files) {
-        Ok(certified) => put_with_edits(pen, out, texts, certified, files),
-        Err(unread) => {
-            put_unread(pen, out, texts, is_wide(files.of_module), &unread);
-            drop(unread);
-        }
-    }
 }

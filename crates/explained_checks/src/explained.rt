@@ -1,34 +1,12 @@
-//! Reads and checks the files of a check again, and explains why they are not accepted.
-use crate::traced::put_trace;
-use block_rules::{BlockFault, Refusal};
+//! Explains refusals in a program, and faults of texts.
+use block_rules::Refusal;
 use certs::Certs;
 use explanations::{Source, Texts, put_refusal};
-use fault_texts::{CheckedTexts, TracedTexts, put_cert_fault, put_layout_fault, put_read_fault};
+use fault_texts::{CheckedTexts, put_cert_fault, put_read_fault};
 use ir_tokens::{TEXT_LIMIT, read_tokens};
 use layout::Program;
 use messages::{Message, NamedText, Pen};
-use module_check::{Reason, UnderCheck, fault_in_module, first_refusals};
-use reports::{
-    Certified, File, Files, Unread, bytes_of, file_of, is_wide, path_of, read_certified,
-};
-
-/// The texts of a check, and what is done after it.
-#[derive(Clone, Copy)]
-struct AskedTexts<'a> {
-    checked: CheckedTexts<'a>,
-    asked: Asked<'a>,
-}
-
-/// What is asked of a check.
-#[derive(Clone, Copy)]
-pub(crate) enum Asked<'a> {
-    /// The first refusal.
-    First,
-    /// The first refusal of each block, at most this many.
-    OfBlocks(u32),
-    /// The first refusal; if there is none, this trace is to be run.
-    Run(NamedText<'a>),
-}
+use reports::{File, Unread, bytes_of, path_of};
 
 /// A file's path and text, empty where it is not given.
 pub(crate) fn named<'a>(file: Option<File<'a>>) -> NamedText<'a> {
@@ -58,7 +36,7 @@ fn put_refusals(
 }
 
 /// Explains each of some refusals in a program, by the tokens of its text.
-fn put_each(
+pub(crate) fn put_each(
     pen: Pen,
     out: &mut Message,
     texts: CheckedTexts,
@@ -97,90 +75,6 @@ pub(crate) fn put_in_program(
     put_each(pen, out, texts, program, certs, [refusal].as_slice())
 }
 
-/// Explains the first fault of a trace of a program, if one is to be run.
-fn put_asked_trace(
-    pen: Pen,
-    out: &mut Message,
-    texts: CheckedTexts,
-    of_trace: Option<NamedText>,
-    program: &Program,
-) {
-    let of_module = texts.of_module;
-    if let Some(of_trace) = of_trace {
-        let texts = TracedTexts {
-            of_module,
-            of_trace,
-        };
-        put_trace(pen, out, texts, program)
-    }
-}
-
-/// Explains the first refusal in a program. Where there is none, explains the first fault of a trace.
-fn put_first(
-    pen: Pen,
-    out: &mut Message,
-    texts: CheckedTexts,
-    of_trace: Option<NamedText>,
-    program: &Program,
-    certs: &Certs,
-) {
-    match fault_in_module(pen.alloc, program, certs) {
-        Some(BlockFault::Refused(refusal)) => {
-            put_in_program(pen, out, texts, program, certs, refusal)
-        }
-        Some(BlockFault::Memory) => out.refuse(),
-        None => put_asked_trace(pen, out, texts, of_trace, program),
-    }
-}
-
-/// Explains the first refusal of each block of a program, at most this many.
-fn put_of_blocks(
-    pen: Pen,
-    out: &mut Message,
-    texts: CheckedTexts,
-    limit: u32,
-    program: &Program,
-    certs: &Certs,
-) {
-    let Ok(refusals) = first_refusals(pen.alloc, program, certs) else {
-        return out.refuse();
-    };
-    let each = refusals.up_to(limit as usize);
-    put_each(pen, out, texts, program, certs, each);
-    drop(refusals);
-}
-
-/// Explains what is refused in a program, or the first fault of its trace if it is accepted.
-fn put_refused(pen: Pen, out: &mut Message, texts: AskedTexts, program: &Program, certs: &Certs) {
-    match texts.asked {
-        Asked::First => put_first(pen, out, texts.checked, None, program, certs),
-        Asked::Run(of_trace) => {
-            put_first(pen, out, texts.checked, Some(of_trace), program, certs)
-        }
-        Asked::OfBlocks(limit) => { put_of_blocks(pen, out, texts.checked, limit, program, certs) }
-    }
-}
-
-/// Checks what was read of the files again, and explains why the module is not accepted, or why its trace is not read.
-fn put_checked(pen: Pen, out: &mut Message, texts: AskedTexts, certified: Certified) {
-    match UnderCheck::new(pen.alloc, certified.of_module, certified.certs) {
-        Ok(under) => {
-            put_refused(pen, out, texts, under.program(), under.certs());
-            drop(under);
-        }
-        Err(refused) => {
-            let verdict = refused.verdict;
-            drop(refused);
-            match verdict {
-                Reason::Layout(fault) => {
-                    put_layout_fault(pen, out, texts.checked.of_module, fault)
-                }
-                _ => out.refuse(),
-            }
-        }
-    }
-}
-
 /// Explains the first fault of the texts of the files. The wide forms may stand in the module or not.
 pub(crate) fn put_unread(
     pen: Pen,
@@ -195,20 +89,5 @@ pub(crate) fn put_unread(
             put_cert_fault(pen, out, texts, of_module, *fault)
         }
         _ => {}
-    }
-}
-
-/// What is told of the files: a module and a certificate, and a trace where that is asked for.
-pub(crate) fn put_check(pen: Pen, out: &mut Message, asked: Asked, files: &Files<'_>) {
-    let checked = CheckedTexts {
-        of_module: named(file_of(files.of_module)),
-        of_certs: named(files.certificate),
-    };
-    match read_certified(pen.alloc, files) {
-        Ok(certified) => put_checked(pen, out, AskedTexts { checked, asked }, certified),
-        Err(unread) => {
-            put_unread(pen, out, checked, is_wide(files.of_module), &unread);
-            drop(unread);
-        }
     }
 }

@@ -1,47 +1,47 @@
-//! What is written of a command that does not accept its files.
+//! What is told of files that no explainer saw while they were checked.
 ghost use Rattle.std.specs.Prelude.{OnOk};
 ghost use Rattle.reports.specs.Said.{GivesText};
 
-use crate::edited::put_recheck;
-use crate::explained::{Asked, named, put_check};
-use crate::made::put_make;
-use crate::traced::put_traced;
-use messages::{Look, Message, Pen};
+use crate::checked::{see_check, see_make};
+use crate::explainer::{Explainer, Topic};
+use crate::traced::{put_traced, traced_texts};
+use messages::Look;
 use reports::Files;
 use std::alloc::Global;
 use std::io;
-use std::io::Write;
 
 /// What is explained.
 #[derive(Clone, Copy)]
 pub enum Question {
     /// Why the module is not accepted with the certificate.
     Check,
-    /// The first refusal of each block, at most this many, with a blank line between.
-    Blocks(u32),
     /// Why no certificates of the module are made with the shapes.
     Make,
-    /// Why the module is not accepted with the certificate, before or after the edits, and why edits are refused.
-    Recheck,
     /// Why the module is not accepted with the certificate, or why the trace is none of it.
     Run,
     /// Why the texts are not read: a module, a trace of it, and its shapes.
     Trace,
 }
 
-/// What is told of the files.
-fn put_told(pen: Pen, out: &mut Message, question: Question, files: &Files<'_>) {
+/// What is seen of the files for a question.
+fn topic_of(question: Question) -> Topic {
     match question {
-        Question::Check => put_check(pen, out, Asked::First, files),
-        Question::Blocks(limit) => put_check(pen, out, Asked::OfBlocks(limit), files),
-        Question::Make => put_make(pen, out, files),
-        Question::Recheck => put_recheck(pen, out, files),
-        Question::Run => put_check(pen, out, Asked::Run(named(files.trace)), files),
-        Question::Trace => put_traced(pen, out, files),
+        Question::Make => Topic::Make,
+        _ => Topic::Check,
     }
 }
 
-/// Answers a question about the files. Nothing is told where they are accepted.
+/// The files are read, and the module is checked or certificates are made, as the question wants.
+fn see(seen: &mut Explainer<'_>, question: Question, files: &Files<'_>) {
+    match question {
+        Question::Check => see_check(seen, None, files),
+        Question::Make => see_make(seen, files),
+        Question::Run => see_check(seen, Some(traced_texts(files)), files),
+        Question::Trace => put_traced(seen.pen, &mut seen.out, files),
+    }
+}
+
+/// Answers a question about the files, which are read and checked for that. Nothing is told where they are accepted.
 pub fn explain(
     alloc: Global,
     look: Look,
@@ -51,10 +51,7 @@ pub fn explain(
 ) -> io::Result<()>
     ensures { OnOk result (GivesText err.old.items err.new.items) }
 {
-    let mut out = Message::new(alloc);
-    put_told(Pen { alloc, look }, &mut out, question, files);
-    match out.finish() {
-        Ok(text) => err.write_all(text.as_slice()),
-        Err(_) => writeln!(err, "no memory to explain it"),
-    }
+    let mut seen = Explainer::new(alloc, look, topic_of(question), files);
+    see(&mut seen, question, files);
+    seen.write(err)
 }

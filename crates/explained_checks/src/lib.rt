@@ -1,12 +1,15 @@
-//! What is told besides its line of a command that does not accept its files: they are read and checked again, and the first fault, the
-//! first refusal, or that of each block is explained.
+//! What is told besides its line of a command that does not accept its files: an explainer sees why, and explains the first fault, the
+//! first refusal, or that of each block. For a caller that let none see it, files are read and checked again.
 #![tactic(auto)]
 
+mod checked;
 mod edited;
 mod explained;
+mod explainer;
 mod explaining;
 mod made;
 mod traced;
 
+pub use explainer::{Explainer, Topic};
 pub use explaining::{Question, explain};
 pub use messages::Look;

@@ -6,6 +6,14 @@ use messages::{Message, Pen};
 use reports::{Files, Unread, file_of, is_wide, read_traced};
 use trace_text::read_trace;
 
+/// The texts of a module and its trace.
+pub(crate) fn traced_texts<'a>(files: &Files<'a>) -> TracedTexts<'a> {
+    TracedTexts {
+        of_module: named(file_of(files.of_module)),
+        of_trace: named(files.trace),
+    }
+}
+
 /// Reads a trace again, and explains its first fault.
 pub(crate) fn put_trace(pen: Pen, out: &mut Message, texts: TracedTexts, program: &Program) {
     match read_trace(pen.alloc, texts.of_trace.text, program) {
@@ -34,13 +42,9 @@ fn put_untraced(
 
 /// What is told of the files: a module, a trace and shapes.
 pub(crate) fn put_traced(pen: Pen, out: &mut Message, files: &Files<'_>) {
-    let of_module = named(file_of(files.of_module));
-    let texts = TracedTexts {
-        of_module,
-        of_trace: named(files.trace),
-    };
+    let texts = traced_texts(files);
     let of_shapes = CheckedTexts {
-        of_module,
+        of_module: texts.of_module,
         of_certs: named(files.shapes),
     };
     match read_traced(pen.alloc, files) {

@@ -2,7 +2,8 @@
 ghost use Rattle.std.specs.Prelude.{◌≡◌, ℕ, IfErr, IfOk, OnOk, true};
 ghost use Rattle.certs.specs.Fits.{fits};
 ghost use Rattle.check_commands.specs.Rechecks.{IsBegun, OfEdits};
-ghost use Rattle.library_answers.specs.Sessions.{HasBegun, IsAppliedTo, IsBegunOf, IsEditedBy, IsOfSession, IsStatusOf};
+ghost use Rattle.library_answers.specs.Checked.{AreAcceptedTexts};
+ghost use Rattle.library_answers.specs.Sessions.{HasBegun, IsAcceptedNow, IsAppliedTo, IsBegunOf, IsEditedBy, IsOfSession, IsStatusOf};
 ghost use Rattle.library_answers.specs.Told.{IsAnswered, IsGiven, IsNoVerdict};
 
 use crate::answer::{Answer, answer_of, given, no_memory, nothing};
@@ -11,7 +12,7 @@ use crate::code::place_of_layouts;
 use crate::place::{Place, numbers_of, place_of_refusal};
 use crate::texts::texts_of_check;
 use check_commands::{write_edits, write_verdict};
-use module_check::{NotAccepted, Reason};
+use module_check::{NotAccepted, Reason, Unseen};
 use recheck::{Edit, Session, read_edits};
 use reports::{Certified, Files, STATUS_NO, STATUS_YES, Unread, not_laid_out, read_certified};
 use std::alloc::{AllocError, Global};
@@ -81,6 +82,7 @@ pub fn begin_session(
     room: &mut [u8],
 ) -> Result<Session, Answer>
     ensures begun { IfOk result (IsBegunOf wide of_module.now cert.now) }
+    ensures accepted { IfOk result (λ session. IsAcceptedNow session → AreAcceptedTexts wide of_module.now cert.now) }
     ensures none { IfErr result IsNoVerdict }
     ensures kept { OnOk result (room.new ≡ room.old) }
 {
@@ -88,9 +90,11 @@ pub fn begin_session(
     begin_files(alloc, &files, room)
 }
 
-/// The first answer of a session that begins with this text of its module: the verdict on it.
+/// The first answer of a session that begins with this text of its module: the verdict on it. Its status is 0 only where the module is
+/// accepted.
 pub fn first_answer(alloc: Global, session: &Session, text: &[u8], room: &mut [u8]) -> Answer
-    ensures { IsAnswered (IsOfSession session.now) room.old room.new result }
+    ensures said { IsAnswered (IsOfSession session.now) room.old room.new result }
+    ensures accepted { result.status ≡ 0 → IsAcceptedNow session.now }
 {
     match place_in(alloc, session, text) {
         Ok(place) => {
@@ -107,7 +111,7 @@ fn lines_of(alloc: Global, session: &mut Session, edits: &[Edit]) -> io::Result<
     ensures { IfOk result (λ lines. OfEdits 1 session.old edits.now session.new lines.items) }
 {
     let mut lines = Vec::new(alloc);
-    write_edits(alloc, session, edits, &mut lines)?;
+    write_edits(alloc, session, edits, &mut lines, &mut Unseen)?;
     Ok(lines)
 }
 
@@ -141,9 +145,10 @@ fn apply_each(alloc: Global, session: &mut Session, edits: &[Edit], room: &mut [
 }
 
 /// Applies the edits of a text to a session: a line for each edit, as `dgc recheck` prints it, and the status of the last verdict. Where
-/// memory is refused, the first edits may have been applied.
+/// memory is refused, the first edits may have been applied. The status is 0 only where the module is accepted then.
 pub fn apply_edits(alloc: Global, session: &mut Session, edits: &[u8], room: &mut [u8]) -> Answer
-    ensures { IsAppliedTo edits.now session.old session.new room.old room.new result }
+    ensures said { IsAppliedTo edits.now session.old session.new room.old room.new result }
+    ensures accepted { result.status ≡ 0 → IsAcceptedNow session.new }
 {
     match read_edits(alloc, edits) {
         Ok(edits) => {

@@ -5,13 +5,17 @@
 mod accepted;
 mod finding;
 mod refusals;
+mod rejected;
 mod under_check;
 mod verdict;
+mod witness;
 
 pub use accepted::Accepted;
 pub use block_check::{Rows, check_block, check_function, check_rows, rows};
 pub use block_rules::{Detail, Refusal, Rule};
-pub use finding::first_refusals;
+pub use finding::refusals_in;
 pub use refusals::Refusals;
+pub use rejected::{Rejected, decided};
 pub use under_check::UnderCheck;
 pub use verdict::{NotAccepted, Reason, check, fault_in_module};
+pub use witness::{Unseen, Witness};

@@ -1,4 +1,4 @@
-ghost use Rattle.std.specs.Prelude.{◌≡◌, ◌-◌, length, take};
+ghost use Rattle.std.specs.Prelude.{◌≡◌, ◌-◌, length, slice_get, take};
 
 use block_rules::Refusal;
 use std::marker::Model;
@@ -19,6 +19,20 @@ impl Model for Refusals {
 }
 
 impl Refusals {
+    /// These, in this order.
+    pub fn of(each: Vec<Refusal>) -> Refusals
+        ensures { result ≡ each.items }
+    {
+        Refusals { each }
+    }
+
+    /// The first of them.
+    pub fn first(&self) -> Option<Refusal>
+        ensures { result ≡ slice_get self.now 0 }
+    {
+        self.each.as_slice().first().copied()
+    }
+
     /// The first of them, as many as there are up to this number.
     pub fn up_to(&self, limit: usize) -> &[Refusal]
         ensures { result.now ≡ take limit self.now }

@@ -1,2 +1,4 @@
 mod Turns
 mod Merged
+mod Joined
+mod Answered

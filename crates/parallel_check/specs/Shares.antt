@@ -1,5 +1,5 @@
--- The functions that each worker checks, and the first refusal among them.
-use Rattle.std.specs.Prelude.{◌≡◌, ◌<◌, ◌%◌, ℕ, nat_lt, List, Option, Some, None, if◌then◌else◌, MatchOption}
+-- The functions that each worker checks, and the first refusal among them, or all refusals.
+use Rattle.std.specs.Prelude.{◌≡◌, ◌<◌, ◌+◌, ◌*◌, ◌/◌, ◌%◌, ℕ, nat_lt, List, Option, Some, None, if◌then◌else◌, MatchOption}
 use Rattle.certs.specs.declared.section.Section.{Section}
 use Rattle.layout.specs.Layouts.{LaidOut}
 use Rattle.block_rules.specs.Certified.{IfRefused}
@@ -7,6 +7,7 @@ use Rattle.block_rules.specs.Functions.{IsFirstInFunction, IsFunctionCertified, 
 use Rattle.block_rules.specs.declared.block_fault.BlockFault.{BlockFault}
 use Rattle.block_rules.specs.declared.block_fault.BlockFault.TheVariants.{Refused, Memory}
 use Rattle.block_rules.specs.declared.block_fault.Refusal.{Refusal}
+use Rattle.module_check.specs.Refusals.{AreOfRange}
 
 -- a function is one of those of this worker: each worker has every `workers`-th function
 abbrev pub IsOf : (workers worker func : ℕ) → Type 0
@@ -41,3 +42,11 @@ earlier None other = other
 earlier one None = one
 earlier (Some (Refused one)) (Some (Refused other)) = Some (Refused (if nat_lt other.func one.func then other else one))
 earlier one other = Some Memory
+
+-- the first function of a worker's range; that of the number after the last worker's is how many functions there are
+abbrev pub range_from : (workers count worker : ℕ) → ℕ
+range_from workers count worker = worker * count / workers
+
+-- these are the refusals of a worker's range
+abbrev pub AreOfWorker : LaidOut → List Section → (workers count worker : ℕ) → List Refusal → Type 0
+AreOfWorker program certs workers count worker refusals = AreOfRange program certs (range_from workers count worker) (range_from workers count (worker + 1)) refusals

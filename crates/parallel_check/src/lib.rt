@@ -3,7 +3,8 @@
 
 mod checking;
 mod first;
+mod ranges;
 mod share;
 
-pub use checking::check_with;
+pub use checking::{check_all, check_seen, check_with};
 pub use gate::{Gate, OpenGate};

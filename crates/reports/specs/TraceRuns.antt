@@ -1,4 +1,4 @@
--- What `replay` and `run` say of their files.
+-- What the commands that read a trace say of their files, and what `run` says.
 use Rattle.std.specs.Prelude.{◌≡◌, ◌≢◌, List, Option}
 use Rattle.ir_ast.specs.declared.module.Module.{Module}
 use Rattle.layout.specs.Layouts.{LaidOut}
@@ -6,11 +6,8 @@ use Rattle.certs.specs.declared.certs.Certs.{Certs}
 use Rattle.certs.specs.declared.section.Section.{Section}
 use Rattle.module_check.specs.Accepted.{IsProgramCertified, shaped}
 use Rattle.trace_text.specs.declared.trace.Trace.{Trace}
-use Rattle.program_runner.specs.Setups.{HasNoFault, IsSetupFault}
 use Rattle.program_runner.specs.declared.setup_fault.SetupFault.{SetupFault}
 use Rattle.program_runner.specs.declared.setup_fault.SetupFault.TheVariants as setup
-use Rattle.replay.specs.Outcomes.{IsOutcome}
-use Rattle.replay.specs.declared.outcome.Outcome.{Outcome}
 use Rattle.serving.specs.declared.beside.Limits.{Limits}
 use Rattle.mutators.specs.Faults.{HasNoRunFault, IsRunFault}
 use Rattle.mutators.specs.Reports.{IsReport}
@@ -20,15 +17,10 @@ use Rattle.reports.specs.Said.{Said, OnOutput, OnError, OfVerdict}
 use Rattle.reports.specs.declared.files.File.{File}
 use Rattle.reports.specs.declared.files.ModuleFile.{ModuleFile}
 use Rattle.reports.specs.declared.files.Unread.{Unread}
-use Rattle.reports.specs.Outcomes.{of_outcome, of_setup_fault}
+use Rattle.reports.specs.Outcomes.{of_setup_fault}
 use Rattle.reports.specs.RunReport.{of_report}
 
--- ---- replay
-
--- what `replay` says of a program and its trace: the outcome of the trace, the first thread that may not begin, or out of memory
-pub data OfTrace (p : LaidOut) (t : Trace) : Said → Type 0 where
-  came : (outcome : Outcome) → HasNoFault p t.setup → IsOutcome p t outcome → OfTrace p t (OnOutput (of_outcome outcome))
-  not_begun : (fault : SetupFault) → (fault ≢ setup.Memory → IsSetupFault p t.setup fault) → OfTrace p t (OnError (of_setup_fault fault))
+-- ---- a program and its trace
 
 -- what is said of the files of a program, its trace and its shapes, where this is said of program and trace once they are read
 pub data OfRun (Run : LaidOut → Trace → Said → Type 0) (first : Option ModuleFile) (trace shapes : Option File) : Said → Type 0 where

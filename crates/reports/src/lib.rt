@@ -4,6 +4,7 @@
 
 mod faults;
 mod files;
+mod findings;
 mod found;
 mod name;
 mod outcomes;
@@ -18,6 +19,7 @@ pub use files::{
     Certified, File, Files, ModuleFile, Traced, Unread, bytes_of, edits_in, file_of, is_wide,
     module_in, path_of, program_in, read_certified, read_traced, shaped_in, trace_in,
 };
+pub use findings::{Findings, show_layouts};
 pub use outcomes::{no_threads, replayed, write_break};
 pub use outputs::{Outputs, Results};
 pub use run_report::ran;

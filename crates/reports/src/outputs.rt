@@ -1,5 +1,5 @@
 //! What a command prints, and what it saves.
-ghost use Rattle.std.specs.Prelude.{OnOk};
+ghost use Rattle.std.specs.Prelude.{◌≡◌, [], OnOk};
 ghost use Rattle.std.specs.Io.KnownBytes.{Appends};
 
 use std::alloc::Global;
@@ -22,7 +22,10 @@ pub struct Results {
 
 impl Outputs {
     /// Nothing is printed.
-    pub fn new(alloc: Global) -> Outputs {
+    pub fn new(alloc: Global) -> Outputs
+        ensures out { result.out.items ≡ [] }
+        ensures err { result.err.items ≡ [] }
+    {
         Outputs {
             out: Vec::new(alloc),
             err: Vec::new(alloc),
@@ -41,7 +44,11 @@ impl Outputs {
 
 impl Results {
     /// Nothing is printed, and nothing is saved.
-    pub fn new(alloc: Global) -> Results {
+    pub fn new(alloc: Global) -> Results
+        ensures out { result.outputs.out.items ≡ [] }
+        ensures err { result.outputs.err.items ≡ [] }
+        ensures saved { result.saved.items ≡ [] }
+    {
         Results {
             outputs: Outputs::new(alloc),
             saved: Vec::new(alloc),

@@ -10,16 +10,16 @@ use Rattle.check_commands.proofs.Edits.{unbegun}
 use Rattle.check_commands.proofs.rechecking.recheck_certified.Goals as goal
 
 pub new-requires : goal.new-requires
-new-requires c = one_for_each c.args.certified.of_module c.args.certified.certs.sections c.requires
+new-requires g c = one_for_each c.args.certified.of_module c.args.certified.certs.sections c.requires
 
 pub returns-in-Ok : goal.returns-in-Ok
-returns-in-Ok c =
+returns-in-Ok g c =
     let kept = c.in-Ok.ensures in
     let begun : IsBegun c.args.certified.of_module c.args.certified.certs c.in-Ok.session = record { of_module = kept.of_module; of_certs = kept.certs; none_checked = kept.rechecked } in
     IfOk-weaker c.edit_session-status.result _ _ (λ status told. (told.0, rechecked c.in-Ok.session told.0 begun told.1, told.2)) c.edit_session-status.ensures
 
 pub returns-in-Err : goal.returns-in-Err
-returns-in-Err c =
+returns-in-Err g c =
     let answer = c.in-Err.answer in
     let m = c.args.certified.of_module in
     let certs = c.args.certified.certs in

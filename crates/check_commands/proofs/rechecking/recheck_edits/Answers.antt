@@ -6,7 +6,7 @@ use Rattle.reports.specs.Said.{OnError}
 use Rattle.check_commands.proofs.rechecking.recheck_edits.Goals as goal
 
 pub returns-in-Ok : goal.returns-in-Ok
-returns-in-Ok c =
+returns-in-Ok g c =
     let certified = c.args.certified in
     IfOk-weaker c.recheck_certified-status.result _ _
     (λ status told. (
@@ -17,7 +17,7 @@ returns-in-Ok c =
     c.recheck_certified-status.ensures
 
 pub returns-in-Err : goal.returns-in-Err
-returns-in-Err c =
+returns-in-Err g c =
     IfOk-weaker c.unread.result _ _
     (λ status told. (OnError _, no_edits c.in-Err.fault c.in-Err.ensures.err, (refl, told)))
     c.unread.ensures

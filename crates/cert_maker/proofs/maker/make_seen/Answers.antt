@@ -4,12 +4,12 @@ use Rattle.layout.specs.Layouts.{IsLayoutFault}
 use Rattle.module_check.specs.Accepted.{CertifiedProgram}
 use Rattle.cert_maker.specs.Made.{IsMade}
 use Rattle.cert_maker.proofs.Lacks.{accepted_with, fit_with, layouts_answer, layouts_fault, layouts_memory, no_layout_fault, none_accepted, plainly_refused, refused_with}
-use Rattle.cert_maker.proofs.maker.make.Goals as goal
+use Rattle.cert_maker.proofs.maker.make_seen.Goals as goal
 
 -- ---- there are no layouts
 
 pub returns-in-Err : goal.returns-in-Err
-returns-in-Err c =
+returns-in-Err g c =
     let fault = layouts_answer c.args.of_module c.in-Err.refused.fault c.from.result c.from.ensures in
     record {
       kept = tt;
@@ -27,7 +27,7 @@ returns-in-Err c =
 -- ---- certificates are made
 
 pub returns-in-Ok-shaped_certs_for : goal.returns-in-Ok-shaped_certs_for
-returns-in-Ok-shaped_certs_for c =
+returns-in-Ok-shaped_certs_for g c =
     let found = c.in-Ok.ensures.found in
     let certs = c.in-Ok-shaped_certs_for.certs in
     let good = c.in-Ok-shaped_certs_for.ensures.good in
@@ -47,7 +47,7 @@ returns-in-Ok-shaped_certs_for c =
 -- ---- none are
 
 pub returns-in-Err-shaped_certs_for : goal.returns-in-Err-shaped_certs_for
-returns-in-Err-shaped_certs_for c =
+returns-in-Err-shaped_certs_for g c =
     let found = c.in-Ok.ensures.found in
     let failure = c.in-Err-shaped_certs_for.none.make_failure in
     let made = c.from-in-Err-shaped_certs_for.result in
