@@ -8,6 +8,7 @@ use ir_text::read;
 use layout::{Program, layouts};
 use pools::{LayoutId, Layouts};
 use std::alloc::{AllocError, Global};
+use whole_certs::are_whole;
 
 /// A module with opaque pointers. It keeps a cell in its slot.
 const OPAQUE: &str =
@@ -169,12 +170,18 @@ fn opaque_and_certs(alloc: Global) -> Option<(Module, Certs)> {
     }
 }
 
-/// How the certificates of `OPAQUE` fit without these shapes.
-fn fitting_without(alloc: Global, missing: &Missing) -> Option<Fitting> {
+/// `OPAQUE` and its certificates without these shapes.
+fn opaque_without(alloc: Global, missing: &Missing) -> Option<(Module, Certs)> {
     let (module, mut certs) = opaque_and_certs(alloc)?;
     if let Some(shapes) = &mut certs.shapes {
         take_away(shapes, missing);
     }
+    Some((module, certs))
+}
+
+/// How the certificates of `OPAQUE` fit without these shapes.
+fn fitting_without(alloc: Global, missing: &Missing) -> Option<Fitting> {
+    let (module, certs) = opaque_without(alloc, missing)?;
     Some(fitting(alloc, module, certs))
 }
 
@@ -188,8 +195,8 @@ fn shapes_of_two(alloc: Global) -> Option<Shapes> {
     shapes.ok()
 }
 
-/// How the certificates of `OPAQUE` fit with a shape of the integer of its struct.
-fn fitting_with_one_more(alloc: Global) -> Option<Fitting> {
+/// `OPAQUE` and its certificates with a shape of the integer of its struct.
+fn opaque_with_one_more(alloc: Global) -> Option<(Module, Certs)> {
     let others = shapes_of_two(alloc)?;
     let Some((module, mut certs)) = opaque_and_certs(alloc) else {
         drop(others);
@@ -198,6 +205,12 @@ fn fitting_with_one_more(alloc: Global) -> Option<Fitting> {
     if let Some(shapes) = &mut certs.shapes {
         shapes.words = others.words;
     }
+    Some((module, certs))
+}
+
+/// How the certificates of `OPAQUE` fit with a shape of the integer of its struct.
+fn fitting_with_one_more(alloc: Global) -> Option<Fitting> {
+    let (module, certs) = opaque_with_one_more(alloc)?;
     Some(fitting(alloc, module, certs))
 }
 
@@ -220,6 +233,83 @@ fn fits_by_globals_and_root_slots_and_not_by_words(rt: HostRuntime) {
             Some((false, true)),
             Some((true, true))
         )
+    );
+}
+
+/// Whether certificates are whole, where memory is not refused.
+fn whole(alloc: Global, given: Option<(Module, Certs)>) -> Option<bool> {
+    let (module, certs) = given?;
+    let whole = are_whole(alloc, &module, &certs);
+    drop(module);
+    drop(certs);
+    whole.ok()
+}
+
+/// Certificates are whole with a shape of each word, global and root slot of type `ptr`, and of no other word.
+#[test]
+fn is_whole_where_exactly_the_shapes_are_there(rt: HostRuntime) {
+    let alloc = rt.alloc();
+    assert_eq!(rt;
+        (
+            whole(alloc, opaque_without(alloc, &Missing::Nothing)),
+            whole(alloc, opaque_without(alloc, &Missing::Words)),
+            whole(alloc, opaque_without(alloc, &Missing::Globals)),
+            whole(alloc, opaque_without(alloc, &Missing::Roots)),
+            whole(alloc, opaque_with_one_more(alloc))
+        ),
+        (
+            Some(true),
+            Some(false),
+            Some(false),
+            Some(false),
+            Some(false)
+        )
+    );
+}
+
+/// `OPAQUE` and its certificates without any shapes.
+fn opaque_without_shapes(alloc: Global) -> Option<(Module, Certs)> {
+    let (module, certs) = opaque_and_certs(alloc)?;
+    let Certs { sections, shapes } = certs;
+    drop(shapes);
+    Some((
+        module,
+        Certs {
+            sections,
+            shapes: None,
+        },
+    ))
+}
+
+/// `FOUR` and its certificates, which have no shapes.
+fn typed_and_certs(alloc: Global) -> Option<(Module, Certs)> {
+    let Ok(text) = joined(alloc, [HEAD, FOUR].as_slice()) else {
+        return None;
+    };
+    let module = read(alloc, text.as_slice());
+    drop(text);
+    let Ok(module) = module else {
+        return None;
+    };
+    match read_cert(alloc, CERTIFICATES.as_bytes(), &module) {
+        Ok(certs) => Some((module, certs)),
+        Err(_) => {
+            drop(module);
+            None
+        }
+    }
+}
+
+/// Certificates without shapes are whole where the text writes no `ptr`.
+#[test]
+fn is_whole_without_shapes_in_a_typed_text(rt: HostRuntime) {
+    let alloc = rt.alloc();
+    assert_eq!(rt;
+        (
+            whole(alloc, typed_and_certs(alloc)),
+            whole(alloc, opaque_without_shapes(alloc))
+        ),
+        (Some(true), Some(false))
     );
 }
 

@@ -1,0 +1,4 @@
+pub mod AllShapes
+pub mod PointerWords
+pub mod Ranges
+pub mod RootSlots

@@ -1,0 +1,4 @@
+pub mod Marked
+pub mod Roots
+pub mod Whole
+pub mod Words
