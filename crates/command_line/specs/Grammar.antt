@@ -116,10 +116,10 @@ command_apps =
     -- recheck MODULE CERT EDITS [--explain WHEN] [--forms FORMS]
     command_app (codes "recheck") (file_rule (codes "MODULE") ∷ file_rule (codes "CERT") ∷ file_rule (codes "EDITS") ∷ explain_rule ∷ forms_rule ∷ [])
     ∷
-    -- replay MODULE TRACE [--shapes FILE] [--steps] [--from N] [--to M] [--json FILE] [--explain WHEN] [--forms FORMS]
+    -- replay MODULE TRACE [--shapes FILE] [--steps] [--from N] [--to M] [--json FILE] [--record FILE] [--explain WHEN] [--forms FORMS]
     command_app (codes "replay")
     (file_rule (codes "MODULE") ∷ file_rule (codes "TRACE") ∷ valued_rule (codes "shapes") ∷ flag_rule (codes "steps")
-    ∷ optional_rule (codes "from") ∷ optional_rule (codes "to") ∷ valued_rule (codes "json") ∷ explain_rule ∷ forms_rule ∷ [])
+    ∷ optional_rule (codes "from") ∷ optional_rule (codes "to") ∷ valued_rule (codes "json") ∷ valued_rule (codes "record") ∷ explain_rule ∷ forms_rule ∷ [])
     ∷
     -- soak MODULE TRACE [--shapes FILE] --seeds N --steps S [--first F] [--save FILE] [--bias] [--seconds N] [--shrink] [--tries N] [--explain WHEN] [--forms FORMS]
     command_app (codes "soak")
@@ -260,9 +260,19 @@ steps_of given =
     else if is_some first || is_some last then written_between (first_of (codes "json") given) first last
     else Some NotTold
 
--- the options of `replay`, if they are which steps are told
+-- whether the record of a run is written, if not both of these files are given
+abbrev pub recorded_by : (record_path json_path : Option Text) → Option Bool
+recorded_by None json_path = Some false
+recorded_by (Some record_path) None = Some true
+recorded_by (Some record_path) (Some json_path) = None
+
+-- whether it is, by the options `record` and `json`
+abbrev pub recorded_of : List Row → Option Bool
+recorded_of given = recorded_by (first_of (codes "record") given) (first_of (codes "json") given)
+
+-- the options of `replay`, if they are which steps are told, and whether the record is written
 abbrev pub replay_of : List Row → Option Asked
-replay_of given = option_map (λ steps. replay (record { steps = steps })) (steps_of given)
+replay_of given = option_and_then (λ recorded. option_map (λ steps. replay (record { steps = steps; recorded = recorded })) (steps_of given)) (recorded_of given)
 
 -- how a seed draws, by the option `bias`
 abbrev pub draws_of : List Row → Draws
@@ -332,9 +342,13 @@ abbrev pub shapes_beside : (certificate : Option Text) → List Row → Option T
 shapes_beside None given = first_of (codes "shapes") given
 shapes_beside (Some path) given = None
 
--- the paths of the files that were given
-abbrev pub paths_of : List Row → PathTexts
-paths_of given =
+-- the path of the file that the command of this name writes, if it was given
+abbrev pub saved_of : (name : Text) → List Row → Option Text
+saved_of name given = if bytes_eq name (codes "replay") then either_of (codes "json") (codes "record") given else first_of (codes "save") given
+
+-- the paths of the files that were given to the command of this name
+abbrev pub paths_of : (name : Text) → List Row → PathTexts
+paths_of name given =
     let certificate = either_of (codes "CERT") (codes "cert") given in
     record {
       of_module = first_of (codes "MODULE") given;
@@ -343,7 +357,7 @@ paths_of given =
       trace = first_of (codes "TRACE") given;
       edits = first_of (codes "EDITS") given;
       of_record = first_of (codes "RECORD") given;
-      saved = either_of (codes "save") (codes "json") given;
+      saved = saved_of name given;
     }
 
 -- when a refusal is explained, by its word
@@ -383,7 +397,7 @@ line_by command = record { paths = texts_of command.paths; explained = command.e
 -- what the command of this name asks for, by what was given to it
 abbrev pub line_of : (name : Text) → List Row → Option AskedLine
 line_of name given =
-    option_and_then (λ explained. option_and_then (λ forms. option_map (λ asked. record { paths = paths_of given; explained = explained; forms = forms; asked = asked })
+    option_and_then (λ explained. option_and_then (λ forms. option_map (λ asked. record { paths = paths_of name given; explained = explained; forms = forms; asked = asked })
     (asked_of name given)) (forms_of given)) (explained_of given)
 
 -- what a command's name with what was given to it asks for

@@ -14,7 +14,7 @@ pub struct Paths<'a> {
     pub trace: Option<&'a str>,
     pub edits: Option<&'a str>,
     pub of_record: Option<&'a str>,
-    /// The file that the command writes: a trace, or steps as JSON.
+    /// The file that the command writes: a trace, steps as JSON, or a record.
     pub saved: Option<&'a str>,
 }
 

@@ -2,7 +2,7 @@
 ghost use Rattle.std.specs.Prelude.{◌≡◌, ◌≤◌, IfSome, option_map};
 ghost use Rattle.clap.specs.Words.{found_of, rows_of};
 ghost use Rattle.command_line.specs.Asked.{are_told, HasWorkers};
-ghost use Rattle.command_line.specs.Grammar.{asked_by, asked_of, check_of, draws_of, explain_of, hunt_of, lower_of, make_of, refusals_of, replay_of, run_of, search_of, shrink_of, soak_of, steps_between, steps_of, why_of, workers_of, written_between};
+ghost use Rattle.command_line.specs.Grammar.{asked_by, asked_of, check_of, draws_of, explain_of, hunt_of, lower_of, make_of, recorded_by, recorded_of, refusals_of, replay_of, run_of, search_of, shrink_of, soak_of, steps_between, steps_of, why_of, workers_of, written_between};
 
 use crate::given::{flag_given, number_given, text_given};
 use clap::ArgMatches;
@@ -52,6 +52,8 @@ pub enum StepsTold {
 #[derive(Clone, Copy)]
 pub struct ReplayOptions {
     pub steps: StepsTold,
+    /// Whether the file that is written is the record of the run. Otherwise it has steps as JSON.
+    pub recorded: bool,
 }
 
 /// Whether the schedule of a broken seed is made shorter.
@@ -154,6 +156,14 @@ impl StepsTold {
 }
 
 impl What<'_> {
+    /// Whether the file of the command is written where it is empty too: a run without steps on the heap has a record of no bytes.
+    pub fn writes_empty(&self) -> bool {
+        match self {
+            What::Replay(options) => options.recorded,
+            _ => false,
+        }
+    }
+
     /// The name of a command that may take long and does not tell itself how far it is: a search does, and a page of a code takes no time.
     pub fn timed_name(&self) -> Option<&'static str> {
         match self {
@@ -268,13 +278,32 @@ fn steps_given(given: &ArgMatches<'_>) -> Option<StepsTold>
     }
 }
 
+/// Whether the record of a run is written, if not both of these files are given.
+fn recorded_by(record_path: Option<&str>, json_path: Option<&str>) -> Option<bool>
+    ensures { result ≡ recorded_by (option_map (λ path. path.now) record_path.entry) (option_map (λ path. path.now) json_path.entry) }
+{
+    match (record_path, json_path) {
+        (None, _) => Some(false),
+        (Some(_), None) => Some(true),
+        (Some(_), Some(_)) => None,
+    }
+}
+
+/// Whether the record of a run is written, by the options `record` and `json`, of which one may be given.
+fn recorded_given(given: &ArgMatches<'_>) -> Option<bool>
+    ensures { result ≡ recorded_of (rows_of (found_of given.now)) }
+{
+    recorded_by(text_given(given, "record"), text_given(given, "json"))
+}
+
 /// The options of `replay`.
 fn replay_given<'a>(given: &ArgMatches<'a>) -> Option<What<'a>>
     ensures asked { option_map asked_by result ≡ replay_of (rows_of (found_of given.now)) }
     ensures workers { IfSome result HasWorkers }
 {
+    let recorded = recorded_given(given)?;
     let steps = steps_given(given)?;
-    Some(What::Replay(ReplayOptions { steps }))
+    Some(What::Replay(ReplayOptions { steps, recorded }))
 }
 
 /// How a seed draws, by the option `bias`.
@@ -409,11 +438,20 @@ fn lack_of_check(given: &ArgMatches<'_>) -> Option<&'static str> {
     }
 }
 
+/// What is asked of a `replay` that asks for nothing.
+fn lack_of_replay(given: &ArgMatches<'_>) -> &'static str {
+    if recorded_given(given).is_none() {
+        "--record may not stand beside --json"
+    } else {
+        "--from and --to need --steps or --json"
+    }
+}
+
 /// What the options of a command lack that asks for nothing though `clap` takes its words, if that is known.
 pub(crate) fn lack_of(name: &str, given: &ArgMatches<'_>) -> Option<&'static str> {
     match name {
         "check" => lack_of_check(given),
-        "replay" => Some("--from and --to need --steps or --json"),
+        "replay" => Some(lack_of_replay(given)),
         "soak" => Some("--tries needs --shrink"),
         _ => None,
     }

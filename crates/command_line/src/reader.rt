@@ -2,7 +2,7 @@
 ghost use Rattle.std.specs.Prelude.{◌≡◌, IfOk, IfErr, IfSome, IsOk, [], map, option_map};
 ghost use Rattle.clap.specs.Words.{fault_of, found_of, rows_of, subcommand_rows_of};
 ghost use Rattle.command_line.specs.Asked.{HasWorkers, texts_of};
-ghost use Rattle.command_line.specs.Grammar.{dgc_app, explained_by, explained_of, forms_by, forms_of, IsRefusalOf, line_by, line_found, line_in, line_of, paths_of, shapes_beside};
+ghost use Rattle.command_line.specs.Grammar.{dgc_app, explained_by, explained_of, forms_by, forms_of, IsRefusalOf, line_by, line_found, line_in, line_of, paths_of, saved_of, shapes_beside};
 
 use crate::command::{Command, Explained, Forms, Paths};
 use crate::fault::LineFault;
@@ -22,9 +22,19 @@ fn shapes_given<'a>(given: &ArgMatches<'a>, certificate: Option<&str>) -> Option
     }
 }
 
-/// The paths of the files that were given.
-fn paths_given<'a>(given: &ArgMatches<'a>) -> Paths<'a>
-    ensures { texts_of result ≡ paths_of (rows_of (found_of given.now)) }
+/// The path of the file that the command of this name writes, if it was given.
+fn saved_given<'a>(name: &str, given: &ArgMatches<'a>) -> Option<&'a str>
+    ensures { option_map (λ path. path.now) result ≡ saved_of name.now (rows_of (found_of given.now)) }
+{
+    match name {
+        "replay" => either_given(given, "json", "record"),
+        _ => text_given(given, "save"),
+    }
+}
+
+/// The paths of the files that were given to the command of this name.
+fn paths_given<'a>(name: &str, given: &ArgMatches<'a>) -> Paths<'a>
+    ensures { texts_of result ≡ paths_of name.now (rows_of (found_of given.now)) }
 {
     let certificate = either_given(given, "CERT", "cert");
     Paths {
@@ -34,7 +44,7 @@ fn paths_given<'a>(given: &ArgMatches<'a>) -> Paths<'a>
         trace: text_given(given, "TRACE"),
         edits: text_given(given, "EDITS"),
         of_record: text_given(given, "RECORD"),
-        saved: either_given(given, "save", "json"),
+        saved: saved_given(name, given),
     }
 }
 
@@ -90,7 +100,7 @@ fn command_given<'a>(name: &str, given: &ArgMatches<'a>) -> Option<Command<'a>>
     let forms = forms_given(given)?;
     let what = what_given(name, given)?;
     Some(Command {
-        paths: paths_given(given),
+        paths: paths_given(name, given),
         explained,
         forms,
         what,

@@ -208,6 +208,10 @@ const REPLAY: CommandRow = CommandRow {
             "json",
             "The file to which the steps are written as JSON, a line for each: the last 100000, or those that --from and --to say",
         ),
+        Argument::Path(
+            "record",
+            "The file to which the steps on the heap are written, as a record that `dgc conform` reads (docs/RECORDS.md)",
+        ),
         EXPLAIN,
         FORMS,
     ],

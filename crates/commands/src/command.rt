@@ -11,22 +11,24 @@ use crate::running::run_files;
 use check_commands::{
     check_files, explain_code, lower_files, make_file, migrate_files, recheck_files,
 };
-use command_line::{Command, Refusals, What};
-use explained_checks::{Look, Question, explain};
-use reports::{Files, Results, STATUS_NO, STATUS_UNREADABLE, STATUS_YES};
+use command_line::{Command, What};
+use explained_checks::{Explainer, Look, Question, Topic, explain};
+use messages::Pen;
+use reports::{Files, Findings, Results, STATUS_NO, STATUS_UNREADABLE, STATUS_YES};
 use search_commands::{Onlooker, hunt_files, soak_files, tell_happened};
 use std::alloc::Global;
 use std::io;
 use std::thread::Threads;
 use std::time::Clock;
 
-/// Does a command, without explanations.
+/// Does a command, without explanations. Why a check, a recheck or the making of certificates does not accept its files is seen.
 fn answer(
     rt: &(impl AllocGlobal + Threads + Clock + Sync),
     command: &Command<'_>,
     files: &Files<'_>,
     results: &mut Results,
     onlooker: &mut impl Onlooker,
+    seen: &mut impl Findings,
 ) -> io::Result<u8>
     requires { HasWorkers command.now.what }
     ensures said { IfOk result (SaysAndTells (asks_for_steps command.now.what) false (OfCommand command.now.what files.now results.old.saved.items results.new.saved.items) results.old.outputs results.new.outputs) }
@@ -35,9 +37,9 @@ fn answer(
     let alloc = rt.alloc();
     let outputs = &mut results.outputs;
     match command.what {
-        What::Check(options) => check_files(rt, alloc, options, files, outputs),
-        What::Make(options) => make_file(alloc, options, files, outputs),
-        What::Recheck => recheck_files(alloc, files, outputs),
+        What::Check(options) => check_files(rt, alloc, options, files, outputs, seen),
+        What::Make(options) => make_file(alloc, options, files, outputs, seen),
+        What::Recheck => recheck_files(alloc, files, outputs, seen),
         What::Replay(options) => replay_files(alloc, options, files, results),
         What::Soak(options) => soak_files(rt, alloc, options, files, results, onlooker),
         What::Hunt(options) => hunt_files(rt, alloc, options, files, results, onlooker),
@@ -49,22 +51,19 @@ fn answer(
     }
 }
 
-/// What is to be explained of a check of which so many refusals are told.
-fn question_of_check(refusals: Refusals) -> Question {
-    match refusals {
-        Refusals::First => Question::Check,
-        Refusals::OfBlocks(limit) => Question::Blocks(limit),
+/// What is explained while a command is done, if its line asks for explanations.
+fn topic_of(command: &Command<'_>) -> Topic {
+    match (command.explained.is_wanted(), command.what) {
+        (true, What::Check(_)) => Topic::Check,
+        (true, What::Make(_)) => Topic::Make,
+        (true, What::Recheck) => Topic::Recheck,
+        _ => Topic::Nothing,
     }
 }
 
-/// What is to be explained of a command that answered with this status, if something is.
+/// What is to be explained after a command that answered with this status, if something is.
 fn question_of(what: What<'_>, status: u8) -> Option<Question> {
     match (what, status) {
-        (What::Check(options), STATUS_NO | STATUS_UNREADABLE) => {
-            Some(question_of_check(options.refusals))
-        }
-        (What::Make(_), STATUS_NO | STATUS_UNREADABLE) => Some(Question::Make),
-        (What::Recheck, STATUS_NO | STATUS_UNREADABLE) => Some(Question::Recheck),
         (What::Run(_), STATUS_NO | STATUS_UNREADABLE) => Some(Question::Run),
         (What::Replay(_) | What::Soak(_) | What::Conform, STATUS_UNREADABLE) => {
             Some(Question::Trace)
@@ -75,8 +74,7 @@ fn question_of(what: What<'_>, status: u8) -> Option<Question> {
 
 /// Explains what was answered with this status, or says how much happens in the runs of sound seeds.
 fn explain_outcome(
-    alloc: Global,
-    look: Look,
+    pen: Pen,
     what: What<'_>,
     files: &Files<'_>,
     status: u8,
@@ -84,6 +82,7 @@ fn explain_outcome(
 ) -> io::Result<()>
     ensures { OnOk result (GivesText err.old.items err.new.items) }
 {
+    let Pen { alloc, look } = pen;
     if let (What::Soak(options), STATUS_YES) = (what, status) {
         return tell_happened(alloc, options.search, files, err);
     }
@@ -96,10 +95,31 @@ fn explain_outcome(
     }
 }
 
+/// Writes what was seen of the files, or explains what was answered with this status.
+fn explain_seen(
+    seen: Explainer<'_>,
+    what: What<'_>,
+    files: &Files<'_>,
+    status: u8,
+    err: &mut Vec<u8>,
+) -> io::Result<()>
+    ensures { OnOk result (GivesText err.old.items err.new.items) }
+{
+    match (what, status) {
+        (What::Check(_) | What::Make(_) | What::Recheck, STATUS_NO | STATUS_UNREADABLE) => {
+            seen.write(err)
+        }
+        _ => {
+            let pen = seen.pen();
+            drop(seen);
+            explain_outcome(pen, what, files, status, err)
+        }
+    }
+}
+
 /// Explains what a command answered with this status, if its line asks for that.
 fn explain_answer(
-    alloc: Global,
-    look: Look,
+    seen: Explainer<'_>,
     command: &Command<'_>,
     files: &Files<'_>,
     status: u8,
@@ -108,8 +128,9 @@ fn explain_answer(
     ensures { OnOk result (GivesTextIf (is_wanted command.now.explained) err.old.items err.new.items) }
 {
     if command.explained.is_wanted() {
-        return explain_outcome(alloc, look, command.what, files, status, err);
+        return explain_seen(seen, command.what, files, status, err);
     }
+    drop(seen);
     Ok(())
 }
 
@@ -129,8 +150,9 @@ pub fn work(
     ensures said { IfOk result (SaysAndTells (asks_for_steps command.now.what) (is_wanted command.now.explained) (OfCommand command.now.what files.now results.old.saved.items results.new.saved.items) results.old.outputs results.new.outputs) }
     ensures kept { files.now.saves ≡ false → results.new.saved.items ≡ results.old.saved.items }
 {
-    let status = answer(rt, command, files, results, onlooker)?;
+    let mut seen = Explainer::new(rt.alloc(), look, topic_of(command), files);
+    let status = answer(rt, command, files, results, onlooker, &mut seen)?;
     let err = &mut results.outputs.err;
-    explain_answer(rt.alloc(), look, command, files, status, err)?;
+    explain_answer(seen, command, files, status, err)?;
     Ok(status)
 }

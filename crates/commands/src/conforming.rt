@@ -10,7 +10,7 @@ ghost use Rattle.trace_text.specs.Traces.{IsTraceOf};
 
 use conform::{Rule, Verdict};
 use explain::Code;
-use record_text::COLLECTOR;
+use record_text::{COLLECTOR, RECORD_LIMIT};
 use recorded_runs::judge;
 use reports::{
     File, Files, Outputs, STATUS_NO, STATUS_YES, Traced, Unread, bytes_of, no_threads, path_of,
@@ -19,9 +19,6 @@ use reports::{
 use std::alloc::Global;
 use std::io;
 use std::io::Write;
-
-/// How many bytes a record has at most.
-const RECORD_LIMIT: usize = 1 << 30;
 
 /// The code of a rule.
 pub(crate) fn code_of(rule: Rule) -> Code

@@ -8,6 +8,7 @@ mod record_told;
 mod record_words;
 mod replaying;
 mod running;
+mod saving;
 mod steps_told;
 
 pub use command::work;

@@ -4,7 +4,7 @@ ghost use Rattle.command_line.specs.Asked.{HasWorkers};
 use crate::failure::Failure;
 use crate::files::save;
 use crate::progress::Watcher;
-use command_line::{Command, Paths};
+use command_line::Command;
 use commands::{Files, Look, Results, STATUS_NO, STATUS_YES, work};
 use std::io::Write;
 use std::rt::Runtime;
@@ -23,13 +23,13 @@ impl Answer {
     pub fn write<O: Write, E: Write>(
         &self,
         rt: &(impl Runtime + AllocGlobal),
-        paths: Paths<'_>,
+        command: &Command<'_>,
         out: &mut O,
         err: &mut E,
     ) -> Result<u8, Failure> {
         self.results.outputs.write(out, err)?;
         if self.status == STATUS_YES || self.status == STATUS_NO {
-            save(rt, paths, self.results.saved.as_slice())?;
+            save(rt, command, self.results.saved.as_slice())?;
         }
         Ok(self.status)
     }

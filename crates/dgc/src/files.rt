@@ -1,6 +1,6 @@
 //! The files of a command. Each is read up to its limit. One may be written.
 use crate::failure::Failure;
-use command_line::Paths;
+use command_line::{Command, Paths};
 use commands::Contents;
 use ir_tokens::TEXT_LIMIT;
 use std::fs::OpenFile;
@@ -139,16 +139,16 @@ pub fn read_files(
     Ok(contents)
 }
 
-/// Writes what a command saves to its file, if there is anything.
+/// Writes what a command saves to its file, if there is anything, or if it may be empty.
 pub fn save(
     rt: &(impl Runtime + AllocGlobal),
-    paths: Paths<'_>,
+    command: &Command<'_>,
     saved: &[u8],
 ) -> Result<(), Failure> {
-    if saved.is_empty() {
+    if saved.is_empty() && !command.what.writes_empty() {
         return Ok(());
     }
-    if let Some(path) = paths.saved {
+    if let Some(path) = command.paths.saved {
         fs::write(rt, path, saved)?;
     }
     Ok(())

@@ -61,7 +61,7 @@ fn answer<O: Write, E: Write>(
     let contents = read_files(rt, command.paths)?;
     let answer = answer_on(rt, errors, command, &contents.of_command(command));
     drop(contents);
-    answer?.write(rt, command.paths, out, err)
+    answer?.write(rt, command, out, err)
 }
 
 /// The words of the command line.

@@ -19,6 +19,7 @@ const REPLAY: Command<'static> = Command {
     forms: Forms::Core,
     what: What::Replay(ReplayOptions {
         steps: StepsTold::NotTold,
+        recorded: false,
     }),
 };
 
