@@ -19,6 +19,7 @@ docs/FRONT_ENDS.md is written in one form. An example is three blocks: the funct
 """
 import argparse
 import collections
+import contextlib
 import os
 import re
 import sys
@@ -47,8 +48,10 @@ def text_of(path):
 def read_row(name):
     """The row of this name. A record is no text, and left out."""
     folder = os.path.join(DATA, "rows", name)
-    names = sorted(entry.name for entry in os.scandir(os.path.join(TOP, folder)) if entry.is_file() and entry.name != "record")
-    files = {name: text_of(os.path.join(folder, name)) for name in names}
+    files = {}
+    for file in sorted(entry.name for entry in os.scandir(os.path.join(TOP, folder)) if entry.is_file()):
+        with contextlib.suppress(UnicodeDecodeError):
+            files[file] = text_of(os.path.join(folder, file))
     args, status, out, err = (files.pop(file) for file in ("args", "status", "stdout", "stderr"))
     return Row(args.splitlines(), status.strip(), out, err, files)
 

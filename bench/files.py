@@ -41,6 +41,7 @@ COMMANDS = {
 # commands that write a file, whose name is the last word
 SAVES = {
     "replay, JSON": "replay barrier.ll two.trace --json saved",
+    "replay, record": "replay barrier.ll two.trace --record saved",
     "hunt, saved": "hunt kept.ll --seeds 64 --steps 200 --tries 9 --save saved",
     "soak, saved": "soak kept.ll kept.trace --seeds 60 --steps 45 --save saved",
 }
