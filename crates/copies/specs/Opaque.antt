@@ -10,6 +10,8 @@ use Rattle.ir_ast.specs.declared.choices.Phi.{Phi}
 use Rattle.ir_ast.specs.declared.elements.Element.{Element}
 use Rattle.ir_ast.specs.declared.ends.End.{End}
 use Rattle.ir_ast.specs.declared.ends.End.TheVariants as end
+use Rattle.ir_ast.specs.declared.floats.FloatOp.{FloatOp}
+use Rattle.ir_ast.specs.declared.floats.FloatOp.TheVariants as float
 use Rattle.ir_ast.specs.declared.function.Function.{Function}
 use Rattle.ir_ast.specs.declared.function.LocalSort.{LocalSort}
 use Rattle.ir_ast.specs.declared.function.LocalSort.TheVariants as sort
@@ -41,6 +43,8 @@ new_number numbers written = unwrap_or (slice_get numbers written) written
 abbrev pub opaque_type : (numbers : List ℕ) → IrType → IrType
 opaque_type numbers type.Void = type.Void
 opaque_type numbers (type.Integer bits) = type.Integer bits
+opaque_type numbers type.Float = type.Float
+opaque_type numbers type.Double = type.Double
 opaque_type numbers (type.Pointer part) = type.Opaque
 opaque_type numbers type.Opaque = type.Opaque
 opaque_type numbers (type.Array length part) = type.Array length (new_number numbers part)
@@ -86,10 +90,17 @@ module _ (numbers : List ℕ) where
   abbrev pub opaque_argument : Argument → Argument
   opaque_argument x = record { written = new_number numbers x.written; operand = opaque_operand x.operand }
 
+  abbrev pub opaque_float : FloatOp → FloatOp
+  opaque_float (float.Arithmetic kind written first second) = float.Arithmetic kind (new_number numbers written) (opaque_operand first) (opaque_operand second)
+  opaque_float (float.Negate written x) = float.Negate (new_number numbers written) (opaque_operand x)
+  opaque_float (float.Compare kind written first second) = float.Compare kind (new_number numbers written) (opaque_operand first) (opaque_operand second)
+  opaque_float (float.Convert kind from x to) = float.Convert kind (new_number numbers from) (opaque_operand x) (new_number numbers to)
+
   abbrev pub opaque_number : NumberOp → NumberOp
   opaque_number (number.Arithmetic kind written first second) = number.Arithmetic kind (new_number numbers written) (opaque_operand first) (opaque_operand second)
   opaque_number (number.Resize kind from x to) = number.Resize kind (new_number numbers from) (opaque_operand x) (new_number numbers to)
   opaque_number (number.Compare kind written first second) = number.Compare kind (new_number numbers written) (opaque_operand first) (opaque_operand second)
+  opaque_number (number.Float x) = number.Float (opaque_float x)
 
   abbrev pub opaque_memory : MemoryOp → MemoryOp
   opaque_memory (memory.Alloca held) = memory.Alloca (new_number numbers held)

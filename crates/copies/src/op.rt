@@ -5,7 +5,7 @@ ghost use Rattle.copies.specs.Opaque as spec;
 use crate::made_opaque::{MadeOpaque, all_opaque};
 use crate::type_numbers::new_number;
 use ir_ast::{
-    Argument, Call, Cast, Choice, Element, Instr, MemoryOp, NumberOp, Op, Operand, TypeId,
+    Argument, Call, Cast, Choice, Element, FloatOp, Instr, MemoryOp, NumberOp, Op, Operand, TypeId,
 };
 use std::alloc::{AllocError, Global};
 
@@ -35,6 +35,50 @@ impl MadeOpaque for Argument {
 
     fn made_opaque(&self, _alloc: Global, numbers: &[TypeId]) -> Result<Argument, AllocError> {
         Ok(opaque_argument(numbers, *self))
+    }
+}
+
+fn opaque_float(numbers: &[TypeId], op: FloatOp) -> FloatOp
+    ensures { result ≡ spec.opaque_float numbers.now op }
+{
+    match op {
+        FloatOp::Arithmetic {
+            kind,
+            written,
+            first,
+            second,
+        } => FloatOp::Arithmetic {
+            kind,
+            written: new_number(numbers, written),
+            first: opaque_operand(first),
+            second: opaque_operand(second),
+        },
+        FloatOp::Negate { written, operand } => FloatOp::Negate {
+            written: new_number(numbers, written),
+            operand: opaque_operand(operand),
+        },
+        FloatOp::Compare {
+            kind,
+            written,
+            first,
+            second,
+        } => FloatOp::Compare {
+            kind,
+            written: new_number(numbers, written),
+            first: opaque_operand(first),
+            second: opaque_operand(second),
+        },
+        FloatOp::Convert {
+            kind,
+            from,
+            operand,
+            to,
+        } => FloatOp::Convert {
+            kind,
+            from: new_number(numbers, from),
+            operand: opaque_operand(operand),
+            to: new_number(numbers, to),
+        },
     }
 }
 
@@ -75,6 +119,7 @@ fn opaque_number(numbers: &[TypeId], op: NumberOp) -> NumberOp
             first: opaque_operand(first),
             second: opaque_operand(second),
         },
+        NumberOp::Float(op) => NumberOp::Float(opaque_float(numbers, op)),
     }
 }
 

@@ -5,7 +5,7 @@ ghost use Rattle.copies.specs.Opaque as spec;
 ghost use Rattle.copies.specs.Opaque.{opaque_module};
 
 use crate::made_opaque::{MadeOpaque, all_opaque};
-use crate::of_module::{Defined, copy_shapes, joined};
+use crate::of_module::{Certified, Defined, copy_certified, joined};
 use crate::tables::{Tables, copy_tables};
 use crate::type_numbers::{Renumbered, new_number, opaque_types};
 use ir_ast::{Declare, Global as GlobalWord, Module, StructType, TypeId};
@@ -120,8 +120,8 @@ pub fn opaque(alloc: Global, of_module: &Module) -> Result<Module, AllocError>
             return Err(refused);
         }
     };
-    match copy_shapes(alloc, &of_module.shapes) {
-        Ok(shapes) => Ok(joined(tables, defined, shapes)),
+    match copy_certified(alloc, of_module) {
+        Ok(Certified { shapes, trusted }) => Ok(joined(tables, defined, shapes, trusted)),
         Err(refused) => {
             drop(tables);
             drop(defined);

@@ -2,7 +2,7 @@
 use Rattle.std.proofs.Common.{◌≡◌, ℕ, Bool, true, List, [], ◌∷◌, ◌++◌, length, position, None, Some, refl, arith}
 use Rattle.std.proofs.lemmas.Grind.{common_steps}
 use Rattle.ir_ast.specs.declared.ir_type.IrType.{IrType}
-use Rattle.ir_ast.specs.declared.ir_type.IrType.TheVariants.{Void, Integer, Pointer, Opaque, Array, EmptyStruct, Struct, Named}
+use Rattle.ir_ast.specs.declared.ir_type.IrType.TheVariants.{Void, Integer, Float, Double, Pointer, Opaque, Array, EmptyStruct, Struct, Named}
 use Rattle.ir_ast.specs.Types.{is_same_type, place_of_type}
 use Rattle.ir_ast.specs.Places.{place_is_end}
 use Rattle.lemmas.specs.Numbers.{test_same}
@@ -17,6 +17,8 @@ module _ {X : Type 0} (p : X → Bool) where
 itself : (t : IrType) → is_same_type t t ≡ true
 itself Void = refl
 itself (Integer bits) = test_same bits
+itself Float = refl
+itself Double = refl
 itself (Pointer part) = test_same part
 itself Opaque = refl
 itself (Array length part) = rw (test_same length, test_same part) refl

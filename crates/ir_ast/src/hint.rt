@@ -20,6 +20,8 @@ pub(crate) fn place_in_hints(written: &IrType) -> usize {
         IrType::Integer(bits) => (*bits % 13) as usize,
         IrType::Pointer(pointee) => 16 + (pointee.number() % 32) as usize,
         IrType::Named(name) => 48 + (name.number() % 16) as usize,
+        IrType::Float => 14,
+        IrType::Double => 15,
         _ => 13,
     }
 }

@@ -63,7 +63,8 @@ pub fn integers_word(function: IntegerFunction) -> &'static [u8]
     }
 }
 
-fn begins(name: &[u8], word: &[u8]) -> bool
+/// Whether a name begins with a word.
+pub(crate) fn begins(name: &[u8], word: &[u8]) -> bool
     ensures { result ≡ spec.begins word.now name.now }
 {
     name.len() >= word.len() && &name[..word.len()] == word

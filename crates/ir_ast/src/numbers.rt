@@ -1,4 +1,5 @@
-//! Operations on integers. icmp compares references too.
+//! Operations on numbers. icmp compares references too.
+use crate::floats::FloatOp;
 use crate::operand::Operand;
 use crate::type_id::TypeId;
 
@@ -51,7 +52,7 @@ pub enum Comparison {
     SignedLessOrEqual,
 }
 
-/// An operation that gives an integer.
+/// An operation that gives a number.
 #[derive(Clone, Copy)]
 pub enum NumberOp {
     Arithmetic {
@@ -73,4 +74,6 @@ pub enum NumberOp {
         first: Operand,
         second: Operand,
     },
+    /// An operation on floating point numbers.
+    Float(FloatOp),
 }

@@ -7,6 +7,8 @@ use crate::value_id::ValueId;
 pub enum Constant {
     /// The number modulo 2 to the 64: at an integer type of fewer bits it is below 2 to the bits.
     Number(u64),
+    /// The bits of a floating point number of 64 bits. At `float` it is one that a number of 32 bits holds too.
+    Float(u64),
     Null,
     /// `true` or `false` where the written type is not i1; at i1 they are read as the numbers 1 and 0. No rule lets it pass.
     Truth(bool),

@@ -1,6 +1,7 @@
 ghost use Rattle.std.specs.Prelude.{◌≡◌};
 ghost use Rattle.ir_ast.specs.RuntimeNames.{runtime_of};
 
+use crate::float_function::{FloatFunction, floats_named};
 use crate::integer_function::{IntegerFunction, integers_named};
 
 /// A function of the runtime or an intrinsic, known by its name.
@@ -21,6 +22,11 @@ pub enum Runtime {
         function: IntegerFunction,
         bits: u64,
     },
+    /// `llvm.sqrt.f64` and its like, of floating point numbers of `bits` bits; the wide forms alone have them.
+    Float {
+        function: FloatFunction,
+        bits: u64,
+    },
 }
 
 impl Runtime {
@@ -39,7 +45,10 @@ impl Runtime {
         } else if name == b"llvm.gcwrite".as_slice() {
             Some(Runtime::GcWrite)
         } else {
-            integers_named(name)
+            match integers_named(name) {
+                Some(named) => Some(named),
+                None => floats_named(name),
+            }
         }
     }
 }

@@ -55,9 +55,15 @@ bad_escapes : (s : both (seen (codes " %\"\\z\"")) [] (Some 1)) × (t : both (se
 unfolding lex_from past_gap token class_of quote local quoted_from next digit unescaped_from
 bad_escapes = ((refl, refl), (refl, refl), (refl, refl))
 
-bad_tokens : (s : both (seen (codes "@5")) [] (Some 0)) × (t : both (seen (codes "%")) [] (Some 0)) × (u : both (seen (codes "#a")) [] (Some 0)) × both (seen (codes "+")) [] (Some 0)
+bad_tokens : (s : both (seen (codes "@5")) [] (Some 0)) × (t : both (seen (codes "%")) [] (Some 0)) × (u : both (seen (codes "#a")) [] (Some 0)) × both (seen (codes "~")) [] (Some 0)
 unfolding lex_from past_gap token class_of local global group record_name is_name
 bad_tokens = ((refl, refl), (refl, refl), (refl, refl), (refl, refl))
+
+-- A number with an exponent is more than one token.
+exponents : both (seen (codes "1.25e+00")) (
+    (k.Number, true, codes "1") ∷ (k.Word, false, codes ".25e") ∷ (k.Plus, false, codes "+") ∷ (k.Number, false, codes "00") ∷ []) None
+unfolding lex_from past_gap token class_of word number word_kind keywords is_name
+exponents = (refl, refl)
 
 debug_records : both (seen (codes "#dbg_value( #dbg_ #0")) (
     (k.DebugRecord, true, codes "#dbg_value") ∷ (k.OpenRound, false, codes "(") ∷ (k.DebugRecord, false, codes "#dbg_") ∷ (k.AttributeGroup, false, codes "0") ∷ []) None

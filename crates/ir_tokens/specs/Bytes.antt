@@ -20,7 +20,7 @@ is_digit byte = within 48 57 byte
 abbrev pub is_letter : ℕ → Bool
 is_letter byte = within 97 122 byte || within 65 90 byte || byte == 45 || byte == 36 || byte == 46 || byte == 95
 
--- `=`, `,`, `(`, `)`, `[`, `]`, `{`, `}`, `*`, `<`, `>` and `|` are tokens of one byte
+-- `=`, `,`, `(`, `)`, `[`, `]`, `{`, `}`, `*`, `<`, `>`, `|` and `+` are tokens of one byte
 abbrev pub sign_of : ℕ → ByteClass
 sign_of byte =
     if byte == 61 then c.Sign k.Equals
@@ -35,7 +35,8 @@ sign_of byte =
     else (if byte == 60 then c.Sign k.Less
     else (if byte == 62 then c.Sign k.Greater
     else (if byte == 124 then c.Sign k.Bar
-    else c.Other)))))))))))
+    else (if byte == 43 then c.Sign k.Plus
+    else c.Other))))))))))))
 
 -- `"`, `%`, `@`, `#`, `!` and `:` begin or end longer tokens
 unfoldable pub class_of : ℕ → ByteClass

@@ -125,7 +125,7 @@ none_by false x y e f = f
 
 sign_no_digit : (b : ℕ) → is_digit_class (sign_of b) ≡ false
 sign_no_digit b =
-    none_by (b == 61) (c.Sign k.Equals) _ refl (none_by (b == 44) (c.Sign k.Comma) _ refl (none_by (b == 40) (c.Sign k.OpenRound) _ refl (none_by (b == 41) (c.Sign k.CloseRound) _ refl (none_by (b == 91) (c.Sign k.OpenSquare) _ refl (none_by (b == 93) (c.Sign k.CloseSquare) _ refl (none_by (b == 123) (c.Sign k.OpenBrace) _ refl (none_by (b == 125) (c.Sign k.CloseBrace) _ refl (none_by (b == 42) (c.Sign k.Star) _ refl (none_by (b == 60) (c.Sign k.Less) _ refl (none_by (b == 62) (c.Sign k.Greater) _ refl (none_by (b == 124) (c.Sign k.Bar) _ refl refl)))))))))))
+    none_by (b == 61) (c.Sign k.Equals) _ refl (none_by (b == 44) (c.Sign k.Comma) _ refl (none_by (b == 40) (c.Sign k.OpenRound) _ refl (none_by (b == 41) (c.Sign k.CloseRound) _ refl (none_by (b == 91) (c.Sign k.OpenSquare) _ refl (none_by (b == 93) (c.Sign k.CloseSquare) _ refl (none_by (b == 123) (c.Sign k.OpenBrace) _ refl (none_by (b == 125) (c.Sign k.CloseBrace) _ refl (none_by (b == 42) (c.Sign k.Star) _ refl (none_by (b == 60) (c.Sign k.Less) _ refl (none_by (b == 62) (c.Sign k.Greater) _ refl (none_by (b == 124) (c.Sign k.Bar) _ refl (none_by (b == 43) (c.Sign k.Plus) _ refl refl))))))))))))
 
 digit_by : (t u : Bool) (b : ℕ) → is_letter b ≡ t → is_digit b ≡ u → class_of b ≡ c.Digit → u ≡ true
 unfolding class_of

@@ -68,7 +68,7 @@ static CLASS: [ByteClass; 256] = [
     ByteClass::Sign(Kind::OpenRound),
     ByteClass::Sign(Kind::CloseRound),
     ByteClass::Sign(Kind::Star),
-    ByteClass::Other,
+    ByteClass::Sign(Kind::Plus),
     ByteClass::Sign(Kind::Comma),
     ByteClass::Letter,
     ByteClass::Letter,

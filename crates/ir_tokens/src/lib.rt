@@ -10,6 +10,8 @@ mod name;
 mod position;
 mod token;
 
+pub use bytes::{digit, digit_len};
+pub use class::is_name;
 pub use lex::{TEXT_LIMIT, read_tokens};
 pub use lexed::Lexed;
 pub use name::{plain_name, unescaped};

@@ -139,6 +139,8 @@ pub enum Kind {
     Less,
     Greater,
     Bar,
+    /// `+`, which stands in numbers with an exponent alone.
+    Plus,
 }
 
 /// A token: what it is, and which bytes of the text spell it.
