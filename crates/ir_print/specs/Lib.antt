@@ -1,7 +1,9 @@
 pub mod Names
 pub mod Types
+pub mod Hexadecimal
 pub mod Operands
 pub mod Parts
+pub mod Floats
 pub mod Numbers
 pub mod Memory
 pub mod Elements
@@ -12,4 +14,3 @@ pub mod Ends
 pub mod Instructions
 pub mod Blocks
 pub mod Items
-pub mod Fits

@@ -1,4 +1,4 @@
--- How operations on integers are printed.
+-- How operations on numbers are printed.
 use Rattle.std.specs.Prelude.{List, ◌++◌, codes}
 use Rattle.ir_ast.specs.declared.module.Module.{Module}
 use Rattle.ir_ast.specs.declared.numbers.Arithmetic.{Arithmetic}
@@ -10,6 +10,7 @@ use Rattle.ir_ast.specs.declared.numbers.NumberOp.TheVariants as number
 use Rattle.ir_ast.specs.declared.numbers.Resize.{Resize}
 use Rattle.ir_ast.specs.declared.numbers.Resize.TheVariants as resize
 use Rattle.ir_tokens.specs.Bytes.{Text}
+use Rattle.ir_print.specs.Floats.{float_op_text}
 use Rattle.ir_print.specs.Parts.{typed, converted_text, pair_text}
 
 -- the word of an integer instruction of two operands
@@ -47,8 +48,9 @@ comparison_word comparison.SignedGreaterOrEqual = codes "sge "
 comparison_word comparison.SignedLess = codes "slt "
 comparison_word comparison.SignedLessOrEqual = codes "sle "
 
--- an operation that gives an integer
+-- an operation that gives a number
 abbrev pub number_op_text : Module → (locals : List Text) → NumberOp → Text
 number_op_text m locals (number.Arithmetic kind written first second) = arithmetic_word kind ++ pair_text m locals (typed written first) second
 number_op_text m locals (number.Resize kind from x to) = resize_word kind ++ converted_text m locals (typed from x) to
 number_op_text m locals (number.Compare kind written first second) = codes "icmp " ++ comparison_word kind ++ pair_text m locals (typed written first) second
+number_op_text m locals (number.Float x) = float_op_text m locals x

@@ -11,6 +11,7 @@ use Rattle.ir_ast.specs.declared.operand.Constant.TheVariants as constant
 use Rattle.ir_ast.specs.declared.operand.Operand.{Operand}
 use Rattle.ir_ast.specs.declared.operand.Operand.TheVariants as operand
 use Rattle.ir_tokens.specs.Bytes.{Text}
+use Rattle.ir_print.specs.Hexadecimal.{bits_text}
 use Rattle.ir_print.specs.Names.{local_text, global_text}
 use Rattle.ir_print.specs.Types.{type_text}
 
@@ -31,9 +32,10 @@ bit_of number = if number == 0 then false else true
 abbrev pub number_text : (bit : Bool) → ℕ → Text
 number_text bit number = if bit then truth_text (bit_of number) else decimal number
 
--- a constant of a type: a number without a sign, and one of type i1 as `true` or `false`
+-- a constant of a type: a number without a sign, and one of type i1 as `true` or `false`; the bits of a floating point number
 abbrev pub constant_text : Module → (written : ℕ) → Constant → Text
 constant_text m written (constant.Number number) = number_text (is_bit (slice_get m.types written)) number
+constant_text m written (constant.Float number) = bits_text number
 constant_text m written constant.Null = codes "null"
 constant_text m written (constant.Truth truth) = truth_text truth
 

@@ -1,7 +1,8 @@
-//! The text of operations on integers.
+//! The text of operations on numbers.
 ghost use Rattle.std.specs.Prelude.{◌≡◌, ◌++◌, OnOk};
 ghost use Rattle.ir_print.specs.Numbers as spec;
 
+use crate::floats::put_float;
 use crate::parts::{put_converted, put_pair, typed};
 use ir_ast::{Arithmetic, Comparison, Module, Names, NumberOp, Resize};
 use std::alloc::{AllocError, Global};
@@ -56,7 +57,7 @@ fn comparison_word(kind: Comparison) -> &'static [u8]
     }
 }
 
-/// An operation that gives an integer.
+/// An operation that gives a number.
 pub fn put_number(
     alloc: Global,
     out: &mut Vec<u8>,
@@ -95,5 +96,6 @@ pub fn put_number(
             out.extend_from_slice(comparison_word(kind))?;
             put_pair(alloc, out, module, locals, &typed(written, first), second)
         }
+        NumberOp::Float(op) => put_float(alloc, out, module, locals, op),
     }
 }

@@ -2,6 +2,7 @@
 ghost use Rattle.std.specs.Prelude.{◌≡◌, ◌++◌, ◌∷◌, [], OnOk, slice_get};
 ghost use Rattle.ir_print.specs.Operands as spec;
 
+use crate::hexadecimal::put_bits;
 use crate::types::put_type;
 use ir_ast::{Argument, Constant, IrType, Module, Names, Operand, SymbolId, TypeId};
 use name_text::{Blank, put_global, put_local, put_number};
@@ -46,6 +47,7 @@ pub fn put_constant(
                 put_number(alloc, out, number)
             }
         }
+        Constant::Float(bits) => put_bits(out, bits),
         Constant::Null => out.extend_from_slice(b"null"),
         Constant::Truth(truth) => put_truth(out, truth),
     }
