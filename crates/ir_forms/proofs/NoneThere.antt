@@ -11,7 +11,8 @@ use Rattle.ir_forms.specs.declared.decorating.Spot.{Spot}
 use Rattle.ir_forms.specs.declared.decorating.Trail.{Trail}
 use Rattle.ir_forms.specs.declared.input.Input.{Input}
 use Rattle.ir_forms.specs.Cursor.{kind, sees, begins_line}
-use Rattle.ir_forms.specs.Decorations.{begins_decoration, decorations, flags, debug_records, trailing}
+use Rattle.ir_forms.specs.Decorations.{begins_decoration, decorations, flags, trailing}
+use Rattle.ir_forms.specs.Records.{begins_record, debug_records}
 use Rattle.ir_forms.specs.ManyWith.{many_with_from}
 use Rattle.ir_forms.specs.Starts.{is_flag_of}
 use Rattle.ir_forms.specs.Written.{place_in_table, with_type_interned, has_other_pointer, intern, intern_pointer, is_second_kind}
@@ -24,7 +25,7 @@ pub no_flags : (x : Kind) (i : Input) → is_flag_of x (kind i.cursor) ≡ false
 unfolding flags many_with_from
 no_flags x i e = rw e refl
 
-pub no_records : (i : Input) → sees k.DebugRecord i.cursor ≡ false → debug_records.read i ≡ Ok (tt, i)
+pub no_records : (i : Input) → begins_record i ≡ false → debug_records.read i ≡ Ok (tt, i)
 unfolding debug_records many_from
 no_records i e = rw e refl
 

@@ -8,6 +8,7 @@ use Rattle.ir_forms.specs.CaseValues.{is_same_value, with_value}
 
 derived : (one other : CaseValue) → eq-value.it one other ≡ is_same_value one other
 derived (v.Number number) (v.Number other) = refl
+derived (v.Float bits) (v.Float other) = refl
 derived v.Null v.Null = refl
 derived v.True v.True = refl
 derived v.False v.False = refl

@@ -13,10 +13,14 @@ use Rattle.ir_forms.specs.Input.{Form, unread, skip, expect, sees_a}
 use Rattle.ir_forms.specs.Names.{set_type, callee, unnamed_value}
 use Rattle.ir_forms.specs.Written.{scalar, intern}
 use Rattle.ir_forms.specs.Starts.{is_indirect_callee}
-use Rattle.ir_forms.specs.Decorations.{decorations, trailed}
+use Rattle.ir_forms.specs.Decorations.{decorations}
+use Rattle.ir_forms.specs.Records.{trailed}
 use Rattle.ir_forms.specs.declared.decorating.Spot.TheVariants as spot
 use Rattle.ir_forms.specs.Lists.{arguments}
 use Rattle.ir_forms.specs.Ops.{as_op}
+use Rattle.ir_forms.specs.StandIns.{stand_in, first_of, null_of}
+use Rattle.ir_forms.specs.declared.stand_ins.StandIn.{StandIn}
+use Rattle.ir_forms.specs.declared.stand_ins.StandIn.TheVariants.{Itself, First, Null}
 
 -- the name of the function that is called
 abbrev pub called_by : Kind → Form ℕ
@@ -37,20 +41,37 @@ call_after returned = do
   decorations spot.Call
   pure (record { returned = returned; callee = f; arguments = xs })
 
+-- `@f(T V, ..)` after the type of its result, which is that of its value
+abbrev pub call_of : (value returned : ℕ) → Form Call
+call_of value returned = do
+  x ← call_after returned
+  set_type value returned
+  pure x
+
 -- `T @f(T V, ..)` after the word, whose value is a T
 abbrev pub typed_call : ℕ → Form Call
 typed_call value = do
   returned ← scalar
-  x ← call_after returned.id
-  set_type value returned.id
-  pure x
+  call_of value returned.id
+
+-- a call after the type of its result, or what stands in its place
+abbrev pub named_call_by : (value returned : ℕ) → StandIn → Form Op
+named_call_by value returned Itself = as_op op.Call (call_of value returned)
+named_call_by value returned First = as_op op.Cast (first_of value)
+named_call_by value returned Null = as_op op.Cast (null_of value returned)
+
+-- a call after its word, whose value has a name
+abbrev pub named_call : ℕ → Form Op
+named_call value = do
+  returned ← scalar
+  look stand_in (named_call_by value returned.id)
 
 -- `call T @f(T V, ..)`, whose value has a name
-unfoldable pub call : ℕ → Form Call
+unfoldable pub call : ℕ → Form Op
 call value = do
   skip
   decorations spot.Result
-  typed_call value
+  named_call value
 
 -- ---- calls without the name of a value
 
@@ -94,7 +115,7 @@ abbrev pub sees_call : Form (Unit {0})
 sees_call = skip >> sees_a k.Call
 
 -- `tail` or `notail` before a call
-unfoldable pub tail_call : ℕ → Form Call
+unfoldable pub tail_call : ℕ → Form Op
 tail_call value = sees_call >> call value
 
 -- `tail call ..` or `notail call ..`

@@ -9,12 +9,14 @@ use Rattle.ir_forms.specs.declared.case_values.CaseValue.TheVariants as v
 -- what a constant is as a case
 abbrev pub value_of : Constant → CaseValue
 value_of (c.Number number) = v.Number number
+value_of (c.Float bits) = v.Float bits
 value_of c.Null = v.Null
 value_of (c.Truth truth) = if truth then v.True else v.False
 
 -- two constants of a switch are one value
 abbrev pub is_same_value : CaseValue → CaseValue → Bool
 is_same_value (v.Number number) (v.Number other) = number == other
+is_same_value (v.Float bits) (v.Float other) = bits == other
 is_same_value v.Null v.Null = true
 is_same_value v.True v.True = true
 is_same_value v.False v.False = true

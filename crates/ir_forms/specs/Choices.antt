@@ -1,5 +1,5 @@
 -- Values that are one of several: select and phi.
-use Rattle.std.specs.Prelude.{ℕ, Bool, true, false, not, ◌&&◌, List, Option}
+use Rattle.std.specs.Prelude.{ℕ, Bool, true, false, not, ◌&&◌, List}
 use Rattle.grammar.specs.Grammar.{pure, refuse, look, ◌>>=◌, ◌>>◌}
 use Rattle.grammar.specs.Many.{many}
 use Rattle.grammar.specs.Takes.{Takes, TakesWhere, first_takes, second_takes, look_takes}
@@ -12,13 +12,14 @@ use Rattle.ir_forms.specs.declared.input.Input.{Input}
 use Rattle.ir_forms.specs.Cursor.{kind, kind_after, kind_third, same_kind}
 use Rattle.ir_forms.specs.Input.{Form, unexpected, skip, expect, expect_takes, IsKind}
 use Rattle.ir_forms.specs.Names.{incoming_label, set_type, new_value, new_value_takes, numbered_value, numbered_value_takes}
-use Rattle.ir_forms.specs.Written.{scalar, again, bits_of}
+use Rattle.ir_forms.specs.Written.{scalar, again, word_of}
 use Rattle.ir_forms.specs.Operand.{operand}
 use Rattle.ir_forms.specs.Numbers.{condition}
 use Rattle.ir_forms.specs.declared.choices.Entries.{Entries}
 use Rattle.ir_forms.specs.declared.numbers.TwoOperands.{TwoOperands}
+use Rattle.ir_forms.specs.declared.written.Word.{Word}
 use Rattle.ir_forms.specs.declared.decorating.Trail.TheVariants as trail
-use Rattle.ir_forms.specs.Decorations.{instruction_end}
+use Rattle.ir_forms.specs.Records.{instruction_end}
 use Rattle.ir_forms.specs.Lists.{at_no_comma}
 use Rattle.ir_forms.specs.ManyWith.{many_with}
 
@@ -28,10 +29,10 @@ use Rattle.ir_forms.specs.ManyWith.{many_with}
 unfoldable pub typed_pair : Form TwoOperands
 typed_pair = do
   w ← scalar
-  x ← operand (bits_of w)
+  x ← operand (word_of w)
   expect k.Comma
   again w
-  y ← operand (bits_of w)
+  y ← operand (word_of w)
   pure (record { written = w.id; first = x; second = y })
 
 -- `select i1 V, T V, T W`
@@ -52,29 +53,29 @@ separated true = expect k.Comma
 separated false = pure tt
 
 -- an entry of a phi after its bracket
-abbrev pub incoming_after : Option ℕ → Form Incoming
-incoming_after bits = do
-  x ← operand bits
+abbrev pub incoming_after : Word → Form Incoming
+incoming_after w = do
+  x ← operand w
   expect k.Comma
   b ← incoming_label
   expect k.CloseSquare
   pure (record { operand = x; from = b })
 
 -- `[ V, %b ]`
-unfoldable pub incoming : Option ℕ → Form Incoming
-incoming bits = expect k.OpenSquare >> incoming_after bits
+unfoldable pub incoming : Word → Form Incoming
+incoming w = expect k.OpenSquare >> incoming_after w
 
-incoming_takes : (bits : Option ℕ) → Takes (incoming bits)
+incoming_takes : (w : Word) → Takes (incoming w)
 unfolding incoming
-incoming_takes bits = first_takes (expect k.OpenSquare) (λ _. incoming_after bits) (expect_takes k.OpenSquare (λ x. cc))
+incoming_takes w = first_takes (expect k.OpenSquare) (λ _. incoming_after w) (expect_takes k.OpenSquare (λ x. cc))
 
 -- an entry, the first or a further one
 unfoldable pub entry : Entries → Form Incoming
-entry e = separated e.is_further >> incoming e.bits
+entry e = separated e.is_further >> incoming e.word
 
 pub entry_takes : (e : Entries) → Takes (entry e)
 unfolding entry
-entry_takes e = second_takes (separated e.is_further) (λ _. incoming e.bits) (λ _. incoming_takes e.bits)
+entry_takes e = second_takes (separated e.is_further) (λ _. incoming e.word) (λ _. incoming_takes e.word)
 
 -- the list of entries ends here
 abbrev pub ends_entries : Entries → Input → Bool
@@ -85,8 +86,8 @@ abbrev pub after_entry : Entries → Incoming → Entries
 after_entry e x = record e { is_further = true }
 
 -- the entries of a phi, of which there is one at least
-unfoldable pub all_entries : Option ℕ → Form (List Incoming)
-all_entries bits = many_with ends_entries entry entry_takes after_entry (record { bits = bits; is_further = false })
+unfoldable pub all_entries : Word → Form (List Incoming)
+all_entries w = many_with ends_entries entry entry_takes after_entry (record { word = w; is_further = false })
 
 -- ---- phi
 
@@ -120,7 +121,7 @@ phi_after value = do
   expect k.Equals
   expect k.Phi
   w ← scalar
-  xs ← all_entries (bits_of w)
+  xs ← all_entries (word_of w)
   set_type value w.id
   instruction_end trail.Other
   pure (record { value = value; written = w.id; incoming = xs })

@@ -1,14 +1,10 @@
 -- Decorations: what is written beside the parts of a form and has no effect on the module.
-use Rattle.std.specs.Prelude.{◌≡◌, ◌≢◌, ◌+◌, ◌-◌, ◌==◌, nat_lt, Bool, true, false, not, ◌&&◌, List, refl}
+use Rattle.std.specs.Prelude.{◌≡◌, ◌≢◌, ◌+◌, ◌-◌, ◌==◌, nat_lt, Bool, true, false, not, ◌&&◌, ◌||◌, List, refl}
 use Rattle.grammar.specs.Grammar.{pure, checked, refuse, look, ◌>>◌}
 use Rattle.grammar.specs.Takes.{Takes, TakesWhere, first_takes, first_takes_where, second_takes, look_takes, checked_takes}
-use Rattle.grammar.specs.Many.{many}
 use Rattle.ir_tokens.specs.declared.token.Kind.{Kind}
 use Rattle.ir_tokens.specs.declared.token.Kind.TheVariants as k
-use Rattle.ir_ast.specs.declared.memory.MemoryOp.TheVariants as memory
-use Rattle.ir_ast.specs.declared.op.Op.{Op}
-use Rattle.ir_ast.specs.declared.op.Op.TheVariants as op
-use Rattle.ir_forms.specs.Cursor.{kind, kind_after, same_kind, sees, begins_line}
+use Rattle.ir_forms.specs.Cursor.{kind, kind_after, same_kind, sees, begins_line, sees_float}
 use Rattle.ir_forms.specs.declared.input.Input.{Input}
 use Rattle.ir_forms.specs.Input.{Form, limit, unexpected, unread, skip, expect, expect_takes, IsKind, skip_takes}
 use Rattle.ir_forms.specs.declared.decorating.Brackets.{Brackets}
@@ -85,9 +81,9 @@ ends_operand k.Comma = true
 ends_operand k.CloseRound = true
 ends_operand _ = false
 
--- in an argument a number that ends the argument is its operand
+-- in an argument a number that ends the argument is its operand, and so is a floating point number, where the wide forms may stand
 abbrev pub is_operand : Spot → Input → Bool
-is_operand s i = is_argument s && ends_operand (kind_after i.cursor)
+is_operand s i = is_argument s && (ends_operand (kind_after i.cursor) || (i.wide && sees_float i.cursor))
 
 -- what belongs to a decorating word: a part in brackets, a quoted text or a number after it
 abbrev pub word_end_by : Spot → Kind → Form (Unit {0})
@@ -233,28 +229,6 @@ flagged word = skip >> flags word
 unfoldable pub flagged_word : Form (Unit {0})
 flagged_word = look (λ i. kind i.cursor) flagged
 
--- ---- debug records
-
--- what follows the name of a debug record
-abbrev pub record_after : Form (Unit {0})
-record_after = expect k.OpenRound >> past_brackets
-
--- `#dbg_value(..)`
-unfoldable pub debug_record : Form (Unit {0})
-debug_record = expect k.DebugRecord >> record_after
-
-pub debug_record_takes : Takes debug_record
-unfolding debug_record
-debug_record_takes = first_takes (expect k.DebugRecord) (λ _. record_after) (expect_takes k.DebugRecord (λ x. cc))
-
--- no debug record is here
-abbrev pub at_no_record : Input → Bool
-at_no_record i = not (sees k.DebugRecord i.cursor)
-
--- the debug records before an instruction
-unfoldable pub debug_records : Form (Unit {0})
-debug_records = many at_no_record debug_record debug_record_takes >> pure tt
-
 -- ---- after an instruction or a global
 
 -- an instruction of this sort may have an alignment
@@ -319,17 +293,3 @@ same_trail t _ = t
 -- the decorations after an instruction or a global
 unfoldable pub trailing : Trail → Form (Unit {0})
 trailing t = many_with at_no_trail comma_trail comma_trail_takes same_trail t >> pure tt
-
--- what may follow an instruction
-abbrev pub trail_of : Op → Trail
-trail_of (op.Memory (memory.Alloca held)) = trail.Slot
-trail_of (op.Memory x) = trail.Memory
-trail_of _ = trail.Other
-
--- the decorations after an instruction, and the debug records before the next one
-unfoldable pub instruction_end : Trail → Form (Unit {0})
-instruction_end t = trailing t >> debug_records
-
--- an instruction, with what comes before the next one
-abbrev pub trailed : Op → Form Op
-trailed x = instruction_end (trail_of x) >> pure x

@@ -1,5 +1,5 @@
 -- How a block ends.
-use Rattle.std.specs.Prelude.{ℕ, Bool, true, false, not, List, [], Option}
+use Rattle.std.specs.Prelude.{Bool, true, false, not, List, []}
 use Rattle.grammar.specs.Grammar.{pure, checked, refuse, look, ◌>>=◌, ◌>>◌}
 use Rattle.grammar.specs.Takes.{Takes, TakesWhere, first_takes, first_takes_where, second_takes, look_takes}
 use Rattle.ir_tokens.specs.declared.token.Kind.{Kind}
@@ -10,11 +10,12 @@ use Rattle.ir_ast.specs.declared.ends.End.{End}
 use Rattle.ir_ast.specs.declared.ends.End.TheVariants as end
 use Rattle.ir_forms.specs.declared.fault.Fault.TheVariants.{DefinedTwice}
 use Rattle.ir_forms.specs.declared.input.Input.{Input}
+use Rattle.ir_forms.specs.declared.written.Word.{Word}
 use Rattle.ir_forms.specs.declared.written.WrittenType.{WrittenType}
 use Rattle.ir_forms.specs.Cursor.{kind, sees, start}
 use Rattle.ir_forms.specs.Input.{Form, unexpected, skip, skip_takes, expect, expect_takes, IsKind}
 use Rattle.ir_forms.specs.Names.{target}
-use Rattle.ir_forms.specs.Written.{scalar, again, bits_of}
+use Rattle.ir_forms.specs.Written.{integer_scalar, again, word_of}
 use Rattle.ir_forms.specs.Operand.{operand, constant}
 use Rattle.ir_forms.specs.declared.ends.Cases.{Cases}
 use Rattle.ir_forms.specs.declared.decorating.Trail.TheVariants as trail
@@ -52,8 +53,8 @@ br = skip >> br_after
 -- ---- switch
 
 -- the constant of a case, after cases of these values
-unfoldable pub case_constant : Option ℕ → List CaseValue → Form Constant
-case_constant bits seen = look (λ i. start i.cursor) (λ place. constant bits >>= λ x. checked (λ _. not (is_among (value_of x) seen)) (λ _. DefinedTwice place) >> pure x)
+unfoldable pub case_constant : Word → List CaseValue → Form Constant
+case_constant word seen = look (λ i. start i.cursor) (λ place. constant word >>= λ x. checked (λ _. not (is_among (value_of x) seen)) (λ _. DefinedTwice place) >> pure x)
 
 -- a case with this constant and the block that is read
 abbrev pub case_target : Constant → Form Case
@@ -65,7 +66,7 @@ case_of x = expect k.Comma >> case_target x
 
 -- a case after its type: a constant that no case before it has, and the block
 abbrev pub case_after : Cases → Form Case
-case_after c = case_constant (bits_of c.written) c.seen >>= case_of
+case_after c = case_constant (word_of c.written) c.seen >>= case_of
 
 -- `T c, label %b`
 unfoldable pub case : Cases → Form Case
@@ -75,7 +76,7 @@ case_of_takes : (x : Constant) → Takes (case_of x)
 case_of_takes x = first_takes (expect k.Comma) (λ _. case_target x) (expect_takes k.Comma (λ x. cc))
 
 case_after_takes : (c : Cases) → Takes (case_after c)
-case_after_takes c = second_takes (case_constant (bits_of c.written) c.seen) case_of case_of_takes
+case_after_takes c = second_takes (case_constant (word_of c.written) c.seen) case_of case_of_takes
 
 pub case_takes : (c : Cases) → Takes (case c)
 unfolding case
@@ -104,8 +105,8 @@ bracketed_cases w = do
 -- what follows `switch`
 abbrev pub switch_after : Form End
 switch_after = do
-  w ← scalar
-  x ← operand (bits_of w)
+  w ← integer_scalar
+  x ← operand (word_of w)
   expect k.Comma
   otherwise ← target
   xs ← bracketed_cases w

@@ -13,7 +13,7 @@ use Rattle.ir_forms.specs.declared.fault.Fault.TheVariants.{Memory, Limit}
 use Rattle.ir_forms.specs.declared.input.Input.{Input}
 use Rattle.ir_forms.specs.Place.{Place}
 use Rattle.ir_forms.specs.Table.{empty}
-use Rattle.ir_forms.specs.Cursor.{kind, kind_first, same_kind, sees, start, next, rest_of, refused}
+use Rattle.ir_forms.specs.Cursor.{kind, kind_first, here, same_kind, sees, start, next, rest_of, refused}
 use denote.Enum.Bare.{same_true}
 
 -- how many tokens are left
@@ -77,9 +77,9 @@ rest_falls : (ts : List Token) → length (rest_of ts) ≤ length ts
 rest_falls [] = omega arith
 rest_falls (t ∷ ts) = omega arith
 
-rest_less : (ts : List Token) → kind_first ts ≢ k.End → length (rest_of ts) < length ts
-rest_less [] ne = absurd (ne refl)
-rest_less (t ∷ ts) ne = omega arith
+rest_less : (wide : Bool) (ts : List Token) → kind_first (here wide ts) ≢ k.End → length (rest_of ts) < length ts
+rest_less wide [] ne = absurd (ne refl)
+rest_less wide (t ∷ ts) ne = omega arith
 
 -- a step to the next token, whatever else it changes, never increases the number of tokens left
 pub next_falls : (i : Input) → length (next i.cursor).rest ≤ left i
@@ -89,7 +89,7 @@ next_falls i = rest_falls i.cursor.rest
 -- and takes the token that is there
 pub next_takes : (i : Input) → kind i.cursor ≢ k.End → length (next i.cursor).rest < left i
 unfolding left next kind
-next_takes i ne = rest_less i.cursor.rest ne
+next_takes i ne = rest_less i.cursor.wide i.cursor.rest ne
 
 pub advanced_falls : (i : Input) → left (advanced i) ≤ left i
 unfolding left

@@ -19,6 +19,7 @@ use Rattle.ir_forms.specs.Choices.{select}
 use Rattle.ir_forms.specs.Elements.{element}
 use Rattle.ir_forms.specs.ManyWith.{many_with}
 use Rattle.ir_forms.specs.Memory.{alloca, load, store, stored_here}
+use Rattle.ir_forms.specs.FloatOps.{number_op}
 use Rattle.ir_forms.specs.Numbers.{compare, integer_op}
 use Rattle.ir_forms.specs.Ops.{as_op}
 use Rattle.ir_forms.specs.Sites.{first_of, afterwards}
@@ -26,9 +27,9 @@ use Rattle.ir_forms.specs.Sites.{first_of, afterwards}
 -- an instruction that begins with a word that is left out where the wide forms may not stand
 abbrev pub wide_op_by : ℕ → Bool → Form Op
 wide_op_by value true = as_op op.Cast (freeze value)
-wide_op_by value false = as_op op.Number (integer_op value)
+wide_op_by value false = number_op value
 
--- the value under another name, or an operation on integers
+-- the value under another name, or an operation on numbers
 unfoldable pub wide_op : ℕ → Form Op
 wide_op value = look freezes (wide_op_by value)
 
@@ -40,9 +41,9 @@ named_op_by site value k.Load = as_op op.Memory (load value)
 named_op_by site value k.Getelementptr = as_op op.Element (element site value)
 named_op_by site value k.Icmp = as_op op.Number (compare value)
 named_op_by site value k.Select = as_op op.Choice (select value)
-named_op_by site value k.Call = as_op op.Call (call value)
-named_op_by site value k.Tail = as_op op.Call (tail_call value)
-named_op_by site value k.Notail = as_op op.Call (tail_call value)
+named_op_by site value k.Call = call value
+named_op_by site value k.Tail = tail_call value
+named_op_by site value k.Notail = tail_call value
 named_op_by site value k.LeftOut = wide_op value
 named_op_by site value _ = as_op op.Number (integer_op value)
 

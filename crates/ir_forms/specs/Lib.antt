@@ -1,5 +1,6 @@
 pub mod Place
 pub mod View
+pub mod FloatNumbers
 pub mod Cursor
 pub mod Number
 pub mod Table
@@ -12,14 +13,17 @@ pub mod ManyWith
 pub mod Starts
 pub mod Decorations
 pub mod Lists
+pub mod Records
 pub mod Sites
 pub mod CaseValues
 pub mod Ops
 pub mod Numbers
+pub mod FloatOps
 pub mod Memory
 pub mod Elements
 pub mod Casts
 pub mod Choices
+pub mod StandIns
 pub mod Calls
 pub mod Ends
 pub mod Instructions

@@ -10,7 +10,7 @@ use Rattle.ir_forms.specs.declared.input.Input.{Input}
 use Rattle.ir_forms.specs.declared.written.WrittenType.{WrittenType}
 use Rattle.ir_forms.specs.Cursor.{kind_after, sees}
 use Rattle.ir_forms.specs.Input.{Form, unexpected, expect, expect_takes}
-use Rattle.ir_forms.specs.Written.{scalar, bits_of, scalar_takes}
+use Rattle.ir_forms.specs.Written.{scalar, word_of, scalar_takes}
 use Rattle.ir_forms.specs.Operand.{operand}
 use Rattle.ir_forms.specs.Decorations.{either, decorations}
 use Rattle.ir_forms.specs.ManyWith.{many_with}
@@ -37,7 +37,7 @@ at_round i = sees k.CloseRound i.cursor
 abbrev pub argument_of : WrittenType → Form Argument
 argument_of w = do
   decorations spot.Argument
-  x ← operand (bits_of w)
+  x ← operand (word_of w)
   separator k.CloseRound
   pure (record { written = w.id; operand = x })
 
@@ -64,7 +64,7 @@ is_metadata _ = false
 unfoldable pub typed : Form Argument
 typed = do
   w ← scalar
-  x ← operand (bits_of w)
+  x ← operand (word_of w)
   pure (record { written = w.id; operand = x })
 
 -- `, T V`

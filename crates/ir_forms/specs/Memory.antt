@@ -1,14 +1,15 @@
 -- Operations on memory.
-use Rattle.std.specs.Prelude.{ℕ, None}
+use Rattle.std.specs.Prelude.{ℕ}
 use Rattle.grammar.specs.Grammar.{pure, ◌>>=◌, ◌>>◌}
 use Rattle.ir_tokens.specs.declared.token.Kind.TheVariants as k
 use Rattle.ir_ast.specs.declared.argument.Argument.{Argument}
 use Rattle.ir_ast.specs.declared.memory.MemoryOp.{MemoryOp}
 use Rattle.ir_ast.specs.declared.memory.MemoryOp.TheVariants as memory
+use Rattle.ir_forms.specs.declared.written.Word.TheVariants as sort
 use Rattle.ir_forms.specs.declared.written.WrittenType.{WrittenType}
 use Rattle.ir_forms.specs.Input.{Form, skip, expect}
 use Rattle.ir_forms.specs.Names.{set_type, set_slot}
-use Rattle.ir_forms.specs.Written.{scalar, pointer_again, bits_of}
+use Rattle.ir_forms.specs.Written.{scalar, pointer_again, word_of}
 use Rattle.ir_forms.specs.Operand.{operand}
 use Rattle.ir_forms.specs.Decorations.{optional}
 
@@ -24,7 +25,7 @@ alloca value = do
 unfoldable pub place_of : WrittenType → Form Argument
 place_of held = do
   place_type ← pointer_again held
-  place ← operand None
+  place ← operand sort.Pointer
   pure (record { written = place_type; operand = place })
 
 -- `load T, T* V`
@@ -42,7 +43,7 @@ load value = do
 abbrev pub stored_afterwards : Form MemoryOp
 stored_afterwards = do
   stored ← scalar
-  value ← operand (bits_of stored)
+  value ← operand (word_of stored)
   expect k.Comma
   place ← place_of stored
   pure (memory.Store stored.id value place.written place.operand)

@@ -16,24 +16,24 @@ use Rattle.ir_ast.specs.declared.numbers.Comparison.TheVariants as c
 use Rattle.ir_ast.specs.declared.numbers.NumberOp.{NumberOp}
 use Rattle.ir_ast.specs.declared.numbers.NumberOp.TheVariants as number
 use Rattle.ir_forms.specs.declared.written.Base.TheVariants.{Integer}
+use Rattle.ir_forms.specs.declared.written.Word.TheVariants as sort
 use Rattle.ir_forms.specs.declared.written.WrittenType.{WrittenType}
 use Rattle.ir_forms.specs.Cursor.{kind, sees, spelling}
 use Rattle.ir_forms.specs.declared.input.Input.{Input}
 use Rattle.ir_forms.specs.Input.{Form, unexpected, skip, expect}
 use Rattle.ir_forms.specs.Names.{set_type}
-use Rattle.ir_forms.specs.Written.{scalar, intern, again, bits_of}
+use Rattle.ir_forms.specs.Written.{integer_scalar, intern, again, word_of}
 use Rattle.ir_forms.specs.Operand.{operand}
 use Rattle.ir_forms.specs.declared.numbers.TwoOperands.{TwoOperands}
-use Rattle.ir_forms.specs.Lists.{typed}
 use Rattle.ir_forms.specs.Decorations.{flagged_word, either}
 
--- `T V, W`
+-- `T V, W`, of integers or pointers
 unfoldable pub pair : Form TwoOperands
 pair = do
-  w ← scalar
-  x ← operand (bits_of w)
+  w ← integer_scalar
+  x ← operand (word_of w)
   expect k.Comma
-  y ← operand (bits_of w)
+  y ← operand (word_of w)
   pure (record { written = w.id; first = x; second = y })
 
 -- ---- sums and the like
@@ -100,13 +100,20 @@ resize_of k.Sext = Some r.SignExtend
 resize_of k.Trunc = Some r.Truncate
 resize_of _ = None
 
+-- `T V`, of integers or pointers
+unfoldable pub typed_integer : Form Argument
+typed_integer = do
+  w ← integer_scalar
+  x ← operand (word_of w)
+  pure (record { written = w.id; operand = x })
+
 -- `zext T V to U`, and so for the other two
 unfoldable pub resize : Resize → ℕ → Form NumberOp
 resize x value = do
   flagged_word
-  from ← typed
+  from ← typed_integer
   expect k.To
-  to ← scalar
+  to ← integer_scalar
   set_type value to.id
   pure (number.Resize x from.written from.operand to.id)
 
@@ -156,7 +163,7 @@ unfoldable pub condition : Form Argument
 condition = do
   id ← intern (type.Integer 1)
   again (bit_type id)
-  x ← operand (Some 1)
+  x ← operand (sort.Integer 1)
   pure (record { written = id; operand = x })
 
 -- ---- by the word

@@ -1,19 +1,25 @@
 -- Constants and operands.
-use Rattle.std.specs.Prelude.{ℕ, ◌==◌, if◌then◌else◌, Bool, true, false, Option, Some, None, is_some, unwrap_or}
+use Rattle.std.specs.Prelude.{◌≤◌, ℕ, ◌+◌, ◌==◌, nat_lt, if◌then◌else◌, Bool, true, false, List, [], ◌∷◌, length, Option, Some, None, is_some, unwrap_or}
+use Rattle.std.proofs.Common.{arith}
 use Rattle.grammar.specs.Grammar.{pure, step, checked, refuse, look, ◌>>=◌, ◌>>◌}
 use Rattle.ir_tokens.specs.declared.token.Kind.{Kind}
 use Rattle.ir_tokens.specs.declared.token.Kind.TheVariants as k
+use Rattle.ir_tokens.specs.declared.token.Token.{Token}
+use Rattle.ir_ast.specs.Floats as floats
 use Rattle.ir_ast.specs.declared.operand.Constant.{Constant}
 use Rattle.ir_ast.specs.declared.operand.Constant.TheVariants as c
 use Rattle.ir_ast.specs.declared.operand.Operand.{Operand}
 use Rattle.ir_ast.specs.declared.operand.Operand.TheVariants as o
 use Rattle.ir_forms.specs.declared.fault.Fault.TheVariants.{OutOfRange}
 use Rattle.ir_forms.specs.declared.input.Input.{Input}
-use Rattle.ir_forms.specs.Cursor.{kind, start, spelling}
+use Rattle.ir_forms.specs.Cursor.{kind, start, spelling, run, sees_float, begun_at, past_run}
+use Rattle.ir_forms.specs.FloatNumbers.{float_bits}
 use Rattle.ir_forms.specs.Number as numbers
-use Rattle.ir_forms.specs.Input.{Form, unread, advanced, advanced_falls, skip, expect}
+use Rattle.ir_forms.specs.Input.{Form, left, unread, unexpected, advanced, advanced_falls, skip, expect}
 use Rattle.ir_forms.specs.Names.{used_value, used_global}
 use Rattle.ir_forms.specs.declared.written.WrittenType.{WrittenType}
+use Rattle.ir_forms.specs.declared.written.Word.{Word}
+use Rattle.ir_forms.specs.declared.written.Word.TheVariants as sort
 use Rattle.ir_forms.specs.Written.{pointer_type}
 
 -- constant expressions, vectors and packed structs
@@ -34,41 +40,106 @@ begins_unread_operand k.Select = true
 begins_unread_operand k.Less = true
 begins_unread_operand _ = false
 
--- what `undef` and `zeroinitializer` are at an integer type of n bits, or else at a pointer type
-abbrev pub zero_of : Option ℕ → Constant
-zero_of None = c.Null
-zero_of (Some bits) = c.Number 0
+-- what `undef` and `zeroinitializer` are as a word of this sort
+abbrev pub zero_of : Word → Constant
+zero_of sort.Pointer = c.Null
+zero_of (sort.Integer bits) = c.Number 0
+zero_of sort.Float = c.Float 0
+zero_of sort.Double = c.Float 0
 
 -- what `true` and `false` are: the numbers 1 and 0 at i1, and no value of another type
-abbrev pub truth_of : Option ℕ → Bool → Constant
-truth_of None truth = c.Truth truth
-truth_of (Some bits) truth = if bits == 1 then c.Number (if truth then 1 else 0) else c.Truth truth
+abbrev pub truth_of : Word → Bool → Constant
+truth_of (sort.Integer bits) truth = if bits == 1 then c.Number (if truth then 1 else 0) else c.Truth truth
+truth_of _ truth = c.Truth truth
 
--- the number that the next token spells, if it is in the range of n bits; a pointer type has 64
-unfoldable pub number_at : Option ℕ → Input → Option ℕ
-number_at bits i = numbers.constant (spelling i.cursor) (unwrap_or bits 64)
+-- ---- integers
 
--- the number that is here as a constant of n bits, or 0
-abbrev pub number_or_zero : Option ℕ → Input → Constant
-number_or_zero bits i = c.Number (unwrap_or (number_at bits i) 0)
+-- how many bits an integer has; a pointer has 64
+abbrev pub bits_of_word : Word → ℕ
+bits_of_word (sort.Integer bits) = bits
+bits_of_word _ = 64
+
+-- the number that the next token spells, if it is in the range of the word
+unfoldable pub number_at : Word → Input → Option ℕ
+number_at w i = numbers.constant (spelling i.cursor) (bits_of_word w)
+
+-- the number that is here as a constant of this word, or 0
+abbrev pub number_or_zero : Word → Input → Constant
+number_or_zero w i = c.Number (unwrap_or (number_at w i) 0)
 
 -- a number, which is in the range of its type
-unfoldable pub number : Option ℕ → Form Constant
-number bits = checked (λ i. is_some (number_at bits i)) (λ i. OutOfRange (start i.cursor)) >> step (number_or_zero bits) advanced advanced_falls
+unfoldable pub number : Word → Form Constant
+number w = checked (λ i. is_some (number_at w i)) (λ i. OutOfRange (start i.cursor)) >> step (number_or_zero w) advanced advanced_falls
 
--- a constant of a type of n bits, or of a pointer type, by the token with which it begins
-abbrev pub constant_by : Option ℕ → Kind → Form Constant
-constant_by bits k.Number = number bits
-constant_by bits k.True = skip >> pure (truth_of bits true)
-constant_by bits k.False = skip >> pure (truth_of bits false)
-constant_by bits k.Null = skip >> pure c.Null
-constant_by bits k.Undef = skip >> pure (zero_of bits)
-constant_by bits k.Zeroinitializer = skip >> pure (zero_of bits)
-constant_by bits _ = refuse (unread begins_unread_operand)
+-- ---- floating point numbers
 
--- a constant at an integer type of n bits, or else at a pointer type
-unfoldable pub constant : Option ℕ → Form Constant
-constant bits = look (λ i. kind i.cursor) (constant_by bits)
+-- a word of this sort holds a number of 64 bits
+abbrev pub holds_float : Word → ℕ → Bool
+holds_float sort.Float n = floats.is_float n
+holds_float _ n = true
+
+-- a number that a word of this sort holds
+abbrev pub held_float : Word → Option ℕ → Option ℕ
+held_float w None = None
+held_float w (Some n) = if holds_float w n then Some n else None
+
+-- the bits of the number that is here, if the word holds it
+unfoldable pub float_at : Word → Input → Option ℕ
+float_at w i = held_float w (float_bits (run i.cursor))
+
+-- the number that is here as a constant of this word, or 0
+abbrev pub float_or_zero : Word → Input → Constant
+float_or_zero w i = c.Float (unwrap_or (float_at w i) 0)
+
+-- after the tokens of the number that is here
+abbrev pub after_run : Input → Input
+after_run i = record i { cursor = past_run i.cursor }
+
+begun_falls : (place : ℕ) (ts : List Token) → length (begun_at place ts) ≤ length ts
+begun_falls place [] = omega arith
+begun_falls place (t ∷ ts) = by (nat_lt t.start place) (begun_falls place ts) where
+  by : (b : Bool) → length (begun_at place ts) ≤ length ts → length (if b then begun_at place ts else t ∷ ts) ≤ length (t ∷ ts)
+  by true le = omega (arith, le)
+  by false le = omega arith
+
+pub after_run_falls : (i : Input) → left (after_run i) ≤ left i
+unfolding left past_run
+after_run_falls i = begun_falls (start i.cursor + length (run i.cursor)) i.cursor.rest
+
+-- a floating point number, which its type has
+unfoldable pub float_number : Word → Form Constant
+float_number w = checked (λ i. sees_float i.cursor) unexpected >> checked (λ i. is_some (float_at w i)) (λ i. OutOfRange (start i.cursor)) >> step (float_or_zero w) after_run after_run_falls
+
+-- ---- constants
+
+-- a number as a word of this sort
+abbrev pub number_by : Word → Form Constant
+number_by sort.Float = float_number sort.Float
+number_by sort.Double = float_number sort.Double
+number_by w = number w
+
+-- a word of no kind of its own: a floating point number with a minus, and no constant of another type
+abbrev pub word_by : Word → Form Constant
+word_by sort.Float = float_number sort.Float
+word_by sort.Double = float_number sort.Double
+word_by w = refuse (unread begins_unread_operand)
+
+-- a constant as a word of this sort, by the token with which it begins
+abbrev pub constant_by : Word → Kind → Form Constant
+constant_by w k.Number = number_by w
+constant_by w k.Word = word_by w
+constant_by w k.True = skip >> pure (truth_of w true)
+constant_by w k.False = skip >> pure (truth_of w false)
+constant_by w k.Null = skip >> pure c.Null
+constant_by w k.Undef = skip >> pure (zero_of w)
+constant_by w k.Zeroinitializer = skip >> pure (zero_of w)
+constant_by w _ = refuse (unread begins_unread_operand)
+
+-- a constant as a word of this sort
+unfoldable pub constant : Word → Form Constant
+constant w = look (λ i. kind i.cursor) (constant_by w)
+
+-- ---- operands
 
 -- operands other than globals
 abbrev pub begins_other_operand : Kind → Bool
@@ -112,13 +183,13 @@ unfoldable pub cast : Form Operand
 cast = skip >> cast_after
 
 -- an operand, by the token with which it begins
-abbrev pub operand_by : Option ℕ → Kind → Form Operand
-operand_by bits k.LocalName = used_value >>= λ value. pure (o.Local value)
-operand_by bits k.LocalNumber = used_value >>= λ value. pure (o.Local value)
-operand_by bits k.GlobalName = used_global >>= λ symbol. pure (o.Global symbol)
-operand_by bits k.Bitcast = cast
-operand_by bits _ = constant bits >>= λ x. pure (o.Constant x)
+abbrev pub operand_by : Word → Kind → Form Operand
+operand_by w k.LocalName = used_value >>= λ value. pure (o.Local value)
+operand_by w k.LocalNumber = used_value >>= λ value. pure (o.Local value)
+operand_by w k.GlobalName = used_global >>= λ symbol. pure (o.Global symbol)
+operand_by w k.Bitcast = cast
+operand_by w _ = constant w >>= λ x. pure (o.Constant x)
 
--- an operand at an integer type of n bits, or else at a pointer type
-unfoldable pub operand : Option ℕ → Form Operand
-operand bits = look (λ i. kind i.cursor) (operand_by bits)
+-- an operand as a word of this sort
+unfoldable pub operand : Word → Form Operand
+operand w = look (λ i. kind i.cursor) (operand_by w)

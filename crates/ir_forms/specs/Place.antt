@@ -1,5 +1,5 @@
 -- What a cursor shows.
-use Rattle.std.specs.Prelude.{ℕ, List, Option}
+use Rattle.std.specs.Prelude.{ℕ, Bool, List, Option}
 use Rattle.ir_tokens.specs.declared.token.Token.{Token}
 
 -- a place in a text that is read
@@ -10,3 +10,5 @@ pub record Place : Type 0 where
   pub rest : List Token
   -- where, after the tokens, no token begins
   pub bad : Option ℕ
+  -- the wide forms may stand
+  pub wide : Bool

@@ -1,5 +1,6 @@
 -- Types as they are written: a base with stars after it, where arrays and structs are bases that have types inside.
-use Rattle.std.specs.Prelude.{ℕ, zero, suc, ◌-◌, ◌≤◌, Bool, true, false, not, ◌||◌, ◌==◌, ◌&&◌, if◌then◌else◌, nat_lt, nat_le, min, List, [], ◌∷◌, Option, Some, None, is_some, is_none, unwrap_or, slice_get}
+use Rattle.std.specs.Prelude.{ℕ, codes, zero, suc, ◌-◌, ◌≤◌, Bool, true, false, not, ◌||◌, ◌==◌, ◌&&◌, if◌then◌else◌, nat_lt, nat_le, min, List, [], ◌∷◌, Option, Some, None, is_some, is_none, unwrap_or, slice_get}
+use Rattle.std.specs.Str.{bytes_eq}
 use Rattle.std.proofs.Common.{arith}
 use Rattle.grammar.specs.Grammar.{pure, step, checked, refuse, look, ◌>>=◌, ◌>>◌}
 use Rattle.grammar.specs.Takes.{Takes, TakesWhere, first_takes, first_takes_where, look_takes, stays_takes}
@@ -12,10 +13,14 @@ use Rattle.ir_ast.specs.Types.{place_of_type, number_of_type, numbered_type}
 use Rattle.ir_ast.specs.declared.ir_type.IrType.{IrType}
 use Rattle.ir_ast.specs.declared.ir_type.IrType.TheVariants as type
 use Rattle.ir_forms.specs.declared.fault.Fault.{Fault}
-use Rattle.ir_forms.specs.declared.fault.Fault.TheVariants.{OutOfRange, OtherPointer}
+use Rattle.ir_forms.specs.declared.fault.Fault.TheVariants.{OutOfRange, Unexpected, OtherPointer}
 use Rattle.ir_forms.specs.declared.input.Input.{Input}
 use Rattle.ir_forms.specs.declared.written.Base.{Base}
-use Rattle.ir_forms.specs.declared.written.Base.TheVariants.{Integer, Named, Opaque, Aggregate}
+use Rattle.ir_forms.specs.declared.written.Base.TheVariants.{Integer, Float, Double, Named, Opaque, Aggregate}
+use Rattle.ir_forms.specs.declared.written.FloatType.{FloatType}
+use Rattle.ir_forms.specs.declared.written.FloatType.TheVariants as size
+use Rattle.ir_forms.specs.declared.written.Word.{Word}
+use Rattle.ir_forms.specs.declared.written.Word.TheVariants as sort
 use Rattle.ir_forms.specs.declared.written.WrittenType.{WrittenType}
 use Rattle.ir_forms.specs.Cursor.{kind, kind_after, sees, start, name, spelled, spelling, left_out, refused}
 use Rattle.ir_forms.specs.Number.{decimal, natural}
@@ -87,6 +92,26 @@ has_bits = checked (λ i. nat_le 1 (bits_at i) && nat_le (bits_at i) 64) (λ i. 
 unfoldable pub integer : Form ℕ
 integer = has_bits >> step bits_at advanced advanced_falls
 
+-- ---- floating point types
+
+-- the type of floating point numbers that a word names
+abbrev pub float_of : List ℕ → Option FloatType
+float_of word = if bytes_eq word (codes "float") then Some size.Single else (if bytes_eq word (codes "double") then Some size.Double else None)
+
+-- the same of the next token, where the wide forms may stand
+unfoldable pub float_here : Input → Option FloatType
+float_here i = if i.wide && sees k.LeftOut i.cursor then float_of (spelling i.cursor) else None
+
+-- what it is before its stars
+abbrev pub float_base : FloatType → Base
+float_base size.Single = Float
+float_base size.Double = Double
+
+-- what it is in the table of types
+abbrev pub float_entry : FloatType → IrType
+float_entry size.Single = type.Float
+float_entry size.Double = type.Double
+
 -- ---- types inside of types
 
 -- a form that takes a token
@@ -94,13 +119,14 @@ pub record Firm : Type 1 where
   pub form : Form WrittenType
   pub takes : Takes form
 
--- types of the forms that are read
+-- a type of the forms that are read may begin so
 abbrev pub begins_type : Kind → Bool
 begins_type k.IntegerType = true
 begins_type k.LocalName = true
 begins_type k.OpenSquare = true
 begins_type k.OpenBrace = true
 begins_type k.Ptr = true
+begins_type k.LeftOut = true
 begins_type _ = false
 
 -- numbered types, vectors, packed structs and lists of any length
@@ -202,6 +228,15 @@ is_round _ = false
 abbrev pub no_void : Form WrittenType
 no_void = refuse (λ i. refused (is_round (kind_after i.cursor)) i.cursor)
 
+-- `float` or `double`, if the word is one of them
+abbrev pub float_by : ℕ → Option FloatType → Form WrittenType
+float_by room None = refuse (unread begins_unread_type)
+float_by room (Some t) = skip >> interned (float_base t) room (float_entry t)
+
+-- `float` or `double`, where the wide forms may stand
+abbrev pub float_written : ℕ → Form WrittenType
+float_written room = look float_here (float_by room)
+
 -- a type without the stars after it, by the token with which it begins
 abbrev pub base_by : ℕ → Firm → Kind → Form WrittenType
 base_by room inner k.IntegerType = integer >>= λ bits. interned (Integer bits) room (type.Integer bits)
@@ -209,6 +244,7 @@ base_by room inner k.LocalName = struct_name >>= λ name. interned Named room (t
 base_by room inner k.OpenSquare = array inner
 base_by room inner k.OpenBrace = braced room inner
 base_by room inner k.Ptr = opaque_type >>= λ id. pure (part_of Opaque room id)
+base_by room inner k.LeftOut = float_written room
 base_by room inner k.Void = no_void
 base_by room inner _ = refuse (unread begins_unread_type)
 
@@ -276,12 +312,17 @@ opaque_takes : TakesWhere (IsKind k.Ptr) opaque_type
 unfolding opaque_type
 opaque_takes i = first_takes_where (IsKind k.Ptr) skip (λ _. intern_pointer (start i.cursor) type.Opaque) (skip_takes k.Ptr (λ x. cc)) i
 
+float_takes_by : (room : ℕ) (t : Option FloatType) → TakesWhere (IsKind k.LeftOut) (float_by room t)
+float_takes_by room None = λ i a o e h. absurd h
+float_takes_by room (Some t) = first_takes_where (IsKind k.LeftOut) skip (λ _. interned (float_base t) room (float_entry t)) (skip_takes k.LeftOut (λ x. cc))
+
 pub base_takes_by : (room : ℕ) (inner : Firm) (x : Kind) → TakesWhere (IsKind x) (base_by room inner x)
 base_takes_by room inner k.IntegerType = first_takes_where (IsKind k.IntegerType) integer (λ bits. interned (Integer bits) room (type.Integer bits)) integer_takes
 base_takes_by room inner k.LocalName = first_takes_where (IsKind k.LocalName) struct_name (λ name. interned Named room (type.Named name)) struct_name_takes
 base_takes_by room inner k.OpenSquare = first_takes_where (IsKind k.OpenSquare) skip (λ _. array_after inner) (skip_takes k.OpenSquare (λ x. cc))
 base_takes_by room inner k.OpenBrace = first_takes_where (IsKind k.OpenBrace) skip (λ _. fields_afterwards room inner) (skip_takes k.OpenBrace (λ x. cc))
 base_takes_by room inner k.Ptr = first_takes_where (IsKind k.Ptr) opaque_type (λ id. pure (part_of Opaque room id)) opaque_takes
+base_takes_by room inner k.LeftOut = λ i a o e h. float_takes_by room (float_here i) i a o e h
 base_takes_by room inner _ = λ i a o e h. absurd h
 
 pub over_takes : (room : ℕ) (inner : Firm) → Takes (over room inner)
@@ -310,12 +351,23 @@ struct_body = braced 63 (firm 63) >>= λ p. pure p.id
 
 -- ---- which types are allowed where
 
--- how many bits an integer type has
-abbrev pub bits_of_base : Base → Option ℕ
-bits_of_base (Integer bits) = Some bits
-bits_of_base Named = None
-bits_of_base Opaque = None
-bits_of_base Aggregate = None
+-- a type of numbers, before its stars
+abbrev pub is_number_base : Base → Bool
+is_number_base (Integer bits) = true
+is_number_base Float = true
+is_number_base Double = true
+is_number_base Named = false
+is_number_base Opaque = false
+is_number_base Aggregate = false
+
+-- the word that a type without stars is
+abbrev pub word_of_base : Base → Word
+word_of_base (Integer bits) = sort.Integer bits
+word_of_base Float = sort.Float
+word_of_base Double = sort.Double
+word_of_base Named = sort.Pointer
+word_of_base Opaque = sort.Pointer
+word_of_base Aggregate = sort.Pointer
 
 -- a pointer before its stars
 abbrev pub is_opaque_base : Base → Bool
@@ -326,28 +378,42 @@ is_opaque_base _ = false
 abbrev pub is_pointer : WrittenType → Bool
 is_pointer w = nat_lt 0 w.stars || is_opaque_base w.base
 
--- an integer or a pointer, which are one word
+-- a number or a pointer, which are one word
 abbrev pub is_scalar : WrittenType → Bool
-is_scalar w = is_pointer w || is_some (bits_of_base w.base)
+is_scalar w = is_pointer w || is_number_base w.base
 
--- how many bits a type has, if it is an integer type
-abbrev pub bits_of : WrittenType → Option ℕ
-bits_of w = if w.stars == 0 then bits_of_base w.base else None
+-- the word that a type is; an array or a struct counts as a pointer, and no value has such a type
+abbrev pub word_of : WrittenType → Word
+word_of w = if w.stars == 0 then word_of_base w.base else sort.Pointer
 
--- an integer, a reference, `i8*` or `ptr`, which a function may take and return
+-- a floating point number
+abbrev pub is_float_word : Word → Bool
+is_float_word sort.Float = true
+is_float_word sort.Double = true
+is_float_word _ = false
+
+-- a type of floating point numbers
+abbrev pub is_float : WrittenType → Bool
+is_float w = is_float_word (word_of w)
+
+-- a number, a reference, `i8*` or `ptr`, which a function may take and return
 abbrev pub is_passed : WrittenType → Bool
 is_passed w = passed_by w.base w.stars where
   passed_by : Base → ℕ → Bool
   passed_by (Integer bits) stars = stars == 0 || (stars == 1 && bits == 8)
+  passed_by Float stars = stars == 0
+  passed_by Double stars = stars == 0
   passed_by Named stars = stars == 1
   passed_by Opaque stars = stars == 0
   passed_by Aggregate stars = false
 
--- an integer, a reference or `ptr`, which a global may hold
+-- a number, a reference or `ptr`, which a global may hold
 abbrev pub is_held : WrittenType → Bool
 is_held w = held_by w.base w.stars where
   held_by : Base → ℕ → Bool
   held_by (Integer bits) stars = stars == 0
+  held_by Float stars = stars == 0
+  held_by Double stars = stars == 0
   held_by Named stars = stars == 1
   held_by Opaque stars = stars == 0
   held_by Aggregate stars = false
@@ -384,6 +450,14 @@ passed_type = type_that is_passed 63
 unfoldable pub held_type : Form WrittenType
 held_type = type_that is_held 63
 
+-- a type of floating point numbers
+unfoldable pub float_scalar : Form WrittenType
+float_scalar = scalar >>= λ w. checked (λ _. is_float w) unexpected >> pure w
+
+-- a type of integers, or a pointer type
+unfoldable pub integer_scalar : Form WrittenType
+integer_scalar = scalar >>= λ w. checked (λ _. not (is_float w)) unexpected >> pure w
+
 -- a pointer type: `ptr`, or a type with a star after it
 unfoldable pub pointer_type : Form WrittenType
 pointer_type = any_type >>= λ w. checked (λ _. is_pointer w) unexpected >> pure w
@@ -405,6 +479,21 @@ is_named wanted i = is_at wanted (place_of (spelled i.cursor) i.struct_names.nam
 -- the name of a struct again
 unfoldable pub name_again : ℕ → Form (Unit {0})
 name_again wanted = sees_type k.LocalName >> checked (is_named wanted) unexpected >> skip
+
+-- two types of floating point numbers are one
+abbrev pub is_same_float : FloatType → FloatType → Bool
+is_same_float size.Single size.Single = true
+is_same_float size.Double size.Double = true
+is_same_float _ _ = false
+
+-- `float` or `double` again, by what is here
+abbrev pub float_again_by : FloatType → Option FloatType → Form (Unit {0})
+float_again_by wanted None = refuse (unread begins_unread_type)
+float_again_by wanted (Some t) = checked (λ _. is_same_float wanted t) (λ i. Unexpected (start i.cursor)) >> skip
+
+-- `float` or `double` again
+unfoldable pub float_again : FloatType → Form (Unit {0})
+float_again wanted = look float_here (float_again_by wanted)
 
 -- the length of an array again
 unfoldable pub length_again : ℕ → Form (Unit {0})
@@ -441,6 +530,8 @@ all_fields_again inner id = look left (λ most. fields_again inner (suc most) id
 -- this type once more, its parts by the inner form
 abbrev pub again_by : (ℕ → Form (Unit {0})) → Option IrType → Form (Unit {0})
 again_by inner (Some (type.Integer bits)) = integer_again bits
+again_by inner (Some type.Float) = float_again size.Single
+again_by inner (Some type.Double) = float_again size.Double
 again_by inner (Some (type.Named wanted)) = name_again wanted
 again_by inner (Some (type.Pointer part)) = inner part >> expect k.Star
 again_by inner (Some type.Opaque) = sees_type k.Ptr >> skip

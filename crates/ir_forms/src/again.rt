@@ -7,11 +7,21 @@ use crate::fault::Fault;
 use crate::input::Input;
 use crate::names::is_at;
 use crate::number::natural;
-use crate::written::{ROOM, WrittenType, begins_unread_type};
+use crate::written::{FloatType, ROOM, WrittenType, begins_unread_type};
 use ir_ast::{IrType, StructNameId, TypeId};
 use ir_tokens::Kind;
 use name_text::decimal;
 use std::alloc::Global;
+
+/// Whether two types of floating point numbers are one.
+fn is_same_float(a: FloatType, b: FloatType) -> bool
+    ensures { result ≡ form.is_same_float a b }
+{
+    match a {
+        FloatType::Single => matches!(b, FloatType::Single),
+        FloatType::Double => matches!(b, FloatType::Double),
+    }
+}
 
 impl<'a> Input<'a> {
     /// The next token begins a type, as a token of this kind does.
@@ -56,6 +66,23 @@ impl<'a> Input<'a> {
         Ok(())
     }
 
+    /// `float` or `double` again.
+    #[tactic(auto, unfolding(crate::specs::Written::float_again))]
+    fn float_again(&mut self, wanted: FloatType) -> Result<(), Fault>
+        ensures { Reads ((form.float_again wanted).read self.old) result self.new }
+    {
+        match self.float_here() {
+            Some(found) => {
+                if !is_same_float(wanted, found) {
+                    return Err(Fault::Unexpected(self.cursor.start()));
+                }
+                self.skip();
+                Ok(())
+            }
+            None => Err(self.refuse(begins_unread_type(self.kind()))),
+        }
+    }
+
     /// The length of an array again.
     #[tactic(auto, unfolding(crate::specs::Written::length_again, crate::specs::Written::length_at))]
     fn length_again(&mut self, wanted: u64) -> Result<(), Fault>
@@ -95,6 +122,8 @@ impl<'a> Input<'a> {
         let shown = self.types.get(id);
         match &shown {
             Some(IrType::Integer(bits)) => self.integer_again(*bits),
+            Some(IrType::Float) => self.float_again(FloatType::Single),
+            Some(IrType::Double) => self.float_again(FloatType::Double),
             Some(IrType::Named(wanted)) => self.name_again(alloc, *wanted),
             Some(IrType::Pointer(pointee)) => {
                 self.again_within(alloc, levels, *pointee)?;

@@ -9,6 +9,7 @@ use crate::choices::select;
 use crate::elements::element;
 use crate::ends::ends_block;
 use crate::fault::Fault;
+use crate::float_ops::number_op;
 use crate::following::{Following, many_with};
 use crate::input::Input;
 use crate::memory::{alloca, load, store};
@@ -27,7 +28,7 @@ fn wide_op(alloc: Global, input: &mut Input<'_>, value: ValueId) -> Result<Op, F
     if freezes(input) {
         Ok(Op::Cast(freeze(alloc, input, value)?))
     } else {
-        Ok(Op::Number(integer_op(alloc, input, value)?))
+        number_op(alloc, input, value)
     }
 }
 
@@ -43,8 +44,8 @@ fn named_op(alloc: Global, input: &mut Input<'_>, site: Site, value: ValueId) ->
         Kind::Getelementptr => Ok(Op::Element(element(alloc, input, site, value)?)),
         Kind::Icmp => Ok(Op::Number(compare(alloc, input, value)?)),
         Kind::Select => Ok(Op::Choice(select(alloc, input, value)?)),
-        Kind::Call => Ok(Op::Call(call(alloc, input, value)?)),
-        Kind::Tail | Kind::Notail => Ok(Op::Call(tail_call(alloc, input, value)?)),
+        Kind::Call => call(alloc, input, value),
+        Kind::Tail | Kind::Notail => tail_call(alloc, input, value),
         Kind::LeftOut => wide_op(alloc, input, value),
         _ => Ok(Op::Number(integer_op(alloc, input, value)?)),
     }

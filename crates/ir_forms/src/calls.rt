@@ -3,11 +3,13 @@ ghost use Rattle.std.specs.Prelude.{◌≡◌};
 ghost use Rattle.ir_forms.specs.Input.{Reads};
 ghost use Rattle.ir_forms.specs.Calls as form;
 
-use crate::decorating::{Spot, decorations, trailed};
+use crate::decorating::{Spot, decorations};
 use crate::fault::Fault;
 use crate::input::Input;
 use crate::listed::many;
 use crate::lists::Arguments;
+use crate::records::trailed;
+use crate::stand_ins::{StandIn, first_of, null_of, stand_in};
 use crate::starts::is_indirect_callee;
 use ir_ast::{Call, Instr, IrType, Op, SymbolId, TypeId, ValueId};
 use ir_tokens::Kind;
@@ -41,24 +43,48 @@ fn call_after(alloc: Global, input: &mut Input<'_>, returned: TypeId) -> Result<
     })
 }
 
-/// A call after its word, whose value is this one.
-fn typed_call(alloc: Global, input: &mut Input<'_>, value: ValueId) -> Result<Call, Fault>
-    ensures { Reads ((form.typed_call value).read input.old) result input.new }
+/// A call after the type of its result, which is that of this value.
+fn call_of(
+    alloc: Global,
+    input: &mut Input<'_>,
+    value: ValueId,
+    returned: TypeId,
+) -> Result<Call, Fault>
+    ensures { Reads ((form.call_of value returned).read input.old) result input.new }
 {
-    let returned = input.scalar(alloc)?.id;
     let call = call_after(alloc, input, returned)?;
     input.set_type(value, returned);
     Ok(call)
 }
 
+/// A call after its word, whose value is this one.
+fn typed_call(alloc: Global, input: &mut Input<'_>, value: ValueId) -> Result<Call, Fault>
+    ensures { Reads ((form.typed_call value).read input.old) result input.new }
+{
+    let returned = input.scalar(alloc)?.id;
+    call_of(alloc, input, value, returned)
+}
+
+/// A call after its word, whose value has this name, or what stands in its place.
+fn named_call(alloc: Global, input: &mut Input<'_>, value: ValueId) -> Result<Op, Fault>
+    ensures { Reads ((form.named_call value).read input.old) result input.new }
+{
+    let returned = input.scalar(alloc)?.id;
+    match stand_in(input) {
+        StandIn::Itself => Ok(Op::Call(call_of(alloc, input, value, returned)?)),
+        StandIn::First => Ok(Op::Cast(first_of(alloc, input, value)?)),
+        StandIn::Null => Ok(Op::Cast(null_of(alloc, input, value, returned)?)),
+    }
+}
+
 /// A call whose value has this name.
 #[tactic(auto, unfolding(crate::specs::Calls::call))]
-pub fn call(alloc: Global, input: &mut Input<'_>, value: ValueId) -> Result<Call, Fault>
+pub fn call(alloc: Global, input: &mut Input<'_>, value: ValueId) -> Result<Op, Fault>
     ensures { Reads ((form.call value).read input.old) result input.new }
 {
     input.skip();
     decorations(alloc, input, Spot::Result)?;
-    typed_call(alloc, input, value)
+    named_call(alloc, input, value)
 }
 
 /// An instruction with this value, and the decorations after it.
@@ -129,7 +155,7 @@ fn sees_call(input: &mut Input<'_>) -> Result<(), Fault>
 
 /// A call whose value has this name, with a word before it.
 #[tactic(auto, unfolding(crate::specs::Calls::tail_call))]
-pub fn tail_call(alloc: Global, input: &mut Input<'_>, value: ValueId) -> Result<Call, Fault>
+pub fn tail_call(alloc: Global, input: &mut Input<'_>, value: ValueId) -> Result<Op, Fault>
     ensures { Reads ((form.tail_call value).read input.old) result input.new }
 {
     sees_call(input)?;

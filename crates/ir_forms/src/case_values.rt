@@ -11,6 +11,7 @@ use std::marker::Model;
 #[derive(Clone, Copy, PartialEq, Eq, Hash)]
 pub enum CaseValue {
     Number(u64),
+    Float(u64),
     Null,
     True,
     False,
@@ -22,6 +23,7 @@ impl CaseValue {
     {
         match constant {
             Constant::Number(number) => CaseValue::Number(number),
+            Constant::Float(bits) => CaseValue::Float(bits),
             Constant::Null => CaseValue::Null,
             Constant::Truth(true) => CaseValue::True,
             Constant::Truth(false) => CaseValue::False,

@@ -4,14 +4,15 @@ ghost use Rattle.ir_forms.specs.Input.{Reads};
 ghost use Rattle.ir_forms.specs.Choices as form;
 
 use crate::cursor::same_kind;
-use crate::decorating::{Trail, instruction_end};
+use crate::decorating::Trail;
 use crate::fault::Fault;
 use crate::following::{Following, many_with};
 use crate::input::Input;
 use crate::listed::{Listed, many};
 use crate::lists::at_no_comma;
 use crate::numbers::{TwoOperands, condition};
-use crate::written::bits_of;
+use crate::records::instruction_end;
+use crate::written::{Word, word_of};
 use ir_ast::{Choice, Incoming, Phi, ValueId};
 use ir_tokens::Kind;
 use items::Items;
@@ -23,10 +24,10 @@ fn typed_pair(alloc: Global, input: &mut Input<'_>) -> Result<TwoOperands, Fault
     ensures { Reads (form.typed_pair.read input.old) result input.new }
 {
     let written = input.scalar(alloc)?;
-    let first = input.operand(alloc, bits_of(&written))?;
+    let first = input.operand(alloc, word_of(&written))?;
     input.expect(Kind::Comma)?;
     input.again(alloc, &written)?;
-    let second = input.operand(alloc, bits_of(&written))?;
+    let second = input.operand(alloc, word_of(&written))?;
     Ok(TwoOperands {
         written: written.id,
         first,
@@ -65,11 +66,11 @@ fn separated(input: &mut Input<'_>, is_further: bool) -> Result<(), Fault>
 
 /// An entry: a value, and the block that it comes from.
 #[tactic(auto, unfolding(crate::specs::Choices::incoming))]
-fn incoming(alloc: Global, input: &mut Input<'_>, bits: Option<u32>) -> Result<Incoming, Fault>
-    ensures { Reads ((form.incoming bits).read input.old) result input.new }
+fn incoming(alloc: Global, input: &mut Input<'_>, word: Word) -> Result<Incoming, Fault>
+    ensures { Reads ((form.incoming word).read input.old) result input.new }
 {
     input.expect(Kind::OpenSquare)?;
-    let operand = input.operand(alloc, bits)?;
+    let operand = input.operand(alloc, word)?;
     input.expect(Kind::Comma)?;
     let from = input.incoming_label(alloc)?;
     input.expect(Kind::CloseSquare)?;
@@ -79,8 +80,8 @@ fn incoming(alloc: Global, input: &mut Input<'_>, bits: Option<u32>) -> Result<I
 /// The entries of a phi so far.
 #[derive(Clone, Copy)]
 pub struct Entries {
-    /// How many bits the values have, if they are integers.
-    pub bits: Option<u32>,
+    /// What the values are.
+    pub word: Word,
     /// Whether there is one.
     pub is_further: bool,
 }
@@ -91,7 +92,7 @@ fn entry(alloc: Global, input: &mut Input<'_>, entries: Entries) -> Result<Incom
     ensures { Reads ((form.entry entries).read input.old) result input.new }
 {
     separated(input, entries.is_further)?;
-    incoming(alloc, input, entries.bits)
+    incoming(alloc, input, entries.word)
 }
 
 impl Following for Entries {
@@ -118,15 +119,11 @@ impl Following for Entries {
 
 /// The entries of a phi, of which there is one at least.
 #[tactic(auto, unfolding(crate::specs::Choices::all_entries))]
-fn all_entries(
-    alloc: Global,
-    input: &mut Input<'_>,
-    bits: Option<u32>,
-) -> Result<Items<Incoming>, Fault>
-    ensures { Reads ((form.all_entries bits).read input.old) result input.new }
+fn all_entries(alloc: Global, input: &mut Input<'_>, word: Word) -> Result<Items<Incoming>, Fault>
+    ensures { Reads ((form.all_entries word).read input.old) result input.new }
 {
     let first = Entries {
-        bits,
+        word,
         is_further: false,
     };
     many_with(alloc, input, first)
@@ -168,7 +165,7 @@ fn phi(alloc: Global, input: &mut Input<'_>) -> Result<Phi, Fault>
     input.expect(Kind::Equals)?;
     input.expect(Kind::Phi)?;
     let written = input.scalar(alloc)?;
-    let incoming = all_entries(alloc, input, bits_of(&written))?;
+    let incoming = all_entries(alloc, input, word_of(&written))?;
     input.set_type(value, written.id);
     instruction_end(alloc, input, Trail::Other)?;
     Ok(Phi {

@@ -3,6 +3,7 @@ ghost use Rattle.std.specs.Prelude.{◌≡◌, ◌≢◌, true, false, ◌<◌, 
 ghost use Rattle.ir_forms.specs.Cursor as spec;
 
 use crate::fault::Fault;
+use crate::float_numbers::{is_float_number, run_of};
 use ir_ast::{key_of_digits, marked, needs_mark};
 use ir_tokens::{Kind, Token, plain_name, unescaped};
 use items::Items;
@@ -17,6 +18,8 @@ pub struct Cursor<'a> {
     bad: Option<u32>,
     /// Where the text ends.
     end: u32,
+    /// Whether the wide forms may stand.
+    wide: bool,
 }
 
 impl<'a> Model for Cursor<'a> {
@@ -60,17 +63,67 @@ fn front(bytes: &[u8], count: usize) -> &[u8]
     }
 }
 
+/// Whether no form goes on from a token of this kind on: it is a plus where the wide forms may not stand.
+#[inline(always)]
+fn is_stop(wide: bool, kind: Kind) -> bool
+    ensures { result ≡ spec.is_stop wide kind }
+{
+    matches!(kind, Kind::Plus) && !wide
+}
+
+/// The tokens that are seen: none from such a token on.
+#[inline(always)]
+fn here(wide: bool, tokens: &[Token]) -> &[Token]
+    ensures { result.now ≡ spec.here wide tokens.now }
+{
+    match tokens {
+        [] => tokens,
+        [token, ..] => {
+            if is_stop(wide, token.kind) {
+                &[]
+            } else {
+                tokens
+            }
+        }
+    }
+}
+
+/// The tokens from the first one on that begins at this place or later.
+fn begun_at(place: usize, mut tokens: &[Token]) -> &[Token]
+    ensures { result.now ≡ spec.begun_at place tokens.entry.now }
+{
+    while let [token, rest @ ..] = tokens {
+        if token.start as usize >= place {
+            return tokens;
+        }
+        tokens = rest;
+    }
+    tokens
+}
+
+/// The tokens after the first one.
+fn rest_of(tokens: &[Token]) -> &[Token]
+    ensures { result.now ≡ spec.rest_of tokens.now }
+{
+    match tokens {
+        [_, rest @ ..] => rest,
+        [] => tokens,
+    }
+}
+
 impl<'a> Cursor<'a> {
-    /// Before the first token. `bad` is the place after the tokens at which no token begins, if there is one.
-    pub fn new(text: &'a [u8], tokens: &'a [Token], bad: Option<u32>) -> Cursor<'a>
+    /// Before the first token. `bad` is the place after the tokens at which no token begins, if there is one. The wide forms may stand
+    /// in the text or not.
+    pub fn new(text: &'a [u8], tokens: &'a [Token], bad: Option<u32>, wide: bool) -> Cursor<'a>
         requires { length text.now < 2 ^ 32 }
-        ensures { result ≡ record { text = text.now; rest = tokens.now; bad = bad } }
+        ensures { result ≡ record { text = text.now; rest = tokens.now; bad = bad; wide = wide } }
     {
         Cursor {
             text,
             rest: tokens,
             bad,
             end: text.len() as u32,
+            wide,
         }
     }
 
@@ -87,7 +140,7 @@ impl<'a> Cursor<'a> {
     pub fn kind(&self) -> Kind
         ensures { result ≡ spec.kind self.now }
     {
-        match self.rest {
+        match here(self.wide, self.rest) {
             [token, ..] => token.kind,
             [] => Kind::End,
         }
@@ -98,9 +151,9 @@ impl<'a> Cursor<'a> {
     pub fn kind_after(&self) -> Kind
         ensures { result ≡ spec.kind_after self.now }
     {
-        match self.rest {
-            [_, token, ..] => token.kind,
-            _ => Kind::End,
+        match here(self.wide, rest_of(self.rest)) {
+            [token, ..] => token.kind,
+            [] => Kind::End,
         }
     }
 
@@ -109,9 +162,9 @@ impl<'a> Cursor<'a> {
     pub fn kind_third(&self) -> Kind
         ensures { result ≡ spec.kind_third self.now }
     {
-        match self.rest {
-            [_, _, token, ..] => token.kind,
-            _ => Kind::End,
+        match here(self.wide, rest_of(rest_of(self.rest))) {
+            [token, ..] => token.kind,
+            [] => Kind::End,
         }
     }
 
@@ -120,7 +173,7 @@ impl<'a> Cursor<'a> {
     pub fn begins_line(&self) -> bool
         ensures { result ≡ spec.begins_line self.now }
     {
-        match self.rest {
+        match here(self.wide, self.rest) {
             [token, ..] => token.begins_line,
             [] => false,
         }
@@ -138,7 +191,7 @@ impl<'a> Cursor<'a> {
     pub fn start(&self) -> u32
         ensures { result ≡ spec.start self.now }
     {
-        match self.rest {
+        match here(self.wide, self.rest) {
             [token, ..] => token.start,
             [] => self.end,
         }
@@ -149,7 +202,7 @@ impl<'a> Cursor<'a> {
     pub fn size(&self) -> u32
         ensures { result ≡ spec.size self.now }
     {
-        match self.rest {
+        match here(self.wide, self.rest) {
             [token, ..] => token.length,
             [] => 0,
         }
@@ -176,11 +229,43 @@ impl<'a> Cursor<'a> {
         }
     }
 
-    /// Whether, after the tokens, there is a byte at which no token begins.
-    pub fn is_bad(&self) -> bool
-        ensures { result ≡ is_some self.now.bad }
+    /// The place after the next token.
+    #[tactic(auto, unfolding(crate::specs::Cursor::next))]
+    pub fn after(&self) -> Cursor<'a>
+        ensures { result ≡ spec.next self.now }
     {
-        self.bad.is_some()
+        Cursor {
+            text: self.text,
+            rest: rest_of(self.rest),
+            bad: self.bad,
+            end: self.end,
+            wide: self.wide,
+        }
+    }
+
+    /// Where no token begins, if there is such a place: at the next token where no form goes on from it on, and else at the bad byte
+    /// after the tokens.
+    #[tactic(auto, unfolding(crate::specs::Cursor::bad_here))]
+    fn bad_here(&self) -> Option<u32>
+        ensures { result ≡ spec.bad_here self.now }
+    {
+        match self.rest {
+            [] => self.bad,
+            [token, ..] => {
+                if is_stop(self.wide, token.kind) {
+                    Some(token.start)
+                } else {
+                    self.bad
+                }
+            }
+        }
+    }
+
+    /// Whether there is a byte at which no token begins.
+    pub fn is_bad(&self) -> bool
+        ensures { result ≡ is_some (spec.bad_here self.now) }
+    {
+        self.bad_here().is_some()
     }
 
     /// The fault where the text ends.
@@ -188,7 +273,7 @@ impl<'a> Cursor<'a> {
     pub fn at_end(&self) -> Fault
         ensures { result ≡ spec.at_end self.now }
     {
-        match self.bad {
+        match self.bad_here() {
             Some(bad) => Fault::BadByte(bad),
             None => Fault::Unfinished(self.end),
         }
@@ -220,6 +305,33 @@ impl<'a> Cursor<'a> {
     }
 }
 
+impl<'a> Cursor<'a> {
+    /// The bytes from the next token on that belong to one number.
+    #[tactic(auto, unfolding(crate::specs::Cursor::run))]
+    pub fn run(&self) -> &[u8]
+        ensures { result.now ≡ spec.run self.now }
+    {
+        run_of(afterwards(self.text, self.start() as usize))
+    }
+
+    /// Whether those bytes are a floating point number.
+    #[tactic(auto, unfolding(crate::specs::Cursor::sees_float))]
+    pub fn sees_float(&self) -> bool
+        ensures { result ≡ spec.sees_float self.now }
+    {
+        is_float_number(self.run())
+    }
+
+    /// Goes on to what follows those bytes.
+    #[tactic(auto, unfolding(crate::specs::Cursor::past_run))]
+    pub fn skip_run(&mut self)
+        ensures { self.new ≡ spec.past_run self.old }
+    {
+        let end = self.start() as usize + self.run().len();
+        self.rest = begun_at(end, self.rest);
+    }
+}
+
 /// Whether the token is a number in place of a local name.
 fn is_local_number(kind: Kind) -> bool
     ensures { result ≡ spec.is_local_number kind }
@@ -234,6 +346,20 @@ impl<'a> Cursor<'a> {
         ensures { result.now ≡ spec.name self.now }
     {
         afterwards(self.spelling(), 1)
+    }
+
+    /// What follows the first byte that spells the third token.
+    #[tactic(auto, unfolding(crate::specs::Cursor::name_third, crate::specs::Cursor::name, crate::specs::Cursor::spelling, crate::specs::Cursor::size, crate::specs::Cursor::start, crate::specs::Cursor::next))]
+    pub fn name_third(&self) -> &[u8]
+        ensures { result.now ≡ spec.name_third self.now }
+    {
+        match here(self.wide, rest_of(rest_of(self.rest))) {
+            [token, ..] => {
+                let bytes = afterwards(self.text, token.start as usize);
+                afterwards(front(bytes, token.length as usize), 1)
+            }
+            [] => &[],
+        }
     }
 
     /// What the next token spells, without its sign and its quotes, where it has no escapes.

@@ -6,9 +6,7 @@ ghost use Rattle.ir_forms.specs.Decorations as form;
 use crate::fault::Fault;
 use crate::following::{Following, many_with};
 use crate::input::Input;
-use crate::listed::{Listed, many};
 use crate::starts::{begins_any_type, is_flag_of};
-use ir_ast::{MemoryOp, Op};
 use ir_tokens::Kind;
 use std::alloc::Global;
 
@@ -64,7 +62,7 @@ impl Following for Brackets {
 
 /// The tokens after a round bracket, up to the one that closes it.
 #[tactic(auto, unfolding(crate::specs::Decorations::bracketed, crate::specs::Decorations::past_brackets))]
-fn past_brackets(alloc: Global, input: &mut Input<'_>) -> Result<(), Fault>
+pub fn past_brackets(alloc: Global, input: &mut Input<'_>) -> Result<(), Fault>
     ensures { Reads (form.past_brackets.read input.old) result input.new }
 {
     many_with(alloc, input, Brackets { depth: 1 })?;
@@ -104,7 +102,8 @@ fn ends_operand(kind: Kind) -> bool
 fn is_operand(input: &Input<'_>, spot: Spot) -> bool
     ensures { result ≡ form.is_operand spot input.now }
 {
-    matches!(spot, Spot::Argument) && ends_operand(input.cursor.kind_after())
+    matches!(spot, Spot::Argument)
+        && (ends_operand(input.cursor.kind_after()) || input.wide && input.cursor.sees_float())
 }
 
 /// Round brackets, a quoted text or a number after a word, or nothing.
@@ -312,50 +311,6 @@ pub fn flagged_word(alloc: Global, input: &mut Input<'_>) -> Result<(), Fault>
     flags(alloc, input, word)
 }
 
-// ---- debug records
-
-/// `#dbg_value(..)`
-#[tactic(auto, unfolding(crate::specs::Decorations::debug_record))]
-fn debug_record(alloc: Global, input: &mut Input<'_>) -> Result<(), Fault>
-    ensures { Reads (form.debug_record.read input.old) result input.new }
-{
-    input.expect(Kind::DebugRecord)?;
-    input.expect(Kind::OpenRound)?;
-    past_brackets(alloc, input)
-}
-
-/// Debug records, up to where none begins.
-struct RecordList;
-
-impl Listed for RecordList {
-    ghost use Rattle.ir_forms.specs.Decorations.{debug_record, at_no_record};
-
-    type Item = ();
-
-    ghost form = { debug_record.read };
-
-    ghost ends = { at_no_record };
-
-    fn ends(input: &Input<'_>) -> bool {
-        !input.sees(Kind::DebugRecord)
-    }
-
-    fn read(alloc: Global, input: &mut Input<'_>) -> Result<(), Fault> {
-        debug_record(alloc, input)
-    }
-}
-
-/// The debug records before an instruction.
-#[tactic(auto, unfolding(crate::specs::Decorations::debug_records))]
-pub fn debug_records(alloc: Global, input: &mut Input<'_>) -> Result<(), Fault>
-    ensures { Reads (form.debug_records.read input.old) result input.new }
-{
-    if input.sees(Kind::DebugRecord) {
-        many::<RecordList>(alloc, input)?;
-    }
-    Ok(())
-}
-
 // ---- after an instruction or a global
 
 /// Which decorations may follow an instruction or a global.
@@ -369,17 +324,6 @@ pub enum Trail {
     Global,
     /// Those of another instruction.
     Other,
-}
-
-/// What may follow an instruction.
-fn trail_of(op: &Op) -> Trail
-    ensures { result ≡ form.trail_of op.now }
-{
-    match op {
-        Op::Memory(MemoryOp::Alloca(_)) => Trail::Slot,
-        Op::Memory(_) => Trail::Memory,
-        _ => Trail::Other,
-    }
 }
 
 fn may_align(trail: Trail) -> bool
@@ -459,21 +403,4 @@ pub fn trailing(alloc: Global, input: &mut Input<'_>, trail: Trail) -> Result<()
         many_with(alloc, input, trail)?;
     }
     Ok(())
-}
-
-/// The decorations after an instruction, and the debug records before the next one.
-#[tactic(auto, unfolding(crate::specs::Decorations::instruction_end))]
-pub fn instruction_end(alloc: Global, input: &mut Input<'_>, trail: Trail) -> Result<(), Fault>
-    ensures { Reads ((form.instruction_end trail).read input.old) result input.new }
-{
-    trailing(alloc, input, trail)?;
-    debug_records(alloc, input)
-}
-
-/// An instruction, with what comes before the next one.
-pub fn trailed(alloc: Global, input: &mut Input<'_>, op: Op) -> Result<Op, Fault>
-    ensures { Reads ((form.trailed op).read input.old) result input.new }
-{
-    instruction_end(alloc, input, trail_of(&op))?;
-    Ok(op)
 }

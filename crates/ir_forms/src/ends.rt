@@ -10,7 +10,7 @@ use crate::following::{Following, many_with};
 use crate::input::Input;
 use crate::lists::typed;
 use crate::numbers::condition;
-use crate::written::{WrittenType, bits_of};
+use crate::written::{Word, WrittenType, word_of};
 use ir_ast::{Case, Constant, End};
 use ir_tokens::Kind;
 use items::Items;
@@ -47,15 +47,11 @@ fn br(alloc: Global, input: &mut Input<'_>) -> Result<End, Fault>
 
 /// The constant of a case, which is not among those of the cases before.
 #[tactic(auto, unfolding(crate::specs::Ends::case_constant))]
-fn case_constant(
-    input: &mut Input<'_>,
-    bits: Option<u32>,
-    seen: &CaseValues,
-) -> Result<Constant, Fault>
-    ensures { Reads ((form.case_constant bits seen.now).read input.old) result input.new }
+fn case_constant(input: &mut Input<'_>, word: Word, seen: &CaseValues) -> Result<Constant, Fault>
+    ensures { Reads ((form.case_constant word seen.now).read input.old) result input.new }
 {
     let start = input.cursor.start();
-    let constant = input.constant(bits)?;
+    let constant = input.constant(word)?;
     if seen.has(CaseValue::of(constant)) {
         return Err(Fault::DefinedTwice(start));
     }
@@ -75,7 +71,7 @@ fn case(alloc: Global, input: &mut Input<'_>, cases: &Cases) -> Result<Case, Fau
     ensures { Reads ((form.case cases.now).read input.old) result input.new }
 {
     input.again(alloc, &cases.written)?;
-    let constant = case_constant(input, bits_of(&cases.written), &cases.seen)?;
+    let constant = case_constant(input, word_of(&cases.written), &cases.seen)?;
     input.expect(Kind::Comma)?;
     let target = input.target(alloc)?;
     Ok(Case { constant, target })
@@ -139,8 +135,8 @@ fn switch(alloc: Global, input: &mut Input<'_>) -> Result<End, Fault>
     ensures { Reads (form.switch.read input.old) result input.new }
 {
     input.skip();
-    let written = input.scalar(alloc)?;
-    let value = input.operand(alloc, bits_of(&written))?;
+    let written = input.integer_scalar(alloc)?;
+    let value = input.operand(alloc, word_of(&written))?;
     input.expect(Kind::Comma)?;
     let otherwise = input.target(alloc)?;
     let cases = bracketed_cases(alloc, input, &written)?;

@@ -8,7 +8,7 @@ use crate::fault::Fault;
 use crate::following::{Following, many_with};
 use crate::input::Input;
 use crate::listed::Listed;
-use crate::written::bits_of;
+use crate::written::word_of;
 use ir_ast::Argument;
 use ir_tokens::Kind;
 use items::Items;
@@ -31,12 +31,12 @@ pub fn separator(input: &mut Input<'_>, close: Kind) -> Result<(), Fault>
 
 /// An argument of a call.
 #[tactic(auto, unfolding(crate::specs::Lists::argument))]
-fn argument(alloc: Global, input: &mut Input<'_>) -> Result<Argument, Fault>
+pub fn argument(alloc: Global, input: &mut Input<'_>) -> Result<Argument, Fault>
     ensures { Reads (form.argument.read input.old) result input.new }
 {
     let written = input.scalar(alloc)?;
     decorations(alloc, input, Spot::Argument)?;
-    let operand = input.operand(alloc, bits_of(&written))?;
+    let operand = input.operand(alloc, word_of(&written))?;
     separator(input, Kind::CloseRound)?;
     Ok(Argument {
         written: written.id,
@@ -78,7 +78,7 @@ pub fn typed(alloc: Global, input: &mut Input<'_>) -> Result<Argument, Fault>
     ensures { Reads (form.typed.read input.old) result input.new }
 {
     let written = input.scalar(alloc)?;
-    let operand = input.operand(alloc, bits_of(&written))?;
+    let operand = input.operand(alloc, word_of(&written))?;
     Ok(Argument {
         written: written.id,
         operand,

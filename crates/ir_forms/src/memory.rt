@@ -6,7 +6,7 @@ ghost use Rattle.ir_forms.specs.Memory as form;
 use crate::decorating::optional;
 use crate::fault::Fault;
 use crate::input::Input;
-use crate::written::{WrittenType, bits_of};
+use crate::written::{Word, WrittenType, word_of};
 use ir_ast::{Argument, MemoryOp, ValueId};
 use ir_tokens::Kind;
 use std::alloc::Global;
@@ -27,7 +27,7 @@ pub fn place_of(alloc: Global, input: &mut Input<'_>, held: &WrittenType) -> Res
     ensures { Reads ((form.place_of held.now).read input.old) result input.new }
 {
     let written = input.pointer_again(alloc, held)?;
-    let operand = input.operand(alloc, None)?;
+    let operand = input.operand(alloc, Word::Pointer)?;
     Ok(Argument { written, operand })
 }
 
@@ -55,7 +55,7 @@ pub fn store(alloc: Global, input: &mut Input<'_>) -> Result<MemoryOp, Fault>
     input.skip();
     optional(input, Kind::Volatile);
     let stored = input.scalar(alloc)?;
-    let value = input.operand(alloc, bits_of(&stored))?;
+    let value = input.operand(alloc, word_of(&stored))?;
     input.expect(Kind::Comma)?;
     let place = place_of(alloc, input, &stored)?;
     Ok(MemoryOp::Store {

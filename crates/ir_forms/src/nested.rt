@@ -8,7 +8,7 @@ use crate::fault::Fault;
 use crate::input::Input;
 use crate::number::natural;
 use crate::starts::makes_level;
-use crate::written::{Base, ROOM, WrittenType, begins_unread_type};
+use crate::written::{Base, ROOM, WrittenType, begins_unread_type, float_base, float_entry};
 use ir_ast::{IrType, TypeId};
 use ir_tokens::Kind;
 use items::Items;
@@ -133,6 +133,19 @@ impl<'a> Input<'a> {
         self.refuse(matches!(self.cursor.kind_after(), Kind::OpenRound))
     }
 
+    /// `float` or `double`, where the wide forms may stand, with room for this number of further levels.
+    fn float_written(&mut self, room: u32) -> Result<WrittenType, Fault>
+        ensures { Reads ((form.float_written room).read self.old) result self.new }
+    {
+        match self.float_here() {
+            Some(float) => {
+                self.skip();
+                self.interned(float_base(float), room, float_entry(float))
+            }
+            None => Err(self.refuse(begins_unread_type(self.kind()))),
+        }
+    }
+
     /// The struct that has this field before those of another struct.
     fn field_before(&mut self, field: WrittenType, whole: WrittenType) -> Result<WrittenType, Fault>
         ensures { Reads ((form.field_before field whole).read self.old) result self.new }
@@ -194,6 +207,7 @@ impl<'a> Input<'a> {
                     room,
                 })
             }
+            Kind::LeftOut => self.float_written(room),
             Kind::Void => Err(self.no_void()),
             kind => Err(self.refuse(begins_unread_type(kind))),
         }

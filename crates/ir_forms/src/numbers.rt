@@ -6,8 +6,7 @@ ghost use Rattle.ir_forms.specs.Numbers as form;
 use crate::decorating::flagged_word;
 use crate::fault::Fault;
 use crate::input::Input;
-use crate::lists::typed;
-use crate::written::{Base, ROOM, WrittenType, bits_of};
+use crate::written::{Base, ROOM, Word, WrittenType, word_of};
 use ir_ast::{
     Argument, Arithmetic, Comparison, IrType, NumberOp, Operand, Resize, TypeId, ValueId,
 };
@@ -22,15 +21,15 @@ pub struct TwoOperands {
     pub second: Operand,
 }
 
-/// Two operands, after their type.
+/// Two operands, after their type, of integers or pointers.
 #[tactic(auto, unfolding(crate::specs::Numbers::pair))]
 fn pair(alloc: Global, input: &mut Input<'_>) -> Result<TwoOperands, Fault>
     ensures { Reads (form.pair.read input.old) result input.new }
 {
-    let written = input.scalar(alloc)?;
-    let first = input.operand(alloc, bits_of(&written))?;
+    let written = input.integer_scalar(alloc)?;
+    let first = input.operand(alloc, word_of(&written))?;
     input.expect(Kind::Comma)?;
-    let second = input.operand(alloc, bits_of(&written))?;
+    let second = input.operand(alloc, word_of(&written))?;
     Ok(TwoOperands {
         written: written.id,
         first,
@@ -147,6 +146,19 @@ fn wide_arithmetic(
     })
 }
 
+/// An operand, after its type, of integers or pointers.
+#[tactic(auto, unfolding(crate::specs::Numbers::typed_integer))]
+fn typed_integer(alloc: Global, input: &mut Input<'_>) -> Result<Argument, Fault>
+    ensures { Reads (form.typed_integer.read input.old) result input.new }
+{
+    let written = input.integer_scalar(alloc)?;
+    let operand = input.operand(alloc, word_of(&written))?;
+    Ok(Argument {
+        written: written.id,
+        operand,
+    })
+}
+
 fn resize_of(kind: Kind) -> Option<Resize>
     ensures { result ≡ form.resize_of kind }
 {
@@ -168,9 +180,9 @@ fn resize(
     ensures { Reads ((form.resize kind value).read input.old) result input.new }
 {
     flagged_word(alloc, input)?;
-    let from = typed(alloc, input)?;
+    let from = typed_integer(alloc, input)?;
     input.expect(Kind::To)?;
-    let to = input.scalar(alloc)?.id;
+    let to = input.integer_scalar(alloc)?.id;
     input.set_type(value, to);
     Ok(NumberOp::Resize {
         kind,
@@ -249,7 +261,7 @@ pub fn condition(alloc: Global, input: &mut Input<'_>) -> Result<Argument, Fault
 {
     let written = input.intern(IrType::Integer(1))?;
     input.again(alloc, &bit_type(written))?;
-    let operand = input.operand(alloc, Some(1))?;
+    let operand = input.operand(alloc, Word::Integer(1))?;
     Ok(Argument { written, operand })
 }
 

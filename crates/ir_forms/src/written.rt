@@ -16,12 +16,37 @@ use std::alloc::Global;
 pub enum Base {
     /// An integer of this number of bits.
     Integer(u32),
+    /// `float`.
+    Float,
+    /// `double`.
+    Double,
     /// A named struct.
     Named,
     /// `ptr`, which takes no stars.
     Opaque,
     /// An array, or a struct that is written out.
     Aggregate,
+}
+
+/// What a value of a type is: one word, of this sort.
+#[derive(Clone, Copy)]
+pub enum Word {
+    Pointer,
+    /// An integer of this number of bits.
+    Integer(u32),
+    /// A floating point number of 32 bits.
+    Float,
+    /// A floating point number of 64 bits.
+    Double,
+}
+
+/// A type of floating point numbers.
+#[derive(Clone, Copy)]
+pub enum FloatType {
+    /// `float`
+    Single,
+    /// `double`
+    Double,
 }
 
 /// A type as it is written: a base with stars after it.
@@ -55,47 +80,126 @@ fn is_pointer(written: &WrittenType) -> bool
     written.stars > 0 || matches!(written.base, Base::Opaque)
 }
 
-/// Whether a value of this type is one word: an integer or a pointer.
+/// Whether the base is a type of numbers.
+fn is_number_base(base: Base) -> bool
+    ensures { result ≡ form.is_number_base base }
+{
+    matches!(base, Base::Integer(_) | Base::Float | Base::Double)
+}
+
+/// Whether a value of this type is one word: a number or a pointer.
 pub fn is_scalar(written: &WrittenType) -> bool
     ensures { result ≡ form.is_scalar written.now }
 {
-    is_pointer(written) || matches!(written.base, Base::Integer(_))
+    is_pointer(written) || is_number_base(written.base)
 }
 
-/// How many bits the type has, if it is an integer type.
-pub fn bits_of(written: &WrittenType) -> Option<u32>
-    ensures { result ≡ form.bits_of written.now }
+/// The word that a type without stars is.
+fn word_of_base(base: Base) -> Word
+    ensures { result ≡ form.word_of_base base }
 {
-    match written.base {
-        Base::Integer(bits) if written.stars == 0 => Some(bits),
-        _ => None,
+    match base {
+        Base::Integer(bits) => Word::Integer(bits),
+        Base::Float => Word::Float,
+        Base::Double => Word::Double,
+        _ => Word::Pointer,
     }
 }
 
-/// Whether a function may take and return a value of this type: an integer, a reference, `i8*` or `ptr`.
+/// The word that a type is. An array or a struct counts as a pointer, and no value has such a type.
+pub fn word_of(written: &WrittenType) -> Word
+    ensures { result ≡ form.word_of written.now }
+{
+    if written.stars == 0 {
+        word_of_base(written.base)
+    } else {
+        Word::Pointer
+    }
+}
+
+/// Whether a word is a floating point number.
+pub fn is_float_word(word: Word) -> bool
+    ensures { result ≡ form.is_float_word word }
+{
+    matches!(word, Word::Float | Word::Double)
+}
+
+/// Whether the type is one of floating point numbers.
+fn is_float(written: &WrittenType) -> bool
+    ensures { result ≡ form.is_float written.now }
+{
+    is_float_word(word_of(written))
+}
+
+/// Whether a function may take and return a value of this type: a number, a reference, `i8*` or `ptr`.
 pub fn is_passed(written: &WrittenType) -> bool
     ensures { result ≡ form.is_passed written.now }
 {
     match written.base {
         Base::Integer(bits) => written.stars == 0 || written.stars == 1 && bits == 8,
+        Base::Float | Base::Double | Base::Opaque => written.stars == 0,
         Base::Named => written.stars == 1,
-        Base::Opaque => written.stars == 0,
         Base::Aggregate => false,
     }
 }
 
-/// Whether a global may have this type: an integer, a reference or `ptr`.
+/// Whether a global may have this type: a number, a reference or `ptr`.
 pub fn is_held(written: &WrittenType) -> bool
     ensures { result ≡ form.is_held written.now }
 {
     match written.base {
-        Base::Integer(_) | Base::Opaque => written.stars == 0,
+        Base::Integer(_) | Base::Float | Base::Double | Base::Opaque => written.stars == 0,
         Base::Named => written.stars == 1,
         Base::Aggregate => false,
     }
 }
 
+/// The type of floating point numbers that a word names.
+fn float_of(word: &[u8]) -> Option<FloatType>
+    ensures { result ≡ form.float_of word.now }
+{
+    if word == b"float".as_slice() {
+        Some(FloatType::Single)
+    } else if word == b"double".as_slice() {
+        Some(FloatType::Double)
+    } else {
+        None
+    }
+}
+
+/// What it is before its stars.
+pub fn float_base(float: FloatType) -> Base
+    ensures { result ≡ form.float_base float }
+{
+    match float {
+        FloatType::Single => Base::Float,
+        FloatType::Double => Base::Double,
+    }
+}
+
+/// What it is in the table of types.
+pub fn float_entry(float: FloatType) -> IrType
+    ensures { result ≡ form.float_entry float }
+{
+    match float {
+        FloatType::Single => IrType::Float,
+        FloatType::Double => IrType::Double,
+    }
+}
+
 impl<'a> Input<'a> {
+    /// The type of floating point numbers that the next token names, where the wide forms may stand.
+    #[tactic(auto, unfolding(crate::specs::Written::float_here))]
+    pub fn float_here(&self) -> Option<FloatType>
+        ensures { result ≡ form.float_here self.now }
+    {
+        if self.wide && self.sees(Kind::LeftOut) {
+            float_of(self.cursor.spelling())
+        } else {
+            None
+        }
+    }
+
     /// The place of a type in the table, which has it from now on.
     #[tactic(auto, unfolding(crate::specs::Written::intern))]
     pub fn intern(&mut self, new: IrType) -> Result<TypeId, Fault>
@@ -167,6 +271,30 @@ impl<'a> Input<'a> {
         ensures { Reads (form.scalar.read self.old) result self.new }
     {
         self.scalar_within(alloc, ROOM)
+    }
+
+    /// A type of floating point numbers.
+    #[tactic(auto, unfolding(crate::specs::Written::float_scalar))]
+    pub fn float_scalar(&mut self, alloc: Global) -> Result<WrittenType, Fault>
+        ensures { Reads (form.float_scalar.read self.old) result self.new }
+    {
+        let written = self.scalar(alloc)?;
+        if !is_float(&written) {
+            return Err(self.refuse(false));
+        }
+        Ok(written)
+    }
+
+    /// A type of integers, or a pointer type.
+    #[tactic(auto, unfolding(crate::specs::Written::integer_scalar))]
+    pub fn integer_scalar(&mut self, alloc: Global) -> Result<WrittenType, Fault>
+        ensures { Reads (form.integer_scalar.read self.old) result self.new }
+    {
+        let written = self.scalar(alloc)?;
+        if is_float(&written) {
+            return Err(self.refuse(false));
+        }
+        Ok(written)
     }
 
     /// A pointer type: `ptr`, or a type with a star after it.

@@ -9,7 +9,7 @@ use Rattle.ir_tokens.specs.Position.{position_of}
 use Rattle.ir_tokens.specs.Bytes.{Text}
 use Rattle.ir_ast.specs.declared.items_of_module.SymbolSort.{SymbolSort}
 use Rattle.ir_ast.specs.declared.items_of_module.SymbolSort.TheVariants as symbol
-use Rattle.ir_forms.specs.Cursor.{spelled, at_end}
+use Rattle.ir_forms.specs.Cursor.{spelled, bad_here, at_end}
 use Rattle.ir_forms.specs.Place.{Place}
 use Rattle.ir_forms.specs.declared.fault.Fault.{Fault}
 use Rattle.ir_forms.specs.declared.input.Input.{Input}
@@ -51,7 +51,7 @@ tables_before func t = record t { sorts = sorts_before func t.sorts }
 
 -- before the first token of this function, where the names and types of the module were mentioned
 abbrev pub start_anew : Tables → (func : ℕ) → Text → Lexed → Input
-start_anew t func bytes lexed = start_with (tables_before func t) (record { text = bytes; rest = lexed.tokens; bad = lexed.bad })
+start_anew t func bytes lexed = start_with (tables_before func t) (record { text = bytes; rest = lexed.tokens; bad = lexed.bad; wide = t.wide })
 
 -- ---- the text
 
@@ -73,7 +73,7 @@ named_head func name = sees_a k.Define >> skip >> named_result func name
 
 -- the text ends here, and there is no bad byte after it
 unfoldable pub ends : Form (Unit {0})
-ends = sees_a k.End >> checked (λ i. not (is_some i.cursor.bad)) (λ i. at_end i.cursor)
+ends = sees_a k.End >> checked (λ i. not (is_some (bad_here i.cursor))) (λ i. at_end i.cursor)
 
 -- a text of one function with this number and this name
 unfoldable pub anew : (func : ℕ) → (name : Text) → Form (Unit {0})

@@ -12,7 +12,7 @@ use Rattle.ir_forms.specs.Cursor.{kind, sees}
 use Rattle.ir_forms.specs.Input.{Form, limit}
 use Rattle.ir_forms.specs.Names.{new_label, numbered_label, unnamed_label}
 use Rattle.ir_forms.specs.Choices.{phis}
-use Rattle.ir_forms.specs.Decorations.{debug_records}
+use Rattle.ir_forms.specs.Records.{debug_records}
 use Rattle.ir_forms.specs.Ends.{block_end, block_end_takes}
 use Rattle.ir_forms.specs.Instructions.{body}
 use Rattle.ir_forms.specs.ManyWith.{many_with}

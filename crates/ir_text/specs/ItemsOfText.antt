@@ -1,5 +1,5 @@
 -- Items: struct types, globals, declared and defined functions.
-use Rattle.std.specs.Prelude.{◌≤◌, ℕ, Bool, true, false, not, ◌==◌, nat_lt, List, [], ◌∷◌, ◌++◌, length, Option, Some, None, is_some, is_none}
+use Rattle.std.specs.Prelude.{◌≤◌, ℕ, Bool, true, false, not, ◌&&◌, ◌==◌, nat_lt, List, [], ◌∷◌, ◌++◌, length, Option, Some, None, is_some}
 use Rattle.std.proofs.Common.{arith}
 use Rattle.grammar.specs.Grammar.{pure, step, checked, refuse, look, ◌>>=◌, ◌>>◌}
 use Rattle.grammar.specs.Takes.{Takes, TakesWhere, first_takes_where, look_takes, stays_takes}
@@ -18,15 +18,18 @@ use Rattle.ir_ast.specs.declared.items_of_module.StructType.{StructType}
 use Rattle.ir_ast.specs.declared.items_of_module.Global.{Global}
 use Rattle.ir_ast.specs.declared.items_of_module.Declare.{Declare}
 use Rattle.ir_forms.specs.declared.input.Input.{Input}
-use Rattle.ir_forms.specs.Cursor.{kind, sees, spelled, left_out, at_end}
+use Rattle.ir_forms.specs.declared.written.Word.{Word}
+use Rattle.ir_forms.specs.declared.written.Word.TheVariants as word
+use Rattle.ir_forms.specs.Cursor.{kind, sees, spelled, left_out, bad_here, at_end}
 use Rattle.ir_forms.specs.Input.{Form, left, limit, unexpected, unread, skip, expect, IsKind, skip_takes}
 use Rattle.ir_ast.specs.RuntimeNames.{runtime_of}
 use Rattle.ir_forms.specs.Names.{new_struct, new_struct_takes, new_symbol, new_symbol_takes, quoted, first_missing}
 use Rattle.ir_forms.specs.Table.{empty}
-use Rattle.ir_forms.specs.Written.{any_type, held_type, passed_type, intern, no_parameters, struct_body, bits_of}
+use Rattle.ir_forms.specs.Written.{any_type, held_type, passed_type, intern, no_parameters, struct_body, word_of, is_float_word}
 use Rattle.ir_forms.specs.Operand.{constant, begins_unread_operand}
 use Rattle.ir_text.specs.Starts.{begins_unread_item, is_external}
-use Rattle.ir_forms.specs.Decorations.{either, decorations, trailing}
+use Rattle.ir_forms.specs.Intrinsics.{is_left_out}
+use Rattle.ir_forms.specs.Decorations.{either, decorations, past_brackets, trailing}
 use Rattle.ir_forms.specs.declared.decorating.Spot.{Spot}
 use Rattle.ir_forms.specs.declared.decorating.Spot.TheVariants as spot
 use Rattle.ir_forms.specs.declared.decorating.Trail.TheVariants as trail
@@ -72,24 +75,30 @@ struct_type = new_struct >>= struct_after
 
 -- ---- globals
 
--- the type is `i1`
-abbrev pub is_one : Option ℕ → Bool
-is_one None = false
-is_one (Some bits) = bits == 1
+-- the word is an i1
+abbrev pub is_one : Word → Bool
+is_one (word.Integer bits) = bits == 1
+is_one _ = false
 
--- a global's first value fits its type, which is an integer type of n bits or else a pointer type
-abbrev pub is_initial : Option ℕ → Kind → Bool
-is_initial bits k.Undef = true
-is_initial bits k.Zeroinitializer = true
-is_initial bits k.Number = is_some bits
-is_initial bits k.True = is_one bits
-is_initial bits k.False = is_one bits
-is_initial bits k.Null = is_none bits
-is_initial bits _ = false
+-- the word is a pointer
+abbrev pub is_pointer_word : Word → Bool
+is_pointer_word word.Pointer = true
+is_pointer_word _ = false
+
+-- a global's first value fits its type, which is a word of this sort
+abbrev pub is_initial : Word → Kind → Bool
+is_initial w k.Undef = true
+is_initial w k.Zeroinitializer = true
+is_initial w k.Number = not (is_pointer_word w)
+is_initial w k.Word = is_float_word w
+is_initial w k.True = is_one w
+is_initial w k.False = is_one w
+is_initial w k.Null = is_pointer_word w
+is_initial w _ = false
 
 -- the first value of a global
-unfoldable pub initial : Option ℕ → Form Constant
-initial bits = checked (λ i. is_initial bits (kind i.cursor)) (unread begins_unread_operand) >> constant bits
+unfoldable pub initial : Word → Form Constant
+initial w = checked (λ i. is_initial w (kind i.cursor)) (unread begins_unread_operand) >> constant w
 
 -- `global` or `constant`
 abbrev pub is_constant_by : Kind → Form Bool
@@ -119,7 +128,7 @@ global_afterwards s = do
   expect k.Equals
   is_fixed ← is_constant
   w ← held_type
-  x ← initial (bits_of w)
+  x ← initial (word_of w)
   trailing trail.Global
   decorations spot.GlobalEnd
   add_global (record { symbol = s; is_constant = is_fixed; held = w.id; initial = x })
@@ -204,9 +213,30 @@ declare_after number returned runtime = do
   head_end spot.Declared
   add_declare (record { symbol = s; runtime = runtime; returned = returned; parameters = ps })
 
--- what follows `declare`, with the function of the runtime that is named, if it is one
+-- the name of an intrinsic that is left out is here, where the wide forms may stand
+abbrev pub names_left_out : Input → Bool
+names_left_out i = i.wide && (sees k.GlobalName i.cursor && is_left_out i.wide (spelled i.cursor))
+
+-- what follows the name of such an intrinsic
+abbrev pub passed_after : Form (Unit {0})
+passed_after = do
+  expect k.OpenRound
+  past_brackets
+  head_end spot.Declared
+  pure tt
+
+-- such an intrinsic, from its name on
+abbrev pub passed_declare : Form (Unit {0})
+passed_declare = skip >> passed_after
+
+-- what follows the result of a declared function, with the function of the runtime that is named, if it is one; an intrinsic that is left out enters no name
+abbrev pub declare_by : ℕ → ℕ → Bool → Form (Unit {0})
+declare_by number returned true = passed_declare
+declare_by number returned false = look (λ i. runtime_of (spelled i.cursor)) (declare_after number returned)
+
+-- what follows `declare`
 abbrev pub declare_parts : ℕ → Form (Unit {0})
-declare_parts number = declared_result >>= λ returned. look (λ i. runtime_of (spelled i.cursor)) (declare_after number returned)
+declare_parts number = declared_result >>= λ returned. look names_left_out (declare_by number returned)
 
 -- the declared function with this number
 abbrev pub declare_numbered : ℕ → Form (Unit {0})
@@ -389,4 +419,4 @@ items = many at_end_of_text item item_takes
 
 -- a text is its items, and there is no bad byte after them
 unfoldable pub whole : Form (Unit {0})
-whole = items >> checked (λ i. not (is_some i.cursor.bad)) (λ i. at_end i.cursor)
+whole = items >> checked (λ i. not (is_some (bad_here i.cursor))) (λ i. at_end i.cursor)

@@ -112,10 +112,10 @@ fn set_sorts(alloc: Global, input: &mut Input<'_>, sorts: Items<SymbolSort>)
 /// comes from the text too.
 fn start_with<'x>(alloc: Global, tables: Tables, bytes: &'x [u8], lexed: &'x Lexed) -> Input<'x>
     requires { length bytes.now ≤ text_limit }
-    ensures { result ≡ spec.start_with tables (record { text = bytes.now; rest = lexed.now.tokens; bad = lexed.now.bad }) }
+    ensures { result ≡ spec.start_with tables (record { text = bytes.now; rest = lexed.now.tokens; bad = lexed.now.bad; wide = tables.wide }) }
 {
     let key = tables.symbols.key().with(bytes);
-    let cursor = Cursor::new(bytes, lexed.tokens.as_slice(), lexed.bad);
+    let cursor = Cursor::new(bytes, lexed.tokens.as_slice(), lexed.bad, tables.wide);
     let mut tables = tables;
     tables.types.set_key(key);
     tables.struct_names.set_key(key);

@@ -15,8 +15,8 @@ use ir_ast::{
     StructType, SymbolId, SymbolSort, TypeId,
 };
 use ir_forms::{
-    Fault, Input, Listed, Spot, Table, Trail, begins_unread_operand, bits_of, decorations,
-    first_missing, many, trailing,
+    Fault, Input, Listed, Spot, Table, Trail, Word, begins_unread_operand, decorations,
+    first_missing, is_float_word, is_left_out, many, past_brackets, trailing, word_of,
 };
 use ir_tokens::Kind;
 use items::Items;
@@ -52,29 +52,46 @@ fn body(alloc: Global, input: &mut Input<'_>) -> Result<TypeId, Fault>
 
 // ---- globals
 
-/// Whether a token of this kind may be the first value of a global, whose type has n bits or is a pointer.
-fn is_initial(bits: Option<u32>, kind: Kind) -> bool
-    ensures { result ≡ form.is_initial bits kind }
+/// Whether a word is an i1.
+fn is_one(word: Word) -> bool
+    ensures { result ≡ form.is_one word }
+{
+    match word {
+        Word::Integer(bits) => bits == 1,
+        _ => false,
+    }
+}
+
+fn is_pointer_word(word: Word) -> bool
+    ensures { result ≡ form.is_pointer_word word }
+{
+    matches!(word, Word::Pointer)
+}
+
+/// Whether a token of this kind may be the first value of a global, whose type is a word of this sort.
+fn is_initial(word: Word, kind: Kind) -> bool
+    ensures { result ≡ form.is_initial word kind }
 {
     match kind {
         Kind::Undef | Kind::Zeroinitializer => true,
-        Kind::Number => bits.is_some(),
-        Kind::True | Kind::False => bits == Some(1),
-        Kind::Null => bits.is_none(),
+        Kind::Number => !is_pointer_word(word),
+        Kind::Word => is_float_word(word),
+        Kind::True | Kind::False => is_one(word),
+        Kind::Null => is_pointer_word(word),
         _ => false,
     }
 }
 
 /// The first value of a global.
 #[tactic(auto, unfolding(crate::specs::ItemsOfText::initial))]
-fn initial(input: &mut Input<'_>, bits: Option<u32>) -> Result<Constant, Fault>
-    ensures { Reads ((form.initial bits).read input.old) result input.new }
+fn initial(input: &mut Input<'_>, word: Word) -> Result<Constant, Fault>
+    ensures { Reads ((form.initial word).read input.old) result input.new }
 {
     let kind = input.kind();
-    if !is_initial(bits, kind) {
+    if !is_initial(word, kind) {
         return Err(input.refuse(begins_unread_operand(kind)));
     }
-    input.constant(bits)
+    input.constant(word)
 }
 
 /// `global` or `constant`, with what decorates the global. Returns whether it is `constant`.
@@ -103,7 +120,7 @@ fn global_afterwards(alloc: Global, input: &mut Input<'_>, symbol: SymbolId) -> 
     input.expect(Kind::Equals)?;
     let is_constant = is_constant(alloc, input)?;
     let written = input.held_type(alloc)?;
-    let initial = initial(input, bits_of(&written))?;
+    let initial = initial(input, word_of(&written))?;
     trailing(alloc, input, Trail::Global)?;
     decorations(alloc, input, Spot::GlobalEnd)?;
     input.globals.push(ast::Global {
@@ -218,6 +235,30 @@ fn declare_after(
     Ok(())
 }
 
+/// Whether the name of an intrinsic that is left out is here, where the wide forms may stand.
+fn names_left_out(alloc: Global, input: &Input<'_>) -> Result<bool, AllocError>
+    ensures { IfOk result (λ left_out. left_out ≡ form.names_left_out input.now) }
+{
+    if !input.wide || !input.sees(Kind::GlobalName) {
+        return Ok(false);
+    }
+    let name = input.cursor.spelled(alloc)?;
+    let left_out = is_left_out(input.wide, name.as_slice());
+    drop(name);
+    Ok(left_out)
+}
+
+/// A declared intrinsic that is left out, from its name on. It enters no name.
+fn passed_declare(alloc: Global, input: &mut Input<'_>) -> Result<(), Fault>
+    ensures { Reads (form.passed_declare.read input.old) result input.new }
+{
+    input.skip();
+    input.expect(Kind::OpenRound)?;
+    past_brackets(alloc, input)?;
+    head_end(alloc, input, Spot::Declared)?;
+    Ok(())
+}
+
 /// `declare T @f(T, ..)`
 #[tactic(auto, unfolding(crate::specs::ItemsOfText::declaration))]
 fn declaration(alloc: Global, input: &mut Input<'_>) -> Result<(), Fault>
@@ -229,6 +270,9 @@ fn declaration(alloc: Global, input: &mut Input<'_>) -> Result<(), Fault>
     let number = DeclareId::new(input.declares.len() as u32);
     input.skip();
     let returned = declared_result(alloc, input)?;
+    if names_left_out(alloc, input)? {
+        return passed_declare(alloc, input);
+    }
     let runtime = runtime_here(alloc, input)?;
     declare_after(alloc, input, number, returned, runtime)
 }

@@ -48,7 +48,7 @@ pub record FirstStopsAt (functions : List Function) (block place : ℕ) : Type 0
 
 -- before these tokens of a function are read, where the wide forms may stand or not
 abbrev pub start_in : (wide : Bool) → (text : Text) → List Token → Input
-start_in wide text tokens = record (start_of (record { text = text; rest = tokens; bad = None })) { wide = wide }
+start_in wide text tokens = record (start_of (record { text = text; rest = tokens; bad = None; wide = wide })) { wide = wide }
 
 -- these tokens of a function, ended after them, are read as the function of this name up to there
 pub record IsReadUpTo (wide : Bool) (text name : Text) (tokens : List Token) (block place : ℕ) : Type 0 where

@@ -1,8 +1,9 @@
-//! How the functions of the runtime and LLVM's functions of integers are declared.
+//! How the functions of the runtime and LLVM's functions of numbers are declared.
 use crate::message::Message;
 use crate::pointers::Pointers;
 use ir_ast::{
-    Declare, IntegerFunction, IntegersTaken, Module, Runtime, integers_taken, integers_word,
+    Declare, FloatFunction, FloatsTaken, IntegerFunction, IntegersTaken, Module, Runtime,
+    floats_taken, floats_word, integers_taken, integers_word,
 };
 
 /// The line that declares one of LLVM's functions of integers.
@@ -36,6 +37,42 @@ fn put_other(out: &mut Message, bits: u64) {
     out.put_number(bits)
 }
 
+/// The name of the floating point type of this number of bits, 32 or 64.
+fn float_name(bits: u64) -> &'static str {
+    if bits == 32 { "float" } else { "double" }
+}
+
+/// The line that declares one of LLVM's functions of floating point numbers.
+fn put_floats_declare(out: &mut Message, function: FloatFunction, bits: u64) {
+    let name = float_name(bits);
+    out.put("declare ");
+    out.put(name);
+    out.put(" @");
+    out.put_bytes(floats_word(function));
+    out.put_number(bits);
+    out.put("(");
+    out.put(name);
+    put_other_floats(out, floats_taken(function), name);
+    out.put(")")
+}
+
+/// The types of what a function of floating point numbers takes after the first one.
+fn put_other_floats(out: &mut Message, taken: FloatsTaken, name: &str) {
+    match taken {
+        FloatsTaken::One => {}
+        FloatsTaken::Two => put_other_float(out, name),
+        FloatsTaken::Three => {
+            put_other_float(out, name);
+            put_other_float(out, name)
+        }
+    }
+}
+
+fn put_other_float(out: &mut Message, name: &str) {
+    out.put(", ");
+    out.put(name)
+}
+
 fn put_typed_declare(out: &mut Message, runtime: &Runtime) {
     match runtime {
         Runtime::Alloc => out.put("declare i8* @dg_alloc(i32)"),
@@ -44,6 +81,7 @@ fn put_typed_declare(out: &mut Message, runtime: &Runtime) {
         Runtime::GcRead => out.put("declare i8* @llvm.gcread(i8*, i8**)"),
         Runtime::GcWrite => out.put("declare void @llvm.gcwrite(i8*, i8*, i8**)"),
         Runtime::Integer { function, bits } => put_integers_declare(out, *function, *bits),
+        Runtime::Float { function, bits } => put_floats_declare(out, *function, *bits),
     }
 }
 
@@ -55,10 +93,11 @@ fn put_opaque_declare(out: &mut Message, runtime: &Runtime) {
         Runtime::GcRead => out.put("declare ptr @llvm.gcread(ptr, ptr)"),
         Runtime::GcWrite => out.put("declare void @llvm.gcwrite(ptr, ptr, ptr)"),
         Runtime::Integer { function, bits } => put_integers_declare(out, *function, *bits),
+        Runtime::Float { function, bits } => put_floats_declare(out, *function, *bits),
     }
 }
 
-/// The line that declares a function of the runtime, or one of LLVM's functions of integers.
+/// The line that declares a function of the runtime, or one of LLVM's functions of numbers.
 pub fn put_declare_of(out: &mut Message, runtime: &Runtime, pointers: Pointers) {
     match pointers {
         Pointers::Typed => put_typed_declare(out, runtime),

@@ -5,7 +5,7 @@ ghost use Rattle.ir_text.specs.Anew.{anew, ends, named_head};
 ghost use Rattle.messages.specs.Instructions as spec;
 ghost use Rattle.messages.specs.Instructions.{BeginsAt, IsReadUpTo, StopsAt};
 
-use crate::guesses::make_guess;
+use crate::guesses::{Source, make_guess};
 use ir_ast::{Block, FuncId, Function, Module};
 use ir_forms::{Cursor, Fault, Input};
 use ir_text::{FunctionHead, body_after, defined_result, head_after};
@@ -129,7 +129,7 @@ fn reads_up_to(
         return Ok(false);
     }
     let tokens = ended(alloc, tokens)?;
-    let cursor = Cursor::new(text, tokens.as_slice(), None);
+    let cursor = Cursor::new(text, tokens.as_slice(), None, of_module.wide);
     let mut input = Input::new(alloc, cursor, of_module.symbols.key());
     input.wide = of_module.wide;
     let answer = match function_named(alloc, &mut input, name) {
@@ -153,7 +153,12 @@ pub fn first_token(
 ) -> Result<Option<Token>, AllocError>
     ensures { IfOk result (λ found. IfSome found (λ token. BeginsAt of_module.now.wide text.now tokens.now name.now numbers.block numbers.place token)) }
 {
-    let Some(guess) = make_guess(tokens, numbers.function, numbers.block, numbers.place) else {
+    let source = Source {
+        text,
+        tokens,
+        is_wide: of_module.wide,
+    };
+    let Some(guess) = make_guess(&source, numbers.function, numbers.block, numbers.place) else {
         return Ok(None);
     };
     let Some(token) = tokens.get(guess.instruction) else {

@@ -1,4 +1,4 @@
-//! Types as they are written, of integers and of pointers to named structs.
+//! Types as they are written, of numbers and of pointers to named structs.
 use crate::message::Message;
 use ir_ast::{IrType, Module, TypeId};
 use name_text::Blank;
@@ -21,6 +21,8 @@ fn put_part(alloc: Global, out: &mut Message, of_module: &Module, part: &Option<
             out.put("i");
             out.put_number(*bits as u64)
         }
+        Some(IrType::Float) => out.put("float"),
+        Some(IrType::Double) => out.put("double"),
         Some(IrType::Opaque) => out.put("ptr"),
         _ => out.put("T"),
     }

@@ -13,9 +13,9 @@ pub returns : goal.returns
 returns c =
     let text = c.args.text.now in
     let form = anew 0 c.args.name.now in
-    let place : c.new-cursor.result ≡ record { text = text; rest = ended c.args.tokens.now; bad = None } =
-    c.new-cursor.ensures ∙ ap (λ (rest : List Token). let it : Place = record { text = text; rest = rest; bad = None } in it) (c.as_slice.ensures.value ∙ c.in_ok-tokens.ensures) in
     let wide = c.args.of_module.now.wide in
+    let place : c.new-cursor.result ≡ record { text = text; rest = ended c.args.tokens.now; bad = None; wide = wide } =
+    c.new-cursor.ensures ∙ ap (λ (rest : List Token). let it : Place = record { text = text; rest = rest; bad = None; wide = wide } in it) (c.as_slice.ensures.value ∙ c.in_ok-tokens.ensures) in
     let start = c.new-input.ensures ∙ ap start_of place in
     elim c.match-function_named.branch [
       | in-Ok w ↦ rw w.answer-is (λ yes. record {
