@@ -13,14 +13,17 @@ use Rattle.ir_forms.specs.declared.input.Input.{Input}
 use Rattle.ir_forms.specs.declared.written.WrittenType.{WrittenType}
 use Rattle.ir_forms.specs.Input.{Form, left, limit, unexpected, unread, skip, expect_takes}
 use Rattle.ir_forms.specs.Names.{is_at}
-use Rattle.ir_forms.specs.Written.{begins_unread_type, sees_type, bits_at, integer_again, is_named, name_again, length_again, length_at, array_again, type_at, field_or, fields_again, again_by, again_over, again_within, again, further_star, starred_again, opaque_or, opaque_type, pointer_again, intern_pointer}
+use Rattle.ir_forms.specs.Written.{float_here, float_again_by, float_again, is_same_float, begins_unread_type, begins_unread_type, sees_type, bits_at, integer_again, is_named, name_again, length_again, length_at, array_again, type_at, field_or, fields_again, again_by, again_over, again_within, again, further_star, starred_again, opaque_or, opaque_type, pointer_again, intern_pointer}
+use Rattle.ir_forms.specs.declared.written.FloatType.{FloatType}
+use Rattle.ir_forms.specs.declared.written.FloatType.TheVariants as size
+use Rattle.ir_forms.specs.declared.fault.Fault.TheVariants.{Unexpected}
 use Rattle.ir_print_law.proofs.Tables.{place_stays}
-use Rattle.ir_print_law.specs.Shapes.{Shape, Integer, Pointer, Array, Empty, Struct, Named, Opaque}
+use Rattle.ir_print_law.specs.Shapes.{Shape, Integer, Float, Pointer, Array, Empty, Struct, Named, Opaque}
 use Rattle.ir_print_law.proofs.Seats.{Seat, Beside, Grown, grown_further, spelled_same, sees_same}
 use Rattle.ir_print_law.proofs.Sim.{Any, At, Both, Same, past, both, then, then_said, refuses, tested, so, looks, looks_any, looks_known}
 use Rattle.ir_print_law.proofs.AnewSteps.{skip_same, expect_same, rule, seen}
 use Rattle.ir_print_law.proofs.AnewTables.{place_is_there}
-use Rattle.ir_print_law.proofs.AnewTypes.{Shows, SameType, shows_later, Written, bits_at_same, has_bits_same, length_at_same, has_length_same, no_parameters_same, opaque_at, pointer_at}
+use Rattle.ir_print_law.proofs.AnewTypes.{float_here_same, Shows, SameType, shows_later, Written, bits_at_same, has_bits_same, length_at_same, has_length_same, no_parameters_same, opaque_at, pointer_at}
 
 -- ---- numbers
 
@@ -51,6 +54,15 @@ place_later name n i o g e = place_stays name i.struct_names.names o.struct_name
 module _ (s : Seat) where
   sees_type_same : (x : Kind) → Same s (sees_type x)
   sees_type_same x = rule s (λ i. sees x i.cursor) (unread begins_unread_type) (λ i j b. sees_same s x i.cursor j.cursor b.along)
+
+  float_again_by_same : (wanted : FloatType) (t : Option FloatType) → Same s (float_again_by wanted t)
+  float_again_by_same wanted None i j = refuses s (unread begins_unread_type) i j
+  float_again_by_same wanted (Some t) i j = both s (rule s (λ _. is_same_float wanted t) (λ i. Unexpected (start i.cursor)) (λ i j b. refl)) (skip_same s) i j
+
+  -- a type of floating point numbers again
+  float_again_same : (wanted : FloatType) → Same s (float_again wanted)
+  unfolding float_again
+  float_again_same wanted i j = looks s float_here float_here (float_again_by wanted) (float_again_by wanted) i j (λ beside. float_here_same s i j beside) (λ t. float_again_by_same wanted t i j)
 
   integer_same : (bits : ℕ) → Same s (integer_again bits)
   unfolding integer_again
@@ -110,6 +122,10 @@ module _ (s : Seat) where
       (shows_later i i2 rest h.1 (grown_further i i1 i2 x1 x2) h.4) (shows_later j j2 rest g.1 (grown_further j j1 j2 y1 y2) g.4) (omega (arith, less, fewer, further)))))
   fields_again_at inner each (Integer bits) (suc most) (suc other) a b i j h g less =
       looks_known s (type_at a) (type_at b) (field_or (λ first rest. inner first >> fields_again inner most rest)) (field_or (λ first rest. inner first >> fields_again inner other rest)) i j _ _ h g (expect_same s k.CloseBrace i j)
+  fields_again_at inner each (Float size.Single) (suc most) (suc other) a b i j h g less =
+      looks_known s (type_at a) (type_at b) (field_or (λ first rest. inner first >> fields_again inner most rest)) (field_or (λ first rest. inner first >> fields_again inner other rest)) i j _ _ h g (expect_same s k.CloseBrace i j)
+  fields_again_at inner each (Float size.Double) (suc most) (suc other) a b i j h g less =
+      looks_known s (type_at a) (type_at b) (field_or (λ first rest. inner first >> fields_again inner most rest)) (field_or (λ first rest. inner first >> fields_again inner other rest)) i j _ _ h g (expect_same s k.CloseBrace i j)
   fields_again_at inner each (Pointer part) (suc most) (suc other) a b i j h g less =
       looks_known s (type_at a) (type_at b) (field_or (λ first rest. inner first >> fields_again inner most rest)) (field_or (λ first rest. inner first >> fields_again inner other rest)) i j _ _ h.1 g.1 (expect_same s k.CloseBrace i j)
   fields_again_at inner each (Array count part) (suc most) (suc other) a b i j h g less =
@@ -129,6 +145,8 @@ module _ (s : Seat) where
   again_over_at : (inner : ℕ → Form (Unit {0})) → Inner inner → (shape : Shape) (a b : ℕ) (i j : Input)
       → Shows i.types i.struct_names.names shape a → Shows j.types j.struct_names.names shape b → At s Any (again_over inner a) (again_over inner b) i j
   again_over_at inner each (Integer bits) a b i j h g = looks_known s (type_at a) (type_at b) (again_by inner) (again_by inner) i j _ _ h g (integer_same bits i j)
+  again_over_at inner each (Float size.Single) a b i j h g = looks_known s (type_at a) (type_at b) (again_by inner) (again_by inner) i j _ _ h g (float_again_same size.Single i j)
+  again_over_at inner each (Float size.Double) a b i j h g = looks_known s (type_at a) (type_at b) (again_by inner) (again_by inner) i j _ _ h g (float_again_same size.Double i j)
   again_over_at inner each (Named name) a b i j h g =
       looks_known s (type_at a) (type_at b) (again_by inner) (again_by inner) i j (Some (type.Named h.0)) (Some (type.Named g.0)) h.1 g.1 (name_again_at name h.0 g.0 i j h.2 g.2)
   again_over_at inner each (Pointer part) a b i j h g =

@@ -1,5 +1,5 @@
 -- A printed type is read as a type that was read before.
-use Rattle.std.proofs.Common.{◌≡◌, ℕ, zero, suc, ◌+◌, ◌<◌, ◌≤◌, Bool, true, false, not, [], ◌∷◌, ◌++◌, length, slice_get, Option, None, Some, is_some, unwrap_or, refl, ap, subst, ◌∙◌, arith, append_assoc}
+use Rattle.std.proofs.Common.{◌≡◌, ℕ, zero, suc, ◌+◌, ◌<◌, ◌≤◌, Bool, true, false, not, [], ◌∷◌, ◌++◌, length, slice_get, Option, None, Some, is_some, unwrap_or, refl, sym, ap, subst, ◌∙◌, arith, append_assoc}
 use Rattle.std.specs.Prelude.{codes, nat_lt, ◌==◌}
 use Rattle.std.specs.Fmt as text
 use Rattle.std.proofs.lemmas.Bool.Decides.{nat_tests}
@@ -16,7 +16,7 @@ use Rattle.ir_tokens.specs.declared.token.Kind.{Kind}
 use Rattle.ir_tokens.specs.declared.token.Kind.TheVariants as k
 use Rattle.ir_tokens.specs.Bytes.{Text, class_of}
 use Rattle.ir_tokens.specs.Keywords.{word_kind, keywords}
-use Rattle.ir_forms.specs.Cursor.{kind, next, sees, start, spelled, left_out}
+use Rattle.ir_forms.specs.Cursor.{kind, next, sees, start, spelling, spelled, left_out}
 use Rattle.ir_forms.specs.declared.input.Input.{Input}
 use Rattle.ir_forms.specs.declared.written.WrittenType.{WrittenType}
 use Rattle.ir_forms.specs.Input.{Form, left, unread, advanced, skip, expect, expect_takes, start_of}
@@ -24,13 +24,16 @@ use Rattle.ir_forms.specs.Names.{is_at}
 use Rattle.ir_forms.specs.Place.{Place}
 use Rattle.ir_forms.specs.Written as w
 use Rattle.ir_forms.specs.Written.{has_opaque, no_parameters, integer, bits_at, begins_unread_type}
+use Rattle.ir_forms.specs.declared.written.FloatType.{FloatType}
+use Rattle.ir_forms.specs.declared.written.FloatType.TheVariants as size
 use Rattle.ir_print_law.specs.Stands.{Stands, IsSeam, AreBlanks}
+use Rattle.ir_print_law.proofs.Seams.{sign_class}
 use Rattle.ir_print_law.proofs.Constants.{integer_types_are_read, are_digits}
 use Rattle.name_text.specs.declared.blank.Blank.TheVariants as blank
 use Rattle.name_text.specs.Reading.{name_spelled}
-use Rattle.ir_print_law.proofs.Words.{sign_comes, number_comes, local_comes, seen}
+use Rattle.ir_print_law.proofs.Words.{word_comes, sign_comes, number_comes, local_comes, seen}
 use Rattle.ir_print_law.specs.Definitions.{defined_structs}
-use Rattle.ir_print_law.specs.Shapes.{Shape, Integer, Pointer, Array, Empty, Struct, Named, Opaque, HasShape, IsWritten, IsStruct, levels}
+use Rattle.ir_print_law.specs.Shapes.{Shape, Integer, Float, Pointer, Array, Empty, Struct, Named, Opaque, HasShape, IsWritten, IsStruct, levels}
 use Rattle.ir_print_law.proofs.State.{Invariant, Ready, Reads, Any}
 use Rattle.ir_print_law.proofs.Shown.{shown, field_count, IsTypeRead, shape_stays, shape_within, some_level}
 use Rattle.ir_print_law.proofs.Steps.{go_on, so, said_then, token_then, shorter, checked_then, test_reads, looked, sign_reads, sign_skipped, sign_kind, word_reads, word_skipped, word_seen, intern_pointer_reads, unlike, grows_further, grows_advanced, passed}
@@ -65,6 +68,7 @@ unfolding class_of
 field_ends Empty rest is = (refl, λ i at. ap no_round (sign_comes i.cursor (32 ∷ []) 125 rest k.CloseBrace refl refl refl at).0)
 field_ends (Struct first others) rest is = (refl, λ i at. ap no_round (sign_comes i.cursor [] 44 _ k.Comma refl refl refl at).0)
 field_ends (Integer bits) rest is = absurd is
+field_ends (Float t) rest is = absurd is
 field_ends (Pointer part) rest is = absurd is
 field_ends (Array count part) rest is = absurd is
 field_ends (Named name) rest is = absurd is
@@ -85,6 +89,16 @@ name_said name n i is e place =
     let there : w.is_named n i ≡ true = ap (λ (x : Text). is_at n (place_of x i.struct_names.names)) e ∙ ap (is_at n) place ∙ test_same n in
     (tt, i, (tt, i, (seen k.LocalName i is, refl), (there, refl)), (refl, refl))
 
+-- such a type is here
+float_seen : (t : FloatType) (word : Text) (i : Input) → kind i.cursor ≡ k.LeftOut → spelling i.cursor ≡ word → i.wide ≡ true → w.float_of word ≡ Some t → w.float_here i ≡ Some t
+unfolding w.float_here
+float_seen t word i is spelled_so forms of = rw (forms, seen k.LeftOut i is, spelled_so) of
+
+-- a type of floating point numbers is the same again
+float_said : (t : FloatType) (i : Input) → w.float_here i ≡ Some t → w.is_same_float t t ≡ true → (w.float_again t).says i tt (advanced i)
+unfolding w.float_again
+float_said t i here same = subst (λ (x : Option FloatType). (w.float_again_by t x).says i tt (advanced i)) (sym here) (tt, i, (same, refl), (refl, refl))
+
 -- the length of an array is the same again
 length_again_said : (count : ℕ) (i : Input) → kind i.cursor ≡ k.Number → w.array_length.says i count (advanced i) → (w.length_again count).says i tt (advanced i)
 unfolding w.length_again w.array_length
@@ -103,28 +117,30 @@ no_ptr k.Ptr = false
 no_ptr _ = true
 
 -- a type of a text without `ptr` begins so
-typed_comes : (structs : _) (shape : Shape) (place : Place) (gap afterwards : Text) → IsWritten false structs shape → AreBlanks gap → IsSeam afterwards → Stands place (gap ++ (shown false shape ++ afterwards)) → no_ptr (kind place) ≡ true
-unfolding class_of
-typed_comes structs (Integer bits) place gap afterwards own blanks seam at = ap no_ptr (integer_types_are_read bits (start_of place) gap afterwards own.0 own.1 blanks seam at).0
-typed_comes structs (Pointer part) place gap afterwards own blanks seam at =
-    typed_comes structs part place gap (42 ∷ afterwards) own.1 blanks refl (subst (λ (x : Text). Stands place (gap ++ x)) (append_assoc (shown false part) (42 ∷ []) afterwards) at)
-typed_comes structs (Array count part) place gap afterwards own blanks seam at = ap no_ptr (sign_comes place gap 91 _ k.OpenSquare blanks refl refl at).0
-typed_comes structs Empty place gap afterwards own blanks seam at = ap no_ptr (sign_comes place gap 123 _ k.OpenBrace blanks refl refl at).0
-typed_comes structs (Struct first rest) place gap afterwards own blanks seam at = ap no_ptr (sign_comes place gap 123 _ k.OpenBrace blanks refl refl at).0
-typed_comes structs (Named name) place gap afterwards own blanks seam at = ap no_ptr (local_comes place gap name afterwards blanks own.0 seam at).0
-typed_comes structs Opaque place gap afterwards own blanks seam at = absurd cc
+typed_comes : (wide : Bool) (structs : _) (shape : Shape) (place : Place) (gap afterwards : Text) → IsWritten wide false structs shape → AreBlanks gap → IsSeam afterwards → Stands place (gap ++ (shown false shape ++ afterwards)) → no_ptr (kind place) ≡ true
+unfolding class_of word_kind keywords
+typed_comes wide structs (Integer bits) place gap afterwards own blanks seam at = ap no_ptr (integer_types_are_read bits (start_of place) gap afterwards own.0 own.1 blanks seam at).0
+typed_comes wide structs (Float size.Single) place gap afterwards own blanks seam at = ap no_ptr (word_comes place gap (codes "float") afterwards blanks refl seam at).0
+typed_comes wide structs (Float size.Double) place gap afterwards own blanks seam at = ap no_ptr (word_comes place gap (codes "double") afterwards blanks refl seam at).0
+typed_comes wide structs (Pointer part) place gap afterwards own blanks seam at =
+    typed_comes wide structs part place gap (42 ∷ afterwards) own.1 blanks refl (subst (λ (x : Text). Stands place (gap ++ x)) (append_assoc (shown false part) (42 ∷ []) afterwards) at)
+typed_comes wide structs (Array count part) place gap afterwards own blanks seam at = ap no_ptr (sign_comes place gap 91 _ k.OpenSquare blanks refl refl at).0
+typed_comes wide structs Empty place gap afterwards own blanks seam at = ap no_ptr (sign_comes place gap 123 _ k.OpenBrace blanks refl refl at).0
+typed_comes wide structs (Struct first rest) place gap afterwards own blanks seam at = ap no_ptr (sign_comes place gap 123 _ k.OpenBrace blanks refl refl at).0
+typed_comes wide structs (Named name) place gap afterwards own blanks seam at = ap no_ptr (local_comes place gap name afterwards blanks own.0 seam at).0
+typed_comes wide structs Opaque place gap afterwards own blanks seam at = absurd cc
 
 module _ {m : Module} {f : Function} (v : Invariant m f) where
   -- a type of this shape is read again
   abbrev AgainClaim : Shape → Type 0
   AgainClaim shape =
-      (room number : ℕ) (i : Input) (gap rest : Text) (s : ℕ) → IsWritten (has_opaque m.types) (defined_structs m) shape → HasShape i.types i.struct_names.names shape number → levels shape ≤ room → AreBlanks gap → EndsAgain rest
+      (room number : ℕ) (i : Input) (gap rest : Text) (s : ℕ) → IsWritten m.wide (has_opaque m.types) (defined_structs m) shape → HasShape i.types i.struct_names.names shape number → levels shape ≤ room → AreBlanks gap → EndsAgain rest
       → Ready v s i (gap ++ (shown false shape ++ rest)) → Reads v s (w.again_within room number) i rest Any
 
   -- further fields are read
   abbrev FieldsClaim : Shape → Type 0
   FieldsClaim shape =
-      (fuel room number : ℕ) (i : Input) (rest : Text) (s : ℕ) → IsWritten (has_opaque m.types) (defined_structs m) shape → IsStruct shape → HasShape i.types i.struct_names.names shape number → levels shape ≤ suc room → field_count shape < fuel
+      (fuel room number : ℕ) (i : Input) (rest : Text) (s : ℕ) → IsWritten m.wide (has_opaque m.types) (defined_structs m) shape → IsStruct shape → HasShape i.types i.struct_names.names shape number → levels shape ≤ suc room → field_count shape < fuel
       → Ready v s i (shown true shape ++ (codes " }" ++ rest)) → Reads v s (w.fields_again (w.again_within room) fuel number) i rest (λ _ o. left o + field_count shape ≤ left i)
 
   -- each type has a level
@@ -147,7 +163,7 @@ module _ {m : Module} {f : Function} (v : Invariant m f) where
   one_token form i bytes rest s t said ready at le = (tt, advanced i, said, passed v i bytes rest s t ready at le, grows_advanced v i, tt)
 
   -- a sign that is seen and skipped
-  see_skip : (b : ℕ) (x : Kind) (i : Input) (gap rest : Text) (s : ℕ) → AreBlanks gap → class_of b ≡ c.Sign x → begins_gap (b ∷ rest) ≡ false → Ready v s i (gap ++ b ∷ rest) → Reads v s (w.sees_type x >> skip) i rest (λ _ o. advanced i ≡ o)
+  see_skip : (b : ℕ) (x : Kind) (i : Input) (gap rest : Text) (s : ℕ) → AreBlanks gap → sign_class b ≡ c.Sign x → begins_gap (b ∷ rest) ≡ false → Ready v s i (gap ++ b ∷ rest) → Reads v s (w.sees_type x >> skip) i rest (λ _ o. advanced i ≡ o)
   see_skip b x i gap rest s blanks class begins ready =
       checked_then v (λ i. sees x i.cursor) (unread begins_unread_type) skip i rest s (λ _ o. advanced i ≡ o) (seen x i (sign_kind v b x i gap rest s blanks class begins ready))
       (sign_skipped v b x i gap rest s s blanks class begins (omega arith) ready)
@@ -249,6 +265,22 @@ module _ {m : Module} {f : Function} (v : Invariant m f) where
         let r = integer_types_are_read bits i gap rest own.0 own.1 blanks ends.0 ready.stands in
         over_reads room number (type.Integer bits) i rest s has ends
         (one_token (w.integer_again bits) i (gap ++ (shown false (Integer bits) ++ rest)) rest s s (integer_said bits i r.0 r.1) ready r.2 (shorter v gap (shown false (Integer bits)) rest s s (omega arith)))
+  again_claims (Float size.Single) = (by, λ fuel room number i rest s own is has le less ready. absurd is) where
+    by : AgainClaim (Float size.Single)
+    by zero number i gap rest s own has le blanks ends ready = absurd (no_level (Float size.Single) le)
+    by (suc room) number i gap rest s own has le blanks ends ready =
+        let r = word_comes i.cursor gap (codes "float") rest blanks refl ends.0 ready.stands in
+        over_reads room number type.Float i rest s has ends
+        (one_token (w.float_again size.Single) i (gap ++ (codes "float" ++ rest)) rest s s (float_said size.Single i (float_seen size.Single (codes "float") i r.0 r.1 (ready.forms ∙ own) refl) refl) ready r.3
+        (shorter v gap (codes "float") rest s s (omega arith)))
+  again_claims (Float size.Double) = (by, λ fuel room number i rest s own is has le less ready. absurd is) where
+    by : AgainClaim (Float size.Double)
+    by zero number i gap rest s own has le blanks ends ready = absurd (no_level (Float size.Double) le)
+    by (suc room) number i gap rest s own has le blanks ends ready =
+        let r = word_comes i.cursor gap (codes "double") rest blanks refl ends.0 ready.stands in
+        over_reads room number type.Double i rest s has ends
+        (one_token (w.float_again size.Double) i (gap ++ (codes "double" ++ rest)) rest s s (float_said size.Double i (float_seen size.Double (codes "double") i r.0 r.1 (ready.forms ∙ own) refl) refl) ready r.3
+        (shorter v gap (codes "double") rest s s (omega arith)))
   again_claims (Named name) = (by, λ fuel room number i rest s own is has le less ready. absurd is) where
     by : AgainClaim (Named name)
     by zero number i gap rest s own has le blanks ends ready = absurd (no_level (Named name) le)
@@ -285,13 +317,13 @@ module _ {m : Module} {f : Function} (v : Invariant m f) where
   again_claims (Struct first others) = (struct_claim first others (again_claims first).0 (again_claims others).1, fields_claim first others (again_claims first).0 (again_claims others).1)
 
   -- the same type again
-  pub again_reads : (shape : Shape) (p : WrittenType) (i : Input) (gap rest : Text) (s : ℕ) → IsWritten (has_opaque m.types) (defined_structs m) shape → HasShape i.types i.struct_names.names shape p.id → levels shape ≤ 64 → AreBlanks gap → EndsAgain rest
+  pub again_reads : (shape : Shape) (p : WrittenType) (i : Input) (gap rest : Text) (s : ℕ) → IsWritten m.wide (has_opaque m.types) (defined_structs m) shape → HasShape i.types i.struct_names.names shape p.id → levels shape ≤ 64 → AreBlanks gap → EndsAgain rest
       → Ready v s i (gap ++ (shown false shape ++ rest)) → Reads v s (w.again p) i rest Any
   unfolding w.again
   again_reads shape p i gap rest s own has le blanks ends ready = (again_claims shape).0 64 p.id i gap rest s own has le blanks ends ready
 
   -- a pointer to the same type, in a text without `ptr`
-  pub pointer_again_reads : (shape : Shape) (p : WrittenType) (i : Input) (gap rest : Text) (s : ℕ) → has_opaque m.types ≡ false → IsWritten (has_opaque m.types) (defined_structs m) shape → IsTypeRead shape 64 p i
+  pub pointer_again_reads : (shape : Shape) (p : WrittenType) (i : Input) (gap rest : Text) (s : ℕ) → has_opaque m.types ≡ false → IsWritten m.wide (has_opaque m.types) (defined_structs m) shape → IsTypeRead shape 64 p i
       → levels shape < 64 → AreBlanks gap → Ready v s i (gap ++ (shown false (Pointer shape) ++ rest)) → Reads v s (w.pointer_again p) i rest (λ n o. HasShape o.types o.struct_names.names (Pointer shape) n)
   unfolding w.pointer_again class_of
   pointer_again_reads shape p i gap rest s plain own read le blanks ready =
@@ -301,7 +333,7 @@ module _ {m : Module} {f : Function} (v : Invariant m f) where
       let good : ℕ → Input → Type 0 = λ n o. HasShape o.types o.struct_names.names (Pointer shape) n in
       let a = again_reads shape p i gap (42 ∷ rest) s own read.has_shape (omega (arith, le)) blanks (star_ends rest) ready in
       let star = sign_comes a.1.cursor [] 42 rest k.Star refl refl refl a.3.stands in
-      let typed = typed_comes (defined_structs m) shape i.cursor gap (42 ∷ rest) (subst (λ (b : Bool). IsWritten b (defined_structs m) shape) plain own) blanks refl ready.stands in
+      let typed = typed_comes m.wide (defined_structs m) shape i.cursor gap (42 ∷ rest) (subst (λ (b : Bool). IsWritten m.wide b (defined_structs m) shape) plain own) blanks refl ready.stands in
       looked v (λ i. sees k.Ptr i.cursor) (w.opaque_or w.opaque_type (w.starred_again p)) i rest s good false (unlike k.Ptr no_ptr i refl typed)
       (looked v (λ i. start i.cursor) (λ from. w.again p >> w.further_star p.room >> w.intern_pointer from (type.Pointer p.id)) i rest s good (start i.cursor) refl
       (said_then v (w.again p >> w.further_star p.room) (λ _. w.intern_pointer (start i.cursor) (type.Pointer p.id)) i (advanced a.1) tt rest s good

@@ -123,6 +123,7 @@ module _ (m : Module) (func : ℕ) (code whole : Text) (n : Module) (is_whole : 
     none_missing = after_leads.0.missing;
     right = are_right m is_whole.names h.after p.end after_leads.0 same;
     forms = before_leads.0.forms ∙ same.forms;
+    place = first.1.0.place ∙ before_leads.0.forms ∙ same.forms;
   }
 
 pub read_alone : AreReadAlone

@@ -24,18 +24,20 @@ use Rattle.ir_forms.specs.Input.{limit, unexpected, skip}
 use Rattle.ir_forms.specs.Instructions.{named_op_by, named_op, named_after, instruction_by, instruction, placed, placed_takes, at_terminator, body}
 use Rattle.ir_forms.specs.Operand.{constant}
 use Rattle.ir_forms.specs.Sites.{first_of, afterwards}
-use Rattle.ir_forms.specs.Written.{bits_of}
+use Rattle.ir_forms.specs.Written.{word_of}
 use Rattle.ir_forms.specs.Lists.{at_round}
+use Rattle.ir_forms.specs.declared.written.Word.{Word}
 use Rattle.ir_text.specs.Blocks.{label_by, block_label, block, further, further_takes, at_close, after_block, blocks}
 use Rattle.ir_text.specs.Parameters.{parameter_type_by, parameter_type, parameter_name_by, parameter_name, parameter, parameter_takes, parameters}
 use Rattle.ir_print_law.proofs.Seats.{Seat, Grown, kind_same, sees_same}
 use Rattle.ir_print_law.proofs.Sim.{Between, Any, Equal, At, Both, Same, past, both, by, and, then, give, gives, refuses, tested, so, growing, looks_any, tells, by_kind, kinds, lists, lists_by, lists_with}
 use Rattle.ir_print_law.proofs.AnewSteps.{skip_same, expect_same, rule}
 use Rattle.ir_print_law.proofs.Names.{set_sort_at, new_value_at, numbered_value_at, unnamed_value_at, target_at, label_at, numbered_label_at, unnamed_label_at}
-use Rattle.ir_print_law.proofs.AnewTypes.{Written, written_later, bits_same, scalar_at, passed_at}
+use Rattle.ir_print_law.proofs.AnewTypes.{Written, written_later, bits_same, integer_scalar_at, scalar_at, passed_at}
 use Rattle.ir_print_law.proofs.Again.{again_at}
 use Rattle.ir_print_law.proofs.AnewOperands.{constant_at, operand_at, typed_same}
-use Rattle.ir_print_law.proofs.AnewDecorations.{decorations_same, debug_records_same, trailing_same, separator_same}
+use Rattle.ir_print_law.proofs.AnewDecorations.{decorations_same, trailing_same, separator_same}
+use Rattle.ir_print_law.proofs.AnewRecords.{debug_records_same}
 use Rattle.ir_print_law.proofs.Ops.{condition_same, phis_same, call_statement_same, tail_statement_same, valued_at, unnamed_at, store_op, named_op_by_at}
 
 module _ (s : Seat) where
@@ -59,12 +61,12 @@ module _ (s : Seat) where
 
   -- ---- switch
 
-  case_constant_at : (bits other : Option ℕ) (seen more : List CaseValue) → bits ≡ other → seen ≡ more → Both s Equal (case_constant bits seen) (case_constant other more)
+  case_constant_at : (bits other : Word) (seen more : List CaseValue) → bits ≡ other → seen ≡ more → Both s Equal (case_constant bits seen) (case_constant other more)
   unfolding case_constant
   case_constant_at bits other seen more e f i j =
       looks_any s (λ i. start i.cursor) (λ i. start i.cursor) (λ place. constant bits >>= λ x. checked (λ _. not (is_among (value_of x) seen)) (λ _. DefinedTwice place) >> pure x)
       (λ place. constant other >>= λ x. checked (λ _. not (is_among (value_of x) more)) (λ _. DefinedTwice place) >> pure x) i j
-      (λ from there. by s (subst (λ (b : Option ℕ). At s Equal (constant bits) (constant b) i j) e (constant_at s bits i j)) (λ x i j.
+      (λ from there. by s (subst (λ (b : Word). At s Equal (constant bits) (constant b) i j) e (constant_at s bits i j)) (λ x i j.
       past s (tested s (λ _. not (is_among (value_of x) seen)) (λ _. not (is_among (value_of x) more)) (λ _. DefinedTwice from) (λ _. DefinedTwice there) i j
       (λ b is. sym (ap (λ (l : List CaseValue). not (is_among (value_of x) l)) f) ∙ is)) (λ i j. give s {V = Equal} x x refl)))
 
@@ -84,7 +86,7 @@ module _ (s : Seat) where
   case_at i j c d h =
       so s {V = λ o p a b. Grown i o × Grown j p × SameCase o p a b} (λ o p a b v. (written_later i j o p c.written d.written v.0 v.1 h.0, ap₂ (λ (x : Constant) (l : List CaseValue). with_value (value_of x) l) v.2 h.1))
       (growing s {V = SameCase} (past s (again_at s c.written d.written i j h.0.3) (λ m q.
-      by s (case_constant_at (bits_of c.written) (bits_of d.written) c.seen d.seen (bits_same i j c.written d.written h.0) h.1 m q) case_of_at)))
+      by s (case_constant_at (word_of c.written) (word_of d.written) c.seen d.seen (bits_same i j c.written d.written h.0) h.1 m q) case_of_at)))
 
   bracketed_at : (v u : WrittenType) (i j : Input) → Written i j v u → At s Any (bracketed_cases v) (bracketed_cases u) i j
   unfolding bracketed_cases all_cases
@@ -96,8 +98,8 @@ module _ (s : Seat) where
   switch_same : Same s switch
   unfolding switch
   switch_same i j =
-      past s (skip_same s i j) (λ i j. then s (scalar_at s i j) (λ v u m q h x y.
-      then s (operand_at s (bits_of v) (bits_of u) (bits_same m q v u h) m q) (λ a b m1 q1 _ x1 y1.
+      past s (skip_same s i j) (λ i j. then s (integer_scalar_at s i j) (λ v u m q h x y.
+      then s (operand_at s (word_of v) (word_of u) (bits_same m q v u h) m q) (λ a b m1 q1 _ x1 y1.
       then s (expect_same s k.Comma m1 q1) (λ _ _ m2 q2 _ x2 y2.
       then s (target_at s m2 q2) (λ c d m3 q3 _ x3 y3.
       and s (bracketed_at v u m3 q3 (written_later m2 q2 m3 q3 v u x3 y3 (written_later m1 q1 m2 q2 v u x2 y2 (written_later m q m1 q1 v u x1 y1 h)))) (λ xs ys.

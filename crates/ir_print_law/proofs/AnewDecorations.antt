@@ -1,14 +1,13 @@
 -- Decorations are read alike in both.
-use Rattle.std.proofs.Common.{◌≡◌, Bool, true, false, not, refl, sym, ap, ap₂, subst, ◌∙◌}
-use Rattle.std.specs.Prelude.{nat_lt, ◌&&◌}
+use Rattle.std.proofs.Common.{◌≡◌, Bool, true, false, not, refl, sym, ap, ap₂, ◌∙◌}
+use Rattle.std.specs.Prelude.{nat_lt, ◌&&◌, ◌||◌}
 use Rattle.grammar.specs.Grammar.{pure, ◌>>◌}
-use Rattle.ir_ast.specs.declared.op.Op.{Op}
 use Rattle.ir_tokens.specs.declared.token.Kind.{Kind}
 use Rattle.ir_tokens.specs.declared.token.Kind.TheVariants as k
-use Rattle.ir_forms.specs.Cursor.{kind, sees}
+use Rattle.ir_forms.specs.Cursor.{kind, sees, kind_after, sees_float}
 use Rattle.ir_forms.specs.declared.input.Input.{Input}
 use Rattle.ir_forms.specs.Input.{skip, unexpected, unread, limit}
-use Rattle.ir_forms.specs.Decorations.{either, any_token, in_brackets, in_brackets_takes, are_closed, after_bracket, bracketed, past_brackets, is_argument, ends_operand, is_operand, word_end_by, word_end, word, metadata, decoration_by, begins_decoration, decoration, decoration_takes, at_no_decoration, same_spot, decorations, optional, flag, flag_takes, at_no_flag, same_flags, flags, flagged, flagged_word, debug_record, debug_record_takes, at_no_record, debug_records, instruction_end, aligned, may_align, is_global, placed, trail_by, comma_trail, comma_trail_takes, at_no_trail, same_trail, trailing, trail_of, trailed, begins_count}
+use Rattle.ir_forms.specs.Decorations.{either, any_token, in_brackets, in_brackets_takes, are_closed, after_bracket, bracketed, past_brackets, is_argument, ends_operand, is_operand, word_end_by, word_end, word, metadata, decoration_by, begins_decoration, decoration, decoration_takes, at_no_decoration, same_spot, decorations, optional, flag, flag_takes, at_no_flag, same_flags, flags, flagged, flagged_word, aligned, may_align, is_global, placed, trail_by, comma_trail, comma_trail_takes, at_no_trail, same_trail, trailing, begins_count}
 use Rattle.ir_forms.specs.declared.decorating.Brackets.{Brackets}
 use Rattle.ir_forms.specs.declared.decorating.FlagsAfter.{FlagsAfter}
 use Rattle.ir_forms.specs.declared.decorating.Spot.{Spot}
@@ -16,22 +15,18 @@ use Rattle.ir_forms.specs.declared.decorating.Spot.TheVariants as spot
 use Rattle.ir_forms.specs.declared.decorating.Trail.{Trail}
 use Rattle.ir_forms.specs.Lists.{separator, comma}
 use Rattle.ir_forms.specs.Starts.{is_flag_of}
-use Rattle.ir_print_law.proofs.Seats.{Seat, Beside, kind_same, sees_same, line_same, after_same}
-use Rattle.ir_print_law.proofs.Sim.{Between, Any, Equal, At, Both, Same, past, both, give, gives, refuses, so, looks_at, tells, by_kind, kinds, kinds_at, lists, lists_by}
+use Rattle.ir_print_law.proofs.Seats.{float_seen_same, Seat, Beside, kind_same, sees_same, line_same, after_same}
+use Rattle.ir_print_law.proofs.Sim.{Any, Equal, At, Both, Same, past, both, give, gives, refuses, so, looks_at, tells, by_kind, kinds, kinds_at, lists_by}
 use Rattle.ir_print_law.proofs.AnewSteps.{skip_same, expect_same, rule}
 
--- the same may follow both operations
-abbrev pub Trails : Between Op Op
-Trails o p x y = trail_of x ≡ trail_of y
-
 module _ (s : Seat) where
-  kind_is : (i j : Input) → Beside s i j → kind i.cursor ≡ kind j.cursor
+  pub kind_is : (i j : Input) → Beside s i j → kind i.cursor ≡ kind j.cursor
   kind_is i j b = kind_same s i.cursor j.cursor b.along
 
   pub sees_is : (x : Kind) (i j : Input) → Beside s i j → sees x i.cursor ≡ sees x j.cursor
   sees_is x i j b = sees_same s x i.cursor j.cursor b.along
 
-  nothing : Same s {A = Unit {0}} (pure tt)
+  pub nothing : Same s {A = Unit {0}} (pure tt)
   nothing = gives s {A = Unit {0}} {B = Unit {0}} tt tt
 
   pub optional_same : (x : Kind) → Same s (optional x)
@@ -49,7 +44,7 @@ module _ (s : Seat) where
   in_brackets_at : (b : Brackets) → Both s Equal (in_brackets b) (in_brackets b)
   in_brackets_at b i j = past s (rule s (λ _. nat_lt b.depth 4294967295) limit (λ i j beside. refl) i j) any_token_at
 
-  past_brackets_same : Same s past_brackets
+  pub past_brackets_same : Same s past_brackets
   unfolding past_brackets bracketed
   past_brackets_same = both s
       (lists_by s are_closed in_brackets in_brackets_takes after_bracket (λ c i j beside. refl) (λ c i j. so s {V = Equal} (λ o p a b e. ap (after_bracket c) e) (in_brackets_at c i j)) (record { depth = 1 })) nothing
@@ -58,7 +53,9 @@ module _ (s : Seat) where
   word_end_by_at p i j k.OpenRound e = both s (skip_same s) past_brackets_same i j
   word_end_by_at p i j k.Quoted e = skip_same s i j
   word_end_by_at p i j k.Number e = looks_at s (is_operand p) (is_operand p) (either (pure tt) skip) (either (pure tt) skip) i j
-      (λ b. ap (λ (x : Kind). is_argument p && ends_operand x) (after_same s i.cursor j.cursor b.along (λ is. let same : k.Number ≡ k.CloseBrace = sym e ∙ is in cc)))
+      (λ b. ap (λ (x : Kind). is_argument p && (ends_operand x || (i.wide && sees_float i.cursor))) (after_same s i.cursor j.cursor b.along (λ is. let same : k.Number ≡ k.CloseBrace = sym e ∙ is in cc))
+      ∙ ap (λ (x : Bool). is_argument p && (ends_operand (kind_after j.cursor) || (x && sees_float i.cursor))) b.forms
+      ∙ ap (λ (x : Bool). is_argument p && (ends_operand (kind_after j.cursor) || (j.wide && x))) (float_seen_same s i.cursor j.cursor b.along))
       (λ t told. which t) where
         which : (t : Bool) → At s Any (either (pure tt) skip t) (either (pure tt) skip t) i j
         which true = nothing i j
@@ -107,14 +104,6 @@ module _ (s : Seat) where
   unfolding flagged_word
   flagged_same = by_kind s flagged (λ word. both s (skip_same s) (flags_same word))
 
-  debug_record_same : Same s debug_record
-  unfolding debug_record
-  debug_record_same = both s (expect_same s k.DebugRecord) (both s (expect_same s k.OpenRound) past_brackets_same)
-
-  pub debug_records_same : Same s debug_records
-  unfolding debug_records
-  debug_records_same = both s (lists s at_no_record debug_record debug_record_takes (λ i j b. ap not (sees_is k.DebugRecord i j b)) debug_record_same) nothing
-
   -- ---- after an instruction
 
   aligned_same : (t : Bool) → Same s (aligned t)
@@ -140,15 +129,6 @@ module _ (s : Seat) where
   unfolding trailing
   trailing_same t = both s
       (lists_by s at_no_trail comma_trail comma_trail_takes same_trail (λ c i j b. ap not (sees_is k.Comma i j b)) (λ c i j. so s {V = Any} (λ o p a b e. refl) (comma_trail_same c i j)) t) nothing
-
-  pub instruction_end_same : (t : Trail) → Same s (instruction_end t)
-  unfolding instruction_end
-  instruction_end_same t = both s (trailing_same t) debug_records_same
-
-  -- two operations that the same may follow, with what follows them
-  pub trailed_at : (x y : Op) → trail_of x ≡ trail_of y → Both s Any (trailed x) (trailed y)
-  trailed_at x y same i j =
-      past s (subst (λ (t : Trail). At s Any (instruction_end (trail_of x)) (instruction_end t) i j) same (instruction_end_same (trail_of x) i j)) (gives s x y)
 
   -- ---- between the parts of a list
 

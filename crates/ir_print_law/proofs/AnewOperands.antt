@@ -1,25 +1,28 @@
 -- Operands and lists of them are read alike in both.
 use Rattle.std.proofs.Common.{◌≡◌, ℕ, Bool, true, false, not, List, Option, refl, sym, ap, subst, ◌∙◌}
 use Rattle.std.specs.Prelude.{◌&&◌, ◌||◌, is_some, unwrap_or}
-use Rattle.grammar.specs.Grammar.{pure, ◌>>◌}
+use Rattle.grammar.specs.Grammar.{pure, step, ◌>>◌}
 use Rattle.ir_ast.specs.declared.operand.Constant.{Constant}
 use Rattle.ir_ast.specs.declared.operand.Constant.TheVariants as c
 use Rattle.ir_ast.specs.declared.operand.Operand.TheVariants as o
 use Rattle.ir_tokens.specs.declared.token.Kind.{Kind}
 use Rattle.ir_tokens.specs.declared.token.Kind.TheVariants as k
-use Rattle.ir_forms.specs.Cursor.{kind_after, sees, start}
+use Rattle.ir_forms.specs.Cursor.{kind_after, sees, sees_float, start}
 use Rattle.ir_forms.specs.Number as numbers
 use Rattle.ir_forms.specs.declared.fault.Fault.TheVariants.{OutOfRange}
 use Rattle.ir_forms.specs.declared.input.Input.{Input}
 use Rattle.ir_forms.specs.declared.written.WrittenType.{WrittenType}
 use Rattle.ir_forms.specs.declared.decorating.Spot.TheVariants as spot
-use Rattle.ir_forms.specs.Input.{unread, skip, sees_is}
-use Rattle.ir_forms.specs.Operand.{begins_unread_operand, begins_other_operand, zero_of, truth_of, number_at, number_or_zero, number, constant_by, constant, cast_operand_by, cast_operand, cast_to, cast, operand_by, operand}
+use Rattle.ir_forms.specs.Input.{unexpected, unread, skip, sees_is}
+use Rattle.ir_forms.specs.FloatNumbers.{float_bits}
+use Rattle.ir_forms.specs.declared.written.Word.TheVariants as sort
+use Rattle.ir_forms.specs.Operand.{bits_of_word, held_float, float_at, float_or_zero, float_number, number_by, word_by, after_run, after_run_falls, begins_unread_operand, begins_other_operand, zero_of, truth_of, number_at, number_or_zero, number, constant_by, constant, cast_operand_by, cast_operand, cast_to, cast, operand_by, operand}
 use Rattle.ir_forms.specs.Lists.{at_round, argument_of, argument, argument_takes, arguments, is_metadata, typed, index, any_index, index_takes, at_no_comma, ends_indices, after_index, indices}
-use Rattle.ir_forms.specs.Written.{bits_of}
-use Rattle.ir_print_law.proofs.Seats.{Seat, Beside, spelling_same, sees_same, after_same}
-use Rattle.ir_print_law.proofs.Sim.{Any, Equal, At, Both, Same, past, both, and, then, give, gives, refuses, so, by_kind, kinds, lists, lists_by}
-use Rattle.ir_print_law.proofs.AnewSteps.{takes, skip_same, expect_same, rule}
+use Rattle.ir_forms.specs.Written.{word_of}
+use Rattle.ir_forms.specs.declared.written.Word.{Word}
+use Rattle.ir_print_law.proofs.Seats.{Seat, Beside, grown_itself, run_same, float_seen_same, past_run_either, spelling_same, sees_same, after_same}
+use Rattle.ir_print_law.proofs.Sim.{Any, Equal, At, Both, Same, past, both, and, then, then_said, give, gives, refuses, so, by_kind, kinds, lists, lists_by}
+use Rattle.ir_print_law.proofs.AnewSteps.{steps, takes, skip_same, expect_same, rule}
 use Rattle.ir_print_law.proofs.Names.{used_value_at, used_global_same}
 use Rattle.ir_print_law.proofs.AnewTypes.{Written, bits_same, scalar_at, pointer_type_at}
 use Rattle.ir_print_law.proofs.AnewDecorations.{decorations_same, separator_same}
@@ -27,11 +30,11 @@ use Rattle.ir_print_law.proofs.AnewDecorations.{decorations_same, separator_same
 module _ (s : Seat) where
   -- ---- constants
 
-  number_at_same : (bits : Option ℕ) (i j : Input) → Beside s i j → number_at bits i ≡ number_at bits j
+  number_at_same : (bits : Word) (i j : Input) → Beside s i j → number_at bits i ≡ number_at bits j
   unfolding number_at
-  number_at_same bits i j b = ap (λ (t : List ℕ). numbers.constant t (unwrap_or bits 64)) (spelling_same s i.cursor j.cursor b.along)
+  number_at_same bits i j b = ap (λ (t : List ℕ). numbers.constant t (bits_of_word bits)) (spelling_same s i.cursor j.cursor b.along)
 
-  number_is : (bits : Option ℕ) → Both s Equal (number bits) (number bits)
+  number_is : (bits : Word) → Both s Equal (number bits) (number bits)
   unfolding number
   number_is bits i j = past s (rule s (λ i. is_some (number_at bits i)) (λ i. OutOfRange (start i.cursor)) (λ i j b. ap (λ (n : Option ℕ). is_some n) (number_at_same bits i j b)) i j)
       (λ i j. takes s {V = Equal} (number_or_zero bits) (number_or_zero bits) i j (λ b. ap (λ (n : Option ℕ). c.Number (unwrap_or n 0)) (number_at_same bits i j b)))
@@ -39,8 +42,41 @@ module _ (s : Seat) where
   word : (x : Constant) → Both s Equal (skip >> pure x) (skip >> pure x)
   word x i j = past s (skip_same s i j) (λ i j. give s {V = Equal} x x refl)
 
-  constant_by_at : (bits : Option ℕ) (x : Kind) → Both s Equal (constant_by bits x) (constant_by bits x)
-  constant_by_at bits k.Number = number_is bits
+  float_at_same : (w : Word) (i j : Input) → Beside s i j → float_at w i ≡ float_at w j
+  unfolding float_at
+  float_at_same w i j b = ap (λ (t : List ℕ). held_float w (float_bits t)) (run_same s i.cursor j.cursor b.along)
+
+  sees_float_same : (i j : Input) → Beside s i j → sees_float i.cursor ≡ sees_float j.cursor
+  sees_float_same i j b = float_seen_same s i.cursor j.cursor b.along
+
+  -- after the tokens of a floating point number
+  float_step : (w : Word) (i j : Input) → sees_float j.cursor ≡ true → At s Equal (step (float_or_zero w) after_run after_run_falls) (step (float_or_zero w) after_run after_run_falls) i j
+  unfolding sees_float
+  float_step w i j float = steps s {V = Equal} (float_or_zero w) (float_or_zero w) after_run after_run after_run_falls after_run_falls i j
+      (λ b. (past_run_either s i.cursor j.cursor b.along float, b.own, b.symbols, b.structs, b.missing, b.functions, b.forms, grown_itself i, grown_itself j))
+      (λ b. ap (λ (n : Option ℕ). c.Float (unwrap_or n 0)) (float_at_same w i j b))
+
+  float_number_is : (w : Word) → Both s Equal (float_number w) (float_number w)
+  unfolding float_number
+  float_number_is w i j =
+      then_said s (both s (rule s (λ i. sees_float i.cursor) unexpected sees_float_same) (rule s (λ i. is_some (float_at w i)) (λ i. OutOfRange (start i.cursor)) (λ i j b. ap (λ (n : Option ℕ). is_some n) (float_at_same w i j b))) i j)
+      (λ a b m q v x y said. float_step w m q (ap (λ (p : Input). sees_float p.cursor) (sym (said.2.1 ∙ said.3.1)) ∙ said.2.0))
+
+  number_by_at : (w : Word) → Both s Equal (number_by w) (number_by w)
+  number_by_at sort.Pointer = number_is sort.Pointer
+  number_by_at (sort.Integer bits) = number_is (sort.Integer bits)
+  number_by_at sort.Float = float_number_is sort.Float
+  number_by_at sort.Double = float_number_is sort.Double
+
+  word_by_at : (w : Word) → Both s Equal (word_by w) (word_by w)
+  word_by_at sort.Pointer = refuses s (unread begins_unread_operand)
+  word_by_at (sort.Integer bits) = refuses s (unread begins_unread_operand)
+  word_by_at sort.Float = float_number_is sort.Float
+  word_by_at sort.Double = float_number_is sort.Double
+
+  constant_by_at : (bits : Word) (x : Kind) → Both s Equal (constant_by bits x) (constant_by bits x)
+  constant_by_at bits k.Number = number_by_at bits
+  constant_by_at bits k.Word = word_by_at bits
   constant_by_at bits k.True = word (truth_of bits true)
   constant_by_at bits k.False = word (truth_of bits false)
   constant_by_at bits k.Null = word c.Null
@@ -48,7 +84,7 @@ module _ (s : Seat) where
   constant_by_at bits k.Zeroinitializer = word (zero_of bits)
   constant_by_at bits _ = refuses s (unread begins_unread_operand)
 
-  pub constant_at : (bits : Option ℕ) → Both s Equal (constant bits) (constant bits)
+  pub constant_at : (bits : Word) → Both s Equal (constant bits) (constant bits)
   unfolding constant
   constant_at bits i j = kinds s (constant_by bits) (constant_by bits) i j (λ x. constant_by_at bits x i j)
 
@@ -70,29 +106,29 @@ module _ (s : Seat) where
   unfolding cast
   cast_same i j = past s (skip_same s i j) (λ i j. past s (expect_same s k.OpenRound i j) (λ i j. and s (pointer_type_at s i j) (λ v u i j. and s (cast_operand_same i j) (λ g h. cast_to_at v u g h))))
 
-  operand_by_same : (bits : Option ℕ) (x : Kind) → Same s (operand_by bits x)
+  operand_by_same : (bits : Word) (x : Kind) → Same s (operand_by bits x)
   operand_by_same bits k.LocalName i j = and s (used_value_at s i j) (λ a b. gives s (o.Local a) (o.Local b))
   operand_by_same bits k.LocalNumber i j = and s (used_value_at s i j) (λ a b. gives s (o.Local a) (o.Local b))
   operand_by_same bits k.GlobalName i j = and s (used_global_same s i j) (λ a b. gives s (o.Global a) (o.Global b))
   operand_by_same bits k.Bitcast i j = cast_same i j
   operand_by_same bits _ i j = and s (constant_at bits i j) (λ a b. gives s (o.Constant a) (o.Constant b))
 
-  pub operand_same : (bits : Option ℕ) → Same s (operand bits)
+  pub operand_same : (bits : Word) → Same s (operand bits)
   unfolding operand
   operand_same bits = by_kind s (operand_by bits) (operand_by_same bits)
 
   -- at the types of both
-  pub operand_at : (bits other : Option ℕ) → bits ≡ other → Both s Any (operand bits) (operand other)
-  operand_at bits other same i j = subst (λ (x : Option ℕ). At s Any (operand bits) (operand x) i j) same (operand_same bits i j)
+  pub operand_at : (bits other : Word) → bits ≡ other → Both s Any (operand bits) (operand other)
+  operand_at bits other same i j = subst (λ (x : Word). At s Any (operand bits) (operand x) i j) same (operand_same bits i j)
 
   -- ---- lists
 
   argument_of_at : (v u : WrittenType) (i j : Input) → Written i j v u → At s Any (argument_of v) (argument_of u) i j
   argument_of_at v u i j h =
-      past s (decorations_same s spot.Argument i j) (λ m q. and s (operand_at (bits_of v) (bits_of u) (bits_same i j v u h) m q) (λ x y i j.
+      past s (decorations_same s spot.Argument i j) (λ m q. and s (operand_at (word_of v) (word_of u) (bits_same i j v u h) m q) (λ x y i j.
       past s (separator_same s k.CloseRound i j) (gives s (record { written = v.id; operand = x }) (record { written = u.id; operand = y }))))
 
-  argument_same : Same s argument
+  pub argument_same : Same s argument
   unfolding argument
   argument_same i j = then s (scalar_at s i j) (λ v u m q h x y. argument_of_at v u m q h)
 
@@ -102,7 +138,7 @@ module _ (s : Seat) where
 
   pub typed_same : Same s typed
   unfolding typed
-  typed_same i j = then s (scalar_at s i j) (λ v u m q h x y. and s (operand_at (bits_of v) (bits_of u) (bits_same m q v u h) m q) (λ a b. gives s (record { written = v.id; operand = a }) (record { written = u.id; operand = b })))
+  typed_same i j = then s (scalar_at s i j) (λ v u m q h x y. and s (operand_at (word_of v) (word_of u) (bits_same m q v u h) m q) (λ a b. gives s (record { written = v.id; operand = a }) (record { written = u.id; operand = b })))
 
   index_same : Same s index
   unfolding index

@@ -1,5 +1,5 @@
 -- Types are read alike in both, each with its own numbers in each table.
-use Rattle.std.proofs.Common.{◌≡◌, ℕ, zero, suc, ◌-◌, Bool, true, false, not, List, [], ◌∷◌, inl, Option, Some, refl, sym, ap, ap₂, subst, ◌∙◌}
+use Rattle.std.proofs.Common.{◌≡◌, ℕ, zero, suc, ◌-◌, Bool, true, false, not, List, [], ◌∷◌, inl, Option, None, Some, refl, sym, ap, ap₂, subst, ◌∙◌}
 use Rattle.std.specs.Prelude.{nat_lt, nat_le, ◌&&◌, min, slice_get, is_some, unwrap_or}
 use Rattle.grammar.specs.Grammar.{pure, refuse, look, ◌>>=◌, ◌>>◌}
 use Rattle.ir_ast.specs.Names.{place_of}
@@ -17,9 +17,10 @@ use Rattle.ir_forms.specs.declared.written.Base.{Base}
 use Rattle.ir_forms.specs.declared.written.Base.TheVariants as base
 use Rattle.ir_forms.specs.declared.written.WrittenType.{WrittenType}
 use Rattle.ir_forms.specs.Input.{limit, unexpected, unread, skip}
-use Rattle.ir_forms.specs.Written.{place_in_table, with_type_interned, with_type_interned_falls, intern, is_second_kind, interned_pointer, intern_pointer, opaque_type, bits_at, has_bits, integer, Firm, begins_unread_type, part_of, interned, length_at, has_length, array_length, array_after, at_brace, comma_or, after_field, field, field_takes, before, struct_of, fields_afterwards, base_by, at_star, star_or, pointers, stars_after, starred, no_parameters, with_stars, no_type, over, firm, type_within, is_pointer, is_scalar, bits_of, is_passed, then_allowed, type_that, any_type, scalar_within, scalar, passed_type, pointer_type}
+use Rattle.ir_forms.specs.Written.{float_entry, float_base, float_here, float_by, float_written, float_scalar, integer_scalar, is_float, place_in_table, with_type_interned, with_type_interned_falls, intern, is_second_kind, interned_pointer, intern_pointer, opaque_type, bits_at, has_bits, integer, Firm, begins_unread_type, part_of, interned, length_at, has_length, array_length, array_after, at_brace, comma_or, after_field, field, field_takes, before, struct_of, fields_afterwards, base_by, at_star, star_or, pointers, stars_after, starred, no_parameters, with_stars, no_type, over, firm, type_within, is_pointer, is_scalar, word_of, is_passed, then_allowed, type_that, any_type, scalar_within, scalar, passed_type, pointer_type}
+use Rattle.ir_forms.specs.declared.written.FloatType.{FloatType}
 use Rattle.ir_print_law.proofs.Tables.{type_begins, type_there, begins_itself, stays, place_stays}
-use Rattle.ir_print_law.specs.Shapes.{Shape, Integer, Pointer, Array, Empty, Struct, Named, Opaque}
+use Rattle.ir_print_law.specs.Shapes.{Shape, Integer, Float, Pointer, Array, Empty, Struct, Named, Opaque}
 use Rattle.ir_print_law.proofs.Seats.{Seat, Beside, Grown, grown_further, name_same, spelling_same, sees_same}
 use Rattle.ir_print_law.proofs.Sim.{Between, Equal, Pointwise, At, Both, Same, past, both, by, then, give, gives, refuses, excused, tested, so, looks, looks_any, tells, kinds, lists_of}
 use Rattle.ir_print_law.proofs.AnewSteps.{steps, takes, skip_same, expect_same, rule, seen}
@@ -30,6 +31,7 @@ use Rattle.ir_print_law.proofs.Names.{struct_name_at}
 -- the type with this number has this shape in a table of types, where names of structs have numbers
 abbrev pub Shows : (types : List IrType) → (names : List Text) → Shape → (number : ℕ) → Type 0
 Shows types names (Integer bits) number = slice_get types number ≡ Some (type.Integer bits)
+Shows types names (Float t) number = slice_get types number ≡ Some (float_entry t)
 Shows types names (Pointer part) number = (p : ℕ) × (slice_get types number ≡ Some (type.Pointer p)) × Shows types names part p
 Shows types names (Array count part) number = (p : ℕ) × (slice_get types number ≡ Some (type.Array count p)) × Shows types names part p
 Shows types names Empty number = slice_get types number ≡ Some type.EmptyStruct
@@ -45,6 +47,7 @@ SameType o p a b = (shape : Shape) × Shows o.types o.struct_names.names shape a
 -- a shape stays where the tables grow
 pub shows_later : (i o : Input) (shape : Shape) (n : ℕ) → Grown i o → Shows i.types i.struct_names.names shape n → Shows o.types o.struct_names.names shape n
 shows_later i o (Integer bits) n g h = stays i.types o.types n _ g.0 h
+shows_later i o (Float t) n g h = stays i.types o.types n _ g.0 h
 shows_later i o (Pointer part) n g h = (h.0, stays i.types o.types n _ g.0 h.1, shows_later i o part h.0 g h.2)
 shows_later i o (Array count part) n g h = (h.0, stays i.types o.types n _ g.0 h.1, shows_later i o part h.0 g h.2)
 shows_later i o Empty n g h = stays i.types o.types n _ g.0 h
@@ -72,8 +75,8 @@ all_later i j o p (w ∷ ws) [] x y h = absurd h
 pub looks_same : {X : Type 0} (g : Base → ℕ → X) (w u : WrittenType) → w.base ≡ u.base → w.stars ≡ u.stars → g w.base w.stars ≡ g u.base u.stars
 looks_same g w u b n = ap₂ g b n
 
-pub bits_same : (o p : Input) (w u : WrittenType) → Written o p w u → bits_of w ≡ bits_of u
-bits_same o p w u h = ap₂ (λ (b : Base) (n : ℕ). bits_of (record { base = b; stars = n; id = 0; room = 0 })) h.0 h.1
+pub bits_same : (o p : Input) (w u : WrittenType) → Written o p w u → word_of w ≡ word_of u
+bits_same o p w u h = ap₂ (λ (b : Base) (n : ℕ). word_of (record { base = b; stars = n; id = 0; room = 0 })) h.0 h.1
 
 module _ (s : Seat) where
   -- ---- the table of types
@@ -202,6 +205,18 @@ module _ (s : Seat) where
 
   -- ---- before the stars
 
+  -- the type of floating point numbers that is here
+  pub float_here_same : (i j : Input) → Beside s i j → float_here i ≡ float_here j
+  unfolding float_here
+  float_here_same i j b = rw (b.forms, sees_same s k.LeftOut i.cursor j.cursor b.along, spelling_same s i.cursor j.cursor b.along) refl
+
+  float_by_at : (room : ℕ) (t : Option FloatType) → Both s Written (float_by room t) (float_by room t)
+  float_by_at room None i j = refuses s (unread begins_unread_type) i j
+  float_by_at room (Some t) i j = past s (skip_same s i j) (λ i j. interned_at (float_base t) room room (float_entry t) (float_entry t) i j refl (λ o p a b g f at. (Float t, at.0, at.1)))
+
+  float_at : (room : ℕ) → Both s Written (float_written room) (float_written room)
+  float_at room i j = looks s float_here float_here (float_by room) (float_by room) i j (λ beside. float_here_same i j beside) (λ t. float_by_at room t i j)
+
   base_by_at : (room : ℕ) (inner : Firm) → Both s Written inner.form inner.form → (x : Kind) → Both s Written (base_by room inner x) (base_by room inner x)
   base_by_at room inner each k.IntegerType i j =
       by s (integer_at i j) (λ bits i j. interned_at (base.Integer bits) room room (type.Integer bits) (type.Integer bits) i j refl (λ o p a b g f at. (Integer bits, at.0, at.1)))
@@ -215,6 +230,7 @@ module _ (s : Seat) where
   base_by_at room inner each k.OpenSquare i j = past s (skip_same s i j) (array_after_at inner each)
   base_by_at room inner each k.OpenBrace i j = past s (skip_same s i j) (fields_at room inner each)
   base_by_at room inner each k.Ptr i j = then s (opaque_at i j) (λ a b m q h x y. give s {V = Written} (part_of base.Opaque room a) (part_of base.Opaque room b) (refl, refl, refl, h))
+  base_by_at room inner each k.LeftOut i j = float_at room i j
   base_by_at room inner each k.Void i j = refuses s _ i j
   base_by_at room inner each _ i j = refuses s (unread begins_unread_type) i j
 
@@ -243,6 +259,8 @@ module _ (s : Seat) where
   after_by : (from there : ℕ) (w u : WrittenType) (x : Base) (i j : Input) → w.room ≡ u.room → SameType i j w.id u.id → At s Found (stars_after from w x) (stars_after there u x) i j
   after_by from there w u base.Opaque i j same h = give s {V = Found} (w.room, w.id) (u.room, u.id) (same, h)
   after_by from there w u (base.Integer bits) i j same h = subst (λ (room : ℕ). At s Found (pointers from w.room w.id) (pointers there room u.id) i j) same (stars_at from there w.room w.id u.id i j h)
+  after_by from there w u base.Float i j same h = subst (λ (room : ℕ). At s Found (pointers from w.room w.id) (pointers there room u.id) i j) same (stars_at from there w.room w.id u.id i j h)
+  after_by from there w u base.Double i j same h = subst (λ (room : ℕ). At s Found (pointers from w.room w.id) (pointers there room u.id) i j) same (stars_at from there w.room w.id u.id i j h)
   after_by from there w u base.Named i j same h = subst (λ (room : ℕ). At s Found (pointers from w.room w.id) (pointers there room u.id) i j) same (stars_at from there w.room w.id u.id i j h)
   after_by from there w u base.Aggregate i j same h = subst (λ (room : ℕ). At s Found (pointers from w.room w.id) (pointers there room u.id) i j) same (stars_at from there w.room w.id u.id i j h)
 
@@ -299,6 +317,22 @@ module _ (s : Seat) where
   pub scalar_at : Both s Written scalar scalar
   unfolding scalar scalar_within
   scalar_at = type_that_at is_scalar scalar_looks 63
+
+  -- types of floating point numbers, and others, look alike
+  is_float_same : (w u : WrittenType) → w.base ≡ u.base → w.stars ≡ u.stars → is_float w ≡ is_float u
+  is_float_same w u b n = ap₂ (λ (x : Base) (k : ℕ). is_float (record { base = x; stars = k; id = 0; room = 0 })) b n
+
+  pub float_scalar_at : Both s Written float_scalar float_scalar
+  unfolding float_scalar
+  float_scalar_at i j = then s (scalar_at i j) (λ w u m q h x y.
+      then s (tested s (λ _. is_float w) (λ _. is_float u) unexpected unexpected m q (λ b e. sym (is_float_same w u h.0 h.1) ∙ e))
+      (λ _ _ n r _ z e. give s {V = Written} w u (written_later m q n r w u z e h)))
+
+  pub integer_scalar_at : Both s Written integer_scalar integer_scalar
+  unfolding integer_scalar
+  integer_scalar_at i j = then s (scalar_at i j) (λ w u m q h x y.
+      then s (tested s (λ _. not (is_float w)) (λ _. not (is_float u)) unexpected unexpected m q (λ b e. ap not (sym (is_float_same w u h.0 h.1)) ∙ e))
+      (λ _ _ n r _ z e. give s {V = Written} w u (written_later m q n r w u z e h)))
 
   pub passed_at : Both s Written passed_type passed_type
   unfolding passed_type

@@ -9,18 +9,22 @@ use Rattle.ir_ast.specs.declared.operand.Operand.{Operand}
 use Rattle.ir_tokens.specs.declared.token.Kind.TheVariants as k
 use Rattle.ir_forms.specs.declared.input.Input.{Input}
 use Rattle.ir_forms.specs.declared.written.WrittenType.{WrittenType}
-use Rattle.ir_forms.specs.Written.{has_opaque, is_scalar, bits_of}
+use Rattle.ir_forms.specs.Written.{has_opaque, is_scalar, word_of}
 use Rattle.ir_forms.specs.ManyWith.{Follows}
 use Rattle.ir_forms.specs.Lists.{argument, argument_takes, arguments, at_round, typed, index, any_index, indices, ends_indices, after_index}
 use Rattle.ir_forms.specs.Choices.{typed_pair}
-use Rattle.ir_forms.specs.Numbers.{pair, condition, bit_type}
+use Rattle.ir_forms.specs.FloatOps.{float_pair}
+use Rattle.ir_forms.specs.Numbers.{pair, typed_integer, condition, bit_type}
 use Rattle.ir_forms.specs.Memory.{place_of}
 use Rattle.ir_forms.specs.declared.decorating.Spot.TheVariants as spot
 use Rattle.ir_forms.specs.declared.numbers.TwoOperands.{TwoOperands}
 use Rattle.ir_forms.specs.declared.lists.IndexList.{IndexList}
+use Rattle.ir_forms.specs.declared.written.Word.{Word}
+use Rattle.ir_forms.specs.declared.written.Word.TheVariants as sort
+use Rattle.ir_forms.specs.declared.written.FloatType.TheVariants as size
 use Rattle.ir_print_law.specs.Definitions.{defined_structs}
-use Rattle.ir_print_law.specs.Parts.{IsArgument, IsOperand, ArePair, IsCondition, IsPlaceType}
-use Rattle.ir_print_law.specs.Shapes.{Shape, Integer, Pointer, Array, Empty, Struct, Named, Opaque, IsWritten, bits_of_shape}
+use Rattle.ir_print_law.specs.Parts.{IsFloat, IsNoFloat, IsArgument, IsOperand, ArePair, IsCondition, IsPlaceType}
+use Rattle.ir_print_law.specs.Shapes.{Shape, Integer, Float, Pointer, Array, Empty, Struct, Named, Opaque, IsWritten, word_of_shape}
 use Rattle.ir_print_law.proofs.Forms.{Keeps, Same, all, each_with}
 use Rattle.ir_print_law.proofs.Decorations.{decorations_pass, separator_passes}
 use Rattle.ir_print_law.proofs.Looks.{IsTypeOf, bits_are}
@@ -28,23 +32,25 @@ use Rattle.ir_print_law.proofs.Operands.{AreBits, IsRead, operand_keeps}
 use Rattle.ir_print_law.proofs.Passes.{expect_passes, again_passes}
 use Rattle.ir_print_law.proofs.Reading.{Within}
 use Rattle.ir_print_law.proofs.Tokens.{intern_goes}
-use Rattle.ir_print_law.proofs.TypesThat.{IsFit, scalar_of, scalar_keeps, place_type_keeps}
+use Rattle.ir_print_law.proofs.TypesThat.{IsFit, scalar_of, scalar_keeps, integer_scalar_keeps, float_scalar_keeps, place_type_keeps}
 
-pub bits_written : (opaque : _) (structs : _) (shape : Shape) → IsWritten opaque structs shape → AreBits (bits_of_shape shape)
-bits_written opaque structs (Integer bits) h = h
-bits_written opaque structs (Pointer part) h = tt
-bits_written opaque structs (Array count part) h = tt
-bits_written opaque structs Empty h = tt
-bits_written opaque structs (Struct first rest) h = tt
-bits_written opaque structs (Named name) h = tt
-bits_written opaque structs Opaque h = tt
+pub bits_written : (wide opaque : _) (structs : _) (shape : Shape) → IsWritten wide opaque structs shape → AreBits (word_of_shape shape)
+bits_written wide opaque structs (Integer bits) h = h
+bits_written wide opaque structs (Float size.Single) h = tt
+bits_written wide opaque structs (Float size.Double) h = tt
+bits_written wide opaque structs (Pointer part) h = tt
+bits_written wide opaque structs (Array count part) h = tt
+bits_written wide opaque structs Empty h = tt
+bits_written wide opaque structs (Struct first rest) h = tt
+bits_written wide opaque structs (Named name) h = tt
+bits_written wide opaque structs Opaque h = tt
 
 module _ {m : Module} {f : Function} (v : Within m f) where
   -- what was read as an operand of this type is one
-  pub operand_at : (w : WrittenType) (h : IsFit m is_scalar w) (x : Operand) → IsRead v (bits_of w) x → IsOperand m f (bits_of_shape h.0.0) x
+  pub operand_at : (w : WrittenType) (h : IsFit m is_scalar w) (x : Operand) → IsRead v (word_of w) x → IsOperand m f (word_of_shape h.0.0) x
   operand_at w h x read =
       let e = bits_are m 64 w h.0.0 h.0.1 in
-      subst (λ (b : Option ℕ). IsOperand m f b x) e (read (subst AreBits (sym e) (bits_written (has_opaque m.types) (defined_structs m) h.0.0 h.0.1.is_written)))
+      subst (λ (b : Word). IsOperand m f b x) e (read (subst AreBits (sym e) (bits_written m.wide (has_opaque m.types) (defined_structs m) h.0.0 h.0.1.is_written)))
 
   pub typed_keeps : (i : Input) → Keeps v.reading.Fore (Same v.reading.Fore) v.reading.Back typed (IsArgument m f) i
   unfolding typed
@@ -53,7 +59,7 @@ module _ {m : Module} {f : Function} (v : Within m f) where
       let t = h.3 in
       let u = t.3 in
       let a = scalar_keeps r i h.0 h.1 h.2 fore in
-      let b = operand_keeps v (bits_of h.0) h.1 t.0 t.1 t.2 a.0 in (
+      let b = operand_keeps v (word_of h.0) h.1 t.0 t.1 t.2 a.0 in (
         subst r.Fore u.1 b.0,
         λ back.
             let bb = b.1 (subst r.Back (sym u.1) back) in
@@ -61,7 +67,8 @@ module _ {m : Module} {f : Function} (v : Within m f) where
             (ab.0, subst (IsArgument m f) u.0 (ab.1.0.0, scalar_of m h.0 ab.1, operand_at h.0 ab.1 t.0 bb.1)),
       )
 
-  pub pair_keeps : (i : Input) → Keeps v.reading.Fore (Same v.reading.Fore) v.reading.Back pair (λ p. ArePair m f p.written p.first p.second) i
+  -- pairs and operands of integers or pointers, and of floating point numbers
+  pub pair_keeps : (i : Input) → Keeps v.reading.Fore (Same v.reading.Fore) v.reading.Back pair (λ p. IsNoFloat m p.written × ArePair m f p.written p.first p.second) i
   unfolding pair
   pair_keeps i p o h fore =
       let r = v.reading in
@@ -69,17 +76,56 @@ module _ {m : Module} {f : Function} (v : Within m f) where
       let u = t.3 in
       let w = u.3 in
       let z = w.3 in
-      let a = scalar_keeps r i h.0 h.1 h.2 fore in
-      let b = operand_keeps v (bits_of h.0) h.1 t.0 t.1 t.2 a.0 in
+      let a = integer_scalar_keeps r i h.0 h.1 h.2 fore in
+      let b = operand_keeps v (word_of h.0) h.1 t.0 t.1 t.2 a.0 in
       let c = expect_passes r k.Comma t.1 u.0 u.1 u.2 b.0 in
-      let d = operand_keeps v (bits_of h.0) u.1 w.0 w.1 w.2 c.0 in (
+      let d = operand_keeps v (word_of h.0) u.1 w.0 w.1 w.2 c.0 in (
         subst r.Fore z.1 d.0,
         λ back.
             let db = d.1 (subst r.Back (sym z.1) back) in
             let cb = c.1 db.0 in
             let bb = b.1 cb.0 in
             let ab = a.1 bb.0 in
-            (ab.0, subst (λ (y : TwoOperands). ArePair m f y.written y.first y.second) z.0 (ab.1.0.0, scalar_of m h.0 ab.1, operand_at h.0 ab.1 t.0 bb.1, operand_at h.0 ab.1 w.0 db.1)),
+            let fit = ab.1.0 in
+            (ab.0, subst (λ (y : TwoOperands). IsNoFloat m y.written × ArePair m f y.written y.first y.second) z.0 (ab.1.1, (fit.0.0, scalar_of m h.0 fit, operand_at h.0 fit t.0 bb.1, operand_at h.0 fit w.0 db.1))),
+      )
+
+  pub float_pair_keeps : (i : Input) → Keeps v.reading.Fore (Same v.reading.Fore) v.reading.Back float_pair (λ p. IsFloat m p.written × ArePair m f p.written p.first p.second) i
+  unfolding float_pair
+  float_pair_keeps i p o h fore =
+      let r = v.reading in
+      let t = h.3 in
+      let u = t.3 in
+      let w = u.3 in
+      let z = w.3 in
+      let a = float_scalar_keeps r i h.0 h.1 h.2 fore in
+      let b = operand_keeps v (word_of h.0) h.1 t.0 t.1 t.2 a.0 in
+      let c = expect_passes r k.Comma t.1 u.0 u.1 u.2 b.0 in
+      let d = operand_keeps v (word_of h.0) u.1 w.0 w.1 w.2 c.0 in (
+        subst r.Fore z.1 d.0,
+        λ back.
+            let db = d.1 (subst r.Back (sym z.1) back) in
+            let cb = c.1 db.0 in
+            let bb = b.1 cb.0 in
+            let ab = a.1 bb.0 in
+            let fit = ab.1.0 in
+            (ab.0, subst (λ (y : TwoOperands). IsFloat m y.written × ArePair m f y.written y.first y.second) z.0 (ab.1.1, (fit.0.0, scalar_of m h.0 fit, operand_at h.0 fit t.0 bb.1, operand_at h.0 fit w.0 db.1))),
+      )
+
+  pub typed_integer_keeps : (i : Input) → Keeps v.reading.Fore (Same v.reading.Fore) v.reading.Back typed_integer (λ x. IsNoFloat m x.written × IsArgument m f x) i
+  unfolding typed_integer
+  typed_integer_keeps i x o h fore =
+      let r = v.reading in
+      let t = h.3 in
+      let u = t.3 in
+      let a = integer_scalar_keeps r i h.0 h.1 h.2 fore in
+      let b = operand_keeps v (word_of h.0) h.1 t.0 t.1 t.2 a.0 in (
+        subst r.Fore u.1 b.0,
+        λ back.
+            let bb = b.1 (subst r.Back (sym u.1) back) in
+            let ab = a.1 bb.0 in
+            let fit = ab.1.0 in
+            (ab.0, subst (λ (y : Argument). IsNoFloat m y.written × IsArgument m f y) u.0 (ab.1.1, (fit.0.0, scalar_of m h.0 fit, operand_at h.0 fit t.0 bb.1))),
       )
 
   pub typed_pair_keeps : (i : Input) → Keeps v.reading.Fore (Same v.reading.Fore) v.reading.Back typed_pair (λ p. ArePair m f p.written p.first p.second) i
@@ -92,10 +138,10 @@ module _ {m : Module} {f : Function} (v : Within m f) where
       let w = g.3 in
       let z = w.3 in
       let a = scalar_keeps r i h.0 h.1 h.2 fore in
-      let b = operand_keeps v (bits_of h.0) h.1 t.0 t.1 t.2 a.0 in
+      let b = operand_keeps v (word_of h.0) h.1 t.0 t.1 t.2 a.0 in
       let c = expect_passes r k.Comma t.1 u.0 u.1 u.2 b.0 in
       let e = again_passes r h.0 u.1 g.0 g.1 g.2 c.0 in
-      let d = operand_keeps v (bits_of h.0) g.1 w.0 w.1 w.2 e.0 in (
+      let d = operand_keeps v (word_of h.0) g.1 w.0 w.1 w.2 e.0 in (
         subst r.Fore z.1 d.0,
         λ back.
             let db = d.1 (subst r.Back (sym z.1) back) in
@@ -115,7 +161,7 @@ module _ {m : Module} {f : Function} (v : Within m f) where
       let z = u.3 in
       let a = intern_goes r (type.Integer 1) i tt h.0 h.1 h.2 fore in
       let b = again_passes r (bit_type h.0) h.1 t.0 t.1 t.2 a.0 in
-      let c = operand_keeps v (Some 1) t.1 u.0 u.1 u.2 b.0 in (
+      let c = operand_keeps v (sort.Integer 1) t.1 u.0 u.1 u.2 b.0 in (
         subst r.Fore z.1 c.0,
         λ back.
             let cb = c.1 (subst r.Back (sym z.1) back) in
@@ -126,7 +172,7 @@ module _ {m : Module} {f : Function} (v : Within m f) where
 
   -- a place of a value of this type
   abbrev pub IsPlaceOf : WrittenType → Argument → Type 0
-  IsPlaceOf held a = ((shape : Shape) → IsTypeOf m 64 held shape → IsPlaceType m shape held.id a.written) × IsOperand m f None a.operand
+  IsPlaceOf held a = ((shape : Shape) → IsTypeOf m 64 held shape → IsPlaceType m shape held.id a.written) × IsOperand m f sort.Pointer a.operand
 
   pub place_keeps : (held : WrittenType) (i : Input) → held.id < length i.types → Keeps v.reading.Fore (Same v.reading.Fore) v.reading.Back (place_of held) (IsPlaceOf held) i
   unfolding place_of
@@ -135,7 +181,7 @@ module _ {m : Module} {f : Function} (v : Within m f) where
       let t = h.3 in
       let u = t.3 in
       let a = place_type_keeps r held i there h.0 h.1 h.2 fore in
-      let b = operand_keeps v None h.1 t.0 t.1 t.2 a.0 in (
+      let b = operand_keeps v sort.Pointer h.1 t.0 t.1 t.2 a.0 in (
         subst r.Fore u.1 b.0,
         λ back.
             let bb = b.1 (subst r.Back (sym u.1) back) in
@@ -145,7 +191,7 @@ module _ {m : Module} {f : Function} (v : Within m f) where
 
   -- ---- arguments of a call
 
-  argument_keeps : (i : Input) → Keeps v.reading.Fore (Same v.reading.Fore) v.reading.Back argument (IsArgument m f) i
+  pub argument_keeps : (i : Input) → Keeps v.reading.Fore (Same v.reading.Fore) v.reading.Back argument (IsArgument m f) i
   unfolding argument
   argument_keeps i x o h fore =
       let r = v.reading in
@@ -155,7 +201,7 @@ module _ {m : Module} {f : Function} (v : Within m f) where
       let z = w.3 in
       let a = scalar_keeps r i h.0 h.1 h.2 fore in
       let b = decorations_pass r spot.Argument h.1 t.0 t.1 t.2 a.0 in
-      let c = operand_keeps v (bits_of h.0) t.1 u.0 u.1 u.2 b.0 in
+      let c = operand_keeps v (word_of h.0) t.1 u.0 u.1 u.2 b.0 in
       let d = separator_passes r k.CloseRound u.1 w.0 w.1 w.2 c.0 in (
         subst r.Fore z.1 d.0,
         λ back.

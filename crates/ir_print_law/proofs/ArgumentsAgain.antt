@@ -37,6 +37,7 @@ use Rattle.ir_forms.specs.declared.decorating.Spot.{Spot}
 use Rattle.ir_forms.specs.declared.decorating.Spot.TheVariants as spot
 use Rattle.ir_forms.specs.Input.{unexpected}
 use Rattle.ir_print.specs.Operands.{listed}
+use Rattle.ir_print_law.proofs.Undropped.{Undropped}
 use Rattle.ir_print_law.proofs.Words.{seen}
 use Rattle.ir_print_law.proofs.Steps.{sign_kind, test_reads}
 use Rattle.ir_print_law.proofs.OperandsAgain.{begins_operand, operand_begins}
@@ -58,9 +59,9 @@ ends_line k.LabelNumber = true
 ends_line k.CloseBrace = true
 ends_line _ = false
 
--- such a token comes next
+-- such a token comes next, and begins no call that is dropped
 abbrev pub EndsLine : Text → Type 0
-EndsLine rest = IsSeam rest × Comes ends_line rest
+EndsLine rest = IsSeam rest × Comes ends_line rest × Undropped rest
 
 -- such a token ends a type
 type_ended : (x : Kind) → ends_line x ≡ true → ends_type x ≡ true
@@ -188,7 +189,7 @@ module _ {m : Module} {f : Function} (v : Invariant m f) where
       (λ p o ready g read.
       let begins = operand_begins v shape x.written x.operand t2 scalar.0.0 own.2 (seam_further xs rest) o ready.stands in
       said_on v (decorations spot.Argument) (λ _. operand_form p) o tt end s good (decorations_said spot.Argument o (undecorated_operand (begins_line o.cursor) (kind o.cursor) begins))
-      (on v v (form.operand (w.bits_of p)) (separator_form p) o t2 end s s (OperandAgain m f.locals x.operand) good
+      (on v v (form.operand (w.word_of p)) (separator_form p) o t2 end s s (OperandAgain m f.locals x.operand) good
       (operand_at v shape x.written x.operand p o o (32 ∷ []) t2 s read scalar.0.0 own.2 refl (seam_further xs rest) ready)
       (λ y q ready h again.
       on v v (lists.separator k.CloseRound) (λ _. pure (record { written = p.id; operand = y })) q end end s s Any good
@@ -202,7 +203,7 @@ module _ {m : Module} {f : Function} (v : Invariant m f) where
       separator_form p y = lists.separator k.CloseRound >> pure (record { written = p.id; operand = y })
 
       operand_form : WrittenType → Form Argument
-      operand_form p = form.operand (w.bits_of p) >>= separator_form p
+      operand_form p = form.operand (w.word_of p) >>= separator_form p
 
   -- the arguments after a comma, up to the end of the list
   arguments_after : (xs : List Argument) (i : Input) (rest : Text) (s : ℕ) → AllByRecursion (IsArgument m f) xs → Ready v s i (after_comma xs rest)

@@ -29,6 +29,7 @@ use Rattle.ir_print_law.proofs.Known.{Far, AreNamed, known}
 use Rattle.ir_print_law.proofs.LabelLines.{label_kind}
 use Rattle.ir_print_law.proofs.OpNeeds.{begins_body_line, EndsOp, OpsRead}
 use Rattle.ir_print_law.proofs.Steady.{Steady, Onward, onward_itself, onward_further}
+use Rattle.ir_print_law.proofs.Undropped.{and_last, begins_call, no_call_comes}
 
 abbrev is_label : Kind → Bool
 is_label k.LabelName = true
@@ -44,9 +45,10 @@ label_begins k.LabelName e = refl
 label_begins k.LabelNumber e = refl
 label_begins _ e = absurd cc
 
-never : (a b : Bool) → b ≡ false → a && b ≡ false
-never true b e = e
-never false b e = refl
+label_no_call : (x : Kind) → is_label x ≡ true → begins_call x ≡ false
+label_no_call k.LabelName e = refl
+label_no_call k.LabelNumber e = refl
+label_no_call _ e = absurd cc
 
 always : (a b : Bool) → a ≡ true → b ≡ true → a && b ≡ true
 always a b e g = rw (e, g) refl
@@ -67,14 +69,18 @@ module _ (m : Module) (f : Function) (named : AreNamed m f) (ops : OpsRead m f n
       label_is (kind i.cursor) (label_kind i.cursor (name_at f.locals b.label) (10 ∷ block_lines m f.locals b rest) keys.0
       (subst (λ (t : Text). Stands i.cursor (10 ∷ t)) (block_is m f.locals b rest) at))
 
+  first_label : (b : Block) (bs : List Block) (i : Input) (rest : Text) → HasKeys m f named ops b → Stands i.cursor (10 ∷ (text_of_blocks (b ∷ bs) ++ 125 ∷ 10 ∷ rest)) → is_label (kind i.cursor) ≡ true
+  first_label b bs i rest keys at =
+      block_label_comes b i (text_of_blocks bs ++ 125 ∷ 10 ∷ rest) keys
+      (subst (λ (t : Text). Stands i.cursor (10 ∷ t)) (append_assoc (block_text m f.locals b) (text_of_blocks bs) (125 ∷ 10 ∷ rest)) at)
+
   blocks_end : (bs : List Block) (rest : Text) → AllByRecursion (HasKeys m f named ops) bs → EndsOp (10 ∷ (text_of_blocks bs ++ 125 ∷ 10 ∷ rest))
   unfolding class_of
-  blocks_end [] rest keys = (refl, λ i at. ap begins_body_line (closes i rest at))
+  blocks_end [] rest keys = (refl, λ i at. ap begins_body_line (closes i rest at), λ i at. no_call_comes i.cursor (ap begins_call (closes i rest at)))
   blocks_end (b ∷ bs) rest keys = (
     refl,
-    λ i at. label_begins (kind i.cursor)
-        (block_label_comes b i (text_of_blocks bs ++ 125 ∷ 10 ∷ rest) keys.0
-        (subst (λ (t : Text). Stands i.cursor (10 ∷ t)) (append_assoc (block_text m f.locals b) (text_of_blocks bs) (125 ∷ 10 ∷ rest)) at)),
+    λ i at. label_begins (kind i.cursor) (first_label b bs i rest keys.0 at),
+    λ i at. no_call_comes i.cursor (label_no_call (kind i.cursor) (first_label b bs i rest keys.0 at)),
   )
 
   abbrev pub BlocksGo : List Block → (more : List Text) → Far → (count : ℕ) → Input → (rest : Text) → Type 0
@@ -112,7 +118,7 @@ module _ (m : Module) (f : Function) (named : AreNamed m f) (ops : OpsRead m f n
         one.0 ∷ next.0,
         next.1,
         next.2,
-        (never (nat_lt 0 (length far.labels)) (sees k.CloseBrace i.cursor) not_closed, p, one.3, follows),
+        (and_last (nat_lt 0 (length far.labels)) (sees k.CloseBrace i.cursor) not_closed, p, one.3, follows),
         next.4,
         widens_further i p next.1 one.5 next.5,
         onward_further far mid next.2 (value_keys_of f.locals b) (name_at f.locals b.label ∷ []) (flat_map (value_keys_of f.locals) bs) (map (λ (b : Block). name_at f.locals b.label) bs)

@@ -23,7 +23,8 @@ use Rattle.ir_text.specs.Parameters.{parameter_type_by, parameter_type, paramete
 use Rattle.ir_text.specs.declared.blocks.Blocks.{Blocks}
 use Rattle.ir_print_law.specs.Printable.{IsBlock, IsParameter}
 use Rattle.ir_print_law.proofs.Choices.{with_phis, phis_keep}
-use Rattle.ir_print_law.proofs.Decorations.{debug_records_pass, decorations_pass, separator_passes}
+use Rattle.ir_print_law.proofs.Decorations.{decorations_pass, separator_passes}
+use Rattle.ir_print_law.proofs.Records.{debug_records_pass}
 use Rattle.ir_print_law.proofs.Ends.{block_end_keeps}
 use Rattle.ir_print_law.proofs.Forms.{Keeps, Same, Any}
 use Rattle.ir_print_law.proofs.Instructions.{with_result, with_results, body_keeps}

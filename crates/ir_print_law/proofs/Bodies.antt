@@ -19,6 +19,7 @@ use Rattle.ir_forms.specs.Choices.{is_local, begins_phi}
 use Rattle.ir_forms.specs.Ends as ends
 use Rattle.ir_forms.specs.Instructions.{placed, at_terminator}
 use Rattle.ir_forms.specs.ManyWith.{Follows}
+use Rattle.ir_forms.specs.Records.{drops_at}
 use Rattle.ir_forms.specs.Sites.{afterwards}
 use Rattle.ir_print.specs.Instructions.{op_text, instruction_line}
 use Rattle.ir_print.specs.Ends.{end_text, end_line}
@@ -30,10 +31,11 @@ use Rattle.ir_print_law.specs.Printable.{IsInstr}
 use Rattle.ir_print_law.specs.PartsAgain.{AreAlike}
 use Rattle.ir_print_law.specs.Again.{IsInstrAgain}
 use Rattle.ir_print_law.proofs.State.{Ready}
-use Rattle.ir_print_law.proofs.Begins.{plain_kind, end_kind, value_word, ends_begins}
+use Rattle.ir_print_law.proofs.Begins.{plain_kind, plain_undropped, end_kind, value_word, ends_begins, ends_no_call}
 use Rattle.ir_print_law.proofs.OpsAgain.{plain}
 use Rattle.ir_print_law.proofs.Parts.{IsLaterAgain}
-use Rattle.ir_print_law.proofs.PhiLines.{BeginsNoPhi, local_passed, other_word, no_local, seam_line}
+use Rattle.ir_print_law.proofs.PhiLines.{BeginsNoPhi, local_no_call, local_passed, other_word, no_local, seam_line}
+use Rattle.ir_print_law.proofs.Undropped.{no_call_comes}
 use Rattle.ir_print_law.proofs.Words.{sign_comes}
 use Rattle.ir_print_law.proofs.WholeForms.{Widens, widens_itself, widens_further, Leads, later_widened}
 use Rattle.ir_print_law.proofs.InnerLines.{plain_goes, value_goes_on, valued_line}
@@ -67,22 +69,23 @@ end_not_local k.LocalNumber e = absurd cc
 end_not_local _ e = refl
 
 module _ (m : Module) (f : Function) (named : AreNamed m f) (ops : OpsRead m f named) where
-  -- which token an instruction's line begins with, and that no phi begins there
+  -- which token an instruction's line begins with, and that no phi begins there and no call that is dropped
   line_kind_by : (result : Option ℕ) (x : Op) (i : Input) (rest : Text) → IsInstr m f (record { result = result; op = x }) → AllByRecursion IsKey (result_keys f.locals (record { result = result; op = x }))
-      → Stands i.cursor (10 ∷ (instruction_line m f.locals (record { result = result; op = x }) ++ rest)) → IsInnerKind (kind i.cursor) × (begins_phi i ≡ false)
+      → Stands i.cursor (10 ∷ (instruction_line m f.locals (record { result = result; op = x }) ++ rest)) → IsInnerKind (kind i.cursor) × (begins_phi i ≡ false) × (drops_at i.cursor ≡ false)
   unfolding class_of kind kind_after kind_third next
   line_kind_by None x i rest own keys at =
-      let e = plain_inner_kind (kind i.cursor) (plain_kind m f.locals x i.cursor (10 ∷ rest) (sym own.1) (subst (λ (t : Text). Stands i.cursor (10 ∷ t)) (plain_line m f.locals x rest) at)) in
-      (e.0, no_local i e.1)
+      let at = subst (λ (t : Text). Stands i.cursor (10 ∷ t)) (plain_line m f.locals x rest) at in
+      let e = plain_inner_kind (kind i.cursor) (plain_kind m f.locals x i.cursor (10 ∷ rest) (sym own.1) at) in
+      (e.0, no_local i e.1, plain_undropped m f (λ name there. named.is_symbol true name there) x i.cursor (10 ∷ rest) own.0 (sym own.1) at)
   line_kind_by (Some value) x i rest own keys at =
       let at = subst (λ (t : Text). Stands i.cursor (10 ∷ t)) (valued_line m f.locals x value rest) at in
       let a = local_passed i.cursor (10 ∷ 32 ∷ 32 ∷ []) (name_at f.locals value) (codes " = " ++ (op_text m f.locals x ++ 10 ∷ rest)) keys.0 refl refl at in
       let b = sign_comes (next i.cursor) (32 ∷ []) 61 (32 ∷ (op_text m f.locals x ++ 10 ∷ rest)) k.Equals refl refl refl a.1 in
       let c = value_word m f.locals x (next (next i.cursor)) rest (sym own.1) b.3 in
-      (inner_kind (kind i.cursor) a.0, other_word (kind i.cursor) (kind_after i.cursor) (kind_third i.cursor) c)
+      (inner_kind (kind i.cursor) a.0, other_word (kind i.cursor) (kind_after i.cursor) (kind_third i.cursor) c, no_call_comes i.cursor (local_no_call (kind i.cursor) a.0))
 
   pub line_kind : (x : Instr) (i : Input) (rest : Text) → IsInstr m f x → AllByRecursion IsKey (result_keys f.locals x)
-      → Stands i.cursor (10 ∷ (instruction_line m f.locals x ++ rest)) → IsInnerKind (kind i.cursor) × (begins_phi i ≡ false)
+      → Stands i.cursor (10 ∷ (instruction_line m f.locals x ++ rest)) → IsInnerKind (kind i.cursor) × (begins_phi i ≡ false) × (drops_at i.cursor ≡ false)
   line_kind x = line_kind_by x.result x.op
 
   -- the line of the end of a block begins with the word of an end
@@ -144,19 +147,19 @@ module _ (m : Module) (f : Function) (named : AreNamed m f) (ops : OpsRead m f n
   abbrev pub body_text : List Instr → End → (rest : Text) → Text
   body_text xs last rest = lines_of xs ++ (end_line m f.locals last ++ rest)
 
-  -- the next line is another one of these, or the one that ends the block, and no phi begins there
+  -- the next line is another one of these, or the one that ends the block, and no phi begins there and no call that is dropped
   next_line : (xs : List Instr) (last : End) (i : Input) (rest : Text) → AllByRecursion (IsInstr m f) xs → AllByRecursion IsKey (keys_of xs) → Stands i.cursor (10 ∷ body_text xs last rest)
-      → (begins_body_line (kind i.cursor) ≡ true) × (begins_phi i ≡ false)
+      → (begins_body_line (kind i.cursor) ≡ true) × (begins_phi i ≡ false) × (drops_at i.cursor ≡ false)
   next_line [] last i rest own keys at =
       let e = end_comes last i rest at in
-      (ends_begins (kind i.cursor) e, no_local i (end_not_local (kind i.cursor) e))
+      (ends_begins (kind i.cursor) e, no_local i (end_not_local (kind i.cursor) e), no_call_comes i.cursor (ends_no_call (kind i.cursor) e))
   next_line (x ∷ xs) last i rest own keys at =
       let h = line_kind x i (body_text xs last rest) own.0 (all_first IsKey (result_keys f.locals x) (keys_of xs) keys)
       (subst (λ (t : Text). Stands i.cursor (10 ∷ t)) (append_assoc (instruction_line m f.locals x) (lines_of xs) (end_line m f.locals last ++ rest)) at) in
-      (h.0.0, h.1)
+      (h.0.0, h.1, h.2)
 
   pub next_ends : (xs : List Instr) (last : End) (rest : Text) → AllByRecursion (IsInstr m f) xs → AllByRecursion IsKey (keys_of xs) → EndsOp (10 ∷ body_text xs last rest)
-  next_ends xs last rest own keys = (seam_line (body_text xs last rest), λ i at. (next_line xs last i rest own keys at).0)
+  next_ends xs last rest own keys = (seam_line (body_text xs last rest), λ i at. (next_line xs last i rest own keys at).0, λ i at. (next_line xs last i rest own keys at).2)
 
   pub next_no_phi : (xs : List Instr) (last : End) (rest : Text) → AllByRecursion (IsInstr m f) xs → AllByRecursion IsKey (keys_of xs) → BeginsNoPhi (10 ∷ body_text xs last rest)
   next_no_phi xs last rest own keys = λ i at. (next_line xs last i rest own keys at).1

@@ -1,5 +1,5 @@
 -- Calls, as they are read.
-use Rattle.std.proofs.Common.{inl, inr, ◌≡◌, ℕ, Bool, true, false, not, List, slice_get, refl, sym, ap, subst, ◌∙◌}
+use Rattle.std.proofs.Common.{inl, inr, ◌≡◌, ℕ, Bool, true, false, not, List, Option, None, Some, slice_get, refl, sym, ap, subst, ◌∙◌}
 use Rattle.lemmas.specs.Lists.{IsIn}
 use Rattle.ir_ast.specs.declared.calls.Call.{Call}
 use Rattle.ir_ast.specs.declared.function.Function.{Function}
@@ -7,29 +7,42 @@ use Rattle.ir_ast.specs.declared.function.LocalSort.TheVariants as local
 use Rattle.ir_ast.specs.declared.ir_type.IrType.{IrType}
 use Rattle.ir_ast.specs.declared.ir_type.IrType.TheVariants as type
 use Rattle.ir_ast.specs.declared.module.Module.{Module}
+use Rattle.ir_ast.specs.declared.op.Op.{Op}
 use Rattle.ir_ast.specs.declared.op.Op.TheVariants as op
+use Rattle.ir_ast.specs.declared.operand.Constant.TheVariants as constant
+use Rattle.ir_ast.specs.declared.operand.Operand.TheVariants as operand
 use Rattle.ir_tokens.specs.Bytes.{Text}
 use Rattle.ir_tokens.specs.declared.token.Kind.{Kind}
 use Rattle.ir_tokens.specs.declared.token.Kind.TheVariants as k
-use Rattle.ir_forms.specs.Calls.{called_by, called, call_after, typed_call, call, void_call, tail_call}
+use Rattle.ir_forms.specs.Calls.{called_by, called, call_after, call_of, typed_call, named_call_by, named_call, call, void_call, tail_call}
 use Rattle.ir_forms.specs.Cursor.{kind}
 use Rattle.ir_forms.specs.declared.decorating.Spot.TheVariants as spot
+use Rattle.ir_forms.specs.StandIns.{stand_in, first_of, null_of}
+use Rattle.ir_forms.specs.Written.{is_scalar}
 use Rattle.ir_forms.specs.declared.input.Input.{Input}
+use Rattle.ir_forms.specs.declared.stand_ins.StandIn.{StandIn}
+use Rattle.ir_forms.specs.declared.stand_ins.StandIn.TheVariants.{Itself, First, Null}
+use Rattle.ir_forms.specs.declared.written.WrittenType.{WrittenType}
+use Rattle.ir_forms.specs.declared.written.Word.{Word}
+use Rattle.ir_forms.specs.declared.written.FloatType.TheVariants as size
+use Rattle.ir_forms.specs.declared.written.Word.TheVariants as sort
+use Rattle.ir_print_law.specs.Fits.{FitsType}
 use Rattle.ir_print.specs.Names.{name_at}
 use Rattle.ir_print_law.specs.Definitions.{functions_of}
 use Rattle.ir_print_law.specs.Parts.{IsReturned}
 use Rattle.ir_print_law.specs.Calls.{IsCall}
-use Rattle.ir_print_law.specs.Printable.{gives_value, is_void}
-use Rattle.ir_print_law.specs.Shapes.{Shape, Integer, Pointer, Array, Empty, Struct, Named, Opaque, HasShape}
-use Rattle.ir_print_law.proofs.Arguments.{arguments_keep}
-use Rattle.ir_print_law.proofs.Decorations.{decorations_pass}
-use Rattle.ir_print_law.proofs.Forms.{Keeps, Same}
+use Rattle.ir_print_law.specs.Casts.{IsCast}
+use Rattle.ir_print_law.specs.Printable.{IsOp, gives_value, is_void}
+use Rattle.ir_print_law.specs.Shapes.{Shape, Integer, Float, Pointer, Array, Empty, Struct, Named, Opaque, HasShape, word_of_shape}
+use Rattle.ir_print_law.proofs.Arguments.{argument_keeps, arguments_keep}
+use Rattle.ir_print_law.proofs.Decorations.{decorations_pass, past_brackets_passes}
+use Rattle.ir_print_law.proofs.Forms.{Keeps, Same, wrapped}
 use Rattle.ir_print_law.proofs.Operands.{callee_keeps}
 use Rattle.ir_print_law.proofs.Passes.{skip_passes, expect_passes}
 use Rattle.ir_print_law.proofs.Reading.{Within, Naming}
 use Rattle.ir_print_law.proofs.Tokens.{intern_goes}
-use Rattle.ir_print_law.proofs.TypesThat.{scalar_of, scalar_keeps}
-use Rattle.ir_print_law.proofs.ValueSorts.{Gives, sort_keeps}
+use Rattle.ir_print_law.proofs.TypesThat.{IsFit, scalar_of, scalar_keeps}
+use Rattle.ir_print_law.proofs.ValueSorts.{Gives, ends, sort_keeps}
 
 -- a call that gives a value, or none
 abbrev pub IsGivingCall : Module → Function → (gives : Bool) → Call → Type 0
@@ -37,6 +50,8 @@ IsGivingCall m f gives x = IsCall m f x × (gives_value m (op.Call x) ≡ gives)
 
 no_void : (types : List IrType) (names : List Text) (shape : Shape) (n : ℕ) → HasShape types names shape n → is_void (slice_get types n) ≡ false
 no_void types names (Integer bits) n h = ap is_void h
+no_void types names (Float size.Single) n h = ap is_void h
+no_void types names (Float size.Double) n h = ap is_void h
 no_void types names (Pointer part) n h = ap is_void h.1
 no_void types names (Array count part) n h = ap is_void h.1
 no_void types names Empty n h = ap is_void h
@@ -97,37 +112,116 @@ module _ {m : Module} {f : Function} (v : Within m f) where
             ((a.1 bb.0).0, (cb.1.0 (inl bb.1.0), none)),
       )
 
+-- null is printed at each type
+fits_null : (bits : Word) → FitsType bits constant.Null
+fits_null sort.Pointer = tt
+fits_null (sort.Integer bits) = tt
+fits_null sort.Float = tt
+fits_null sort.Double = tt
+
+-- an operation that gives a value
+abbrev pub IsGivingOp : Module → Function → Op → Type 0
+IsGivingOp m f x = IsOp m f x × (gives_value m x ≡ true)
+
 module _ {m : Module} {f : Function} {value : ℕ} (n : Naming m f value) where
-  pub typed_call_keeps : Gives n (typed_call value) (IsGivingCall m f true)
-  typed_call_keeps i x o h fore =
+  -- after the type of its result
+  call_of_keeps : (w : WrittenType) → Gives n (call_of value w.id) (λ x. IsFit m is_scalar w → IsGivingCall m f true x)
+  call_of_keeps w i x o h fore =
       let r = n.within.reading in
-      let t = h.3 in
-      let u = t.3 in
-      let a = scalar_keeps r i h.0 h.1 h.2 fore in
-      let b = call_after_keeps n.within h.0.id h.1 t.0 t.1 t.2 a.0 in
-      let c = sort_keeps n (local.Value h.0.id) t.1 tt u.0 u.1 u.2 b.0 in (
+      let u = h.3 in
+      let b = call_after_keeps n.within w.id i h.0 h.1 h.2 fore in
+      let c = sort_keeps n (local.Value w.id) h.1 tt u.0 u.1 u.2 b.0 in (
         subst n.After u.3.1 c.0,
         λ back.
             let cb = c.1 (subst r.Back (sym u.3.1) back) in
-            let bb = b.1 cb.0 in
-            let ab = a.1 bb.0 in
-            let scalar_is = scalar_of m h.0 ab.1 in
-            let some = no_void m.types m.struct_names ab.1.0.0 h.0.id scalar_is.0.0 in
-            let given = ap (λ z. not (is_void (slice_get m.types z))) bb.1.1 ∙ ap not some in
-            (ab.0, subst (IsGivingCall m f true) u.3.0 (bb.1.0 (inr (ab.1.0.0, scalar_is)), given)),
+            let bb = b.1 cb.0 in (
+              bb.0,
+              λ fit.
+                  let scalar_is = scalar_of m w fit in
+                  let some = no_void m.types m.struct_names fit.0.0 w.id scalar_is.0.0 in
+                  let given = ap (λ z. not (is_void (slice_get m.types z))) bb.1.1 ∙ ap not some in
+                  subst (IsGivingCall m f true) u.3.0 (bb.1.0 (inr (fit.0.0, scalar_is)), given),
+            ),
       )
 
-  pub call_keeps : Gives n (call value) (IsGivingCall m f true)
+  pub typed_call_keeps : Gives n (typed_call value) (IsGivingCall m f true)
+  typed_call_keeps i x o h fore =
+      let a = scalar_keeps n.within.reading i h.0 h.1 h.2 fore in
+      let b = call_of_keeps h.0 h.1 x o h.3 a.0 in
+      (b.0, λ back. let bb = b.1 back in let ab = a.1 bb.0 in (ab.0, bb.1 ab.1))
+
+  -- ---- what stands in the place of a call
+
+  first_of_keeps : Gives n (first_of value) (IsCast m f)
+  unfolding first_of
+  first_of_keeps i x o h fore =
+      let r = n.within.reading in
+      let t1 = h.3 in
+      let t2 = t1.3 in
+      let t3 = t2.3 in
+      let t4 = t3.3 in
+      let b0 = skip_passes r i h.0 h.1 h.2 fore in
+      let b1 = expect_passes r k.OpenRound h.1 t1.0 t1.1 t1.2 b0.0 in
+      let b2 = argument_keeps n.within t1.1 t2.0 t2.1 t2.2 b1.0 in
+      let b3 = past_brackets_passes r t2.1 t3.0 t3.1 t3.2 b2.0 in
+      let b4 = decorations_pass r spot.Call t3.1 t4.0 t4.1 t4.2 b3.0 in
+      let c = ends n (local.Value t2.0.written) tt (record { from = t2.0.written; operand = t2.0.operand; to = t2.0.written }) t4.1 x o t4.3 b4.0 in (
+        c.0,
+        λ back.
+            let cb = c.1 back in
+            let bb = b2.1 (b3.1 (b4.1 cb.0).0).0 in
+            ((b0.1 (b1.1 bb.0).0).0, subst (IsCast m f) cb.1 (bb.1, (bb.1.0, bb.1.1))),
+      )
+
+  null_of_keeps : (w : WrittenType) → Gives n (null_of value w.id) (λ x. IsFit m is_scalar w → IsCast m f x)
+  unfolding null_of
+  null_of_keeps w i x o h fore =
+      let r = n.within.reading in
+      let t1 = h.3 in
+      let t2 = t1.3 in
+      let t3 = t2.3 in
+      let b0 = skip_passes r i h.0 h.1 h.2 fore in
+      let b1 = expect_passes r k.OpenRound h.1 t1.0 t1.1 t1.2 b0.0 in
+      let b2 = past_brackets_passes r t1.1 t2.0 t2.1 t2.2 b1.0 in
+      let b3 = decorations_pass r spot.Call t2.1 t3.0 t3.1 t3.2 b2.0 in
+      let c = ends n (local.Value w.id) tt (record { from = w.id; operand = operand.Constant constant.Null; to = w.id }) t3.1 x o t3.3 b3.0 in (
+        c.0,
+        λ back.
+            let cb = c.1 back in (
+              (b0.1 (b1.1 (b2.1 (b3.1 cb.0).0).0).0).0,
+              λ fit.
+                  let scalar_is = scalar_of m w fit in
+                  subst (IsCast m f) cb.1 ((fit.0.0, scalar_is, fits_null (word_of_shape fit.0.0)), (fit.0.0, scalar_is)),
+            ),
+      )
+
+  named_call_by_keeps : (w : WrittenType) (x : StandIn) → Gives n (named_call_by value w.id x) (λ y. IsFit m is_scalar w → IsGivingOp m f y)
+  named_call_by_keeps w Itself i =
+      wrapped n.within.reading.Back n.within.reading.Fore n.After (λ x. IsFit m is_scalar w → IsGivingCall m f true x) (λ y. IsFit m is_scalar w → IsGivingOp m f y) op.Call (call_of value w.id) i
+      (λ x h fit. h fit) (call_of_keeps w i)
+  named_call_by_keeps w First i =
+      wrapped n.within.reading.Back n.within.reading.Fore n.After (IsCast m f) (λ y. IsFit m is_scalar w → IsGivingOp m f y) op.Cast (first_of value) i (λ x h fit. (h, refl)) (first_of_keeps i)
+  named_call_by_keeps w Null i =
+      wrapped n.within.reading.Back n.within.reading.Fore n.After (λ x. IsFit m is_scalar w → IsCast m f x) (λ y. IsFit m is_scalar w → IsGivingOp m f y) op.Cast (null_of value w.id) i
+      (λ x h fit. (h fit, refl)) (null_of_keeps w i)
+
+  named_call_keeps : Gives n (named_call value) (IsGivingOp m f)
+  named_call_keeps i x o h fore =
+      let a = scalar_keeps n.within.reading i h.0 h.1 h.2 fore in
+      let b = named_call_by_keeps h.0 (stand_in h.1) h.1 x o h.3 a.0 in
+      (b.0, λ back. let bb = b.1 back in let ab = a.1 bb.0 in (ab.0, bb.1 ab.1))
+
+  pub call_keeps : Gives n (call value) (IsGivingOp m f)
   unfolding call
   call_keeps i x o h fore =
       let r = n.within.reading in
       let t = h.3 in
       let a = skip_passes r i h.0 h.1 h.2 fore in
       let b = decorations_pass r spot.Result h.1 t.0 t.1 t.2 a.0 in
-      let c = typed_call_keeps t.1 x o t.3 b.0 in
+      let c = named_call_keeps t.1 x o t.3 b.0 in
       (c.0, λ back. let cb = c.1 back in let bb = b.1 cb.0 in ((a.1 bb.0).0, cb.1))
 
-  pub tail_call_keeps : Gives n (tail_call value) (IsGivingCall m f true)
+  pub tail_call_keeps : Gives n (tail_call value) (IsGivingOp m f)
   unfolding tail_call
   tail_call_keeps i x o h fore =
       let r = n.within.reading in

@@ -1,6 +1,6 @@
 -- Printed calls are read as these calls again.
 use Rattle.std.proofs.Common.{◌≡◌, ℕ, ◌+◌, Bool, true, false, List, [], ◌∷◌, ◌++◌, slice_get, Some, refl, ap, subst, arith, append_assoc, inl, inr, Option, sym, ◌∙◌}
-use Rattle.std.specs.Prelude.{codes}
+use Rattle.std.specs.Prelude.{codes, drop}
 use Rattle.grammar.specs.Grammar.{pure, look, ◌>>=◌, ◌>>◌}
 use Rattle.ir_ast.specs.declared.calls.Call.{Call}
 use Rattle.ir_ast.specs.declared.function.Function.{Function}
@@ -8,15 +8,17 @@ use Rattle.ir_ast.specs.declared.function.LocalSort.TheVariants as local
 use Rattle.ir_ast.specs.declared.ir_type.IrType.TheVariants as type
 use Rattle.ir_ast.specs.declared.module.Module.{Module}
 use Rattle.ir_ast.specs.declared.argument.Argument.{Argument}
+use Rattle.ir_ast.specs.declared.op.Op.{Op}
 use Rattle.ir_ast.specs.declared.op.Op.TheVariants as op
 use Rattle.ir_tokens.specs.declared.token.Kind.TheVariants as k
 use Rattle.ir_tokens.specs.Bytes.{Text, class_of}
 use Rattle.ir_tokens.specs.Keywords.{word_kind, keywords}
-use Rattle.ir_forms.specs.Cursor.{kind, begins_line, same_kind}
+use Rattle.ir_forms.specs.Cursor.{kind, begins_line, name, name_third, next, same_kind}
 use Rattle.ir_forms.specs.declared.input.Input.{Input}
 use Rattle.ir_forms.specs.declared.written.WrittenType.{WrittenType}
 use Rattle.ir_forms.specs.Input.{Form, advanced, skip, expect}
-use Rattle.ir_forms.specs.Intrinsics.{is_left_out}
+use Rattle.ir_forms.specs.Intrinsics.{is_dropped, is_left_out}
+use Rattle.ir_forms.specs.Records.{drops_at}
 use Rattle.ir_forms.specs.Names.{set_type, callee, with_symbol_use}
 use Rattle.ir_forms.specs.Written as w
 use Rattle.ir_forms.specs.Lists as lists
@@ -43,10 +45,14 @@ use Rattle.ir_forms.specs.Calls as calls
 use Rattle.ir_forms.specs.declared.decorating.Spot.TheVariants as spot
 use Rattle.ir_ast.specs.Names.{number_of}
 use Rattle.name_text.specs.Names.{name_text}
+use Rattle.name_text.specs.Readings.{AreBytes}
 use Rattle.name_text.specs.declared.blank.Blank.TheVariants as blank
 use Rattle.ir_print.specs.Names.{name_at, global_text}
 use Rattle.ir_print_law.proofs.NamesRead.{callees_are_read}
 use Rattle.ir_print_law.proofs.Words.{global_comes, word_comes}
+use Rattle.ir_print_law.proofs.Undropped.{other_call_comes, printed_itself, printed_not_dropped}
+use Rattle.ir_forms.specs.StandIns.{stand_in}
+use Rattle.ir_forms.specs.declared.stand_ins.StandIn.TheVariants.{Itself}
 use Rattle.ir_print_law.specs.Definitions.{functions_of}
 use Rattle.ir_print_law.proofs.OperandsAgain.{ends_global, symbol_ready, symbol_grows, symbol_few, symbol_there, sign_less}
 use Rattle.ir_forms.specs.Ops.{as_op}
@@ -176,10 +182,10 @@ module _ {m : Module} {f : Function} (v u : Invariant m f) where
   -- `call T @f(T V, ..)`, whose value has a name
   pub call_reads : (shape : Shape) (value : ℕ) (x : Call) (i : Input) (gap rest : Text) (s : ℕ) → IsScalar m shape x.returned → IsIn (name_at m.symbols x.callee) (functions_of m)
       → AllByRecursion (IsArgument m f) x.arguments → Sets v u value → EndsLine rest → AreBlanks gap → Ready v s i (gap ++ (call_text m f.locals x ++ rest))
-      → Reads u s (calls.call value) i rest (CallAgain m f.locals x)
+      → Reads u s (calls.call value) i rest (OpAgain m f.locals (op.Call x))
   unfolding calls.call class_of word_kind keywords
   call_reads shape value x i gap rest s scalar there own sets ends blanks ready =
-      let good = CallAgain m f.locals x in
+      let good = OpAgain m f.locals (op.Call x) in
       let type_is = type_shown m shape x.returned scalar.0.0 scalar.0.1 in
       let t2 = 32 ∷ (global_text m x.callee ++ (40 ∷ (listed (argument_text m f.locals) x.arguments ++ 41 ∷ rest))) in
       let t1 = shown false shape ++ t2 in
@@ -190,22 +196,25 @@ module _ {m : Module} {f : Function} (v u : Invariant m f) where
       (word_skipped v (codes "call") i gap (32 ∷ t1) s s blanks refl refl (omega arith) ready)
       (λ _ o ready g e.
       let begins = type_begins v shape o (32 ∷ []) t2 scalar.0.2 refl refl ready.stands in
-      said_on u (decorations spot.Result) (λ _. calls.typed_call value) o tt rest s good (decorations_said spot.Result o (undecorated_type (begins_line o.cursor) (kind o.cursor) begins))
+      said_on u (decorations spot.Result) (λ _. calls.named_call value) o tt rest s good (decorations_said spot.Result o (undecorated_type (begins_line o.cursor) (kind o.cursor) begins))
       (on v u w.scalar call_form o t2 rest s s (IsTypeRead shape 64) good
       (scalar_reads v shape o (32 ∷ []) t2 s scalar.0.2 scalar.0.1 scalar.1 refl (ends_global (name_at m.symbols x.callee) (40 ∷ (listed (argument_text m f.locals) x.arguments ++ 41 ∷ rest)) is.0 refl) ready)
       (λ p q ready h read.
-      on v u (calls.call_after p.id) (set_form p) q rest rest s s (CallAgain m f.locals x) good
+      let spelled = (global_comes q.cursor (32 ∷ []) (name_at m.symbols x.callee) (40 ∷ (listed (argument_text m f.locals) x.arguments ++ 41 ∷ rest)) refl is.0 refl ready.stands).1 in
+      looked u stand_in (calls.named_call_by value p.id) q rest s good Itself (printed_itself m.wide (name_at m.symbols x.callee) q is.1 spelled)
+      (op_reads u op.Call (calls.call_of value p.id) (λ n others. IsCallAgain m n f.locals others) x (op.Call x) q rest s (λ y o again. again)
+      (on v u (calls.call_after p.id) (set_form p) q rest rest s s (CallAgain m f.locals x) (CallAgain m f.locals x)
       (call_after_reads v x p.id q rest s there own (λ n others later. inr (read_again m shape x.returned p.id q n others scalar.0.0 read.has_shape later)) ends ready)
-      (λ y r ready hh again. set_reads v u (λ n others. IsCallAgain m n f.locals others) value (local.Value p.id) x y r rest s sets refl ready again))))
+      (λ y r ready hh again. set_reads v u (λ n others. IsCallAgain m n f.locals others) value (local.Value p.id) x y r rest s sets refl ready again))))))
     where
       set_form : WrittenType → Call → Form Call
       set_form p x = set_type value p.id >> pure x
 
-      call_form : WrittenType → Form Call
-      call_form p = calls.call_after p.id >>= set_form p
+      call_form : WrittenType → Form Op
+      call_form p = look stand_in (calls.named_call_by value p.id)
 
-      typed_form : Form Call
-      typed_form = decorations spot.Result >> calls.typed_call value
+      typed_form : Form Op
+      typed_form = decorations spot.Result >> calls.named_call value
 
   -- what follows `%v =`
   pub named_call_reads : (site : Site) (value : ℕ) (x : Call) (i : Input) (gap rest : Text) (s : ℕ) → AreBlanks gap → IsCall m f x → gives_value m (op.Call x) ≡ true → Sets v u value → EndsLine rest
@@ -216,8 +225,7 @@ module _ {m : Module} {f : Function} (v u : Invariant m f) where
     by (inl void) = absurd (let e : is_void (slice_get m.types x.returned) ≡ true = ap is_void void in let both = sym e ∙ not_true (is_void (slice_get m.types x.returned)) gives in cc)
     by (inr scalar) =
         by_word v u site value (op.Call x) (codes "call") _ i gap rest s blanks refl refl ready
-        (op_reads u op.Call (calls.call value) (λ n others. IsCallAgain m n f.locals others) x (op.Call x) i rest s (λ y o again. again)
-        (call_reads scalar.0 value x i gap rest s scalar.1 own.1 own.2 sets ends blanks ready))
+        (call_reads scalar.0 value x i gap rest s scalar.1 own.1 own.2 sets ends blanks ready)
 
 -- ---- its word
 
@@ -225,6 +233,28 @@ module _ {m : Module} {f : Function} (v u : Invariant m f) where
 pub call_no_phi : (m : Module) (locals : List Text) (x : Call) (place : Place) (rest : Text) → Stands place (32 ∷ (call_text m locals x ++ 10 ∷ rest)) → same_kind (kind place) k.Phi ≡ false
 unfolding class_of word_kind keywords same_kind
 call_no_phi m locals x place rest at = ap (λ (x : Kind). same_kind x k.Phi) (word_comes place (32 ∷ []) (codes "call") _ refl refl refl at).0
+
+-- names of functions are bytes, and none is left out
+abbrev pub AreKept : Module → Type 0
+AreKept m = (name : Text) → IsIn name (functions_of m) → AreBytes name × (is_left_out m.wide name ≡ false)
+
+-- a printed call that gives nothing is none that is dropped
+pub call_undropped : (m : Module) (f : Function) → AreKept m → (x : Call) (place : Place) (rest : Text) → IsCall m f x → gives_value m (op.Call x) ≡ false
+    → Stands place (10 ∷ 32 ∷ 32 ∷ (call_text m f.locals x ++ rest)) → drops_at place ≡ false
+unfolding class_of word_kind keywords name_third name
+call_undropped m f kept x place rest own gives at =
+    let called = name_at m.symbols x.callee in
+    let t3 = 40 ∷ (listed (argument_text m f.locals) x.arguments ++ 41 ∷ rest) in
+    let t2 = 32 ∷ (global_text m x.callee ++ t3) in
+    let at = subst (λ (y : Text). Stands place (10 ∷ 32 ∷ 32 ∷ y)) (call_front (type_text m x.returned) (global_text m x.callee) (listed (argument_text m f.locals) x.arguments) rest) at in
+    let void = void_shown m x.returned (void_there (slice_get m.types x.returned) (not_false (is_void (slice_get m.types x.returned)) gives)) in
+    let at = subst (λ (y : Text). Stands place (10 ∷ 32 ∷ 32 ∷ (codes "call" ++ (32 ∷ (y ++ t2))))) void at in
+    let a = word_comes place (10 ∷ 32 ∷ 32 ∷ []) (codes "call") (32 ∷ (codes "void" ++ t2)) refl refl refl at in
+    let b = word_comes (next place) (32 ∷ []) (codes "void") t2 refl refl refl a.3 in
+    let is = kept called own.1 in
+    let c = global_comes (next (next place)) (32 ∷ []) called t3 refl is.0 refl b.3 in
+    let spelled : name_third place ≡ name_text blank.Kept called = ap (drop 1) c.1 in
+    other_call_comes place a.0 (ap is_dropped spelled ∙ printed_not_dropped m.wide called is.1)
 
 -- one without a value begins with the word of a call too
 pub plain_call_kind : (m : Module) (locals : List Text) (x : Call) (place : Place) (rest : Text) → Stands place (10 ∷ 32 ∷ 32 ∷ (call_text m locals x ++ rest)) → kind place ≡ k.Call

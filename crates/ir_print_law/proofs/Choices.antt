@@ -11,17 +11,18 @@ use Rattle.ir_tokens.specs.declared.token.Kind.TheVariants as k
 use Rattle.ir_forms.specs.Choices.{select, separated, incoming, entry, ends_entries, after_entry, all_entries, phi_value_by, phi_value, phi_after, phi, at_no_phi, phis}
 use Rattle.ir_forms.specs.Cursor.{kind}
 use Rattle.ir_forms.specs.ManyWith.{Follows}
-use Rattle.ir_forms.specs.Written.{has_opaque, is_scalar, bits_of}
+use Rattle.ir_forms.specs.Written.{has_opaque, is_scalar, word_of}
 use Rattle.ir_forms.specs.declared.written.WrittenType.{WrittenType}
 use Rattle.ir_forms.specs.declared.choices.Entries.{Entries}
 use Rattle.ir_forms.specs.declared.decorating.Trail.TheVariants as trail
 use Rattle.ir_forms.specs.declared.input.Input.{Input}
 use Rattle.ir_forms.specs.declared.uses.Wanted.TheVariants as wants
+use Rattle.ir_forms.specs.declared.written.Word.{Word}
 use Rattle.ir_print_law.specs.Definitions.{defined_structs}
 use Rattle.ir_print_law.specs.Choices.{IsChoice}
 use Rattle.ir_print_law.specs.Printable.{IsIncoming, IsPhi}
 use Rattle.ir_print_law.proofs.Arguments.{bits_written, typed_pair_keeps, condition_keeps}
-use Rattle.ir_print_law.proofs.Decorations.{instruction_end_passes}
+use Rattle.ir_print_law.proofs.Records.{instruction_end_passes}
 use Rattle.ir_print_law.proofs.Forms.{Keeps, Same, Any, each_with}
 use Rattle.ir_print_law.proofs.Looks.{bits_are}
 use Rattle.ir_print_law.proofs.Operands.{AreBits, operand_keeps, label_keeps}
@@ -36,14 +37,14 @@ abbrev pub with_phis : Progress → List Phi → Progress
 with_phis = with_values (λ (x : Phi). x.value)
 
 -- a type and entries that make a phi
-phi_is : (m : Module) (f : Function) (n : ℕ) (w : WrittenType) (xs : List Incoming) → IsFit m is_scalar w → (0 < length xs) × (AreBits (bits_of w) → AllByRecursion (IsIncoming m f (bits_of w)) xs)
+phi_is : (m : Module) (f : Function) (n : ℕ) (w : WrittenType) (xs : List Incoming) → IsFit m is_scalar w → (0 < length xs) × (AreBits (word_of w) → AllByRecursion (IsIncoming m f (word_of w)) xs)
     → IsPhi m f (record { value = n; written = w.id; incoming = xs })
 phi_is m f n w xs fit entries =
     let shape = fit.0.0 in
     let own = fit.0.1 in
     let bits = bits_are m 64 w shape own in
-    let are = entries.1 (subst AreBits (sym bits) (bits_written (has_opaque m.types) (defined_structs m) shape own.is_written)) in
-    (shape, scalar_of m w fit, entries.0, subst (λ (y : Option ℕ). AllByRecursion (IsIncoming m f y) xs) bits are)
+    let are = entries.1 (subst AreBits (sym bits) (bits_written m.wide (has_opaque m.types) (defined_structs m) shape own.is_written)) in
+    (shape, scalar_of m w fit, entries.0, subst (λ (y : Word). AllByRecursion (IsIncoming m f y) xs) bits are)
 
 module _ {m : Module} {f : Function} {value : ℕ} (n : Naming m f value) where
   pub select_keeps : Gives n (select value) (IsChoice m f)
@@ -75,10 +76,10 @@ module _ {m : Module} {f : Function} (v : Within m f) where
   separated_passes true = expect_passes v.reading k.Comma
   separated_passes false = pure_passes v.reading tt
 
-  abbrev IsEntry : Option ℕ → Incoming → Type 0
+  abbrev IsEntry : Word → Incoming → Type 0
   IsEntry bits x = AreBits bits → IsIncoming m f bits x
 
-  incoming_keeps : (bits : Option ℕ) (i : Input) → Keeps v.reading.Fore (Same v.reading.Fore) v.reading.Back (incoming bits) (IsEntry bits) i
+  incoming_keeps : (bits : Word) (i : Input) → Keeps v.reading.Fore (Same v.reading.Fore) v.reading.Back (incoming bits) (IsEntry bits) i
   unfolding incoming
   incoming_keeps bits i x o h fore =
       let r = v.reading in
@@ -101,24 +102,24 @@ module _ {m : Module} {f : Function} (v : Within m f) where
             (ab.0, subst (IsEntry bits) z.3.0 (λ fit. (bb.1 fit, db.1))),
       )
 
-  entry_keeps : (e : Entries) (i : Input) → Keeps v.reading.Fore (Same v.reading.Fore) v.reading.Back (entry e) (IsEntry e.bits) i
+  entry_keeps : (e : Entries) (i : Input) → Keeps v.reading.Fore (Same v.reading.Fore) v.reading.Back (entry e) (IsEntry e.word) i
   unfolding entry
   entry_keeps e i x o h fore =
       let a = separated_passes e.is_further i h.0 h.1 h.2 fore in
-      let b = incoming_keeps e.bits h.1 x o h.3 a.0 in
+      let b = incoming_keeps e.word h.1 x o h.3 a.0 in
       (b.0, λ back. let bb = b.1 back in ((a.1 bb.0).0, bb.1))
 
-  some_entry : (bits : Option ℕ) (i : Input) (xs : List Incoming) (o : Input) → Follows ends_entries (λ c. (entry c).says) after_entry (record { bits = bits; is_further = false }) i xs o → 0 < length xs
+  some_entry : (bits : Word) (i : Input) (xs : List Incoming) (o : Input) → Follows ends_entries (λ c. (entry c).says) after_entry (record { word = bits; is_further = false }) i xs o → 0 < length xs
   some_entry bits i [] o h = absurd (let e = h.0 in cc)
   some_entry bits i (x ∷ xs) o h = omega arith
 
-  entries_keep : (bits : Option ℕ) (i : Input)
+  entries_keep : (bits : Word) (i : Input)
       → Keeps v.reading.Fore (Same v.reading.Fore) v.reading.Back (all_entries bits) (λ xs. (0 < length xs) × (AreBits bits → AllByRecursion (IsIncoming m f bits) xs)) i
   unfolding all_entries
   entries_keep bits i xs o h fore =
       let r = v.reading in
-      let x = each_with r.Back (λ _. r.Fore) (λ (c : Entries) xs. AreBits c.bits → AllByRecursion (IsIncoming m f c.bits) xs) ends_entries entry after_entry (λ c fit. tt)
-      (λ c j a p said fore. let y = entry_keeps c j a p said fore in (y.0, λ b. let z = y.1 b in (z.0, λ xs rest fit. (z.1 fit, rest fit)))) (record { bits = bits; is_further = false }) i xs o h fore in
+      let x = each_with r.Back (λ _. r.Fore) (λ (c : Entries) xs. AreBits c.word → AllByRecursion (IsIncoming m f c.word) xs) ends_entries entry after_entry (λ c fit. tt)
+      (λ c j a p said fore. let y = entry_keeps c j a p said fore in (y.0, λ b. let z = y.1 b in (z.0, λ xs rest fit. (z.1 fit, rest fit)))) (record { word = bits; is_further = false }) i xs o h fore in
       (x.0.1, λ b. let c = x.1 b in (c.0, (some_entry bits i xs o h, c.1)))
 
 module _ {m : Module} {f : Function} {Back : Input → Type 0} {Fore : Progress → Input → Type 0} {Open : Progress → ℕ → Input → Type 0} (b : Builder m f Back Fore Open) where
@@ -145,7 +146,7 @@ module _ {m : Module} {f : Function} {Back : Input → Type 0} {Fore : Progress 
       let a = expect_passes r k.Equals i h.0 h.1 h.2 fore in
       let c = expect_passes r k.Phi h.1 t.0 t.1 t.2 a.0 in
       let d = scalar_keeps r t.1 u.0 u.1 u.2 c.0 in
-      let e = entries_keep naming.within (bits_of u.0) u.1 w.0 w.1 w.2 d.0 in
+      let e = entries_keep naming.within (word_of u.0) u.1 w.0 w.1 w.2 d.0 in
       let s = sort_keeps naming (local.Value u.0.id) w.1 tt y.0 y.1 y.2 e.0 in
       let q = instruction_end_passes (within_of (b.kit (with_named_value g n))).reading trail.Other y.1 z.0 z.1 z.2 s.0 in (
         subst (λ (p : Phi). Fore (with_named_value g p.value) o) z.3.0 (subst (Fore (with_named_value g n)) z.3.1 q.0),

@@ -77,7 +77,7 @@ module _ {m : Module} {f : Function} (v : Invariant m f) where
       on v v w.scalar first_form i (32 ∷ (operand_text m f.locals t x ++ t2)) rest s s (IsTypeRead shape 64) good
       (scalar_reads v shape i gap (32 ∷ (operand_text m f.locals t x ++ t2)) s scalar.0.2 scalar.0.1 scalar.1 blanks (ends_operand v shape t x t2 scalar.0.0 own.2 refl) ready)
       (λ p o ready g read.
-      on v v (form.operand (w.bits_of p)) (comma_form p) o t2 rest s s (OperandAgain m f.locals x) good
+      on v v (form.operand (w.word_of p)) (comma_form p) o t2 rest s s (OperandAgain m f.locals x) good
       (operand_at v shape t x p o o (32 ∷ []) t2 s read scalar.0.0 own.2 refl refl ready)
       (λ x1 q ready h first.
       on v v (expect k.Comma) (λ _. again_form p x1) q (32 ∷ t3) rest s s (λ _ r. advanced q ≡ r) good
@@ -87,7 +87,7 @@ module _ {m : Module} {f : Function} (v : Invariant m f) where
       on v v (w.again p) (λ _. second_form p x1) r (32 ∷ t4) rest s s Any good
       (again_reads v shape p r (32 ∷ []) (32 ∷ t4) s scalar.0.2 there.has_shape scalar.0.1 refl (ends_again (32 ∷ t4) (ends_operand v shape t y rest scalar.0.0 own.3 seam)) ready)
       (λ _ z ready h3 e.
-      on v v (form.operand (w.bits_of p)) (λ y1. pure (record { written = p.id; first = x1; second = y1 })) z rest rest s s (OperandAgain m f.locals y) good
+      on v v (form.operand (w.word_of p)) (λ y1. pure (record { written = p.id; first = x1; second = y1 })) z rest rest s s (OperandAgain m f.locals y) good
       (operand_at v shape t y p o z (32 ∷ []) rest s read scalar.0.0 own.3 refl seam ready)
       (λ y1 u ready h4 second. given v (record { written = p.id; first = x1; second = y1 }) u rest s good ready
       (λ n others later.
@@ -98,7 +98,7 @@ module _ {m : Module} {f : Function} (v : Invariant m f) where
       front c a b = simp append_assoc
 
       second_form : WrittenType → Operand → Form TwoOperands
-      second_form p x = form.operand (w.bits_of p) >>= λ y. pure (record { written = p.id; first = x; second = y })
+      second_form p x = form.operand (w.word_of p) >>= λ y. pure (record { written = p.id; first = x; second = y })
 
       again_form : WrittenType → Operand → Form TwoOperands
       again_form p x = w.again p >> second_form p x
@@ -107,7 +107,7 @@ module _ {m : Module} {f : Function} (v : Invariant m f) where
       comma_form p x = expect k.Comma >> again_form p x
 
       first_form : WrittenType → Form TwoOperands
-      first_form p = form.operand (w.bits_of p) >>= comma_form p
+      first_form p = form.operand (w.word_of p) >>= comma_form p
 
 module _ {m : Module} {f : Function} (v u : Invariant m f) where
   -- `select i1 V, T V, T W`

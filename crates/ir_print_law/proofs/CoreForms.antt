@@ -10,15 +10,24 @@ use Rattle.ir_ast.specs.declared.numbers.Arithmetic.{Arithmetic}
 use Rattle.ir_ast.specs.declared.numbers.NumberOp.{NumberOp}
 use Rattle.ir_ast.specs.declared.op.Op.TheVariants as op
 use Rattle.ir_ast.specs.declared.runtime.Runtime.TheVariants.{Integer}
-use Rattle.ir_forms.specs.Cursor.{kind, left_out, spelled, spelling}
+use Rattle.ir_forms.specs.Cursor.{kind, left_out, sees, spelled, spelling}
 use Rattle.ir_forms.specs.Casts.{freezes}
+use Rattle.ir_forms.specs.FloatOps.{float_word_of, float_word_here, number_op_by, number_op}
+use Rattle.ir_forms.specs.Written.{float_of, float_here, float_by}
+use Rattle.ir_forms.specs.declared.float_ops.FloatWord.{FloatWord}
+use Rattle.ir_forms.specs.declared.written.FloatType.{FloatType}
+use Rattle.ir_tokens.specs.declared.token.Kind.TheVariants as k
+use Rattle.ir_ast.specs.FloatFunctions as floats
+use Rattle.ir_ast.specs.RuntimeNames.{numbers_named}
+use Rattle.ir_ast.specs.declared.float_function.FloatFunction.{FloatFunction}
+use Rattle.ir_ast.specs.declared.runtime.Runtime.{Runtime}
 use Rattle.ir_forms.specs.Instructions.{wide_op, wide_op_by}
 use Rattle.ir_forms.specs.Intrinsics.{is_intrinsic, is_left_out, may_be_named}
 use Rattle.ir_forms.specs.Numbers.{arithmetic_by, arithmetic_of, integer_op, wide_here, wide_or_resized}
 use Rattle.ir_forms.specs.Input.{Outcome}
 use Rattle.ir_forms.specs.declared.input.Input.{Input}
 use Rattle.ir_tokens.specs.Bytes.{Text}
-use Rattle.ir_print_law.specs.CoreForms.{AreCoreNamesRead, AreCoreRead, AreCoreWordsRead, core_by, is_core_left_out}
+use Rattle.ir_print_law.specs.CoreForms.{AreCoreTypesRead, AreCoreNamesRead, AreCoreRead, AreCoreWordsRead, core_by, is_core_left_out}
 
 read_by : (value : ℕ) (i : Input) (x : Option Arithmetic) → i.wide ≡ false → (arithmetic_by value x).read i ≡ (core_by value x).read i
 unfolding wide_or_resized wide_here
@@ -33,10 +42,23 @@ freezes_not : (i : Input) → i.wide ≡ false → freezes i ≡ false
 unfolding freezes
 freezes_not i core = ap (λ (wide : Bool). wide && bytes_eq (spelling i.cursor) (codes "freeze")) core
 
+-- no operation on floating point numbers is named, and no type of them
+no_float_word : (i : Input) → i.wide ≡ false → float_word_here i ≡ None
+unfolding float_word_here
+no_float_word i core = ap (λ (wide : Bool). if wide && sees k.LeftOut i.cursor then float_word_of (spelling i.cursor) else None) core
+
+no_float_type : (i : Input) → i.wide ≡ false → float_here i ≡ None
+unfolding float_here
+no_float_type i core = ap (λ (wide : Bool). if wide && sees k.LeftOut i.cursor then float_of (spelling i.cursor) else None) core
+
+pub read_core_types : AreCoreTypesRead
+read_core_types room i core = ap (λ (t : Option FloatType). (float_by room t).read i) (no_float_type i core)
+
 pub read_core_words : AreCoreWordsRead
-unfolding wide_op
+unfolding wide_op number_op
 read_core_words value i core =
     ap (λ (is : Bool). (wide_op_by value is).read i) (freezes_not i core)
+    ∙ ap (λ (x : Option FloatWord). (number_op_by value x).read i) (no_float_word i core)
     ∙ ap (λ (r : Outcome NumberOp). and_then r (λ x o. Ok (op.Number x, o))) (read_core value i core)
 
 -- ---- names of intrinsics
@@ -52,6 +74,19 @@ by_word : (name : Text) (function : Option IntegerFunction) → may_be_named fal
 by_word name None = refl
 by_word name (Some function) = by_width function (width_of (drop (length (word_of function)) name))
 
+float_width : (function : FloatFunction) (bits : Option ℕ) → may_be_named false (floats.with_width function bits) ≡ false
+float_width function None = refl
+float_width function (Some bits) = refl
+
+float_by_word : (name : Text) (function : Option FloatFunction) → may_be_named false (floats.with_digits name function) ≡ false
+float_by_word name None = refl
+float_by_word name (Some function) = float_width function (floats.width_of (drop (length (floats.word_of function)) name))
+
+-- a function of integers or of floating point numbers may not stand
+no_numbers : (name : Text) (named : Option Runtime) → may_be_named false named ≡ false → may_be_named false (numbers_named name named) ≡ false
+no_numbers name (Some named) none = none
+no_numbers name None none = float_by_word name (floats.function_begun name)
+
 -- a function of integers may not stand
 no_integers : (name : Text) → may_be_named false (integers_named name) ≡ false
 no_integers name = by_word name (function_begun name)
@@ -66,7 +101,7 @@ module _ (name : Text) where
 
   is_none_of : bytes_eq name (codes "dg_alloc") ≡ false → bytes_eq name (codes "dg_safepoint") ≡ false → bytes_eq name (codes "llvm.gcroot") ≡ false
       → bytes_eq name (codes "llvm.gcread") ≡ false → bytes_eq name (codes "llvm.gcwrite") ≡ false → Agrees name
-  is_none_of a b c d e = rw (a, b, c, d, e) (ap (λ (may : Bool). is_intrinsic name && not may) (no_integers name))
+  is_none_of a b c d e = rw (a, b, c, d, e) (ap (λ (may : Bool). is_intrinsic name && not may) (no_numbers name (integers_named name) (no_integers name)))
 
   names_agree : Agrees name
   names_agree = alloc (bytes_eq name (codes "dg_alloc")) refl where

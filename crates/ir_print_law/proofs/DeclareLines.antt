@@ -1,6 +1,6 @@
 -- The line of a declared function is read as that function.
-use Rattle.std.proofs.Common.{◌≡◌, ℕ, ◌+◌, ◌<◌, true, false, List, [], ◌∷◌, ◌++◌, length, slice_get, Some, refl, sym, ap, subst, ◌∙◌, arith, append_assoc}
-use Rattle.std.specs.Prelude.{codes, nat_lt}
+use Rattle.std.proofs.Common.{◌≡◌, ℕ, ◌+◌, ◌<◌, Bool, true, false, List, [], ◌∷◌, ◌++◌, length, slice_get, Some, refl, sym, ap, ap₂, subst, ◌∙◌, arith, append_assoc}
+use Rattle.std.specs.Prelude.{◌&&◌, codes, nat_lt}
 use Rattle.std.proofs.lemmas.Bool.Decides.{nat_tests}
 use Rattle.lemmas.specs.Lists.{IsIn}
 use Rattle.ir_ast.specs.declared.function.Function.{Function}
@@ -11,12 +11,12 @@ use Rattle.ir_tokens.specs.declared.token.Kind.{Kind}
 use Rattle.ir_tokens.specs.declared.token.Kind.TheVariants as k
 use Rattle.ir_tokens.specs.Bytes.{Text, class_of}
 use Rattle.ir_tokens.specs.Keywords.{word_kind, keywords}
-use Rattle.ir_forms.specs.Cursor.{spelled}
+use Rattle.ir_forms.specs.Cursor.{sees, spelled}
 use Rattle.ir_ast.specs.RuntimeNames.{runtime_of}
 use Rattle.ir_forms.specs.Intrinsics.{is_left_out}
 use Rattle.ir_forms.specs.declared.input.Input.{Input}
 use Rattle.ir_forms.specs.Names.{with_symbol}
-use Rattle.ir_text.specs.ItemsOfText.{declaration, function_name, function_name_by, item, item_by, with_declare}
+use Rattle.ir_text.specs.ItemsOfText.{declaration, declare_by, names_left_out, function_name, function_name_by, item, item_by, with_declare}
 use Rattle.ir_text.specs.Parameters.{declared_parameters}
 use Rattle.ir_print.specs.Items.{declare_line}
 use Rattle.name_text.specs.Names.{name_text}
@@ -42,6 +42,7 @@ use Rattle.ir_print_law.proofs.Known.{Far, AreNamed, known, SymbolsKnown}
 use Rattle.ir_print_law.proofs.Needs.{TypesRead}
 use Rattle.ir_print_law.proofs.NewNames.{SymbolsThen, new_symbol_goes}
 use Rattle.ir_print_law.proofs.Results.{declared_result_reads, declared_end_reads, begins_item}
+use Rattle.ir_print_law.proofs.Undropped.{and_last}
 
 pub below_most : (n : ℕ) → n < 65535 → nat_lt n 65535 ≡ true
 below_most n less = grind (arith, nat_tests)
@@ -112,6 +113,9 @@ module _ (m : Module) (f : Function) (named : AreNamed m f) (types : TypesRead m
       let spelled_is : spelled q.cursor ≡ name_at m.symbols d.symbol =
       (global_comes q.cursor (32 ∷ []) name (40 ∷ after_open m d rest) refl own refl b.3.stands).2 ∙ name_spelled blank.Kept name own in
       let number = length i.declares in
+      let kept : names_left_out q ≡ false =
+      and_last q.wide (sees k.GlobalName q.cursor && is_left_out q.wide (spelled q.cursor))
+      (and_last (sees k.GlobalName q.cursor) (is_left_out q.wide (spelled q.cursor)) (ap₂ is_left_out b.3.forms spelled_is ∙ allowed)) in
       let c = name_reads (length i.declares) q name (after_open m d rest) own allowed none apart never b.3 in
       let r = c.1 in
       let g = sign_reads w 40 k.OpenRound r [] (after_open m d rest) 0 0 refl refl refl (omega arith) c.3 in
@@ -139,7 +143,7 @@ module _ (m : Module) (f : Function) (named : AreNamed m f) (types : TypesRead m
           tt,
           i,
           (below_most number counted, refl),
-          (tt, p, a.2, (b.0, q, b.2, (c.0, r, c.2, (tt, s, g.2, (e.0, t, e.3, (tt, u, h.2, (l.0, y, l.2, (refl, refl)))))))),
+          (tt, p, a.2, (b.0, q, b.2, subst (λ (z : Bool). (declare_by (length i.declares) b.0 z).says q tt o) (sym kept) (c.0, r, c.2, (tt, s, g.2, (e.0, t, e.3, (tt, u, h.2, (l.0, y, l.2, (refl, refl)))))))),
         ),
         record {
           stands = l.3.stands;

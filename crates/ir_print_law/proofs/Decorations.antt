@@ -1,17 +1,14 @@
 -- Decorations preserve what holds of the state.
-use Rattle.std.proofs.Common.{◌≡◌, Bool, true, false, not, sym, subst}
+use Rattle.std.proofs.Common.{Bool, true, false, not}
 use Rattle.std.specs.Prelude.{nat_lt}
 use Rattle.grammar.specs.Grammar.{pure, look, checked, ◌>>◌}
-use Rattle.grammar.specs.Many.{many}
 use Rattle.ir_ast.specs.declared.module.Module.{Module}
-use Rattle.ir_ast.specs.declared.op.Op.{Op}
 use Rattle.ir_tokens.specs.declared.token.Kind.{Kind}
 use Rattle.ir_tokens.specs.declared.token.Kind.TheVariants as k
 use Rattle.ir_forms.specs.Cursor.{kind, sees}
-use Rattle.ir_forms.specs.declared.input.Input.{Input}
 use Rattle.ir_forms.specs.Input.{skip, expect, unexpected, unread, limit}
 use Rattle.ir_forms.specs.ManyWith.{many_with}
-use Rattle.ir_forms.specs.Decorations.{either, any_token, in_brackets, in_brackets_takes, has_room, are_closed, after_bracket, bracketed, past_brackets, is_operand, word_end_by, word_end, word, metadata, decoration_by, decoration, decoration_takes, at_no_decoration, same_spot, decorations, optional, flag, flag_takes, at_no_flag, same_flags, flags, flagged, flagged_word, record_after, debug_record, debug_record_takes, at_no_record, debug_records, instruction_end, aligned, may_align, is_global, placed, trail_by, trail_after, comma_trail, comma_trail_takes, at_no_trail, same_trail, trailing, trail_of, trailed, begins_count}
+use Rattle.ir_forms.specs.Decorations.{either, any_token, in_brackets, in_brackets_takes, has_room, are_closed, after_bracket, bracketed, past_brackets, is_operand, word_end_by, word_end, word, metadata, decoration_by, decoration, decoration_takes, at_no_decoration, same_spot, decorations, optional, flag, flag_takes, at_no_flag, same_flags, flags, flagged, flagged_word, aligned, may_align, is_global, placed, trail_by, trail_after, comma_trail, comma_trail_takes, at_no_trail, same_trail, trailing, begins_count}
 use Rattle.ir_forms.specs.declared.decorating.Brackets.{Brackets}
 use Rattle.ir_forms.specs.declared.decorating.FlagsAfter.{FlagsAfter}
 use Rattle.ir_forms.specs.declared.decorating.Spot.{Spot}
@@ -19,8 +16,7 @@ use Rattle.ir_forms.specs.declared.decorating.Spot.TheVariants as spot
 use Rattle.ir_forms.specs.declared.decorating.Trail.{Trail}
 use Rattle.ir_forms.specs.Lists.{separator, comma, sees_no}
 use Rattle.ir_forms.specs.Starts.{is_flag_of}
-use Rattle.ir_print_law.proofs.Forms.{Keeps, Same}
-use Rattle.ir_print_law.proofs.Passes.{Passes, skip_passes, expect_passes, check_passes, pure_passes, refuse_passes, past, look_passes, all_pass, all_with_pass}
+use Rattle.ir_print_law.proofs.Passes.{Passes, skip_passes, expect_passes, check_passes, pure_passes, refuse_passes, past, look_passes, all_with_pass}
 use Rattle.ir_print_law.proofs.Reading.{Reading}
 
 module _ {m : Module} (r : Reading m) where
@@ -40,7 +36,7 @@ module _ {m : Module} (r : Reading m) where
   in_brackets_passes : (b : Brackets) → Passes r (in_brackets b)
   in_brackets_passes b = past r (has_room b) any_token (check_passes r (λ _. nat_lt b.depth 4294967295) limit) any_token_passes
 
-  past_brackets_passes : Passes r past_brackets
+  pub past_brackets_passes : Passes r past_brackets
   unfolding past_brackets bracketed
   past_brackets_passes =
       past r bracketed (pure tt) (all_with_pass r are_closed in_brackets in_brackets_takes after_bracket (record { depth = 1 }) in_brackets_passes) (pure_passes r tt)
@@ -94,14 +90,6 @@ module _ {m : Module} (r : Reading m) where
   unfolding flagged_word
   flagged_passes = look_passes r (λ i. kind i.cursor) flagged (λ word. past r skip (flags word) (skip_passes r) (flags_pass word))
 
-  debug_record_passes : Passes r debug_record
-  unfolding debug_record
-  debug_record_passes = past r (expect k.DebugRecord) record_after (expect_passes r k.DebugRecord) (past r (expect k.OpenRound) past_brackets (expect_passes r k.OpenRound) past_brackets_passes)
-
-  pub debug_records_pass : Passes r debug_records
-  unfolding debug_records
-  debug_records_pass = past r (many at_no_record debug_record debug_record_takes) (pure tt) (all_pass r at_no_record debug_record debug_record_takes debug_record_passes) (pure_passes r tt)
-
   -- ---- after an instruction or a global
 
   aligned_passes : (t : Bool) → Passes r (aligned t)
@@ -127,15 +115,6 @@ module _ {m : Module} (r : Reading m) where
   unfolding trailing
   trailing_passes t =
       past r (many_with at_no_trail comma_trail comma_trail_takes same_trail t) (pure tt) (all_with_pass r at_no_trail comma_trail comma_trail_takes same_trail t comma_trail_passes) (pure_passes r tt)
-
-  pub instruction_end_passes : (t : Trail) → Passes r (instruction_end t)
-  unfolding instruction_end
-  instruction_end_passes t = past r (trailing t) debug_records (trailing_passes t) debug_records_pass
-
-  pub trailed_keeps : (x : Op) (i : Input) → Keeps r.Fore (Same r.Fore) r.Back (trailed x) (λ y. x ≡ y) i
-  trailed_keeps x i y o h f =
-      let a = instruction_end_passes (trail_of x) i h.0 h.1 h.2 f in
-      (subst r.Fore h.3.1 a.0, λ b. ((a.1 (subst r.Back (sym h.3.1) b)).0, h.3.0))
 
   -- ---- between the parts of a list
 

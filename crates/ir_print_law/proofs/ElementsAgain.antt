@@ -48,6 +48,7 @@ use Rattle.ir_tokens.specs.declared.token.Kind.{Kind}
 use Rattle.ir_forms.specs.Place.{Place}
 use Rattle.ir_print_law.proofs.Words.{word_comes}
 use Rattle.ir_forms.specs.Instructions as whole
+use Rattle.ir_forms.specs.declared.written.Word.TheVariants as sort
 use Rattle.ir_print_law.proofs.OpsAgain.{op_reads, by_word}
 use Rattle.ir_print_law.proofs.SameParts.{lines_same, argument_same, placed_same}
 use Rattle.ir_print_law.proofs.LongerTypes.{with_types, type_again, place_again, operand_again, argument_again}
@@ -226,7 +227,7 @@ element_longer m types fs more same f x h = (
   h.0,
   type_again m types fs more same h.0 x.source h.1,
   place_again m types fs more same h.0 x.source x.base_type h.2,
-  operand_again m types fs more same f None x.base h.3,
+  operand_again m types fs more same f sort.Pointer x.base h.3,
   h.4,
   all_so (IsArgument m f) (IsArgument (with_types m types fs) f) x.indices (argument_again m types fs more same f) h.5,
 )

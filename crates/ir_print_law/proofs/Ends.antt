@@ -19,21 +19,22 @@ use Rattle.ir_print_law.proofs.Forms.{Keeps, Same, each_with}
 use Rattle.ir_print_law.proofs.Passes.{skip_passes, expect_passes}
 use Rattle.ir_print_law.proofs.Reading.{Within}
 use Rattle.ir_ast.specs.declared.operand.Constant.{Constant}
-use Rattle.ir_forms.specs.Written.{has_opaque, bits_of}
+use Rattle.ir_forms.specs.Written.{has_opaque, word_of}
 use Rattle.ir_forms.specs.Ends.{jump, branch, br, case_constant, case, at_square, after_case, all_cases, bracketed_cases, switch, returned_value, ret, terminator_by, terminator, block_end}
 use Rattle.ir_forms.specs.CaseValues.{value_of, is_among}
 use Rattle.ir_forms.specs.Decorations.{either}
 use Rattle.ir_forms.specs.declared.decorating.Trail.TheVariants as trail
 use Rattle.ir_forms.specs.declared.ends.Cases.{Cases}
-use Rattle.ir_print.specs.Fits.{FitsType}
+use Rattle.ir_forms.specs.declared.written.Word.{Word}
+use Rattle.ir_print_law.specs.Fits.{FitsType}
 use Rattle.ir_print_law.specs.Definitions.{defined_structs}
-use Rattle.ir_print_law.specs.Shapes.{bits_of_shape}
+use Rattle.ir_print_law.specs.Shapes.{word_of_shape}
 use Rattle.ir_print_law.proofs.Arguments.{operand_at, bits_written, typed_keeps, condition_keeps}
 use Rattle.ir_print_law.proofs.Decorations.{trailing_passes}
 use Rattle.ir_print_law.proofs.Looks.{bits_are}
 use Rattle.ir_print_law.proofs.Operands.{AreBits, operand_keeps, constant_keeps, target_keeps}
 use Rattle.ir_print_law.proofs.Passes.{again_passes}
-use Rattle.ir_print_law.proofs.TypesThat.{scalar_of, scalar_keeps}
+use Rattle.ir_print_law.proofs.TypesThat.{scalar_of, integer_scalar_keeps}
 
 module _ {m : Module} {f : Function} (v : Within m f) where
   -- what this form reads is the end of a block
@@ -83,7 +84,7 @@ module _ {m : Module} {f : Function} (v : Within m f) where
   -- ---- cases
 
   abbrev IsCase : Cases → Case → Type 0
-  IsCase c x = AreBits (bits_of c.written) → FitsType (bits_of c.written) x.constant × (is_among (value_of x.constant) c.seen ≡ false) × IsTarget f x.target
+  IsCase c x = AreBits (word_of c.written) → FitsType (word_of c.written) x.constant × (is_among (value_of x.constant) c.seen ≡ false) × IsTarget f x.target
 
   case_keeps : (c : Cases) (i : Input) → Keeps v.reading.Fore (Same v.reading.Fore) v.reading.Back (case c) (IsCase c) i
   unfolding case case_constant
@@ -95,7 +96,7 @@ module _ {m : Module} {f : Function} (v : Within m f) where
       let rule = t.2.3 in
       let same = rule.2.1 ∙ rule.3.1 in
       let a = again_passes r c.written i h.0 h.1 h.2 fore in
-      let b = constant_keeps r (bits_of c.written) h.1 t.2.0 t.2.1 t.2.2 a.0 in
+      let b = constant_keeps r (word_of c.written) h.1 t.2.0 t.2.1 t.2.2 a.0 in
       let d = expect_passes r k.Comma t.1 u.0 u.1 u.2 (subst r.Fore same b.0) in
       let e = target_keeps v u.1 w.0 w.1 w.2 d.0 in (
         subst r.Fore w.3.1 e.0,
@@ -105,16 +106,16 @@ module _ {m : Module} {f : Function} (v : Within m f) where
             let bb = b.1 (subst r.Back (sym same) db.0) in
             let ab = a.1 bb.0 in
             let apart : is_among (value_of t.2.0) c.seen ≡ false = not_true (is_among (value_of t.2.0) c.seen) rule.2.0 in
-            let good : AreBits (bits_of c.written) → FitsType (bits_of c.written) t.0 × (is_among (value_of t.0) c.seen ≡ false) × IsTarget f w.0 =
-            λ fit. (subst (FitsType (bits_of c.written)) rule.3.0 (bb.1 fit), subst (λ (y : Constant). is_among (value_of y) c.seen ≡ false) rule.3.0 apart, eb.1) in
+            let good : AreBits (word_of c.written) → FitsType (word_of c.written) t.0 × (is_among (value_of t.0) c.seen ≡ false) × IsTarget f w.0 =
+            λ fit. (subst (FitsType (word_of c.written)) rule.3.0 (bb.1 fit), subst (λ (y : Constant). is_among (value_of y) c.seen ≡ false) rule.3.0 apart, eb.1) in
             (ab.0, subst (IsCase c) w.3.0 good),
       )
 
-  cases_keep : (w : WrittenType) (i : Input) → Keeps v.reading.Fore (Same v.reading.Fore) v.reading.Back (all_cases w) (λ xs. AreBits (bits_of w) → AreCases f (bits_of w) [] xs) i
+  cases_keep : (w : WrittenType) (i : Input) → Keeps v.reading.Fore (Same v.reading.Fore) v.reading.Back (all_cases w) (λ xs. AreBits (word_of w) → AreCases f (word_of w) [] xs) i
   unfolding all_cases
   cases_keep w i xs o h fore =
       let r = v.reading in
-      let x = each_with r.Back (λ _. r.Fore) (λ (c : Cases) xs. AreBits (bits_of c.written) → AreCases f (bits_of c.written) c.seen xs) at_square case after_case (λ c fit. tt)
+      let x = each_with r.Back (λ _. r.Fore) (λ (c : Cases) xs. AreBits (word_of c.written) → AreCases f (word_of c.written) c.seen xs) at_square case after_case (λ c fit. tt)
       (λ c j a p said fore. let y = case_keeps c j a p said fore in (y.0, λ b. let z = y.1 b in (z.0, λ xs rest fit. let g = z.1 fit in (g.0, g.1, g.2, rest fit)))) (record { written = w; seen = [] }) i xs o h fore in
       (x.0.1, x.1)
 
@@ -132,8 +133,8 @@ module _ {m : Module} {f : Function} (v : Within m f) where
       let s2 = s1.3 in
       let w = t0.0 in
       let a = skip_passes r i h.0 h.1 h.2 fore in
-      let b = scalar_keeps r h.1 t0.0 t0.1 t0.2 a.0 in
-      let c = operand_keeps v (bits_of w) t0.1 t1.0 t1.1 t1.2 b.0 in
+      let b = integer_scalar_keeps r h.1 t0.0 t0.1 t0.2 a.0 in
+      let c = operand_keeps v (word_of w) t0.1 t1.0 t1.1 t1.2 b.0 in
       let d = expect_passes r k.Comma t1.1 t2.0 t2.1 t2.2 c.0 in
       let e = target_keeps v t2.1 t3.0 t3.1 t3.2 d.0 in
       let g = expect_passes r k.OpenSquare t3.1 s0.0 s0.1 s0.2 e.0 in
@@ -150,13 +151,14 @@ module _ {m : Module} {f : Function} (v : Within m f) where
             let cb = c.1 db.0 in
             let bb = b.1 cb.0 in
             let ab = a.1 bb.0 in
-            let shape = bb.1.0.0 in
-            let own = bb.1.0.1 in
+            let fits = bb.1.0 in
+            let shape = fits.0.0 in
+            let own = fits.0.1 in
             let bits = bits_are m 64 w shape own in
-            let fit = subst AreBits (sym bits) (bits_written (has_opaque m.types) (defined_structs m) shape own.is_written) in
-            let cases = subst (λ (q : Option ℕ). AreCases f q [] s1.0) bits (jb.1 fit) in
-            let same_cases = subst (AreCases f (bits_of_shape shape) []) s2.3.0 cases in
-            (ab.0, subst (IsEnd m f) t4.3.0 (shape, scalar_of m w bb.1, operand_at v w bb.1 t1.0 cb.1, eb.1, same_cases)),
+            let fit = subst AreBits (sym bits) (bits_written m.wide (has_opaque m.types) (defined_structs m) shape own.is_written) in
+            let cases = subst (λ (q : Word). AreCases f q [] s1.0) bits (jb.1 fit) in
+            let same_cases = subst (AreCases f (word_of_shape shape) []) s2.3.0 cases in
+            (ab.0, subst (IsEnd m f) t4.3.0 (bb.1.1, (shape, scalar_of m w fits, operand_at v w fits t1.0 cb.1, eb.1, same_cases))),
       )
 
   -- ---- ret

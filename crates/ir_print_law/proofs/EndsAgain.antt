@@ -29,15 +29,16 @@ use Rattle.ir_print.specs.Parts.{typed}
 use Rattle.ir_print_law.specs.Stands.{Stands, IsSeam, AreBlanks}
 use Rattle.ir_print.specs.Types.{type_text}
 use Rattle.ir_print_law.specs.Parts.{IsType, IsArgument, IsCondition, IsTarget}
-use Rattle.ir_print_law.specs.Shapes.{Shape, Integer, bits_of_shape}
+use Rattle.ir_print_law.specs.Shapes.{Shape, Integer, word_of_shape}
 use Rattle.ir_print_law.proofs.State.{Invariant, Ready, Grows, Reads}
 use Rattle.ir_print_law.proofs.Shown.{shown, IsTypeRead, read_stays, bits_read}
 use Rattle.ir_print_law.proofs.Steps.{looked, given, sign_reads, word_skipped, word_seen, unlike, grows_itself, grows_further, later_before}
 use Rattle.ir_print_law.proofs.WholeTypes.{type_begins}
-use Rattle.ir_print_law.proofs.PrintedTypes.{type_shown, read_again, scalar_reads}
-use Rattle.ir_print_law.proofs.OperandsAgain.{OperandAgain, ends_operand}
+use Rattle.ir_print_law.proofs.PrintedTypes.{type_shown, read_again, scalar_reads, integer_scalar_reads}
+use Rattle.ir_print_law.specs.Readings.{after_constant}
+use Rattle.ir_print_law.proofs.OperandsAgain.{constant_ready, constant_grows, word_longer, OperandAgain, ends_operand}
 use Rattle.ir_print_law.proofs.AgainTypes.{again_reads}
-use Rattle.ir_print_law.proofs.Parts.{ends_again, IsLaterAgain, ArgumentAgain, operand_at, typed_reads}
+use Rattle.ir_print_law.proofs.Parts.{flat_shape, ends_again, IsLaterAgain, ArgumentAgain, operand_at, typed_reads}
 use Rattle.ir_print_law.proofs.Setting.{on, said_on}
 use Rattle.std.specs.List.{flat_map}
 use Rattle.ir_forms.specs.ManyWith.{Follows}
@@ -50,12 +51,13 @@ use Rattle.ir_ast.specs.declared.ends.Case.{Case}
 use Rattle.ir_forms.specs.Ends as ends
 use Rattle.ir_forms.specs.CaseValues.{value_of, is_among, with_value}
 use Rattle.ir_forms.specs.declared.case_values.CaseValue.{CaseValue}
-use Rattle.ir_print.specs.Fits.{FitsType}
+use Rattle.ir_print_law.specs.Fits.{FitsType}
 use Rattle.ir_print.specs.Names.{local_text}
 use Rattle.ir_print.specs.Operands.{constant_text}
 use Rattle.ir_print_law.proofs.Constants.{constant_is_read}
 use Rattle.ir_print_law.specs.Printable.{AreCases, IsEnd}
 use Rattle.ir_forms.specs.Names.{target}
+use Rattle.ir_forms.specs.declared.written.Word.{Word}
 use Rattle.ir_print_law.proofs.Steps.{grows_advanced, passed, shorter}
 use Rattle.ir_print_law.proofs.OperandsAgain.{constant_by_shape}
 use Rattle.ir_print_law.proofs.Parts.{target_reads, label_later, HasLabel}
@@ -90,7 +92,7 @@ module _ {m : Module} {f : Function} (v : Invariant m f) where
   seam_cases t (x ∷ xs) rest = refl
 
   -- a case is read
-  case_reads : (shape : Shape) (t : ℕ) (x : Case) (p : WrittenType) (seen : List CaseValue) (i : Input) (rest : Text) (s : ℕ) → IsType m shape t → IsTypeRead shape 64 p i → FitsType (bits_of_shape shape) x.constant
+  case_reads : (shape : Shape) (t : ℕ) (x : Case) (p : WrittenType) (seen : List CaseValue) (i : Input) (rest : Text) (s : ℕ) → IsType m shape t → IsTypeRead shape 64 p i → FitsType (word_of_shape shape) x.constant
       → is_among (value_of x.constant) seen ≡ false → IsTarget f x.target → IsSeam rest → Ready v s i (case_text m f.locals t x ++ rest)
       → (w.begins_type (kind i.cursor) ≡ true)
       × (b : ℕ) × (o : Input) × (ends.case (record { written = p; seen = seen })).says i (record { constant = x.constant; target = b }) o × Ready v s o rest × Grows i o × HasLabel (name_at f.locals x.target) b o
@@ -106,17 +108,18 @@ module _ {m : Module} {f : Function} (v : Invariant m f) where
       let begins = type_begins v shape i (32 ∷ []) (32 ∷ t1) own.2 refl refl ready.stands in
       let a = again_reads v shape p i (32 ∷ []) (32 ∷ t1) s own.2 read.has_shape own.1 refl (ends_again (32 ∷ t1) (ends_operand v shape t (operand.Constant x.constant) t2 own.0 fits refl)) ready in
       let there_c = subst (λ (y : Text). Stands a.1.cursor (32 ∷ (y ++ t2))) (constant_by_shape m shape t x.constant own.0) a.3.stands in
-      let r = constant_is_read (bits_of_shape shape) x.constant a.1 (32 ∷ []) t2 fits refl refl there_c in
-      let said = subst (λ (b : Option ℕ). (form.constant b).says a.1 x.constant (advanced a.1)) (sym (bits_read shape 64 p i read)) r.0 in
-      let at_comma : Ready v s (advanced a.1) t2 = passed v a.1 (32 ∷ t1) t2 s s a.3 r.1 (shorter v (32 ∷ []) c_text t2 s s (omega arith)) in
-      let d = sign_reads v 44 k.Comma (advanced a.1) [] (32 ∷ t3) s s refl refl refl (omega arith) at_comma in
+      let r = constant_is_read (word_of_shape shape) x.constant a.1 (32 ∷ []) t2 fits refl refl there_c in
+      let said = subst (λ (b : Word). (form.constant b).says a.1 x.constant (after_constant x.constant a.1)) (sym (bits_read shape 64 p i read)) r.0 in
+      let after = after_constant x.constant a.1 in
+      let at_comma : Ready v s (after_constant x.constant a.1) t2 = constant_ready v x.constant a.1 (32 ∷ t1) t2 s a.3 r.1 (word_longer v (32 ∷ []) c_text t2) in
+      let d = sign_reads v 44 k.Comma after [] (32 ∷ t3) s s refl refl refl (omega arith) at_comma in
       let e = target_reads v x.target d.1 (32 ∷ []) rest s there refl seam d.3 in (
         begins,
         e.0,
         e.1,
-        (a.0, a.1, a.2, (x.constant, advanced a.1, (x.constant, advanced a.1, said, (tt, advanced a.1, (ap not new, refl), (refl, refl))), (d.0, d.1, d.2, (e.0, e.1, e.2, (refl, refl))))),
+        (a.0, a.1, a.2, (x.constant, after, (x.constant, after, said, (tt, after, (ap not new, refl), (refl, refl))), (d.0, d.1, d.2, (e.0, e.1, e.2, (refl, refl))))),
         e.3,
-        grows_further i a.1 e.1 a.4 (grows_further a.1 (advanced a.1) e.1 (grows_advanced v a.1) (grows_further (advanced a.1) d.1 e.1 d.4 e.4)),
+        grows_further i a.1 e.1 a.4 (grows_further a.1 after e.1 (constant_grows v x.constant a.1) (grows_further after d.1 e.1 d.4 e.4)),
         e.5,
       )
     where
@@ -124,7 +127,7 @@ module _ {m : Module} {f : Function} (v : Invariant m f) where
       front a b c = simp append_assoc
 
   -- the cases of a switch are read
-  cases_read : (shape : Shape) (t : ℕ) (xs : List Case) (p : WrittenType) (seen_values : List CaseValue) (i : Input) (rest : Text) (s : ℕ) → IsType m shape t → IsTypeRead shape 64 p i → AreCases f (bits_of_shape shape) seen_values xs
+  cases_read : (shape : Shape) (t : ℕ) (xs : List Case) (p : WrittenType) (seen_values : List CaseValue) (i : Input) (rest : Text) (s : ℕ) → IsType m shape t → IsTypeRead shape 64 p i → AreCases f (word_of_shape shape) seen_values xs
       → Ready v s i (flat_map (case_text m f.locals t) xs ++ (codes " ]" ++ rest))
       → (ys : List Case) × (o : Input) × Follows ends.at_square (λ c. (ends.case c).says) ends.after_case (record { written = p; seen = seen_values }) i ys o × Ready v s o (codes " ]" ++ rest) × Grows i o × AllCasesAgain xs ys o
   unfolding class_of
@@ -149,6 +152,8 @@ module _ {m : Module} {f : Function} (v : Invariant m f) where
       → Ready v s i (gap ++ (end_text m f.locals (end.Switch t x otherwise xs) ++ rest)) → Reads v s ends.switch i rest (EndAgain m f.locals (end.Switch t x otherwise xs))
   unfolding ends.switch ends.bracketed_cases ends.all_cases class_of word_kind keywords
   switch_reads t x otherwise xs i gap rest s own blanks ready =
+      let flat = own.0 in
+      let own = own.1 in
       let shape = own.0 in
       let scalar = own.1 in
       let good = EndAgain m f.locals (end.Switch t x otherwise xs) in
@@ -163,10 +168,10 @@ module _ {m : Module} {f : Function} (v : Invariant m f) where
       on v v skip (λ _. ends.switch_after) i (32 ∷ t1) rest s s (λ _ o. advanced i ≡ o) good
       (word_skipped v (codes "switch") i gap (32 ∷ t1) s s blanks refl refl (omega arith) ready)
       (λ _ o ready g e.
-      on v v w.scalar operand_form o (32 ∷ (operand_text m f.locals t x ++ t2)) rest s s (IsTypeRead shape 64) good
-      (scalar_reads v shape o (32 ∷ []) (32 ∷ (operand_text m f.locals t x ++ t2)) s scalar.0.2 scalar.0.1 scalar.1 refl (ends_operand v shape t x t2 scalar.0.0 own.2 refl) ready)
+      on v v w.integer_scalar operand_form o (32 ∷ (operand_text m f.locals t x ++ t2)) rest s s (IsTypeRead shape 64) good
+      (integer_scalar_reads v shape o (32 ∷ []) (32 ∷ (operand_text m f.locals t x ++ t2)) s scalar.0.2 scalar.0.1 scalar.1 (flat_shape v shape t scalar.0.0 flat) refl (ends_operand v shape t x t2 scalar.0.0 own.2 refl) ready)
       (λ p q ready h read.
-      on v v (form.operand (w.bits_of p)) (comma_form p) q t2 rest s s (OperandAgain m f.locals x) good
+      on v v (form.operand (w.word_of p)) (comma_form p) q t2 rest s s (OperandAgain m f.locals x) good
       (operand_at v shape t x p q q (32 ∷ []) t2 s read scalar.0.0 own.2 refl refl ready)
       (λ y r ready hh again.
       on v v (expect k.Comma) (λ _. target_form p y) r (32 ∷ t3) rest s s (λ _ z. advanced r ≡ z) good
@@ -203,7 +208,7 @@ module _ {m : Module} {f : Function} (v : Invariant m f) where
       comma_form p y = expect k.Comma >> target_form p y
 
       operand_form : WrittenType → Form End
-      operand_form p = form.operand (w.bits_of p) >>= comma_form p
+      operand_form p = form.operand (w.word_of p) >>= comma_form p
 
   -- ---- branches
 

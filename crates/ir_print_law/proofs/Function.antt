@@ -17,7 +17,7 @@ use Rattle.ir_tokens.specs.contracts.token.Kind.{the_type}
 use Rattle.ir_tokens.specs.declared.token.Token.{Token}
 use denote.Enum.Bare.{sameb}
 use Rattle.std.specs.Str.{bytes_eq}
-use Rattle.ir_forms.specs.Cursor.{kind, kind_first, sees, same_kind, start, next, rest_of}
+use Rattle.ir_forms.specs.Cursor.{kind, kind_first, here, bad_from, bad_here, sees, same_kind, start, next, rest_of}
 use Rattle.ir_forms.specs.declared.decorating.Spot.TheVariants as spot
 use Rattle.ir_forms.specs.declared.input.Input.{Input}
 use Rattle.ir_forms.specs.declared.table.Table.{Table}
@@ -155,7 +155,7 @@ module _ (s : Seat) where
     pub grown : Grown j p
 
   -- one token is left
-  one_left : (ts : List Token) → length (rest_of (map (moved s.far) ts ++ s.tail)) ≤ length s.tail → End s.code ts → (t : Token) × (ts ≡ t ∷ [])
+  one_left : (ts : List Token) → length (rest_of (map (moved s.far) ts ++ s.tail)) ≤ length s.tail → End s.code s.last ts → (t : Token) × (ts ≡ t ∷ [])
   one_left [] less h = absurd h
   one_left (t ∷ []) less h = (t, refl)
   one_left (t ∷ u ∷ ts) less h =
@@ -165,8 +165,13 @@ module _ (s : Seat) where
 
   -- after the last token the text ends
   text_ends : (p : Input) → p.cursor.rest ≡ [] → p.cursor.bad ≡ None → ends.says p tt p
-  unfolding ends sees same_kind kind
-  text_ends p rest good = (tt, p, (let here : kind_first p.cursor.rest ≡ k.End = ap kind_first rest in ap (λ (x : Kind). sameb the_type x k.End) here, refl), (ap (λ (x : Option ℕ). not (is_some x)) good, refl))
+  unfolding ends sees same_kind kind bad_here
+  text_ends p rest good = (
+    tt,
+    p,
+    (ap (λ (ts : List Token). sameb the_type (kind_first (here p.cursor.wide ts)) k.End) rest, refl),
+    (ap (λ (ts : List Token). not (is_some (bad_from p.cursor.wide ts p.cursor.bad))) rest ∙ ap (λ (x : Option ℕ). not (is_some x)) good, refl),
+  )
 
   module _ (func : ℕ) (name : Text) where
     -- the function, as it stands in the whole text

@@ -22,12 +22,15 @@ use Rattle.ir_forms.specs.Intrinsics.{is_left_out}
 use Rattle.ir_forms.specs.declared.input.Input.{Input}
 use Rattle.ir_forms.specs.Input.{advanced, expect}
 use Rattle.ir_forms.specs.Names.{with_symbol}
-use Rattle.ir_forms.specs.Written.{bits_of}
+use Rattle.ir_forms.specs.Written.{word_of}
 use Rattle.ir_forms.specs.declared.decorating.Spot.TheVariants as spot
 use Rattle.ir_forms.specs.declared.decorating.Trail.TheVariants as trail
 use Rattle.ir_forms.specs.Decorations.{begins_decoration}
+use Rattle.ir_forms.specs.declared.written.Word.{Word}
+use Rattle.ir_forms.specs.declared.written.FloatType.TheVariants as size
+use Rattle.ir_forms.specs.declared.written.Word.TheVariants as sort
 use Rattle.ir_text.specs.ItemsOfText.{global, is_constant, is_constant_by, initial, is_initial, item, item_by, with_global}
-use Rattle.ir_print.specs.Fits.{FitsType, constant_shown}
+use Rattle.ir_print_law.specs.Fits.{FitsType, constant_shown}
 use Rattle.ir_print.specs.Items.{global_line, global_word}
 use Rattle.name_text.specs.Names.{name_text}
 use Rattle.name_text.specs.Readings.{AreBytes}
@@ -36,11 +39,14 @@ use Rattle.ir_print.specs.Names.{name_at, global_text}
 use Rattle.ir_print.specs.Operands.{constant_text, is_bit, number_text, truth_text, bit_of}
 use Rattle.ir_print_law.specs.Stands.{Stands, IsSeam, AreBlanks}
 use Rattle.ir_print.specs.Types.{type_text}
+use Rattle.ir_print_law.specs.Readings.{after_constant}
+use Rattle.ir_print_law.proofs.FloatConstants.{float_number_said}
+use Rattle.ir_print_law.proofs.OperandsAgain.{constant_ready, constant_grows}
 use Rattle.ir_print_law.proofs.Constants.{are_digits, constants_are_read, wide}
 use Rattle.ir_print_law.proofs.Words.{global_comes, word_comes, number_comes}
 use Rattle.ir_print_law.specs.Again.{IsGlobalAgain}
 use Rattle.ir_print_law.specs.Printable.{IsGlobal, IsInitial}
-use Rattle.ir_print_law.specs.Shapes.{Shape, Integer, Pointer, Array, Empty, Struct, Named, Opaque, HasShape, bits_of_shape}
+use Rattle.ir_print_law.specs.Shapes.{Shape, Integer, Float, Pointer, Array, Empty, Struct, Named, Opaque, HasShape, word_of_shape}
 use Rattle.ir_print_law.proofs.Tables.{stays, begins_itself}
 use Rattle.ir_print_law.proofs.State.{Invariant, Ready, IsLater}
 use Rattle.ir_print_law.proofs.Shown.{shape_stays, bits_read}
@@ -57,58 +63,90 @@ below_most : (n : ℕ) → n < 4096 → nat_lt n 4096 ≡ true
 below_most n less = grind (arith, nat_tests)
 
 -- the first value is printed by the shape of the type
-text_shown : (m : Module) (shape : Shape) (held : ℕ) (x : Constant) → HasShape m.types m.struct_names shape held → IsInitial (bits_of_shape shape) x → constant_text m held x ≡ constant_shown (bits_of_shape shape) x
+text_shown : (m : Module) (shape : Shape) (held : ℕ) (x : Constant) → HasShape m.types m.struct_names shape held → IsInitial (word_of_shape shape) x → constant_text m held x ≡ constant_shown (word_of_shape shape) x
 text_shown m (Integer bits) held (constant.Number n) h is = ap (λ (t : Option IrType). number_text (is_bit t) n) h
+text_shown m (Integer bits) held (constant.Float n) h is = refl
 text_shown m (Integer bits) held constant.Null h is = absurd is
 text_shown m (Integer bits) held (constant.Truth t) h is = absurd is
+text_shown m (Float size.Single) held (constant.Number n) h is = absurd is
+text_shown m (Float size.Double) held (constant.Number n) h is = absurd is
+text_shown m (Float t) held (constant.Float n) h is = refl
+text_shown m (Float t) held constant.Null h is = refl
+text_shown m (Float t) held (constant.Truth u) h is = refl
 text_shown m (Pointer part) held constant.Null h is = refl
 text_shown m (Pointer part) held (constant.Number n) h is = absurd is
+text_shown m (Pointer part) held (constant.Float n) h is = refl
 text_shown m (Pointer part) held (constant.Truth t) h is = absurd is
 text_shown m (Array count part) held constant.Null h is = refl
 text_shown m (Array count part) held (constant.Number n) h is = absurd is
+text_shown m (Array count part) held (constant.Float n) h is = refl
 text_shown m (Array count part) held (constant.Truth t) h is = absurd is
 text_shown m Empty held constant.Null h is = refl
 text_shown m Empty held (constant.Number n) h is = absurd is
+text_shown m Empty held (constant.Float n) h is = refl
 text_shown m Empty held (constant.Truth t) h is = absurd is
 text_shown m (Struct first rest) held constant.Null h is = refl
 text_shown m (Struct first rest) held (constant.Number n) h is = absurd is
+text_shown m (Struct first rest) held (constant.Float n) h is = refl
 text_shown m (Struct first rest) held (constant.Truth t) h is = absurd is
 text_shown m (Named name) held constant.Null h is = refl
 text_shown m (Named name) held (constant.Number n) h is = absurd is
+text_shown m (Named name) held (constant.Float n) h is = refl
 text_shown m (Named name) held (constant.Truth t) h is = absurd is
 text_shown m Opaque held constant.Null h is = refl
 text_shown m Opaque held (constant.Number n) h is = absurd is
+text_shown m Opaque held (constant.Float n) h is = refl
 text_shown m Opaque held (constant.Truth t) h is = absurd is
 
-fits : (bits : Option ℕ) (x : Constant) → IsInitial bits x → FitsType bits x
-fits (Some bits) (constant.Number n) is = is
-fits (Some bits) constant.Null is = absurd is
-fits (Some bits) (constant.Truth t) is = absurd is
-fits None constant.Null is = tt
-fits None (constant.Number n) is = absurd is
-fits None (constant.Truth t) is = absurd is
+fits : (word : Word) (x : Constant) → IsInitial word x → FitsType word x
+fits (sort.Integer bits) (constant.Number n) is = is
+fits sort.Float (constant.Float n) is = is
+fits sort.Double (constant.Float n) is = is
+fits sort.Pointer constant.Null is = tt
+fits (sort.Integer bits) (constant.Float n) is = absurd is
+fits (sort.Integer bits) constant.Null is = absurd is
+fits (sort.Integer bits) (constant.Truth t) is = absurd is
+fits sort.Float (constant.Number n) is = absurd is
+fits sort.Float constant.Null is = absurd is
+fits sort.Float (constant.Truth t) is = absurd is
+fits sort.Double (constant.Number n) is = absurd is
+fits sort.Double constant.Null is = absurd is
+fits sort.Double (constant.Truth t) is = absurd is
+fits sort.Pointer (constant.Number n) is = absurd is
+fits sort.Pointer (constant.Float n) is = absurd is
+fits sort.Pointer (constant.Truth t) is = absurd is
 
 -- such a token comes
-initial_comes : (bits : Option ℕ) (x : Constant) (i : Input) (rest : Text) → IsInitial bits x → Stands i.cursor (32 ∷ (constant_shown bits x ++ 10 ∷ rest)) → is_initial bits (kind i.cursor) ≡ true
+initial_comes : (word : Word) (x : Constant) (i : Input) (rest : Text) → IsInitial word x → Stands i.cursor (32 ∷ (constant_shown word x ++ 10 ∷ rest)) → is_initial word (kind i.cursor) ≡ true
 unfolding class_of word_kind keywords
-initial_comes (Some bits) (constant.Number n) i rest is at = by (bits == 1) refl at where
-  truth : (t : Bool) → bits == 1 ≡ true → Stands i.cursor (32 ∷ (truth_text t ++ 10 ∷ rest)) → is_initial (Some bits) (kind i.cursor) ≡ true
-  truth true e at = ap (is_initial (Some bits)) (word_comes i.cursor (32 ∷ []) (codes "true") (10 ∷ rest) refl refl refl at).0 ∙ e
-  truth false e at = ap (is_initial (Some bits)) (word_comes i.cursor (32 ∷ []) (codes "false") (10 ∷ rest) refl refl refl at).0 ∙ e
+initial_comes (sort.Integer bits) (constant.Number n) i rest is at = by (bits == 1) refl at where
+  truth : (t : Bool) → bits == 1 ≡ true → Stands i.cursor (32 ∷ (truth_text t ++ 10 ∷ rest)) → is_initial (sort.Integer bits) (kind i.cursor) ≡ true
+  truth true e at = ap (is_initial (sort.Integer bits)) (word_comes i.cursor (32 ∷ []) (codes "true") (10 ∷ rest) refl refl refl at).0 ∙ e
+  truth false e at = ap (is_initial (sort.Integer bits)) (word_comes i.cursor (32 ∷ []) (codes "false") (10 ∷ rest) refl refl refl at).0 ∙ e
 
-  by : (one : Bool) → bits == 1 ≡ one → Stands i.cursor (32 ∷ (number_text one n ++ 10 ∷ rest)) → is_initial (Some bits) (kind i.cursor) ≡ true
+  by : (one : Bool) → bits == 1 ≡ one → Stands i.cursor (32 ∷ (number_text one n ++ 10 ∷ rest)) → is_initial (sort.Integer bits) (kind i.cursor) ≡ true
   by true e at = truth (bit_of n) e at
-  by false e at = ap (is_initial (Some bits)) (number_comes i.cursor (32 ∷ []) (decimal n) (10 ∷ rest) refl (are_digits n (wide bits n is.1 is.2)) refl at).0
-initial_comes (Some bits) constant.Null i rest is at = absurd is
-initial_comes (Some bits) (constant.Truth t) i rest is at = absurd is
-initial_comes None constant.Null i rest is at = ap (is_initial None) (word_comes i.cursor (32 ∷ []) (codes "null") (10 ∷ rest) refl refl refl at).0
-initial_comes None (constant.Number n) i rest is at = absurd is
-initial_comes None (constant.Truth t) i rest is at = absurd is
+  by false e at = ap (is_initial (sort.Integer bits)) (number_comes i.cursor (32 ∷ []) (decimal n) (10 ∷ rest) refl (are_digits n (wide bits n is.1 is.2)) refl at).0
+initial_comes sort.Float (constant.Float n) i rest is at = ap (is_initial sort.Float) (float_number_said sort.Float n i (32 ∷ []) (10 ∷ rest) is.0 is.1 refl refl at).0
+initial_comes sort.Double (constant.Float n) i rest is at = ap (is_initial sort.Double) (float_number_said sort.Double n i (32 ∷ []) (10 ∷ rest) refl is refl refl at).0
+initial_comes sort.Pointer constant.Null i rest is at = ap (is_initial sort.Pointer) (word_comes i.cursor (32 ∷ []) (codes "null") (10 ∷ rest) refl refl refl at).0
+initial_comes (sort.Integer bits) (constant.Float n) i rest is at = absurd is
+initial_comes (sort.Integer bits) constant.Null i rest is at = absurd is
+initial_comes (sort.Integer bits) (constant.Truth t) i rest is at = absurd is
+initial_comes sort.Float (constant.Number n) i rest is at = absurd is
+initial_comes sort.Float constant.Null i rest is at = absurd is
+initial_comes sort.Float (constant.Truth t) i rest is at = absurd is
+initial_comes sort.Double (constant.Number n) i rest is at = absurd is
+initial_comes sort.Double constant.Null i rest is at = absurd is
+initial_comes sort.Double (constant.Truth t) i rest is at = absurd is
+initial_comes sort.Pointer (constant.Number n) i rest is at = absurd is
+initial_comes sort.Pointer (constant.Float n) i rest is at = absurd is
+initial_comes sort.Pointer (constant.Truth t) i rest is at = absurd is
 
-initial_ends : (bits : Option ℕ) (x : Kind) → is_initial bits x ≡ true → ends_type x ≡ true
-initial_ends bits k.Star e = absurd cc
-initial_ends bits k.OpenRound e = absurd cc
-initial_ends bits _ e = refl
+initial_ends : (word : Word) (x : Kind) → is_initial word x ≡ true → ends_type x ≡ true
+initial_ends word k.Star e = absurd cc
+initial_ends word k.OpenRound e = absurd cc
+initial_ends word _ e = refl
 
 pub word_seam : (c : Bool) (rest : Text) → IsSeam (global_word c ++ rest)
 unfolding class_of
@@ -173,7 +211,7 @@ module _ (m : Module) (f : Function) (named : AreNamed m f) (types : TypesRead m
       let name = name_at m.symbols g.symbol in
       let shape = is.0 in
       let is_type = is.1 in
-      let bits = bits_of_shape shape in
+      let bits = word_of_shape shape in
       let w = known m f named (far_named name) in
       let here = subst (λ (t : Text). Ready (known m f named far) 0 i (gap ++ t)) (line_is m g rest) ready in
       let afterwards = global_word g.is_constant ++ after_word m g rest in
@@ -187,17 +225,17 @@ module _ (m : Module) (f : Function) (named : AreNamed m f) (types : TypesRead m
       let shown = text_shown m shape g.held g.initial is_type.0 is.3 in
       let constant_bytes = 32 ∷ (constant_shown bits g.initial ++ 10 ∷ rest) in
       let ready_q = subst (λ (t : Text). Ready (known m f named (far_named name)) 0 q (32 ∷ (type_text m g.held ++ 32 ∷ (t ++ 10 ∷ rest)))) shown b.4 in
-      let ends : EndsType (32 ∷ (constant_shown (bits_of_shape shape) g.initial ++ 10 ∷ rest)) = (refl, λ j at. initial_ends (bits_of_shape shape) (kind j.cursor) (initial_comes (bits_of_shape shape) g.initial j rest is.3 at)) in
+      let ends : EndsType (32 ∷ (constant_shown (word_of_shape shape) g.initial ++ 10 ∷ rest)) = (refl, λ j at. initial_ends (word_of_shape shape) (kind j.cursor) (initial_comes (word_of_shape shape) g.initial j rest is.3 at)) in
       let t = types.held w shape g.held q (32 ∷ []) constant_bytes 0 is_type is.2 refl ends ready_q in
       let r = t.1 in
-      let bits_are : bits_of t.0 ≡ bits_of_shape shape = bits_read shape 64 t.0 r t.5 in
+      let bits_are : word_of t.0 ≡ word_of_shape shape = bits_read shape 64 t.0 r t.5 in
       let tested = initial_comes bits g.initial r rest is.3 t.3.stands in
       let c = constants_are_read bits g.initial r (fits bits g.initial is.3) (32 ∷ []) (10 ∷ rest) refl refl t.3.stands in
-      let said : (initial (bits_of_shape shape)).says r g.initial (advanced r) = (tt, r, (tested, refl), c.0) in
-      let said_here = subst (λ (x : Option ℕ). (initial x).says r g.initial (advanced r)) (sym bits_are) said in
+      let said : (initial (word_of_shape shape)).says r g.initial (after_constant g.initial r) = (tt, r, (tested, refl), c.0) in
+      let said_here = subst (λ (x : Word). (initial x).says r g.initial (after_constant g.initial r)) (sym bits_are) said in
       let size = length-append (constant_shown bits g.initial) (10 ∷ rest) in
-      let ready_s = passed w r constant_bytes (10 ∷ rest) 0 0 t.3 c.1 (omega (arith, size)) in
-      let s = advanced r in
+      let ready_s = constant_ready w g.initial r constant_bytes (10 ∷ rest) 0 t.3 c.1 (omega (arith, size)) in
+      let s = after_constant g.initial r in
       let trail = trailing_said trail.Global s (unlike k.Comma begins_item s refl (comes s c.1)) in
       let ungrouped = decorations_said spot.GlobalEnd s (item_ungrouped (begins_line s.cursor) (kind s.cursor) (comes s c.1)) in
       let x : Global = record { symbol = a.0; is_constant = g.is_constant; held = t.0.id; initial = g.initial } in
@@ -206,9 +244,9 @@ module _ (m : Module) (f : Function) (named : AreNamed m f) (types : TypesRead m
       let room_s = ready_s.room in
       let counted : length i.globals < 4096 = subst (λ (y : List Global). length y < 4096) (sym ready.holds.3.globals_are) few in
       let wide_s : Widens s o = record { types = begins_itself s.types; structs = begins_itself s.struct_names.names; symbols = begins_itself s.symbols.names; locals = begins_itself s.locals.names } in
-      let wide_r = widens_further r s o (grows_widens r s (grows_advanced w r)) wide_s in
+      let wide_r = widens_further r s o (grows_widens r s (constant_grows w g.initial r)) wide_s in
       let wide_p = widens_further p q o b.5 (widens_further q r o (grows_widens q r t.4) wide_r) in (
-        with_global (record { symbol = a.0; is_constant = g.is_constant; held = t.0.id; initial = g.initial }) (advanced r),
+        with_global (record { symbol = a.0; is_constant = g.is_constant; held = t.0.id; initial = g.initial }) (after_constant g.initial r),
         record { symbol = a.0; is_constant = g.is_constant; held = t.0.id; initial = g.initial },
         subst (λ (z : Kind). (item_by z).says i tt o) (sym kind_is) (
           a.0,

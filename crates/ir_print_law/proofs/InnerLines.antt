@@ -14,6 +14,7 @@ use Rattle.ir_forms.specs.Cursor.{kind, sees}
 use Rattle.ir_forms.specs.declared.input.Input.{Input}
 use Rattle.ir_forms.specs.declared.site.Site.{Site}
 use Rattle.ir_forms.specs.Instructions.{named_after, instruction, instruction_by, placed}
+use Rattle.ir_forms.specs.Records.{begins_record}
 use Rattle.ir_print.specs.Instructions.{op_text, instruction_line}
 use Rattle.ir_print.specs.Names.{name_at, key_text, local_text}
 use Rattle.ir_print_law.specs.Stands.{Stands}
@@ -29,6 +30,7 @@ use Rattle.ir_print_law.proofs.NewValues.{IsNext, unnamed_then, far_value, value
 use Rattle.ir_print_law.proofs.OpNeeds.{begins_body_line, EndsOp, OpsRead}
 use Rattle.ir_print_law.proofs.OpsAgain.{plain, PlainAgain}
 use Rattle.ir_print_law.proofs.Parts.{IsLaterAgain}
+use Rattle.ir_print_law.proofs.Undropped.{no_record}
 
 -- a form that is told by the kind of the next token
 by_kind : (site : Site) (x : Kind) (i o : Input) (a : Instr) → kind i.cursor ≡ x → (instruction_by site x).says i a o → (instruction site).says i a o
@@ -45,9 +47,9 @@ placed_is site i o a less h = (tt, i, (few_places site.place less, refl), h)
 pub comma_free : (rest : Text) (i : Input) → EndsOp rest → Stands i.cursor rest → sees k.Comma i.cursor ≡ false
 comma_free rest i ends at = unlike k.Comma begins_body_line i refl (ends.1 i at)
 
--- no debug record comes after a line
-pub record_free : (rest : Text) (i : Input) → EndsOp rest → Stands i.cursor rest → sees k.DebugRecord i.cursor ≡ false
-record_free rest i ends at = unlike k.DebugRecord begins_body_line i refl (ends.1 i at)
+-- no debug record comes after a line, and no call that is dropped
+pub record_free : (rest : Text) (i : Input) → EndsOp rest → Stands i.cursor rest → begins_record i ≡ false
+record_free rest i ends at = no_record i (unlike k.DebugRecord begins_body_line i refl (ends.1 i at)) (ends.2 i at)
 
 -- the line of an instruction with a value
 pub valued_line : (m : Module) (locals : List Text) (x : Op) (value : ℕ) (rest : Text)

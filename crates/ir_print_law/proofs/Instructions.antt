@@ -9,7 +9,7 @@ use Rattle.ir_ast.specs.declared.op.Op.{Op}
 use Rattle.ir_ast.specs.declared.op.Op.TheVariants as op
 use Rattle.ir_tokens.specs.declared.token.Kind.{Kind}
 use Rattle.ir_tokens.specs.declared.token.Kind.TheVariants as k
-use Rattle.ir_forms.specs.Calls.{valued, unnamed, typed_call, call, tail_call, void_call, numbered_call, call_by, call_statement, tail_call_statement}
+use Rattle.ir_forms.specs.Calls.{valued, unnamed, typed_call, void_call, numbered_call, call_by, call_statement, tail_call_statement}
 use Rattle.ir_forms.specs.Casts.{bitcast, freezes, freeze}
 use Rattle.ir_forms.specs.Choices.{select}
 use Rattle.ir_forms.specs.Cursor.{kind}
@@ -32,11 +32,16 @@ use Rattle.ir_print_law.specs.Printable.{IsOp, IsInstr, gives_value}
 use Rattle.ir_print_law.proofs.Calls.{IsGivingCall, typed_call_keeps, call_keeps, tail_call_keeps, void_call_keeps}
 use Rattle.ir_print_law.proofs.Casts.{bitcast_keeps, freeze_keeps}
 use Rattle.ir_print_law.proofs.Choices.{select_keeps}
-use Rattle.ir_print_law.proofs.Decorations.{decorations_pass, trailed_keeps}
+use Rattle.ir_print_law.proofs.Decorations.{decorations_pass}
+use Rattle.ir_print_law.proofs.Records.{trailed_keeps}
 use Rattle.ir_print_law.proofs.Elements.{element_keeps}
 use Rattle.ir_print_law.proofs.Forms.{Keeps, Same, wrapped}
 use Rattle.ir_print_law.proofs.Memory.{IsGivingMemory, alloca_keeps, load_keeps, store_keeps}
 use Rattle.ir_print_law.proofs.Numbers.{compare_keeps, integer_op_keeps}
+use Rattle.ir_print_law.proofs.Floats.{float_op_keeps, float_word_wide}
+use Rattle.ir_forms.specs.FloatOps.{float_word_here, number_op, number_op_by, float_op, as_number}
+use Rattle.ir_forms.specs.declared.float_ops.FloatWord.{FloatWord}
+use Rattle.ir_ast.specs.declared.numbers.NumberOp.TheVariants as number
 use Rattle.ir_print_law.proofs.Passes.{skip_passes, expect_passes}
 use Rattle.ir_print_law.proofs.Reading.{Progress, with_named_value, Builder, within_of, naming_of}
 
@@ -63,9 +68,17 @@ module _ {m : Module} {f : Function} {Back : Input → Type 0} {Fore : Progress 
       → ((i : Input) → Keeps (Open g n) (λ _. Fore (with_named_value g n)) Back form Good i) → Names g n (as_op wrap form)
   of_family g n Good wrap form good on i = wrapped Back (Open g n) (Fore (with_named_value g n)) Good (IsGiving m f true) wrap form i good (on i)
 
+  -- an operation on floating point numbers, where it is named
+  number_op_keeps : (g : Progress) (n : ℕ) → Names g n (number_op n)
+  unfolding number_op
+  number_op_keeps g n i = by (float_word_here i) refl where
+    by : (x : Option FloatWord) → float_word_here i ≡ x → Keeps (Open g n) (λ _. Fore (with_named_value g n)) Back (number_op_by n x) (IsGiving m f true) i
+    by None e = of_family g n (IsNumberOp m f) op.Number (integer_op n) (λ x h. (h, refl)) (integer_op_keeps (naming_of b g n)) i
+    by (Some x) e = wrapped Back (Open g n) (Fore (with_named_value g n)) (λ y. IsNumberOp m f (number.Float y)) (IsGiving m f true) as_number (float_op n x) i (λ y h. (h, refl)) (float_op_keeps (naming_of b g n) i x (float_word_wide i x e))
+
   wide_op_by_keeps : (g : Progress) (n : ℕ) (x : Bool) → Names g n (wide_op_by n x)
   wide_op_by_keeps g n true = of_family g n (IsCast m f) op.Cast (freeze n) (λ x h. (h, refl)) (freeze_keeps (naming_of b g n))
-  wide_op_by_keeps g n false = of_family g n (IsNumberOp m f) op.Number (integer_op n) (λ x h. (h, refl)) (integer_op_keeps (naming_of b g n))
+  wide_op_by_keeps g n false = number_op_keeps g n
 
   wide_op_keeps : (g : Progress) (n : ℕ) → Names g n (wide_op n)
   unfolding wide_op
@@ -78,9 +91,9 @@ module _ {m : Module} {f : Function} {Back : Input → Type 0} {Fore : Progress 
   named_op_by_keeps g n site k.Getelementptr = of_family g n (IsElement m f) op.Element (element site n) (λ x h. (h, refl)) (element_keeps (naming_of b g n) site)
   named_op_by_keeps g n site k.Icmp = of_family g n (IsNumberOp m f) op.Number (compare n) (λ x h. (h, refl)) (compare_keeps (naming_of b g n))
   named_op_by_keeps g n site k.Select = of_family g n (IsChoice m f) op.Choice (select n) (λ x h. (h, refl)) (select_keeps (naming_of b g n))
-  named_op_by_keeps g n site k.Call = of_family g n (IsGivingCall m f true) op.Call (call n) (λ x h. h) (call_keeps (naming_of b g n))
-  named_op_by_keeps g n site k.Tail = of_family g n (IsGivingCall m f true) op.Call (tail_call n) (λ x h. h) (tail_call_keeps (naming_of b g n))
-  named_op_by_keeps g n site k.Notail = of_family g n (IsGivingCall m f true) op.Call (tail_call n) (λ x h. h) (tail_call_keeps (naming_of b g n))
+  named_op_by_keeps g n site k.Call = call_keeps (naming_of b g n)
+  named_op_by_keeps g n site k.Tail = tail_call_keeps (naming_of b g n)
+  named_op_by_keeps g n site k.Notail = tail_call_keeps (naming_of b g n)
   named_op_by_keeps g n site k.LeftOut = wide_op_keeps g n
   named_op_by_keeps g n site _ = of_family g n (IsNumberOp m f) op.Number (integer_op n) (λ x h. (h, refl)) (integer_op_keeps (naming_of b g n))
 

@@ -1,5 +1,5 @@
 -- The types of items and the first values of globals, as they are read.
-use Rattle.std.proofs.Common.{◌≡◌, ℕ, Bool, true, false, if◌then◌else◌, is_some, Option, None, Some, sym, ap, subst, ◌∙◌, arith, inl, inr, ◌⊎◌}
+use Rattle.std.proofs.Common.{◌≡◌, ℕ, Bool, true, false, if◌then◌else◌, is_some, refl, sym, ap, subst, ◌∙◌, arith, inl, inr, ◌⊎◌}
 use Rattle.std.specs.Prelude.{◌==◌}
 use Rattle.std.proofs.Math.Pow.{pow_pos}
 use Rattle.std.proofs.lemmas.Bool.Decides.{nat_tests}
@@ -14,62 +14,86 @@ use Rattle.ir_forms.specs.Cursor.{kind, start}
 use Rattle.ir_forms.specs.declared.fault.Fault.TheVariants.{OutOfRange}
 use Rattle.ir_forms.specs.declared.input.Input.{Input}
 use Rattle.ir_forms.specs.Input.{advanced, advanced_falls, skip}
-use Rattle.ir_forms.specs.Operand.{zero_of, truth_of, number_at, number_or_zero, number, constant_by, constant}
+use Rattle.ir_forms.specs.Operand.{float_number, zero_of, truth_of, number_at, number_or_zero, number, constant_by, constant}
 use Rattle.ir_forms.specs.Written.{any_type, passed_type}
 use Rattle.ir_forms.specs.declared.decorating.Spot.TheVariants as spot
+use Rattle.ir_forms.specs.declared.written.Word.{Word}
+use Rattle.ir_forms.specs.declared.written.Word.TheVariants as sort
 use Rattle.ir_text.specs.ItemsOfText.{body_by, body, is_initial, initial, void_result, declared_result_by, declared_result, defined_result_by, defined_result}
 use Rattle.ir_print_law.specs.Parts.{IsType, IsVoid}
 use Rattle.ir_print_law.specs.Printable.{IsPassed, IsAnyType, IsInitial}
 use Rattle.ir_print_law.specs.Shapes.{Shape, is_struct_shape}
 use Rattle.ir_print_law.proofs.Decorations.{decorations_pass}
 use Rattle.ir_print_law.proofs.Forms.{Keeps, Same, stepped, where_true}
-use Rattle.ir_print_law.proofs.Operands.{AreBits, number_fits}
+use Rattle.ir_print_law.proofs.Operands.{AreBits, number_fits, float_kept, single_fits, double_fits}
 use Rattle.ir_print_law.proofs.Passes.{skip_passes}
 use Rattle.ir_print_law.proofs.Reading.{Reading}
 use Rattle.ir_print_law.proofs.Tokens.{intern_goes}
 use Rattle.ir_print_law.proofs.TypesThat.{type_of, passed_of, any_type_keeps, passed_keeps, struct_body_keeps}
 
 -- a first value, where its type may be
-abbrev pub IsFirst : Option ℕ → Constant → Type 0
+abbrev pub IsFirst : Word → Constant → Type 0
 IsFirst bits x = AreBits bits → IsInitial bits x
 
-zero_first : (bits : Option ℕ) → IsFirst bits (zero_of bits)
-zero_first None u = tt
-zero_first (Some bits) u = (u.0, u.1, pow_pos bits)
+zero_first : (word : Word) → IsFirst word (zero_of word)
+zero_first sort.Pointer u = tt
+zero_first (sort.Integer bits) u = (u.0, u.1, pow_pos bits)
+zero_first sort.Float u = (refl, omega arith)
+zero_first sort.Double u = omega arith
 
-truth_first : (bits : ℕ) (truth : Bool) → bits == 1 ≡ true → IsFirst (Some bits) (truth_of (Some bits) truth)
-truth_first bits truth e u = subst (λ (t : Bool). IsInitial (Some bits) (if t then c.Number (if truth then 1 else 0) else c.Truth truth)) (sym e) (by truth) where
-  by : (t : Bool) → IsInitial (Some bits) (c.Number (if t then 1 else 0))
+truth_first : (bits : ℕ) (truth : Bool) → bits == 1 ≡ true → IsFirst (sort.Integer bits) (truth_of (sort.Integer bits) truth)
+truth_first bits truth e u = subst (λ (t : Bool). IsInitial (sort.Integer bits) (if t then c.Number (if truth then 1 else 0) else c.Truth truth)) (sym e) (by truth) where
+  by : (t : Bool) → IsInitial (sort.Integer bits) (c.Number (if t then 1 else 0))
   by true = let one : bits ≡ 1 = grind (arith, nat_tests) in (u.0, u.1, rw one (omega arith))
   by false = (u.0, u.1, pow_pos bits)
 
 module _ {m : Module} (r : Reading m) where
-  word_is : (bits : Option ℕ) (x : Constant) → IsFirst bits x → (i : Input) → Keeps r.Fore (Same r.Fore) r.Back (skip >> pure x) (IsFirst bits) i
-  word_is bits x first i a o h f =
+  word_is : (word : Word) (x : Constant) → IsFirst word x → (i : Input) → Keeps r.Fore (Same r.Fore) r.Back (skip >> pure x) (IsFirst word) i
+  word_is word x first i a o h f =
       let s = skip_passes r i h.0 h.1 h.2 f in
-      (subst r.Fore h.3.1 s.0, λ b. ((s.1 (subst r.Back (sym h.3.1) b)).0, subst (IsFirst bits) h.3.0 first))
+      (subst r.Fore h.3.1 s.0, λ b. ((s.1 (subst r.Back (sym h.3.1) b)).0, subst (IsFirst word) h.3.0 first))
 
-  number_first : (bits : ℕ) (i : Input) → Keeps r.Fore (Same r.Fore) r.Back (number (Some bits)) (IsFirst (Some bits)) i
+  number_first : (bits : ℕ) (i : Input) → Keeps r.Fore (Same r.Fore) r.Back (number (sort.Integer bits)) (IsFirst (sort.Integer bits)) i
   unfolding number
   number_first bits i =
-      where_true r.Back r.Fore (Same r.Fore) (IsFirst (Some bits)) (λ i. is_some (number_at (Some bits) i)) (λ i. OutOfRange (start i.cursor)) (step (number_or_zero (Some bits)) advanced advanced_falls) i
-      (λ e. stepped r.Back r.Fore (Same r.Fore) (IsFirst (Some bits)) (number_or_zero (Some bits)) advanced advanced_falls i (λ f. (r.on_token i f, λ b. (r.from_token i b, number_fits (Some bits) i))))
+      let word = sort.Integer bits in
+      where_true r.Back r.Fore (Same r.Fore) (IsFirst word) (λ i. is_some (number_at word i)) (λ i. OutOfRange (start i.cursor)) (step (number_or_zero word) advanced advanced_falls) i
+      (λ e. stepped r.Back r.Fore (Same r.Fore) (IsFirst word) (number_or_zero word) advanced advanced_falls i (λ f. (r.on_token i f, λ b. (r.from_token i b, number_fits bits i))))
 
-  initial_by : (bits : Option ℕ) (x : Kind) (i : Input) → is_initial bits x ≡ true → Keeps r.Fore (Same r.Fore) r.Back (constant_by bits x) (IsFirst bits) i
-  initial_by None k.Number i e = absurd cc
-  initial_by (Some bits) k.Number i e = number_first bits i
-  initial_by None k.True i e = absurd cc
-  initial_by (Some bits) k.True i e = word_is (Some bits) (truth_of (Some bits) true) (truth_first bits true e) i
-  initial_by None k.False i e = absurd cc
-  initial_by (Some bits) k.False i e = word_is (Some bits) (truth_of (Some bits) false) (truth_first bits false e) i
-  initial_by None k.Null i e = word_is None c.Null (λ u. tt) i
-  initial_by (Some bits) k.Null i e = absurd cc
-  initial_by bits k.Undef i e = word_is bits (zero_of bits) (zero_first bits) i
-  initial_by bits k.Zeroinitializer i e = word_is bits (zero_of bits) (zero_first bits) i
-  initial_by bits _ i e = λ a o h f. absurd h
+  -- what fits as a floating point number may be a first value
+  float_first : (i : Input) → Keeps r.Fore (Same r.Fore) r.Back (float_number sort.Float) (IsFirst sort.Float) i
+  float_first i a o h f = let x = float_kept r sort.Float single_fits i a o h f in (x.0, λ b. let y = x.1 b in (y.0, subst (IsFirst sort.Float) y.1.1 (λ u. y.1.2 u)))
+
+  double_first : (i : Input) → Keeps r.Fore (Same r.Fore) r.Back (float_number sort.Double) (IsFirst sort.Double) i
+  double_first i a o h f = let x = float_kept r sort.Double double_fits i a o h f in (x.0, λ b. let y = x.1 b in (y.0, subst (IsFirst sort.Double) y.1.1 (λ u. y.1.2 u)))
+
+  initial_by : (word : Word) (x : Kind) (i : Input) → is_initial word x ≡ true → Keeps r.Fore (Same r.Fore) r.Back (constant_by word x) (IsFirst word) i
+  initial_by sort.Pointer k.Number i e = absurd cc
+  initial_by (sort.Integer bits) k.Number i e = number_first bits i
+  initial_by sort.Float k.Number i e = float_first i
+  initial_by sort.Double k.Number i e = double_first i
+  initial_by sort.Pointer k.Word i e = absurd cc
+  initial_by (sort.Integer bits) k.Word i e = absurd cc
+  initial_by sort.Float k.Word i e = float_first i
+  initial_by sort.Double k.Word i e = double_first i
+  initial_by sort.Pointer k.True i e = absurd cc
+  initial_by (sort.Integer bits) k.True i e = word_is (sort.Integer bits) (truth_of (sort.Integer bits) true) (truth_first bits true e) i
+  initial_by sort.Float k.True i e = absurd cc
+  initial_by sort.Double k.True i e = absurd cc
+  initial_by sort.Pointer k.False i e = absurd cc
+  initial_by (sort.Integer bits) k.False i e = word_is (sort.Integer bits) (truth_of (sort.Integer bits) false) (truth_first bits false e) i
+  initial_by sort.Float k.False i e = absurd cc
+  initial_by sort.Double k.False i e = absurd cc
+  initial_by sort.Pointer k.Null i e = word_is sort.Pointer c.Null (λ u. tt) i
+  initial_by (sort.Integer bits) k.Null i e = absurd cc
+  initial_by sort.Float k.Null i e = absurd cc
+  initial_by sort.Double k.Null i e = absurd cc
+  initial_by word k.Undef i e = word_is word (zero_of word) (zero_first word) i
+  initial_by word k.Zeroinitializer i e = word_is word (zero_of word) (zero_first word) i
+  initial_by word _ i e = λ a o h f. absurd h
 
   -- the first value of a global
-  pub initial_keeps : (bits : Option ℕ) (i : Input) → Keeps r.Fore (Same r.Fore) r.Back (initial bits) (IsFirst bits) i
+  pub initial_keeps : (bits : Word) (i : Input) → Keeps r.Fore (Same r.Fore) r.Back (initial bits) (IsFirst bits) i
   unfolding initial constant
   initial_keeps bits i x o h f =
       let same = h.2.1 in

@@ -1,5 +1,5 @@
 -- Struct types, globals and declared functions, as they are read.
-use Rattle.std.proofs.Common.{◌≡◌, ℕ, Bool, true, List, [], ◌∷◌, ◌++◌, length, Option, refl, sym, ap, subst, ◌∙◌, append_assoc}
+use Rattle.std.proofs.Common.{◌≡◌, ℕ, Bool, true, false, List, [], ◌∷◌, ◌++◌, length, Option, refl, sym, ap, subst, ◌∙◌, append_assoc}
 use Rattle.std.specs.Prelude.{nat_lt}
 use Rattle.std.specs.List.{AllByRecursion}
 use Rattle.std.proofs.lemmas.List.{append-nil}
@@ -20,16 +20,17 @@ use Rattle.ir_forms.specs.declared.input.Input.{Input}
 use Rattle.ir_forms.specs.declared.written.WrittenType.{WrittenType}
 use Rattle.ir_forms.specs.Input.{Form}
 use Rattle.ir_forms.specs.Names.{with_number_taken}
-use Rattle.ir_forms.specs.Written.{has_opaque, is_held, bits_of}
+use Rattle.ir_forms.specs.Written.{has_opaque, is_held, word_of}
 use Rattle.ir_forms.specs.declared.decorating.Spot.TheVariants as spot
 use Rattle.ir_forms.specs.declared.decorating.Trail.TheVariants as trail
-use Rattle.ir_text.specs.ItemsOfText.{struct_type, with_struct_type, global, with_global, function_name_by, function_name, declaration, with_declare}
+use Rattle.ir_forms.specs.declared.written.Word.{Word}
+use Rattle.ir_text.specs.ItemsOfText.{struct_type, with_struct_type, global, with_global, function_name_by, function_name, declaration, declare_by, names_left_out, with_declare}
 use Rattle.ir_text.specs.Read.{module_of}
 use Rattle.ir_print.specs.Names.{name_at}
 use Rattle.ir_print_law.specs.Definitions.{defined_structs}
 use Rattle.ir_print_law.specs.Printable.{IsStructType, IsGlobal, IsDeclare, IsInitial}
 use Rattle.ir_print_law.proofs.Arguments.{bits_written}
-use Rattle.ir_print_law.proofs.Decorations.{decorations_pass, trailing_passes}
+use Rattle.ir_print_law.proofs.Decorations.{decorations_pass, past_brackets_passes, trailing_passes}
 use Rattle.ir_print_law.proofs.Forms.{Keeps, Any}
 use Rattle.ir_print_law.proofs.FunctionsRead.{head_end_keeps}
 use Rattle.ir_print_law.proofs.ItemTypes.{IsFirst, body_keeps, initial_keeps, declared_result_keeps}
@@ -128,15 +129,15 @@ module _ (e : Input) (Good : Function → Type 0) where
 
   -- ---- globals
 
-  global_of : (symbol : ℕ) (is_constant : Bool) (w : WrittenType) (x : Constant) → IsFit (module_of e) is_held w → IsFirst (bits_of w) x
+  global_of : (symbol : ℕ) (is_constant : Bool) (w : WrittenType) (x : Constant) → IsFit (module_of e) is_held w → IsFirst (word_of w) x
       → IsGlobal (module_of e) (record { symbol = symbol; is_constant = is_constant; held = w.id; initial = x })
   global_of symbol is_constant w x fit first =
       let m = module_of e in
       let shape = fit.0.0 in
       let own = fit.0.1 in
       let bits = bits_are m 64 w shape own in
-      let fits = subst AreBits (sym bits) (bits_written (has_opaque m.types) (defined_structs m) shape own.is_written) in
-      (shape, type_of m w shape own, sym (held_is m 64 w shape own) ∙ fit.1, subst (λ (b : Option ℕ). IsInitial b x) bits (first fits))
+      let fits = subst AreBits (sym bits) (bits_written m.wide (has_opaque m.types) (defined_structs m) shape own.is_written) in
+      (shape, type_of m w shape own, sym (held_is m 64 w shape own) ∙ fit.1, subst (λ (b : Word). IsInitial b x) bits (first fits))
 
   pub global_goes : Goes e Good global
   unfolding global
@@ -157,7 +158,7 @@ module _ (e : Input) (Good : Function → Type 0) where
       let b1 = expect_passes r k.Equals h.1 t1.0 t1.1 t1.2 b0.0 in
       let b2 = is_constant_passes r t1.1 t2.0 t2.1 t2.2 b1.0 in
       let b3 = held_keeps r t2.1 t3.0 t3.1 t3.2 b2.0 in
-      let b4 = initial_keeps r (bits_of t3.0) t3.1 t4.0 t4.1 t4.2 b3.0 in
+      let b4 = initial_keeps r (word_of t3.0) t3.1 t4.0 t4.1 t4.2 b3.0 in
       let b5 = trailing_passes r trail.Global t4.1 t5.0 t5.1 t5.2 b4.0 in
       let b6 = decorations_pass r spot.GlobalEnd t5.1 t6.0 t6.1 t6.2 b5.0 in
       let there : IsBetween later (with_global g t6.1) = (global_added g t6.1 b6.0.0, ap (λ (x : Kept). record x { globals = x.globals ++ g ∷ [] }) b6.0.1) in (
@@ -189,6 +190,7 @@ module _ (e : Input) (Good : Function → Type 0) where
   stands_taken p i h = record {
     bytes = h.bytes;
     spell = h.spell;
+    place = h.place;
     ordered = h.ordered;
     once = h.once;
     structs = h.structs;
@@ -221,48 +223,77 @@ module _ (e : Input) (Good : Function → Type 0) where
 
   pub declaration_goes : Goes e Good declaration
   unfolding declaration
-  declaration_goes i made a o h f =
-      let m = module_of e in
-      let same = h.2.1 in
-      let number = length h.1.declares in
-      let few : nat_lt number 65535 ≡ true = ap (λ (j : Input). nat_lt (length j.declares) 65535) (sym same) ∙ h.2.0 in
-      let before : IsBetween made h.1 = subst (IsBetween made) same f in
-      let counted : length made.declares ≡ number = sym (ap (λ (x : Kept). length x.declares) before.1) in
-      let s1 = h.3 in
-      let s2 = s1.3 in
-      let s3 = s2.3 in
-      let s4 = s3.3 in
-      let s5 = s4.3 in
-      let s6 = s5.3 in
-      let s7 = s6.3 in
-      let d : Declare = record { symbol = s3.0; runtime = runtime_of (spelled s2.1.cursor); returned = s2.0; parameters = s5.0 } in
-      let later : Made = record made { declares = made.declares ++ d ∷ [] } in
-      let r = reading_of e (IsCounting made) no_one in
-      let q = reading_of e (IsCounting made) (declare_pending s3.0) in
-      let b1 = skip_passes r h.1 s1.0 s1.1 s1.2 (before.0, ap (λ (x : Kept). record x { unnamed = 0 }) before.1) in
-      let b2 = declared_result_keeps r s1.1 s2.0 s2.1 s2.2 b1.0 in
-      let b3 = declare_name_keeps made number s2.1 counted few s3.0 s3.1 s3.2 b2.0 in
-      let b4 = expect_passes q k.OpenRound s3.1 s4.0 s4.1 s4.2 b3.0 in
-      let b5 = declared_parameters_keep q (λ j g. (stands_taken (declare_pending s3.0) j g.0, g.1)) (λ j b. leads_kept e j (kept_of (with_number_taken j)) b)
-      s4.1 s5.0 s5.1 s5.2 b4.0 in
-      let b6 = expect_passes q k.CloseRound s5.1 s6.0 s6.1 s6.2 b5.0 in
-      let b7 = head_end_keeps q spot.Declared s6.1 s7.0 s7.1 s7.2 b6.0 in
-      let there : IsBetween later (with_declare d s7.1) = (declare_added d s7.1 b7.0.0, ap (λ (x : Kept). record x { declares = x.declares ++ d ∷ [] }) b7.0.1) in (
-        later,
-        subst (IsBetween later) s7.3.1 there,
-        λ back.
-            let c7 = b7.1 (leads_kept e s7.1 (kept_of (with_declare d s7.1)) (subst (Leads e) (sym s7.3.1) back)) in
-            let c5 = b5.1 (b6.1 c7.0).0 in
-            let c3 = (b4.1 c5.0).0 in
-            let c2 = b2.1 (b3.1 c3).0 in
-            let c1 = b1.1 c2.0 in
-            let runtime = ap runtime_of (sym (function_named (symbol.Declared number) s2.1 s3.0 s3.1 s3.2 c3)) in (
-              subst (Leads e) (sym same) c1.0,
-              record {
-                structs = grows_not (IsStructType m) made.structs;
-                globals = grows_not (IsGlobal m) made.globals;
-                declares = grows_by (IsDeclare m) made.declares d (c2.1, c5.1, runtime);
-                functions = grows_not Good made.functions;
-              },
-            ),
-      )
+  declaration_goes i made a o h f = by (names_left_out h.3.3.1) h.3.3.3 where
+    m : Module
+    m = module_of e
+
+    same : i ≡ h.1
+    same = h.2.1
+
+    number : ℕ
+    number = length h.1.declares
+
+    before : IsBetween made h.1
+    before = subst (IsBetween made) same f
+
+    by : (t : Bool) → (declare_by number h.3.3.0 t).says h.3.3.1 a o → (later : Made) × IsBetween later o × (Leads e o → Leads e i × Grown m Good made later)
+    by true said =
+        let r = reading_of e (λ (x : Kept). x ≡ between made) no_one in
+        let s1 = h.3 in
+        let s2 = s1.3 in
+        let s3 = said.3 in
+        let s4 = s3.3 in
+        let s5 = s4.3 in
+        let b1 = skip_passes r h.1 s1.0 s1.1 s1.2 before in
+        let b2 = declared_result_keeps r s1.1 s2.0 s2.1 s2.2 b1.0 in
+        let b3 = skip_passes r s2.1 said.0 said.1 said.2 b2.0 in
+        let b4 = expect_passes r k.OpenRound said.1 s3.0 s3.1 s3.2 b3.0 in
+        let b5 = past_brackets_passes r s3.1 s4.0 s4.1 s4.2 b4.0 in
+        let b6 = head_end_keeps r spot.Declared s4.1 s5.0 s5.1 s5.2 b5.0 in (
+          made,
+          subst (IsBetween made) s5.3.1 b6.0,
+          λ back.
+              let c6 = b6.1 (subst (Leads e) (sym s5.3.1) back) in
+              let c2 = b2.1 (b3.1 (b4.1 (b5.1 c6.0).0).0).0 in
+              (subst (Leads e) (sym same) (b1.1 c2.0).0, grown_not m Good made),
+        )
+    by false s3 =
+        let few : nat_lt number 65535 ≡ true = ap (λ (j : Input). nat_lt (length j.declares) 65535) (sym same) ∙ h.2.0 in
+        let counted : length made.declares ≡ number = sym (ap (λ (x : Kept). length x.declares) before.1) in
+        let s1 = h.3 in
+        let s2 = s1.3 in
+        let s4 = s3.3 in
+        let s5 = s4.3 in
+        let s6 = s5.3 in
+        let s7 = s6.3 in
+        let d : Declare = record { symbol = s3.0; runtime = runtime_of (spelled s2.1.cursor); returned = s2.0; parameters = s5.0 } in
+        let later : Made = record made { declares = made.declares ++ d ∷ [] } in
+        let r = reading_of e (IsCounting made) no_one in
+        let q = reading_of e (IsCounting made) (declare_pending s3.0) in
+        let b1 = skip_passes r h.1 s1.0 s1.1 s1.2 (before.0, ap (λ (x : Kept). record x { unnamed = 0 }) before.1) in
+        let b2 = declared_result_keeps r s1.1 s2.0 s2.1 s2.2 b1.0 in
+        let b3 = declare_name_keeps made number s2.1 counted few s3.0 s3.1 s3.2 b2.0 in
+        let b4 = expect_passes q k.OpenRound s3.1 s4.0 s4.1 s4.2 b3.0 in
+        let b5 = declared_parameters_keep q (λ j g. (stands_taken (declare_pending s3.0) j g.0, g.1)) (λ j b. leads_kept e j (kept_of (with_number_taken j)) b)
+        s4.1 s5.0 s5.1 s5.2 b4.0 in
+        let b6 = expect_passes q k.CloseRound s5.1 s6.0 s6.1 s6.2 b5.0 in
+        let b7 = head_end_keeps q spot.Declared s6.1 s7.0 s7.1 s7.2 b6.0 in
+        let there : IsBetween later (with_declare d s7.1) = (declare_added d s7.1 b7.0.0, ap (λ (x : Kept). record x { declares = x.declares ++ d ∷ [] }) b7.0.1) in (
+          later,
+          subst (IsBetween later) s7.3.1 there,
+          λ back.
+              let c7 = b7.1 (leads_kept e s7.1 (kept_of (with_declare d s7.1)) (subst (Leads e) (sym s7.3.1) back)) in
+              let c5 = b5.1 (b6.1 c7.0).0 in
+              let c3 = (b4.1 c5.0).0 in
+              let c2 = b2.1 (b3.1 c3).0 in
+              let c1 = b1.1 c2.0 in
+              let runtime = ap runtime_of (sym (function_named (symbol.Declared number) s2.1 s3.0 s3.1 s3.2 c3)) in (
+                subst (Leads e) (sym same) c1.0,
+                record {
+                  structs = grows_not (IsStructType m) made.structs;
+                  globals = grows_not (IsGlobal m) made.globals;
+                  declares = grows_by (IsDeclare m) made.declares d (c2.1, c5.1, runtime);
+                  functions = grows_not Good made.functions;
+                },
+              ),
+        )

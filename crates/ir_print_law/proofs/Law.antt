@@ -1,15 +1,17 @@
 -- The text of a function that stands in a whole text is read alone.
-use Rattle.std.proofs.Common.{◌≡◌, ℕ, suc, ◌+◌, ◌-◌, Bool, false, List, [], ◌∷◌, ◌++◌, inl, inr, length, map, Option, None, refl, ap, subst, ◌∙◌, arith}
-use Rattle.std.proofs.lemmas.List.{take-append-le, drop-append-le, length-drop, length-map}
-use Rattle.std.specs.Prelude.{take, drop}
+use Rattle.std.proofs.Common.{◌≡◌, ℕ, suc, ◌+◌, ◌-◌, ◌≤◌, Bool, true, false, List, [], ◌∷◌, ◌++◌, inl, inr, length, map, Option, None, refl, ap, sym, subst, ◌∙◌, arith, append_assoc}
+use Rattle.std.proofs.lemmas.List.{take-append-le, take-append-drop, drop-append-le, drop-drop, length-drop, length-map}
+use Rattle.std.specs.Prelude.{take, drop, cond}
+use Rattle.std.specs.List.{prefix_len}
 use Rattle.std.specs.Option.{MatchOption}
 use Rattle.ir_ast.specs.declared.function.LocalSort.{LocalSort}
 use Rattle.ir_ast.specs.declared.module.Module.{Module}
-use Rattle.ir_tokens.specs.Bytes.{Text}
+use Rattle.ir_tokens.specs.Bytes.{Text, is_name, class_of}
 use Rattle.ir_tokens.specs.Names as tokens
 use Rattle.ir_tokens.specs.Tokens.{Cut, IsTokens, IsBad, IsLexed}
 use Rattle.ir_tokens.specs.declared.lexed.Lexed.{Lexed}
 use Rattle.ir_tokens.specs.declared.token.Token.{Token}
+use Rattle.ir_forms.specs.FloatNumbers.{is_part, run_of}
 use Rattle.ir_forms.specs.Table.{empty}
 use Rattle.ir_forms.specs.declared.fault.Fault.{Fault}
 use Rattle.ir_forms.specs.declared.fault.Fault.TheVariants as fault
@@ -23,6 +25,7 @@ use Rattle.ir_print_law.specs.Places.{moved, IsWithin, IsExcuse}
 use Rattle.ir_print_law.specs.Standing.{IsClosed, StandsBetween, IsOfTables, AreReadAnew}
 use Rattle.ir_print_law.proofs.Seats.{Seat, End, Own, Beside, bare, placeless}
 use Rattle.ir_print_law.proofs.Function.{reads}
+use Rattle.ir_print_law.proofs.NumberTokens.{last_start, last_within, last_brace}
 use Rattle.ir_print_law.proofs.Late.{nothing_late}
 
 -- ---- a part of a text
@@ -40,20 +43,62 @@ spelled_there front code rest t within =
     ap (take t.length) (drop_front front (code ++ rest) t.start) ∙ ap (take t.length) (drop-append-le t.start code rest (omega (arith, within)))
     ∙ take-append-le t.length (drop t.start code) rest (omega (arith, within, size))
 
--- tokens lie within their text
-cut_ends : (code : Text) (first : Bool) (bytes : Text) (ts : List Token) (last : Text) → Cut (length code) first bytes ts last → IsClosed ts → End code ts
+-- tokens lie within their text, and begin no later than the last of them
+cut_ends : (code : Text) (first : Bool) (bytes : Text) (ts : List Token) (last : Text) → Cut (length code) first bytes ts last → IsClosed ts → End code (last_start ts) ts
 cut_ends code first bytes [] last cut closed = absurd closed
-cut_ends code first bytes (t ∷ []) last cut closed = let a = cut.6 in let b = cut.7 in (omega (arith, a, b), closed)
-cut_ends code first bytes (t ∷ u ∷ ts) last cut closed = let a = cut.6 in let b = cut.7 in (omega (arith, a, b), cut_ends code false cut.2 (u ∷ ts) last cut.9 closed)
+cut_ends code first bytes (t ∷ []) last cut closed = let a = cut.6 in let b = cut.7 in ((omega (arith, a, b), omega arith), closed)
+cut_ends code first bytes (t ∷ u ∷ ts) last cut closed =
+    let a = cut.6 in
+    let b = cut.7 in
+    let later = last_within (length code) false cut.2 u ts last cut.9 in
+    ((omega (arith, a, b), omega (arith, a, b, later)), cut_ends code false cut.2 (u ∷ ts) last cut.9 closed)
 
-lexed_ends : (code : Text) (own : Lexed) → IsLexed code own → own.bad ≡ None → IsClosed own.tokens → End code own.tokens
-lexed_ends code own lexed good closed =
-    let cut : IsTokens code own.tokens = subst (λ (bad : Option ℕ). MatchOption bad (IsTokens code own.tokens) (IsBad code own.tokens)) good lexed in
-    cut_ends code _ code own.tokens [] cut closed
+-- the text is these tokens, none of which is bad
+all_cut : (code : Text) (own : Lexed) → IsLexed code own → own.bad ≡ None → IsTokens code own.tokens
+all_cut code own lexed good = subst (λ (bad : Option ℕ). MatchOption bad (IsTokens code own.tokens) (IsBad code own.tokens)) good lexed
+
+lexed_ends : (code : Text) (own : Lexed) → IsLexed code own → own.bad ≡ None → IsClosed own.tokens → End code (last_start own.tokens) own.tokens
+lexed_ends code own lexed good closed = cut_ends code _ code own.tokens [] (all_cut code own lexed good) closed
+
+-- ---- numbers of more than one token
+
+-- the brace that closes belongs to no number
+brace_apart : is_part 125 ≡ false
+unfolding is_name class_of
+brace_apart = refl
+
+-- such a number ends before a byte that belongs to none, whatever comes after that
+run_stops : (bytes more others : Text) (b : ℕ) → is_part b ≡ false → run_of (bytes ++ b ∷ more) ≡ run_of (bytes ++ b ∷ others)
+run_stops [] more others b none = rw none refl
+run_stops (x ∷ bytes) more others b none = by (is_part x) (run_stops bytes more others b none) where
+  by : (t : Bool) → run_of (bytes ++ b ∷ more) ≡ run_of (bytes ++ b ∷ others)
+      → take (cond t (1 + prefix_len is_part (bytes ++ b ∷ more)) 0) (x ∷ (bytes ++ b ∷ more)) ≡ take (cond t (1 + prefix_len is_part (bytes ++ b ∷ others)) 0) (x ∷ (bytes ++ b ∷ others))
+  by true same =
+      let on : 1 + prefix_len is_part (bytes ++ b ∷ more) ≡ suc (prefix_len is_part (bytes ++ b ∷ more)) = omega arith in
+      let further : 1 + prefix_len is_part (bytes ++ b ∷ others) ≡ suc (prefix_len is_part (bytes ++ b ∷ others)) = omega arith in
+      ap (λ (n : ℕ). take n (x ∷ (bytes ++ b ∷ more))) on ∙ ap (λ (run : Text). x ∷ run) same ∙ sym (ap (λ (n : ℕ). take n (x ∷ (bytes ++ b ∷ others))) further)
+  by false same = refl
+
+-- one that begins before the brace is the same in the whole text
+run_there : (front code rest further : Text) (last start : ℕ) → drop last code ≡ 125 ∷ further → start ≤ last → run_of (drop (start + length front) (front ++ (code ++ rest))) ≡ run_of (drop start code)
+run_there front code rest further last start brace le =
+    let long = length-drop last code in
+    let some = ap length brace in
+    let on : start + (last - start) ≡ last = omega (arith, le) in
+    let bytes = take (last - start) (drop start code) in
+    let own : drop start code ≡ bytes ++ 125 ∷ further =
+    sym (take-append-drop (last - start) (drop start code)) ∙ ap (λ (l : Text). bytes ++ l) (drop-drop (last - start) start code ∙ ap (λ (n : ℕ). drop n code) on ∙ brace) in
+    let whole : drop (start + length front) (front ++ (code ++ rest)) ≡ bytes ++ 125 ∷ (further ++ rest) =
+    drop_front front (code ++ rest) start ∙ drop-append-le start code rest (omega (arith, le, long, some)) ∙ ap (λ (l : Text). l ++ rest) own ∙ append_assoc bytes (125 ∷ further) rest in
+    ap run_of whole ∙ run_stops bytes (further ++ rest) further 125 brace_apart ∙ sym (ap run_of own)
 
 -- ---- both states at the beginning
 
 module _ (m : Module) (func : ℕ) (code : Text) (before after : Input) (counted : length m.sorts ≡ length m.symbols) (h : StandsBetween m func code before after) where
+  -- the brace that closes the function
+  brace : (further : Text) × (drop (last_start h.own.tokens) code ≡ 125 ∷ further)
+  brace = last_brace code [] code _ h.own.tokens [] refl (all_cut code h.own h.lexed h.good) h.closed
+
   abbrev seat : Seat
   seat = record {
     whole = before.cursor.text;
@@ -61,6 +106,8 @@ module _ (m : Module) (func : ℕ) (code : Text) (before after : Input) (counted
     far = length h.front;
     tail = h.tail;
     spells = λ t within. ap (λ (b : Text). tokens.spelling b (moved (length h.front) t)) h.text ∙ spelled_there h.front code h.rest t within;
+    last = last_start h.own.tokens;
+    runs = λ t le. ap (λ (b : Text). run_of (drop (t.start + length h.front) b)) h.text ∙ run_there h.front code h.rest brace.0 (last_start h.own.tokens) t.start brace.1 le;
   }
 
   -- before the first token of the function alone
@@ -82,6 +129,7 @@ module _ (m : Module) (func : ℕ) (code : Text) (before after : Input) (counted
       whole_is = refl;
       code_is = refl;
       good = h.good;
+      wide_is = h.place;
       rest_is = h.tokens;
       ends = lexed_ends code h.own h.lexed h.good h.closed;
     };

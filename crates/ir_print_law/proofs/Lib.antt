@@ -9,10 +9,13 @@ pub mod TypesRead
 pub mod Passes
 pub mod TypesThat
 pub mod Decorations
+pub mod Records
+pub mod FiniteFloats
 pub mod Operands
 pub mod Arguments
 pub mod ValueSorts
 pub mod ValueLists
+pub mod Floats
 pub mod Numbers
 pub mod Memory
 pub mod Elements
@@ -59,6 +62,7 @@ pub mod Parts
 pub mod Setting
 pub mod OpsAgain
 pub mod Flags
+pub mod FloatsAgain
 pub mod NumbersAgain
 pub mod MemoryAgain
 pub mod CastsAgain
@@ -106,6 +110,7 @@ pub mod StructLists
 pub mod SameParts
 pub mod SameText
 pub mod Whole
+pub mod FloatConstants
 pub mod Constants
 pub mod EndsRead
 pub mod NamesRead
@@ -115,6 +120,7 @@ pub mod Spelled
 pub mod Standing
 pub mod StarsRead
 pub mod Words
+pub mod Undropped
 pub mod Worked
 pub mod LongerTypes
 pub mod LongerOps
@@ -137,9 +143,11 @@ pub mod Sim
 pub mod AnewSteps
 pub mod Names
 pub mod AnewDecorations
+pub mod AnewRecords
 pub mod AnewTypes
 pub mod Again
 pub mod AnewOperands
+pub mod AnewFloats
 pub mod Ops
 pub mod AnewBodies
 pub mod Function

@@ -6,12 +6,14 @@ use Rattle.ir_tokens.specs.declared.token.Kind.TheVariants as k
 use Rattle.ir_forms.specs.Cursor.{kind, kind_after, next, sees}
 use Rattle.ir_forms.specs.declared.decorating.Trail.{Trail}
 use Rattle.ir_forms.specs.declared.input.Input.{Input}
-use Rattle.ir_forms.specs.Decorations.{trailing, debug_records, instruction_end}
+use Rattle.ir_forms.specs.Decorations.{trailing}
+use Rattle.ir_forms.specs.Records.{begins_record, debug_records, drops_at, instruction_end}
 use Rattle.ir_forms.specs.Input.{advanced}
 use Rattle.ir_forms.specs.Lists as lists
 use Rattle.ir_forms.specs.Written as w
 use Rattle.ir_print_law.proofs.ArgumentsAgain.{ends_line}
 use Rattle.ir_print_law.proofs.Steps.{unlike}
+use Rattle.ir_print_law.proofs.Undropped.{no_record}
 use Rattle.ir_print_law.proofs.Words.{seen}
 
 -- a token of this kind is no comma
@@ -39,11 +41,11 @@ line_no_record k.DebugRecord e = absurd cc
 line_no_record _ e = refl
 
 -- so none is seen there
-pub no_record_seen : (i : Input) → ends_line (kind i.cursor) ≡ true → sees k.DebugRecord i.cursor ≡ false
+no_record_seen : (i : Input) → ends_line (kind i.cursor) ≡ true → sees k.DebugRecord i.cursor ≡ false
 no_record_seen i e = unlike k.DebugRecord not_record i refl (line_no_record (kind i.cursor) e)
 
--- there are no debug records
-pub records_said : (i : Input) → sees k.DebugRecord i.cursor ≡ false → debug_records.says i tt i
+-- there are no debug records, and no calls that are dropped
+pub records_said : (i : Input) → begins_record i ≡ false → debug_records.says i tt i
 unfolding debug_records
 records_said i e = ([], i, (ap not e, refl), (refl, refl))
 
@@ -53,13 +55,13 @@ unfolding trailing
 trailing_said t i e = ([], i, (ap not e, refl), (refl, refl))
 
 -- nothing is between an instruction and the next line
-pub instruction_ended : (t : Trail) (i : Input) → sees k.Comma i.cursor ≡ false → sees k.DebugRecord i.cursor ≡ false → (instruction_end t).says i tt i
+pub instruction_ended : (t : Trail) (i : Input) → sees k.Comma i.cursor ≡ false → begins_record i ≡ false → (instruction_end t).says i tt i
 unfolding instruction_end
 instruction_ended t i e none = (tt, i, trailing_said t i e, records_said i none)
 
 -- so it is at the end of its line
-pub line_ended : (t : Trail) (i : Input) → ends_line (kind i.cursor) ≡ true → (instruction_end t).says i tt i
-line_ended t i e = instruction_ended t i (no_comma_seen i e) (no_record_seen i e)
+pub line_ended : (t : Trail) (i : Input) → ends_line (kind i.cursor) ≡ true → drops_at i.cursor ≡ false → (instruction_end t).says i tt i
+line_ended t i e undropped = instruction_ended t i (no_comma_seen i e) (no_record i (no_record_seen i e) undropped)
 
 -- a type is no metadata
 pub no_metadata : (x : Kind) → w.begins_type x ≡ true → lists.is_metadata x ≡ false

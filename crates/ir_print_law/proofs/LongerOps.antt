@@ -1,6 +1,7 @@
 -- What is printable in a module is so where the module has more types, and other functions of the same names.
 use Rattle.std.proofs.Common.{◌≡◌, ℕ, not, List, Option, Some, slice_get, refl, ap, sym, ◌∙◌, inl, inr, ◌⊎◌}
 use Rattle.lemmas.specs.All.{all_so}
+use Rattle.ir_forms.specs.Written.{float_entry, is_float_word}
 use Rattle.ir_ast.specs.declared.block.Block.{Block}
 use Rattle.ir_ast.specs.declared.choices.Phi.{Phi}
 use Rattle.ir_ast.specs.declared.ends.End.{End}
@@ -19,10 +20,10 @@ use Rattle.ir_ast.specs.declared.op.Op.TheVariants as op
 use Rattle.ir_print_law.specs.Definitions.{defined_functions}
 use Rattle.ir_print_law.specs.Parts.{IsScalar, IsVoid, IsReturned}
 use Rattle.ir_print_law.specs.Printable.{IsIncoming, IsOp, is_void, gives_value, IsInstr, IsPhi, IsEnd, IsBlock, IsPassed, IsParameter, IsFunction, IsStructType, IsGlobal, IsAnyType, IsDeclare}
-use Rattle.ir_print_law.specs.Shapes.{Shape, Integer, Pointer, Array, Empty, Struct, Named, Opaque, bits_of_shape}
+use Rattle.ir_print_law.specs.Shapes.{Shape, Integer, Float, Pointer, Array, Empty, Struct, Named, Opaque, word_of_shape}
 use Rattle.ir_print_law.proofs.OneKind.{IsLonger}
 use Rattle.ir_print_law.proofs.Tables.{stays}
-use Rattle.ir_print_law.proofs.LongerTypes.{with_types, type_again, scalar_again, void_again, operand_again, argument_again, incoming_again, condition_again, converted_again}
+use Rattle.ir_print_law.proofs.LongerTypes.{word_again, with_types, type_again, scalar_again, void_again, operand_again, argument_again, incoming_again, condition_again, converted_again}
 use Rattle.ir_print_law.proofs.NumbersAgain.{number_longer}
 use Rattle.ir_print_law.proofs.MemoryAgain.{memory_longer}
 use Rattle.ir_print_law.proofs.ElementsAgain.{element_longer}
@@ -47,6 +48,7 @@ module _ (m : Module) (types : List IrType) (fs : List Function) (more : IsLonge
     -- what a call returns has a type
     scalar_there : (shape : Shape) (t : ℕ) → IsScalar m shape t → (x : IrType) × (slice_get m.types t ≡ Some x)
     scalar_there (Integer bits) t h = (type.Integer bits, h.0.0)
+    scalar_there (Float t0) t h = (float_entry t0, h.0.0)
     scalar_there (Pointer part) t h = (type.Pointer h.0.0.0, h.0.0.1)
     scalar_there (Array count part) t h = let no = h.1 in absurd cc
     scalar_there Empty t h = let no = h.1 in absurd cc
@@ -80,14 +82,17 @@ module _ (m : Module) (types : List IrType) (fs : List Function) (more : IsLonge
       h.0,
       scalar_again m types fs more same h.0 x.written h.1,
       h.2,
-      all_so (IsIncoming m f (bits_of_shape h.0)) (IsIncoming longer f (bits_of_shape h.0)) x.incoming (incoming_again m types fs more same f (bits_of_shape h.0)) h.3,
+      all_so (IsIncoming m f (word_of_shape h.0)) (IsIncoming longer f (word_of_shape h.0)) x.incoming (incoming_again m types fs more same f (word_of_shape h.0)) h.3,
     )
 
     end_again : (x : End) → IsEnd m f x → IsEnd longer f x
     end_again (end.Jump target) h = h
     end_again (end.Branch condition_type condition taken other) h = (condition_again m types fs more same f condition_type condition h.0, h.1, h.2)
-    end_again (end.Switch written value otherwise cases) h =
-        (h.0, scalar_again m types fs more same h.0 written h.1, operand_again m types fs more same f (bits_of_shape h.0) value h.2, h.3, h.4)
+    end_again (end.Switch written value otherwise cases) k =
+        let h = k.1 in (
+          ap is_float_word (word_again m types fs more same h.0 written h.1) ∙ k.0,
+          (h.0, scalar_again m types fs more same h.0 written h.1, operand_again m types fs more same f (word_of_shape h.0) value h.2, h.3, h.4),
+        )
     end_again end.Unreachable h = h
     end_again end.ReturnVoid h = h
     end_again (end.Return x) h = argument_again m types fs more same f x h

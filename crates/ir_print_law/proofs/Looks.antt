@@ -7,9 +7,10 @@ use Rattle.ir_ast.specs.declared.module.Module.{Module}
 use Rattle.ir_forms.specs.declared.written.Base.{Base}
 use Rattle.ir_forms.specs.declared.written.Base.TheVariants as base
 use Rattle.ir_forms.specs.declared.written.WrittenType.{WrittenType}
-use Rattle.ir_forms.specs.Written.{has_opaque, bits_of, is_pointer, is_scalar, is_passed, is_held}
+use Rattle.ir_forms.specs.Written.{has_opaque, float_base, word_of, is_pointer, is_scalar, is_passed, is_held}
+use Rattle.ir_forms.specs.declared.written.FloatType.TheVariants as size
 use Rattle.ir_print_law.specs.Definitions.{defined_structs}
-use Rattle.ir_print_law.specs.Shapes.{Shape, Integer, Pointer, Array, Empty, Struct, Named, Opaque, HasShape, IsWritten, levels, bits_of_shape, is_scalar_shape, is_pointer_shape, is_passed_shape, is_held_shape}
+use Rattle.ir_print_law.specs.Shapes.{Shape, Integer, Float, Pointer, Array, Empty, Struct, Named, Opaque, HasShape, IsWritten, levels, word_of_shape, is_scalar_shape, is_pointer_shape, is_passed_shape, is_held_shape}
 
 -- a type with n stars after it
 abbrev pub starred : ℕ → Shape → Shape
@@ -19,6 +20,7 @@ starred (suc count) shape = starred count (Pointer shape)
 -- what is before the stars, and how many stars there are
 abbrev pub base_of : Shape → Base
 base_of (Integer bits) = base.Integer bits
+base_of (Float t) = float_base t
 base_of (Pointer part) = base_of part
 base_of (Named name) = base.Named
 base_of Opaque = base.Opaque
@@ -32,7 +34,7 @@ stars_of _ = 0
 pub record IsTypeOf (m : Module) (most : ℕ) (w : WrittenType) (shape : Shape) : Type 0 where
   pub has_shape : HasShape m.types m.struct_names shape w.id
   pub fits : levels shape + w.room ≡ most
-  pub is_written : IsWritten (has_opaque m.types) (defined_structs m) shape
+  pub is_written : IsWritten m.wide (has_opaque m.types) (defined_structs m) shape
   pub base_is : w.base ≡ base_of shape
   pub stars_are : w.stars ≡ stars_of shape
 
@@ -60,9 +62,9 @@ MayStar opaque zero = Unit {0}
 MayStar opaque (suc count) = opaque ≡ false
 
 -- a type that is written with stars, and those stars
-pub starred_parts : (opaque : Bool) (structs : _) (count : ℕ) (shape : Shape) → IsWritten opaque structs (starred count shape) → MayStar opaque count × IsWritten opaque structs shape
-starred_parts opaque structs zero shape h = (tt, h)
-starred_parts opaque structs (suc count) shape h = let p = (starred_parts opaque structs count (Pointer shape) h).1 in (p.0, p.1)
+pub starred_parts : (wide opaque : Bool) (structs : _) (count : ℕ) (shape : Shape) → IsWritten wide opaque structs (starred count shape) → MayStar opaque count × IsWritten wide opaque structs shape
+starred_parts wide opaque structs zero shape h = (tt, h)
+starred_parts wide opaque structs (suc count) shape h = let p = (starred_parts wide opaque structs count (Pointer shape) h).1 in (p.0, p.1)
 
 -- ---- what kind of type it is
 
@@ -80,8 +82,10 @@ by_looks : {X : Type 0} (g : WrittenType → X) (m : Module) (most : ℕ) (w : W
     → IsTypeOf m most w shape → g w ≡ g (looking (base_of shape) (stars_of shape))
 by_looks g m most w shape same h = same w.id w.room w.base w.stars ∙ ap (λ b. g (looking b w.stars)) h.base_is ∙ ap (λ n. g (looking (base_of shape) n)) h.stars_are
 
-pub bits_looks : (shape : Shape) → bits_of (looking (base_of shape) (stars_of shape)) ≡ bits_of_shape shape
+pub bits_looks : (shape : Shape) → word_of (looking (base_of shape) (stars_of shape)) ≡ word_of_shape shape
 bits_looks (Integer bits) = refl
+bits_looks (Float size.Single) = refl
+bits_looks (Float size.Double) = refl
 bits_looks (Pointer part) = let no_zero = suc_not_null (stars_of part) in rw no_zero refl
 bits_looks (Array count part) = refl
 bits_looks Empty = refl
@@ -89,11 +93,13 @@ bits_looks (Struct first rest) = refl
 bits_looks (Named name) = refl
 bits_looks Opaque = refl
 
-pub bits_are : (m : Module) (most : ℕ) (w : WrittenType) (shape : Shape) → IsTypeOf m most w shape → bits_of w ≡ bits_of_shape shape
-bits_are m most w shape h = by_looks bits_of m most w shape (λ id room b stars. refl) h ∙ bits_looks shape
+pub bits_are : (m : Module) (most : ℕ) (w : WrittenType) (shape : Shape) → IsTypeOf m most w shape → word_of w ≡ word_of_shape shape
+bits_are m most w shape h = by_looks word_of m most w shape (λ id room b stars. refl) h ∙ bits_looks shape
 
 pub scalar_looks : (shape : Shape) → is_scalar (looking (base_of shape) (stars_of shape)) ≡ is_scalar_shape shape
 scalar_looks (Integer bits) = refl
+scalar_looks (Float size.Single) = refl
+scalar_looks (Float size.Double) = refl
 scalar_looks (Pointer part) = let some = zero_less (stars_of part) in rw some refl
 scalar_looks (Array count part) = refl
 scalar_looks Empty = refl
@@ -106,6 +112,8 @@ scalar_is m most w shape h = by_looks is_scalar m most w shape (λ id room b sta
 
 pub pointer_looks : (shape : Shape) → is_pointer (looking (base_of shape) (stars_of shape)) ≡ is_pointer_shape shape
 pointer_looks (Integer bits) = refl
+pointer_looks (Float size.Single) = refl
+pointer_looks (Float size.Double) = refl
 pointer_looks (Pointer part) = let some = zero_less (stars_of part) in rw some refl
 pointer_looks (Array count part) = refl
 pointer_looks Empty = refl
@@ -118,13 +126,19 @@ pointer_is m most w shape h = by_looks is_pointer m most w shape (λ id room b s
 
 passed_deep : (b : Base) (n : ℕ) → is_passed (looking b (suc (suc n))) ≡ false
 passed_deep (base.Integer bits) n = let a = suc_not_null (suc n) in let c = suc_one n in rw (a, c) refl
+passed_deep base.Float n = suc_not_null (suc n)
+passed_deep base.Double n = suc_not_null (suc n)
 passed_deep base.Named n = suc_one n
 passed_deep base.Opaque n = suc_not_null (suc n)
 passed_deep base.Aggregate n = refl
 
 pub passed_looks : (shape : Shape) → is_passed (looking (base_of shape) (stars_of shape)) ≡ is_passed_shape shape
 passed_looks (Integer bits) = refl
+passed_looks (Float size.Single) = refl
+passed_looks (Float size.Double) = refl
 passed_looks (Pointer (Integer bits)) = refl
+passed_looks (Pointer (Float size.Single)) = refl
+passed_looks (Pointer (Float size.Double)) = refl
 passed_looks (Pointer (Named name)) = refl
 passed_looks (Pointer Opaque) = refl
 passed_looks (Pointer (Pointer part)) = passed_deep (base_of part) (stars_of part)
@@ -142,13 +156,19 @@ passed_is m most w shape h = by_looks is_passed m most w shape (λ id room b sta
 
 held_deep : (b : Base) (n : ℕ) → is_held (looking b (suc (suc n))) ≡ false
 held_deep (base.Integer bits) n = suc_not_null (suc n)
+held_deep base.Float n = suc_not_null (suc n)
+held_deep base.Double n = suc_not_null (suc n)
 held_deep base.Named n = suc_one n
 held_deep base.Opaque n = suc_not_null (suc n)
 held_deep base.Aggregate n = refl
 
 pub held_looks : (shape : Shape) → is_held (looking (base_of shape) (stars_of shape)) ≡ is_held_shape shape
 held_looks (Integer bits) = refl
+held_looks (Float size.Single) = refl
+held_looks (Float size.Double) = refl
 held_looks (Pointer (Integer bits)) = refl
+held_looks (Pointer (Float size.Single)) = refl
+held_looks (Pointer (Float size.Double)) = refl
 held_looks (Pointer (Named name)) = refl
 held_looks (Pointer Opaque) = refl
 held_looks (Pointer (Pointer part)) = held_deep (base_of part) (stars_of part)

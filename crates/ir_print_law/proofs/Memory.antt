@@ -9,7 +9,7 @@ use Rattle.ir_ast.specs.declared.op.Op.TheVariants as op
 use Rattle.ir_tokens.specs.declared.token.Kind.TheVariants as k
 use Rattle.ir_forms.specs.declared.input.Input.{Input}
 use Rattle.ir_forms.specs.Memory.{alloca, load, stored_afterwards, store}
-use Rattle.ir_forms.specs.Written.{bits_of}
+use Rattle.ir_forms.specs.Written.{word_of}
 use Rattle.ir_print_law.specs.Memory.{IsMemoryOp}
 use Rattle.ir_print_law.specs.Printable.{gives_value}
 use Rattle.ir_print_law.proofs.Arguments.{operand_at, place_keeps}
@@ -75,7 +75,7 @@ module _ {m : Module} {f : Function} (v : Within m f) where
       let w = u.3 in
       let z = w.3 in
       let a = scalar_there r i h.0 h.1 h.2 fore in
-      let b = operand_keeps (having_within v h.0.id) (bits_of h.0) h.1 t.0 t.1 t.2 a.0 in
+      let b = operand_keeps (having_within v h.0.id) (word_of h.0) h.1 t.0 t.1 t.2 a.0 in
       let c = expect_passes (having r h.0.id) k.Comma t.1 u.0 u.1 u.2 b.0 in
       let d = place_keeps v h.0 u.1 c.0.1 w.0 w.1 w.2 c.0.0 in (
         subst r.Fore z.1 d.0,

@@ -52,6 +52,7 @@ use Rattle.ir_forms.specs.declared.site.Site.{Site}
 use Rattle.ir_forms.specs.Calls.{unnamed}
 use Rattle.ir_forms.specs.Instructions as whole
 use Rattle.ir_forms.specs.Ops.{as_op}
+use Rattle.ir_forms.specs.declared.written.Word.TheVariants as sort
 use Rattle.ir_print_law.proofs.ArgumentsAgain.{EndsLine, line_ends_type}
 use Rattle.ir_print_law.proofs.OpsAgain.{op_reads, by_word, PlainAgain, unnamed_reads, plain_by_word}
 use Rattle.ir_print_law.proofs.SameParts.{type_same, typed_same, placed_same}
@@ -59,7 +60,7 @@ use Rattle.ir_print_law.proofs.LongerTypes.{with_types, scalar_again, place_agai
 use Rattle.ir_ast.specs.declared.ir_type.IrType.{IrType}
 use Rattle.ir_print_law.specs.Definitions.{defined_functions}
 use Rattle.ir_print_law.proofs.OneKind.{IsLonger}
-use Rattle.ir_print_law.specs.Shapes.{bits_of_shape}
+use Rattle.ir_print_law.specs.Shapes.{word_of_shape}
 use Rattle.ir_print_law.specs.EqualParts.{same2}
 
 -- an operation on memory is this one again, in each module later on
@@ -73,7 +74,7 @@ optional_said x i e = subst (λ (t : Bool). (either skip (pure tt) t).says i tt 
 
 module _ {m : Module} {f : Function} (v : Invariant m f) where
   -- `T* V`
-  pub place_reads : (shape : Shape) (t place_type : ℕ) (x : Operand) (p : WrittenType) (i : Input) (gap rest : Text) (s : ℕ) → IsType m shape t → IsPlaceType m shape t place_type → IsOperand m f None x
+  pub place_reads : (shape : Shape) (t place_type : ℕ) (x : Operand) (p : WrittenType) (i : Input) (gap rest : Text) (s : ℕ) → IsType m shape t → IsPlaceType m shape t place_type → IsOperand m f sort.Pointer x
       → IsTypeRead shape 64 p i → AreBlanks gap → IsSeam rest
       → Ready v s i (gap ++ (argument_text m f.locals (typed place_type x) ++ rest)) → Reads v s (forms.place_of p) i rest (ArgumentAgain m f.locals (typed place_type x))
   unfolding forms.place_of class_of
@@ -82,12 +83,12 @@ module _ {m : Module} {f : Function} (v : Invariant m f) where
     good = ArgumentAgain m f.locals (typed place_type x)
 
     place_form : ℕ → Form Argument
-    place_form pointer = form.operand None >>= λ y. pure (record { written = pointer; operand = y })
+    place_form pointer = form.operand sort.Pointer >>= λ y. pure (record { written = pointer; operand = y })
 
     -- the type of the place has this shape
     of_shape : (q : Shape) → HasShape m.types m.struct_names q place_type → levels q ≤ 64
         → (Ready v s i (gap ++ (shown false q ++ (32 ∷ (operand_text m f.locals place_type x ++ rest)))) → Reads v s (w.pointer_again p) i (32 ∷ (operand_text m f.locals place_type x ++ rest)) (λ n o. HasShape o.types o.struct_names.names q n))
-        → ((o : Input) → Ready v s o (32 ∷ (operand_text m f.locals place_type x ++ rest)) → Reads v s (form.operand None) o rest (OperandAgain m f.locals x))
+        → ((o : Input) → Ready v s o (32 ∷ (operand_text m f.locals place_type x ++ rest)) → Reads v s (form.operand sort.Pointer) o rest (OperandAgain m f.locals x))
         → Reads v s (w.pointer_again p >>= place_form) i rest good
     of_shape q has few again operand =
         let type_is = type_shown m q place_type has few in
@@ -96,7 +97,7 @@ module _ {m : Module} {f : Function} (v : Invariant m f) where
         on v v (w.pointer_again p) place_form i (32 ∷ (operand_text m f.locals place_type x ++ rest)) rest s s (λ n o. HasShape o.types o.struct_names.names q n) good
         (again ready)
         (λ pointer o ready g there.
-        on v v (form.operand None) (λ y. pure (record { written = pointer; operand = y })) o rest rest s s (OperandAgain m f.locals x) good
+        on v v (form.operand sort.Pointer) (λ y. pure (record { written = pointer; operand = y })) o rest rest s s (OperandAgain m f.locals x) good
         (operand o ready)
         (λ y z ready h again. given v (record { written = pointer; operand = y }) z rest s good ready
         (λ n others later. (read_again m q place_type pointer o n others has there (later_before o z n others h later), again n others later))))
@@ -135,7 +136,7 @@ module _ {m : Module} {f : Function} (v : Invariant m f) where
       (on v v w.scalar value_form o (32 ∷ (operand_text m f.locals stored x ++ t2)) rest s s (IsTypeRead shape 64) good
       (scalar_reads v shape o (32 ∷ []) (32 ∷ (operand_text m f.locals stored x ++ t2)) s scalar.0.2 scalar.0.1 scalar.1 refl (ends_operand v shape stored x t2 scalar.0.0 own.2 refl) ready)
       (λ p q ready h read.
-      on v v (form.operand (w.bits_of p)) (comma_form p) q t2 rest s s (OperandAgain m f.locals x) good
+      on v v (form.operand (w.word_of p)) (comma_form p) q t2 rest s s (OperandAgain m f.locals x) good
       (operand_at v shape stored x p q q (32 ∷ []) t2 s read scalar.0.0 own.2 refl refl ready)
       (λ value r ready hh again.
       on v v (expect k.Comma) (λ _. place_form p value) r (32 ∷ t3) rest s s (λ _ z. advanced r ≡ z) good
@@ -161,7 +162,7 @@ module _ {m : Module} {f : Function} (v : Invariant m f) where
       comma_form p value = expect k.Comma >> place_form p value
 
       value_form : WrittenType → Form MemoryOp
-      value_form p = form.operand (w.bits_of p) >>= comma_form p
+      value_form p = form.operand (w.word_of p) >>= comma_form p
 
       volatile_form : Form MemoryOp
       volatile_form = optional k.Volatile >> forms.stored_afterwards
@@ -304,9 +305,9 @@ pub memory_longer : (m : Module) (types : List IrType) (fs : List Function) (mor
     → (x : MemoryOp) → IsMemoryOp m f x → IsMemoryOp (with_types m types fs) f x
 memory_longer m types fs more same f (memory.Alloca held) h = (h.0, scalar_again m types fs more same h.0 held h.1)
 memory_longer m types fs more same f (memory.Load loaded place_type place) h =
-    (h.0, scalar_again m types fs more same h.0 loaded h.1, place_again m types fs more same h.0 loaded place_type h.2, operand_again m types fs more same f None place h.3)
+    (h.0, scalar_again m types fs more same h.0 loaded h.1, place_again m types fs more same h.0 loaded place_type h.2, operand_again m types fs more same f sort.Pointer place h.3)
 memory_longer m types fs more same f (memory.Store stored value place_type place) h =
-    (h.0, scalar_again m types fs more same h.0 stored h.1, operand_again m types fs more same f (bits_of_shape h.0) value h.2, place_again m types fs more same h.0 stored place_type h.3, operand_again m types fs more same f None place h.4)
+    (h.0, scalar_again m types fs more same h.0 stored h.1, operand_again m types fs more same f (word_of_shape h.0) value h.2, place_again m types fs more same h.0 stored place_type h.3, operand_again m types fs more same f sort.Pointer place h.4)
 
 -- ---- types and names within the tables
 
@@ -316,13 +317,13 @@ module _ (m : Module) (f : Function) (own : HasModuleNames m) (h : AreDefinedWit
   memory_within (memory.Load loaded place_type place) is = (
     type_within m f own h (is []).0 loaded [] (is []).1.0,
     place_type_within m (is []).0 loaded place_type (is []).2,
-    operand_within m f own h place (λ more. (None, (is more).3)),
+    operand_within m f own h place (λ more. (sort.Pointer, (is more).3)),
   )
   memory_within (memory.Store stored value place_type place) is = (
     type_within m f own h (is []).0 stored [] (is []).1.0,
-    operand_within m f own h value (λ more. (bits_of_shape (is more).0, (is more).2)),
+    operand_within m f own h value (λ more. (word_of_shape (is more).0, (is more).2)),
     place_type_within m (is []).0 stored place_type (is []).3,
-    operand_within m f own h place (λ more. (None, (is more).4)),
+    operand_within m f own h place (λ more. (sort.Pointer, (is more).4)),
   )
 
 module _ (m n : Module) (types : length m.types ≤ length n.types) (names : MeansAsMuch m n) (f : Function) where

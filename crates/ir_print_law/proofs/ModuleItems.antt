@@ -24,7 +24,7 @@ use Rattle.name_text.specs.Readings.{AreBytes}
 use Rattle.ir_print.specs.Names.{name_at}
 use Rattle.ir_print_law.specs.Printable.{IsSymbol}
 use Rattle.ir_print_law.proofs.Forms.{Keeps, Any}
-use Rattle.ir_print_law.proofs.ModuleState.{Pending, no_one, struct_names_of, symbols_of, Stands, Kept, kept_of, Leads, next_bytes, next_spells, struct_name_begins, symbol_begins}
+use Rattle.ir_print_law.proofs.ModuleState.{Pending, no_one, struct_names_of, symbols_of, Stands, Kept, kept_of, Leads, next_bytes, next_place, next_spells, struct_name_begins, symbol_begins}
 use Rattle.ir_print_law.proofs.ModuleTables.{AreStructs, AreSymbols, Owned, OwnsStruct, OwnsSymbol, table_mentions, struct_defines, global_defines, declared_defines, defined_defines, more_globals, more_declares, more_functions}
 use Rattle.ir_print_law.proofs.NameBytes.{spelled_bytes}
 use Rattle.ir_print_law.proofs.Tables.{name_there, stays}
@@ -58,6 +58,7 @@ stands_struct_name : (i : Input) → is_known_struct i ≡ false → Stands no_o
 stands_struct_name i none h = record {
   bytes = next_bytes i.cursor h.bytes;
   spell = next_spells i.cursor h.spell;
+  place = next_place i.cursor ∙ h.place;
   ordered = h.ordered;
   once = h.once;
   structs = subst (λ (l : List ℕ). AreStructs l (defined n (Some (length i.structs)) t)) (nil_first (map (λ (s : StructType). s.name) i.structs) n)
@@ -113,6 +114,7 @@ pub struct_added : (s : StructType) (i : Input) → Stands (struct_pending s.nam
 struct_added s i h = record {
   bytes = h.bytes;
   spell = h.spell;
+  place = h.place;
   ordered = h.ordered;
   once = h.once;
   structs = subst (λ (l : List ℕ). AreStructs l i.struct_names) (added (λ (x : StructType). x.name) i.structs s) h.structs;
@@ -158,6 +160,7 @@ stands_global_name : (i : Input) → nat_lt (length i.globals) 4096 ≡ true →
 stands_global_name i few new h = record {
   bytes = next_bytes i.cursor h.bytes;
   spell = next_spells i.cursor h.spell;
+  place = next_place i.cursor ∙ h.place;
   ordered = h.ordered;
   once = h.once;
   structs = h.structs;
@@ -183,6 +186,7 @@ stands_declare_name : (i : Input) → nat_lt (length i.declares) 65535 ≡ true 
 stands_declare_name i few new h = record {
   bytes = next_bytes i.cursor h.bytes;
   spell = next_spells i.cursor h.spell;
+  place = next_place i.cursor ∙ h.place;
   ordered = h.ordered;
   once = h.once;
   structs = h.structs;
@@ -208,6 +212,7 @@ stands_function_name : (i : Input) → nat_lt (length i.functions) 65535 ≡ tru
 stands_function_name i few new h = record {
   bytes = next_bytes i.cursor h.bytes;
   spell = next_spells i.cursor h.spell;
+  place = next_place i.cursor ∙ h.place;
   ordered = h.ordered;
   once = h.once;
   structs = h.structs;
@@ -297,6 +302,7 @@ pub global_added : (g : Global) (i : Input) → Stands (global_pending g.symbol)
 global_added g i h = record {
   bytes = h.bytes;
   spell = h.spell;
+  place = h.place;
   ordered = h.ordered;
   once = h.once;
   structs = h.structs;
@@ -311,6 +317,7 @@ pub declare_added : (d : Declare) (i : Input) → Stands (declare_pending d.symb
 declare_added d i h = record {
   bytes = h.bytes;
   spell = h.spell;
+  place = h.place;
   ordered = h.ordered;
   once = h.once;
   structs = h.structs;
@@ -327,6 +334,7 @@ unfolding with_function
 function_added symbol returned ps c bs i h = record {
   bytes = h.bytes;
   spell = h.spell;
+  place = h.place;
   ordered = h.ordered;
   once = h.once;
   structs = h.structs;

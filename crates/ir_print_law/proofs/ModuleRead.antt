@@ -218,6 +218,7 @@ starts wide bytes lexed own is = (
   record {
     bytes = own;
     spell = lexed_spell bytes lexed is;
+    place = refl;
     ordered = λ n x e. absurd cc;
     once = λ one other x e h. absurd cc;
     structs = no_structs;

@@ -1,5 +1,5 @@
 -- What is known of a state between and within the items of a module, and of where reading ends.
-use Rattle.std.proofs.Common.{◌≡◌, ℕ, ◌+◌, ◌≤◌, Bool, true, false, List, [], ◌∷◌, ◌++◌, length, map, slice_get, unwrap_or, Option, None, Some, refl, sym, ap, ◌∙◌, inl, inr, ◌⊎◌}
+use Rattle.std.proofs.Common.{◌≡◌, ℕ, ◌+◌, ◌≤◌, Bool, true, false, if◌then◌else◌, List, [], ◌∷◌, ◌++◌, length, map, slice_get, unwrap_or, Option, None, Some, refl, sym, ap, ◌∙◌, inl, inr, ◌⊎◌}
 use Rattle.lemmas.specs.Lists.{in_first, in_second, last_in, IsIn}
 use Rattle.ir_ast.specs.Names.{numbered}
 use Rattle.ir_ast.specs.Types.{numbered_type}
@@ -13,7 +13,7 @@ use Rattle.ir_ast.specs.declared.items_of_module.SymbolSort.{SymbolSort}
 use Rattle.ir_ast.specs.declared.items_of_module.SymbolSort.TheVariants as symbol
 use Rattle.ir_tokens.specs.Bytes.{Text}
 use Rattle.ir_tokens.specs.declared.token.Token.{Token}
-use Rattle.ir_forms.specs.Cursor.{kind, kind_first, next, rest_of, spelled, spelled_first, start, size, is_local_number}
+use Rattle.ir_forms.specs.Cursor.{kind, kind_first, here, is_stop, next, rest_of, spelled, spelled_first, start, size, is_local_number}
 use Rattle.ir_forms.specs.Place.{Place}
 use Rattle.ir_forms.specs.Table.{empty}
 use Rattle.ir_forms.specs.declared.table.Table.{Table}
@@ -71,6 +71,7 @@ symbols_of p i = record {
 pub record Stands (p : Pending) (i : Input) : Type 0 where
   pub bytes : AreBytes i.cursor.text
   pub spell : AllSpell i.cursor.text i.cursor.rest
+  pub place : i.cursor.wide ≡ i.wide
   pub ordered : AreOrdered i.types
   pub once : AreOnce i.types
   pub structs : AreStructs (struct_names_of p i) i.struct_names
@@ -123,6 +124,11 @@ pub next_bytes : (c : Place) → AreBytes c.text → AreBytes (next c).text
 unfolding next
 next_bytes c h = h
 
+-- whether the wide forms may stand stays the same after a token
+pub next_place : (c : Place) → (next c).wide ≡ c.wide
+unfolding next
+next_place c = refl
+
 rest_spells : (text : Text) (ts : List Token) → AllSpell text ts → AllSpell text (rest_of ts)
 rest_spells text [] h = h
 rest_spells text (t ∷ ts) h = h.1
@@ -136,9 +142,13 @@ next_spells c h = rest_spells c.text c.rest h
 pub number_spells : (c : Place) → AllSpell c.text c.rest → is_local_number (kind c) ≡ true → AreDigits (spelled c)
 unfolding kind spelled
 number_spells c h is = by c.rest h is where
-  by : (ts : List Token) → AllSpell c.text ts → is_local_number (kind_first ts) ≡ true → AreDigits (spelled_first c.text ts)
+  seen : (b : Bool) (t : Token) (ts : List Token) → is_local_number (kind_first (if b then [] else t ∷ ts)) ≡ true → is_local_number t.kind ≡ true
+  seen true t ts e = absurd cc
+  seen false t ts e = e
+
+  by : (ts : List Token) → AllSpell c.text ts → is_local_number (kind_first (here c.wide ts)) ≡ true → AreDigits (spelled_first c.text ts)
   by [] h is = absurd cc
-  by (t ∷ ts) h is = h.0 is
+  by (t ∷ ts) h is = h.0 (seen (is_stop c.wide t.kind) t ts is)
 
 -- ---- names that are used
 
@@ -221,6 +231,7 @@ pub stands_next : (p : Pending) (i : Input) → Stands p i → Stands p (advance
 stands_next p i h = record {
   bytes = next_bytes i.cursor h.bytes;
   spell = next_spells i.cursor h.spell;
+  place = next_place i.cursor ∙ h.place;
   ordered = h.ordered;
   once = h.once;
   structs = h.structs;
@@ -235,6 +246,7 @@ pub stands_type : (p : Pending) (i : Input) (t : IrType) → IsNext i.types t �
 stands_type p i t last h = record {
   bytes = h.bytes;
   spell = h.spell;
+  place = h.place;
   ordered = type_ordered t i.types last h.ordered;
   once = once_more t i.types h.once;
   structs = h.structs;
@@ -249,6 +261,7 @@ pub stands_struct : (p : Pending) (i : Input) → Stands p i → Stands p (with_
 stands_struct p i h = record {
   bytes = next_bytes i.cursor h.bytes;
   spell = next_spells i.cursor h.spell;
+  place = next_place i.cursor ∙ h.place;
   ordered = h.ordered;
   once = h.once;
   structs = table_mentions None (OwnsStruct (struct_names_of p i)) AreBytes i.struct_names (spelled i.cursor) (spelled_bytes i.cursor h.bytes) h.structs;
@@ -263,6 +276,7 @@ pub stands_symbol : (p : Pending) (i : Input) (is_call : Bool) → Stands p i �
 stands_symbol p i is_call h = record {
   bytes = next_bytes i.cursor h.bytes;
   spell = next_spells i.cursor h.spell;
+  place = next_place i.cursor ∙ h.place;
   ordered = h.ordered;
   once = h.once;
   structs = h.structs;
@@ -413,6 +427,7 @@ pub stands_own : (p : Pending) (i : Input) (t : Table LocalSort) (uses : List Lo
 stands_own p i t uses values unnamed h = record {
   bytes = h.bytes;
   spell = h.spell;
+  place = h.place;
   ordered = h.ordered;
   once = h.once;
   structs = h.structs;

@@ -26,6 +26,7 @@ use Rattle.lemmas.specs.Bools.{and_parts}
 use Rattle.ir_ast.specs.declared.function.LocalSort.TheVariants.{Unknown}
 use Rattle.ir_forms.specs.Table.{mentioned}
 use Rattle.ir_forms.specs.Input.{advanced}
+use Rattle.ir_forms.specs.declared.written.Word.{Word}
 use Rattle.ir_tokens.specs.Bytes.{class_of}
 use Rattle.ir_tokens.specs.Keywords.{word_kind, keywords}
 use Rattle.ir_print.specs.Names.{local_text}
@@ -83,7 +84,7 @@ unfolding used_label
 label_by wanted i o n (inl e) h = subst (λ (x : Kind). (used_label_by wanted x).says i n o) (sym e) h
 label_by wanted i o n (inr e) h = subst (λ (x : Kind). (used_label_by wanted x).says i n o) (sym e) h
 
-operand_is : (bits : Option ℕ) (i o : Input) (n : ℕ) → IsLocalKind (kind i.cursor) → (used_local wants.Value).says i n o → (operand bits).says i (Local n) o
+operand_is : (bits : Word) (i o : Input) (n : ℕ) → IsLocalKind (kind i.cursor) → (used_local wants.Value).says i n o → (operand bits).says i (Local n) o
 unfolding operand
 operand_is bits i o n (inl e) h = subst (λ (x : Kind). (operand_by bits x).says i (Local n) o) (sym e) (n, o, h, (refl, refl))
 operand_is bits i o n (inr e) h = subst (λ (x : Kind). (operand_by bits x).says i (Local n) o) (sym e) (n, o, h, (refl, refl))
@@ -149,7 +150,7 @@ symbol_read is_call i name e less =
     let same : symbol_number i ≡ number_of name i.symbols.names = ap (λ (x : Text). number_of x i.symbols.names) e in
     (tt, i, (ap (λ (n : ℕ). nat_lt n 4294967296) same ∙ few (number_of name i.symbols.names) less, refl), (same, refl))
 
-global_read : (bits : Option ℕ) (i : Input) (name : Text) → kind i.cursor ≡ k.GlobalName → spelled i.cursor ≡ name → is_intrinsic name ≡ false
+global_read : (bits : Word) (i : Input) (name : Text) → kind i.cursor ≡ k.GlobalName → spelled i.cursor ≡ name → is_intrinsic name ≡ false
     → is_function (option_and_then (slice_get i.symbols.sorts) (place_of name i.symbols.names)) ≡ false → number_of name i.symbols.names < 2 ^ 32
     → (operand bits).says i (Global (number_of name i.symbols.names)) (with_symbol_use false i)
 unfolding operand used_global

@@ -45,7 +45,7 @@ label_number_comes place [] rest own at = absurd (omega (arith, own.0))
 label_number_comes place (b ∷ digits) rest own at =
     let digit = (and_parts (is_digit b) (list_all is_digit digits) own.1).0 in
     let bytes = digits ++ 58 ∷ rest in
-    comes place (10 ∷ []) b bytes ((b ∷ digits) ++ 58 ∷ []) rest k.LabelNumber (past_line b bytes (digit_begins b bytes digit)) (label_number_read (b ∷ digits) rest own)
+    comes place (10 ∷ []) b bytes ((b ∷ digits) ++ 58 ∷ []) rest k.LabelNumber refl (past_line b bytes (digit_begins b bytes digit)) (label_number_read (b ∷ digits) rest own)
     (sym (append_assoc (b ∷ digits) (58 ∷ []) rest)) (omega arith) at
 
 abbrev no_zero : Text → Bool

@@ -1,8 +1,9 @@
--- A number in place of a local name is a token that spells digits.
-use Rattle.std.proofs.Common.{◌≡◌, ℕ, ◌+◌, ◌-◌, Bool, true, false, not, if◌then◌else◌, List, [], ◌∷◌, ◌++◌, length, take, drop, Option, None, Some, refl, ap, sym, subst, ◌∙◌, arith, append_assoc, length-append}
+-- A number in place of a local name is a token that spells digits, and the brace that closes is one byte.
+use Rattle.std.proofs.Common.{◌≡◌, ℕ, ◌+◌, ◌-◌, ◌≤◌, Bool, true, false, not, if◌then◌else◌, List, [], ◌∷◌, ◌++◌, length, take, drop, Option, None, Some, refl, ap, sym, subst, ◌∙◌, arith, append_assoc, length-append}
 use Rattle.std.specs.Prelude.{◌==◌, codes, unwrap_or}
 use Rattle.std.specs.List.{list_all, AllByRecursion}
 use Rattle.std.specs.Str.{bytes_eq}
+use Rattle.std.proofs.lemmas.Bool.{eqb-true}
 use Rattle.std.proofs.lemmas.List.{take_at, drop_at}
 use Rattle.std.proofs.Math.Seq.{take-append_seam}
 use Rattle.lemmas.specs.Bools.{and_parts, not_true}
@@ -17,8 +18,9 @@ use Rattle.ir_tokens.specs.Form.{Form, pure, skip, ◌>>=◌, ◌>>◌, look, sp
 use Rattle.ir_tokens.specs.Keywords.{keywords, kind_in, other_word, word_kind, is_integer_type, is_negative_number, is_lowercase_word}
 use Rattle.ir_tokens.specs.Names.{spelling, bare, unquoted, name_of}
 use Rattle.ir_tokens.specs.Tokens.{token, token_by, word, number, quote, local, local_by, global, global_by, is_record, record_by, record_name, group, group_by, metadata, metadata_by, name, digits, quotation, sign, label_or, Cut, IsLexed}
-use Rattle.ir_forms.specs.Cursor.{is_local_number}
+use Rattle.ir_forms.specs.Cursor.{is_local_number, is_plus}
 use Rattle.ir_print_law.specs.Stands.{AreDigits}
+use Rattle.ir_print_law.specs.Standing.{IsClosed}
 use Rattle.name_text.specs.Reading.{digits_spelled}
 
 -- a number in place of a local name spells digits
@@ -47,9 +49,14 @@ Leaves {A = A} f P = (i : Text) (a : A) (o : Text) → f.says i a o → Ends i o
 abbrev Any : {A : Type 0} → A → Type 0
 Any a = Unit {0}
 
--- what is read is no number in place of a local name
+-- kinds of tokens of which more is known: numbers in place of local names, and the brace that closes
+abbrev is_told : Kind → Bool
+is_told k.CloseBrace = true
+is_told x = is_local_number x
+
+-- what is read is of none of these kinds
 abbrev IsOther : Form Kind → Type 0
-IsOther f = Leaves f (λ x. is_local_number x ≡ false)
+IsOther f = Leaves f (λ x. is_told x ≡ false)
 
 -- a form without bytes leaves all of them
 pure_leaves : {A : Type 0} (P : A → Type 0) (a : A) → P a → Leaves (pure a) P
@@ -126,52 +133,90 @@ quoted_leaves i a o h = (ends_quoted i h.0 o h.1, tt)
 -- ---- the kinds of words
 
 -- either of two kinds
-either_other : (t : Bool) (x y : Kind) → is_local_number x ≡ false → is_local_number y ≡ false → is_local_number (if t then x else y) ≡ false
+either_other : (t : Bool) (x y : Kind) → is_told x ≡ false → is_told y ≡ false → is_told (if t then x else y) ≡ false
 either_other true x y e f = e
 either_other false x y e f = f
 
 -- a word without a kind of its own is no such number
-other_word_is : (w : Text) → is_local_number (other_word w) ≡ false
+other_word_is : (w : Text) → is_told (other_word w) ≡ false
 other_word_is w =
     either_other (is_negative_number w) k.Number _ refl
     (either_other (is_lowercase_word w) k.LowercaseWord _ refl (either_other (bytes_eq w (codes "...")) k.Dots k.Word refl refl))
 
 -- no entry has the kind of such a number
 abbrev AreOther : List (Text × Kind) → Type 0
-AreOther = AllByRecursion (λ entry. is_local_number entry.1 ≡ false)
+AreOther = AllByRecursion (λ entry. is_told entry.1 ≡ false)
 
 -- by whether an entry is that of the word
-entry_by : (t : Bool) (x y : Kind) (r : Option Kind) → is_local_number x ≡ false → is_local_number (unwrap_or r y) ≡ false
-    → is_local_number (unwrap_or (if t then Some x else r) y) ≡ false
+entry_by : (t : Bool) (x y : Kind) (r : Option Kind) → is_told x ≡ false → is_told (unwrap_or r y) ≡ false
+    → is_told (unwrap_or (if t then Some x else r) y) ≡ false
 entry_by true x y r e f = e
 entry_by false x y r e f = f
 
 -- a kind in the list is no such number, and neither is the one that a word has that is not in it
-kind_in_is : (entries : List (Text × Kind)) (w : Text) (y : Kind) → AreOther entries → is_local_number y ≡ false → is_local_number (unwrap_or (kind_in entries w) y) ≡ false
+kind_in_is : (entries : List (Text × Kind)) (w : Text) (y : Kind) → AreOther entries → is_told y ≡ false → is_told (unwrap_or (kind_in entries w) y) ≡ false
 kind_in_is [] w y h e = e
 kind_in_is (entry ∷ entries) w y h e = entry_by (bytes_eq entry.0 w) entry.1 y (kind_in entries w) h.0 (kind_in_is entries w y h.1 e)
 
 -- a test of each entry tells it of all
-all_other : (entries : List (Text × Kind)) → list_all (λ entry. not (is_local_number entry.1)) entries ≡ true → AreOther entries
+all_other : (entries : List (Text × Kind)) → list_all (λ entry. not (is_told entry.1)) entries ≡ true → AreOther entries
 all_other [] e = tt
-all_other (entry ∷ entries) e = let parts = and_parts (not (is_local_number entry.1)) _ e in (not_true (is_local_number entry.1) parts.0, all_other entries parts.1)
+all_other (entry ∷ entries) e = let parts = and_parts (not (is_told entry.1)) _ e in (not_true (is_told entry.1) parts.0, all_other entries parts.1)
 
 -- no keyword is such a number
-keywords_other : list_all (λ entry. not (is_local_number entry.1)) keywords ≡ true
+keywords_other : list_all (λ entry. not (is_told entry.1)) keywords ≡ true
 unfolding keywords
 keywords_other = refl
 
 -- no word is such a number
-word_kind_is : (w : Text) → is_local_number (word_kind w) ≡ false
+word_kind_is : (w : Text) → is_told (word_kind w) ≡ false
 unfolding word_kind
 word_kind_is w = either_other (is_integer_type w) k.IntegerType _ refl (kind_in_is keywords w (other_word w) (all_other keywords keywords_other) (other_word_is w))
 
+-- ---- no word is a plus
+
+-- neither of two kinds is a plus
+either_no_plus : (t : Bool) (x y : Kind) → is_plus x ≡ false → is_plus y ≡ false → is_plus (if t then x else y) ≡ false
+either_no_plus true x y e f = e
+either_no_plus false x y e f = f
+
+-- a word without a kind of its own
+other_no_plus : (w : Text) → is_plus (other_word w) ≡ false
+other_no_plus w =
+    either_no_plus (is_negative_number w) k.Number _ refl
+    (either_no_plus (is_lowercase_word w) k.LowercaseWord _ refl (either_no_plus (bytes_eq w (codes "...")) k.Dots k.Word refl refl))
+
+entry_no_plus : (t : Bool) (x y : Kind) (r : Option Kind) → is_plus x ≡ false → is_plus (unwrap_or r y) ≡ false → is_plus (unwrap_or (if t then Some x else r) y) ≡ false
+entry_no_plus true x y r e f = e
+entry_no_plus false x y r e f = f
+
+-- a kind in a list in which no entry is a plus
+kind_no_plus : (entries : List (Text × Kind)) (w : Text) (y : Kind) → list_all (λ entry. not (is_plus entry.1)) entries ≡ true → is_plus y ≡ false → is_plus (unwrap_or (kind_in entries w) y) ≡ false
+kind_no_plus [] w y h e = e
+kind_no_plus (entry ∷ entries) w y h e =
+    let parts = and_parts (not (is_plus entry.1)) _ h in
+    entry_no_plus (bytes_eq entry.0 w) entry.1 y (kind_in entries w) (not_true (is_plus entry.1) parts.0) (kind_no_plus entries w y parts.1 e)
+
+-- no keyword is a plus
+keywords_no_plus : list_all (λ entry. not (is_plus entry.1)) keywords ≡ true
+unfolding keywords
+keywords_no_plus = refl
+
+pub word_no_plus : (w : Text) → is_plus (word_kind w) ≡ false
+unfolding word_kind
+word_no_plus w = either_no_plus (is_integer_type w) k.IntegerType _ refl (kind_no_plus keywords w (other_word w) keywords_no_plus (other_no_plus w))
+
 -- ---- which class a byte has
+
+-- what the kind of a sign tells of its byte
+abbrev IsSign : ℕ → Kind → Type 0
+IsSign b k.CloseBrace = b == 125 ≡ true
+IsSign b x = is_local_number x ≡ false
 
 -- what a class tells of its byte
 abbrev Told : ℕ → ByteClass → Type 0
 Told b c.Digit = is_digit b ≡ true
-Told b (c.Sign x) = is_local_number x ≡ false
+Told b (c.Sign x) = IsSign b x
 Told b _ = Unit {0}
 
 -- either of two classes
@@ -179,15 +224,21 @@ either_told : (t : Bool) (b : ℕ) (x y : ByteClass) → Told b x → Told b y �
 either_told true b x y h g = h
 either_told false b x y h g = g
 
--- a sign is no number
+-- the brace that closes, or another class
+brace_told : (t : Bool) (b : ℕ) (y : ByteClass) → b == 125 ≡ t → Told b y → Told b (if t then c.Sign k.CloseBrace else y)
+brace_told true b y e h = e
+brace_told false b y e h = h
+
+-- a sign is no number, and the brace that closes is this byte
 sign_told : (b : ℕ) → Told b (sign_of b)
 sign_told b =
     either_told (b == 61) b (c.Sign k.Equals) _ refl (either_told (b == 44) b (c.Sign k.Comma) _ refl
     (either_told (b == 40) b (c.Sign k.OpenRound) _ refl (either_told (b == 41) b (c.Sign k.CloseRound) _ refl
     (either_told (b == 91) b (c.Sign k.OpenSquare) _ refl (either_told (b == 93) b (c.Sign k.CloseSquare) _ refl
-    (either_told (b == 123) b (c.Sign k.OpenBrace) _ refl (either_told (b == 125) b (c.Sign k.CloseBrace) _ refl
+    (either_told (b == 123) b (c.Sign k.OpenBrace) _ refl (brace_told (b == 125) b _ refl
     (either_told (b == 42) b (c.Sign k.Star) _ refl (either_told (b == 60) b (c.Sign k.Less) _ refl
-    (either_told (b == 62) b (c.Sign k.Greater) _ refl (either_told (b == 124) b (c.Sign k.Bar) c.Other refl tt)))))))))))
+    (either_told (b == 62) b (c.Sign k.Greater) _ refl (either_told (b == 124) b (c.Sign k.Bar) _ refl
+    (either_told (b == 43) b (c.Sign k.Plus) c.Other refl tt))))))))))))
 
 -- the class of a byte that is neither a letter nor a digit
 abbrev other_class : ℕ → ByteClass
@@ -224,53 +275,58 @@ first_digit (b ∷ bytes) e = subst (Told b) e (class_told b)
 
 -- ---- tokens
 
--- a word of this kind, and the bytes after it; it spells digits if it is a number in place of a local name
+-- a word of this kind, and the bytes after it; it spells digits if it is a number in place of a local name, and one byte if it is the brace that closes
 abbrev Reads : Text → Kind → Text → Type 0
-Reads i x o = (w : Text) × (i ≡ w ++ o) × (is_local_number x ≡ true → AreDigits (unquoted (bare x w)))
+Reads i x o = (w : Text) × (i ≡ w ++ o) × (is_local_number x ≡ true → AreDigits (unquoted (bare x w))) × (x ≡ k.CloseBrace → w ≡ 125 ∷ [])
 
 -- a kind is no such number, or else anything follows
-no_number : (x : Kind) (D : Type 0) → is_local_number x ≡ false → is_local_number x ≡ true → D
+no_number : (x : Kind) (D : Type 0) → is_told x ≡ false → is_local_number x ≡ true → D
+no_number k.CloseBrace D e h = absurd cc
 no_number x D e h = absurd (let q = sym e ∙ h in cc)
+
+-- and it is no such brace
+no_brace : (x : Kind) (D : Type 0) → is_told x ≡ false → x ≡ k.CloseBrace → D
+no_brace x D e h = absurd (let q = sym e ∙ ap is_told h in cc)
 
 -- a form of other tokens
 other_reads : (f : Form Kind) → IsOther f → (i : Text) (x : Kind) (o : Text) → f.says i x o → Reads i x o
-other_reads f other i x o h = let p = other i x o h in (p.0.0, p.0.1, no_number x _ p.1)
+other_reads f other i x o h = let p = other i x o h in (p.0.0, p.0.1, no_number x _ p.1, no_brace x _ p.1)
 
 -- plain names
-name_other : (x : Kind) → is_local_number x ≡ false → IsOther (name x)
-name_other x e = bind_leaves (λ y. is_local_number y ≡ false) (span is_name) (λ _. pure x) (span_leaves is_name) (λ _. pure_leaves _ x e)
+name_other : (x : Kind) → is_told x ≡ false → IsOther (name x)
+name_other x e = bind_leaves (λ y. is_told y ≡ false) (span is_name) (λ _. pure x) (span_leaves is_name) (λ _. pure_leaves _ x e)
 
 -- digits of another kind
-digits_other : (x : Kind) → is_local_number x ≡ false → IsOther (digits x)
-digits_other x e = bind_leaves (λ y. is_local_number y ≡ false) (span is_digit) (λ _. pure x) (span_leaves is_digit) (λ _. pure_leaves _ x e)
+digits_other : (x : Kind) → is_told x ≡ false → IsOther (digits x)
+digits_other x e = bind_leaves (λ y. is_told y ≡ false) (span is_digit) (λ _. pure x) (span_leaves is_digit) (λ _. pure_leaves _ x e)
 
 -- what comes after a byte
 after_skip : (f : Form Kind) → IsOther f → IsOther (skip >> f)
-after_skip f other = bind_leaves (λ y. is_local_number y ≡ false) skip (λ _. f) skip_leaves (λ _. other)
+after_skip f other = bind_leaves (λ y. is_told y ≡ false) skip (λ _. f) skip_leaves (λ _. other)
 
 -- quoted text
-quotation_other : (x : Kind) → is_local_number x ≡ false → IsOther (quotation x)
+quotation_other : (x : Kind) → is_told x ≡ false → IsOther (quotation x)
 quotation_other x e =
-    bind_leaves (λ y. is_local_number y ≡ false) (skip >> quoted) (λ _. pure x) (bind_leaves Any skip (λ _. quoted) skip_leaves (λ _. quoted_leaves)) (λ _. pure_leaves _ x e)
+    bind_leaves (λ y. is_told y ≡ false) (skip >> quoted) (λ _. pure x) (bind_leaves Any skip (λ _. quoted) skip_leaves (λ _. quoted_leaves)) (λ _. pure_leaves _ x e)
 
 -- a label of another kind, or no label
-label_other : (colon other : Kind) → is_local_number colon ≡ false → is_local_number other ≡ false → (x : ByteClass) → IsOther (label_or colon other x)
-label_other colon other e f c.Colon = after_skip (pure colon) (pure_leaves (λ y. is_local_number y ≡ false) colon e)
-label_other colon other e f _ = pure_leaves (λ y. is_local_number y ≡ false) other f
+label_other : (colon other : Kind) → is_told colon ≡ false → is_told other ≡ false → (x : ByteClass) → IsOther (label_or colon other x)
+label_other colon other e f c.Colon = after_skip (pure colon) (pure_leaves (λ y. is_told y ≡ false) colon e)
+label_other colon other e f _ = pure_leaves (λ y. is_told y ≡ false) other f
 
 -- words and labels of plain names
 word_other : IsOther word
 unfolding word
 word_other =
-    bind_leaves (λ y. is_local_number y ≡ false) (span is_name) (λ t. look (label_or k.LabelName (word_kind t))) (span_leaves is_name)
-    (λ t. look_leaves (λ y. is_local_number y ≡ false) (label_or k.LabelName (word_kind t)) (label_other k.LabelName (word_kind t) refl (word_kind_is t)))
+    bind_leaves (λ y. is_told y ≡ false) (span is_name) (λ t. look (label_or k.LabelName (word_kind t))) (span_leaves is_name)
+    (λ t. look_leaves (λ y. is_told y ≡ false) (label_or k.LabelName (word_kind t)) (label_other k.LabelName (word_kind t) refl (word_kind_is t)))
 
 -- quoted text and labels of quoted names
 quote_other : IsOther quote
 unfolding quote
 quote_other =
-    bind_leaves (λ y. is_local_number y ≡ false) (skip >> quoted) (λ _. look (label_or k.LabelName k.Quoted)) (bind_leaves Any skip (λ _. quoted) skip_leaves (λ _. quoted_leaves))
-    (λ _. look_leaves (λ y. is_local_number y ≡ false) (label_or k.LabelName k.Quoted) (label_other k.LabelName k.Quoted refl refl))
+    bind_leaves (λ y. is_told y ≡ false) (skip >> quoted) (λ _. look (label_or k.LabelName k.Quoted)) (bind_leaves Any skip (λ _. quoted) skip_leaves (λ _. quoted_leaves))
+    (λ _. look_leaves (λ y. is_told y ≡ false) (label_or k.LabelName k.Quoted) (label_other k.LabelName k.Quoted refl refl))
 
 -- names of symbols
 global_other : IsOther global
@@ -284,9 +340,9 @@ global_other = after_skip (look global_by) (look_leaves _ global_by by) where
 -- names of debug records
 record_other : IsOther record_name
 unfolding record_name
-record_other = bind_leaves (λ y. is_local_number y ≡ false) (span is_name) (λ name. record_by (is_record name)) (span_leaves is_name) (λ name. by (is_record name)) where
+record_other = bind_leaves (λ y. is_told y ≡ false) (span is_name) (λ name. record_by (is_record name)) (span_leaves is_name) (λ name. by (is_record name)) where
   by : (t : Bool) → IsOther (record_by t)
-  by true = pure_leaves (λ y. is_local_number y ≡ false) k.DebugRecord refl
+  by true = pure_leaves (λ y. is_told y ≡ false) k.DebugRecord refl
   by false = λ i a o h. absurd h
 
 -- groups of attributes, and debug records
@@ -305,7 +361,7 @@ metadata_other = after_skip (look metadata_by) (look_leaves _ metadata_by by) wh
   by : (x : ByteClass) → IsOther (metadata_by x)
   by c.Letter = name_other k.MetadataName refl
   by c.Digit = digits_other k.MetadataNumber refl
-  by _ = pure_leaves (λ y. is_local_number y ≡ false) k.Exclamation refl
+  by _ = pure_leaves (λ y. is_told y ≡ false) k.Exclamation refl
 
 -- ---- numbers
 
@@ -339,6 +395,7 @@ label_reads i w (b ∷ m) x o span own e h = (
   w ++ b ∷ [],
   span.0 ∙ ap (λ (y : Text). w ++ b ∷ y) (h.2.1 ∙ h.3.1) ∙ sym (append_assoc w (b ∷ []) o),
   λ _. subst (λ (y : Kind). AreDigits (unquoted (bare y (w ++ b ∷ [])))) h.3.0 (label_digits w b own),
+  λ brace. absurd (let q = h.3.0 ∙ brace in cc),
 )
 
 -- a number, or the label that is one
@@ -347,7 +404,9 @@ unfolding number
 number_reads i x o e h = by (first_class h.1) refl h.3 where
   by : (y : ByteClass) → first_class h.1 ≡ y → (label_or k.LabelNumber k.Number y).says h.1 x o → Reads i x o
   by c.Colon f s = label_reads i h.0 h.1 x o h.2 (span_digits i h.0 h.1 e h.2) f s
-  by _ f s = (h.0, h.2.0 ∙ ap (λ (y : Text). h.0 ++ y) s.1, no_number x _ (subst (λ (y : Kind). is_local_number y ≡ false) s.0 refl))
+  by _ f s =
+      let other = subst (λ (y : Kind). is_told y ≡ false) s.0 refl in
+      (h.0, h.2.0 ∙ ap (λ (y : Text). h.0 ++ y) s.1, no_number x _ other, no_brace x _ other)
 
 -- a number after its sign
 number_after : (b : ℕ) (i : Text) (x : Kind) (o : Text) → begins is_digit i ≡ true → (digits k.LocalNumber).says i x o → Reads (b ∷ i) x o
@@ -355,19 +414,34 @@ number_after b i x o e h = (
   b ∷ h.0,
   ap (λ (y : Text). b ∷ y) (h.2.0 ∙ ap (λ (y : Text). h.0 ++ y) h.3.1),
   λ _. subst (λ (y : Kind). AreDigits (unquoted (bare y (b ∷ h.0)))) h.3.0 (spelled_digits h.0 (span_digits i h.0 h.1 e h.2)),
+  λ brace. absurd (let q = h.3.0 ∙ brace in cc),
 )
 
 -- a local name, or a number in its place
 local_reads : (b : ℕ) (i : Text) (x : Kind) (o : Text) → (look local_by).says i x o → Reads (b ∷ i) x o
 local_reads b i x o h = by (first_class i) refl h where
   other : (f : Form Kind) → IsOther f → f.says i x o → Reads (b ∷ i) x o
-  other f is s = let r = other_reads f is i x o s in (b ∷ r.0, ap (λ (y : Text). b ∷ y) r.1, no_number x _ (is i x o s).1)
+  other f is s = let r = other_reads f is i x o s in (b ∷ r.0, ap (λ (y : Text). b ∷ y) r.1, no_number x _ (is i x o s).1, no_brace x _ (is i x o s).1)
 
   by : (y : ByteClass) → first_class i ≡ y → (local_by y).says i x o → Reads (b ∷ i) x o
   by c.Quote e s = other (quotation k.LocalName) (quotation_other k.LocalName refl) s
   by c.Letter e s = other (name k.LocalName) (name_other k.LocalName refl) s
   by c.Digit e s = number_after b i x o (first_digit i e) s
   by _ e s = absurd s
+
+-- the brace that closes
+brace_reads : (b : ℕ) (i : Text) (x : Kind) (o : Text) → b ≡ 125 → (sign k.CloseBrace).says (b ∷ i) x o → Reads (b ∷ i) x o
+brace_reads b i x o is h = (
+  b ∷ [],
+  ap (λ (y : Text). b ∷ y) (h.2.1 ∙ h.3.1),
+  λ number. absurd (let q = ap is_local_number h.3.0 ∙ number in cc),
+  λ _. ap (λ (n : ℕ). n ∷ []) is,
+)
+
+-- a sign
+sign_reads : (b : ℕ) (i : Text) (y x : Kind) (o : Text) → IsSign b y → (sign y).says (b ∷ i) x o → Reads (b ∷ i) x o
+sign_reads b i k.CloseBrace x o is s = brace_reads b i x o (eqb-true b 125 is) s
+sign_reads b i y x o is s = other_reads (sign y) (after_skip (pure y) (pure_leaves (λ z. is_told z ≡ false) y is)) (b ∷ i) x o s
 
 -- each token
 token_reads : (i : Text) (x : Kind) (o : Text) → token.says i x o → Reads i x o
@@ -382,7 +456,7 @@ token_reads (b ∷ i) x o h = by (class_of b) refl h where
   by c.At e s = other_reads global global_other (b ∷ i) x o s
   by c.Hash e s = other_reads group group_other (b ∷ i) x o s
   by c.Exclamation e s = other_reads metadata metadata_other (b ∷ i) x o s
-  by (c.Sign y) e s = other_reads (sign y) (after_skip (pure y) (pure_leaves _ y (subst (Told b) e (class_told b)))) (b ∷ i) x o s
+  by (c.Sign y) e s = sign_reads b i y x o (subst (Told b) e (class_told b)) s
   by _ e s = absurd s
 
 -- ---- the tokens of a text
@@ -425,3 +499,40 @@ lexed_spell bytes lexed h = by lexed.bad h where
   by : (bad : Option ℕ) → IsLexed bytes (record { tokens = lexed.tokens; bad = bad }) → AllSpell bytes lexed.tokens
   by None s = cut_spells bytes [] bytes true lexed.tokens [] refl s
   by (Some place) s = cut_spells bytes [] bytes true lexed.tokens s.0 refl s.1
+
+-- ---- the brace that closes
+
+-- where the last of these tokens begins
+abbrev pub last_start : List Token → ℕ
+last_start [] = 0
+last_start (t ∷ []) = t.start
+last_start (t ∷ u ∷ ts) = last_start (u ∷ ts)
+
+-- the last token begins within the bytes
+pub last_within : (total : ℕ) (first : Bool) (bytes : Text) (t : Token) (ts : List Token) (last : Text) → Cut total first bytes (t ∷ ts) last → total ≤ last_start (t ∷ ts) + length bytes
+last_within total first bytes t [] last h =
+    let start = h.6 in
+    let long = ap length h.3 ∙ length-append h.0 h.1 in
+    omega (arith, start, long)
+last_within total first bytes t (u ∷ ts) last h =
+    let further = last_within total false h.2 u ts last h.9 in
+    let long = ap length h.3 ∙ length-append h.0 h.1 in
+    let size = h.7 in
+    omega (arith, further, long, size)
+
+-- where the last token is the brace that closes, its byte is there
+pub last_brace : (text front bytes : Text) (first : Bool) (ts : List Token) (last : Text) → text ≡ front ++ bytes → Cut (length text) first bytes ts last → IsClosed ts
+    → (further : Text) × (drop (last_start ts) text ≡ 125 ∷ further)
+last_brace text front bytes first [] last e h closed = absurd closed
+last_brace text front bytes first (t ∷ []) last e h closed =
+    let r = token_reads h.1 t.kind h.2 h.5 in
+    let at : h.1 ≡ 125 ∷ h.2 = r.1 ∙ ap (λ (w : Text). w ++ h.2) (r.3 closed) in
+    let whole : text ≡ (front ++ h.0) ++ h.1 = e ∙ ap (λ (x : Text). front ++ x) h.3 ∙ sym (append_assoc front h.0 h.1) in
+    let all = ap length whole ∙ length-append (front ++ h.0) h.1 in
+    let start = h.6 in
+    let place : t.start ≡ length (front ++ h.0) = omega (arith, start, all) in
+    (h.2, ap (drop t.start) whole ∙ drop_at (front ++ h.0) h.1 t.start (sym place) ∙ at)
+last_brace text front bytes first (t ∷ u ∷ ts) last e h closed =
+    let r = token_reads h.1 t.kind h.2 h.5 in
+    let whole : text ≡ (front ++ h.0) ++ (r.0 ++ h.2) = e ∙ ap (λ (x : Text). front ++ x) (h.3 ∙ ap (λ (x : Text). h.0 ++ x) r.1) ∙ sym (append_assoc front h.0 (r.0 ++ h.2)) in
+    last_brace text ((front ++ h.0) ++ r.0) h.2 false (u ∷ ts) last (whole ∙ sym (append_assoc (front ++ h.0) r.0 h.2)) h.9 closed

@@ -19,12 +19,12 @@ use Rattle.ir_forms.specs.Decorations.{either}
 use Rattle.ir_forms.specs.Input.{skip, unexpected}
 use Rattle.ir_forms.specs.Numbers.{arithmetic, wide_of, wide_here, wide_by, wide_or_resized, wide_arithmetic, exact, is_exact, resize, comparison_of, comparison_by, comparison, compare, integer_op, arithmetic_of, arithmetic_by, resized, resize_of, resize_by}
 use Rattle.ir_print_law.specs.Numbers.{IsNumberOp, MayStand, is_wide}
-use Rattle.ir_print_law.proofs.Arguments.{typed_keeps, pair_keeps}
+use Rattle.ir_print_law.proofs.Arguments.{typed_integer_keeps, pair_keeps}
 use Rattle.ir_print_law.proofs.Decorations.{flagged_passes}
 use Rattle.ir_print_law.proofs.Passes.{Passes, skip_passes, expect_passes, look_passes, past, pure_passes, refuse_passes}
 use Rattle.ir_print_law.proofs.Reading.{Naming}
 use Rattle.ir_print_law.proofs.Tokens.{intern_goes}
-use Rattle.ir_print_law.proofs.TypesThat.{scalar_of, scalar_keeps}
+use Rattle.ir_print_law.proofs.TypesThat.{scalar_of, integer_scalar_keeps}
 use Rattle.ir_print_law.proofs.ValueSorts.{Gives, ends}
 
 -- an operation that is no wide form, if there is one
@@ -63,7 +63,7 @@ module _ {m : Module} {f : Function} {value : ℕ} (n : Naming m f value) where
         λ back.
             let cb = c.1 back in
             let bb = b.1 cb.0 in
-            ((a.1 bb.0).0, subst (IsNumberOp m f) cb.1 ((λ wide. absurd cc), bb.1)),
+            ((a.1 bb.0).0, subst (IsNumberOp m f) cb.1 ((λ wide. absurd cc), bb.1.0, bb.1.1)),
       )
 
   exact_by_passes : (t : Bool) → Passes n.within.reading (either skip (pure tt) t)
@@ -92,7 +92,7 @@ module _ {m : Module} {f : Function} {value : ℕ} (n : Naming m f value) where
             let cb = c.1 db.0 in
             let bb = b.1 cb.0 in
             let first = (a.1 bb.0).0 in
-            (first, subst (IsNumberOp m f) db.1 ((λ _. sym (r.forms i first) ∙ wide), cb.1)),
+            (first, subst (IsNumberOp m f) db.1 ((λ _. sym (r.forms i first) ∙ wide), cb.1.0, cb.1.1)),
       )
 
   resize_keeps : (y : Resize) → Gives n (resize y value) (IsNumberOp m f)
@@ -103,9 +103,9 @@ module _ {m : Module} {f : Function} {value : ℕ} (n : Naming m f value) where
       let u = t.3 in
       let w = u.3 in
       let a = flagged_passes r i h.0 h.1 h.2 fore in
-      let b = typed_keeps n.within h.1 t.0 t.1 t.2 a.0 in
+      let b = typed_integer_keeps n.within h.1 t.0 t.1 t.2 a.0 in
       let c = expect_passes r k.To t.1 u.0 u.1 u.2 b.0 in
-      let d = scalar_keeps r u.1 w.0 w.1 w.2 c.0 in
+      let d = integer_scalar_keeps r u.1 w.0 w.1 w.2 c.0 in
       let e = ends n (local.Value w.0.id) tt (number.Resize y t.0.written t.0.operand w.0.id) w.1 x o w.3 d.0 in (
         e.0,
         λ back.
@@ -113,7 +113,7 @@ module _ {m : Module} {f : Function} {value : ℕ} (n : Naming m f value) where
             let db = d.1 eb.0 in
             let cb = c.1 db.0 in
             let bb = b.1 cb.0 in
-            ((a.1 bb.0).0, subst (IsNumberOp m f) eb.1 (bb.1, (db.1.0.0, scalar_of m w.0 db.1))),
+            ((a.1 bb.0).0, subst (IsNumberOp m f) eb.1 (bb.1.0, db.1.1, (bb.1.1, (db.1.0.0.0, scalar_of m w.0 db.1.0)))),
       )
 
   comparison_by_passes : (x : Option Comparison) → Passes n.within.reading (comparison_by x)

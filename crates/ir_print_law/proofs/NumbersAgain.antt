@@ -1,4 +1,4 @@
--- Printed operations on integers, and conditions, are read as they were printed; and their numbers are within the tables.
+-- Printed operations on numbers, and conditions, are read as they were printed; and their numbers are within the tables.
 use Rattle.std.proofs.Common.{◌≡◌, ◌≤◌, ℕ, ◌+◌, Bool, true, false, List, [], ◌∷◌, ◌++◌, length, slice_get, None, Some, refl, ap, subst, ◌∙◌, arith, append_assoc}
 use Rattle.std.specs.Prelude.{◌&&◌, if◌then◌else◌, codes}
 use Rattle.std.specs.Str.{bytes_eq}
@@ -30,6 +30,7 @@ use Rattle.ir_forms.specs.Decorations.{flagged_word, either}
 use Rattle.ir_forms.specs.Starts.{is_flag_of}
 use Rattle.ir_forms.specs.Lists as lists
 use Rattle.ir_forms.specs.Casts as casts
+use Rattle.ir_forms.specs.FloatOps as floats
 use Rattle.ir_forms.specs.Numbers as numbers
 use Rattle.ir_print.specs.Numbers.{arithmetic_word, comparison_word, resize_word, number_op_text}
 use Rattle.ir_print.specs.Operands.{operand_text, typed_text}
@@ -39,7 +40,7 @@ use Rattle.ir_print.specs.Types.{type_text}
 use Rattle.name_text.specs.Names.{is_plain}
 use Rattle.ir_print_law.specs.ModuleNames.{HasModuleNames}
 use Rattle.ir_print_law.specs.Numbers.{IsNumberOpAgain, IsNumberOp, IsNumberOpWithin}
-use Rattle.ir_print_law.specs.Parts.{ArePair, IsConverted, IsCondition}
+use Rattle.ir_print_law.specs.Parts.{ArePair, IsConverted, IsCondition, IsNoFloat}
 use Rattle.ir_print_law.specs.Shapes.{Integer}
 use Rattle.ir_print_law.proofs.DefinedWithin.{AreDefinedWithin}
 use Rattle.ir_print_law.proofs.PartsLonger.{MeansAsMuch, pair_longer, converted_longer}
@@ -54,7 +55,7 @@ use Rattle.ir_print_law.proofs.PrintedTypes.{type_shown, read_again}
 use Rattle.ir_print_law.proofs.OperandsAgain.{OperandAgain, operand_reads, ends_operand}
 use Rattle.ir_print_law.proofs.AgainTypes.{again_reads}
 use Rattle.ir_print_law.proofs.Parts.{ends_again, IsLaterAgain, ArgumentAgain, PairAgain, Sets, pair_reads, OpAgain}
-use Rattle.ir_print_law.proofs.Setting.{on, set_reads, converted_reads}
+use Rattle.ir_print_law.proofs.Setting.{on, set_reads, integer_converted_reads}
 use Rattle.ir_ast.specs.declared.op.Op.TheVariants as op
 use Rattle.ir_print.specs.Instructions.{op_text}
 use Rattle.ir_ast.specs.declared.numbers.Arithmetic.TheVariants as arithmetic
@@ -64,16 +65,19 @@ use Rattle.ir_print_law.proofs.Words.{word_comes, seen}
 use Rattle.ir_forms.specs.declared.site.Site.{Site}
 use Rattle.ir_forms.specs.Instructions as whole
 use Rattle.ir_forms.specs.Ops.{as_op}
+use Rattle.ir_forms.specs.declared.written.Word.TheVariants as sort
 use Rattle.ir_print_law.proofs.ArgumentsAgain.{EndsLine, line_ends_type}
 use Rattle.ir_print_law.proofs.OpsAgain.{op_reads, by_word}
 use Rattle.ir_print_law.proofs.SameParts.{converted_same, pair_same}
-use Rattle.ir_print_law.proofs.LongerTypes.{with_types, pair_again, converted_again}
+use Rattle.ir_print_law.proofs.LongerTypes.{with_types, word_again, pair_again, converted_again}
+use Rattle.ir_forms.specs.Written.{is_float_word}
+use Rattle.ir_print_law.proofs.FloatsAgain.{float_named_reads, float_no_phi, float_op_same, float_longer, float_within, float_within_longer}
 use Rattle.ir_ast.specs.declared.ir_type.IrType.{IrType}
 use Rattle.ir_print_law.specs.Definitions.{defined_functions}
 use Rattle.ir_print_law.specs.EqualParts.{same2}
 use Rattle.ir_print_law.proofs.OneKind.{IsLonger}
 
--- an operation on integers is this one again, in each module later on
+-- an operation on numbers is this one again, in each module later on
 abbrev pub NumberAgain : Module → (locals : List Text) → NumberOp → NumberOp → Input → Type 0
 NumberAgain m locals = IsLaterAgain (λ n others. IsNumberOpAgain m n locals others)
 
@@ -107,13 +111,13 @@ module _ {m : Module} {f : Function} (v : Invariant m f) where
       on v v (w.again (numbers.bit_type bit)) (λ _. operand_form bit) o afterwards rest s s Any good
       (again_reads v (Integer 1) (numbers.bit_type bit) o gap afterwards s (omega arith, omega arith) there (omega arith) blanks (ends_again afterwards (ends_operand v (Integer 1) t x rest own.0 own.1 seam)) ready)
       (λ _ q ready h e.
-      on v v (form.operand (Some 1)) (λ y. pure (record { written = bit; operand = y })) q rest rest s s (OperandAgain m f.locals x) good
+      on v v (form.operand (sort.Integer 1)) (λ y. pure (record { written = bit; operand = y })) q rest rest s s (OperandAgain m f.locals x) good
       (operand_reads v (Integer 1) t x q (32 ∷ []) rest s own.0 own.1 refl seam ready)
       (λ y r ready hh again. given v (record { written = bit; operand = y }) r rest s good ready
       (λ n others later. (read_again m (Integer 1) t bit o n others own.0 there (later_before o r n others (grows_further o q r h hh) later), again n others later)))))
     where
       operand_form : ℕ → Form Argument
-      operand_form bit = form.operand (Some 1) >>= λ y. pure (record { written = bit; operand = y })
+      operand_form bit = form.operand (sort.Integer 1) >>= λ y. pure (record { written = bit; operand = y })
 
       again_form : ℕ → Form Argument
       again_form bit = w.again (numbers.bit_type bit) >> operand_form bit
@@ -126,15 +130,23 @@ nothing_wide i e = pick i.wide where
   pick true = rw e refl
   pick false = refl
 
+-- such a word names no operation on floating point numbers
+nothing_float : (i : Input) (name : Text) → spelling i.cursor ≡ name → floats.float_word_of name ≡ None → floats.float_word_here i ≡ None
+unfolding floats.float_word_here
+nothing_float i name spelled none = pick (i.wide && sees k.LeftOut i.cursor) where
+  pick : (t : Bool) → (if t then floats.float_word_of (spelling i.cursor) else None) ≡ None
+  pick true = ap floats.float_word_of spelled ∙ none
+  pick false = refl
+
 module _ {m : Module} {f : Function} (v u : Invariant m f) where
   -- ---- sums and the like
 
   -- `add T V, W`, and so for the other five
-  pub arithmetic_reads : (x : Arithmetic) (name : Text) (value t : ℕ) (a b : Operand) (i : Input) (gap rest : Text) (s : ℕ) → arithmetic_word x ≡ name ++ 32 ∷ [] → is_plain name ≡ true → ArePair m f t a b
+  pub arithmetic_reads : (x : Arithmetic) (name : Text) (value t : ℕ) (a b : Operand) (i : Input) (gap rest : Text) (s : ℕ) → arithmetic_word x ≡ name ++ 32 ∷ [] → is_plain name ≡ true → IsNoFloat m t → ArePair m f t a b
       → Sets v u value → AreBlanks gap → IsSeam rest
       → Ready v s i (gap ++ (name ++ (32 ∷ (pair_text m f.locals (typed t a) b ++ rest)))) → Reads u s (numbers.arithmetic x value) i rest (NumberAgain m f.locals (number.Arithmetic x t a b))
   unfolding numbers.arithmetic class_of
-  arithmetic_reads x name value t a b i gap rest s is plain own sets blanks seam ready =
+  arithmetic_reads x name value t a b i gap rest s is plain flat own sets blanks seam ready =
       let good = NumberAgain m f.locals (number.Arithmetic x t a b) in
       let afterwards = 32 ∷ (pair_text m f.locals (typed t a) b ++ rest) in
       on v u flagged_word (λ _. pair_form) i afterwards rest s s (λ _ o. advanced i ≡ o) good
@@ -145,7 +157,7 @@ module _ {m : Module} {f : Function} (v u : Invariant m f) where
       (subst (λ (y : Text). Stands o.cursor (32 ∷ (y ++ (32 ∷ (operand_text m f.locals t a ++ (codes ", " ++ (operand_text m f.locals t b ++ rest))))))) (type_shown m own.0 t own.1.0.0 own.1.0.1) starts))))
       (λ _ o ready g e.
       on v u numbers.pair set_form o rest rest s s (PairAgain m f.locals t a b) good
-      (pair_reads v t a b o (32 ∷ []) rest s own refl seam ready)
+      (pair_reads v t a b o (32 ∷ []) rest s flat own refl seam ready)
       (λ p q ready h again. set_reads v u (λ n others. IsNumberOpAgain m n f.locals others) value (local.Value p.written) (number.Arithmetic x t a b) (number.Arithmetic x p.written p.first p.second) q rest s sets refl ready
       (λ n others later. (refl, again n others later))))
     where
@@ -166,11 +178,11 @@ module _ {m : Module} {f : Function} (v u : Invariant m f) where
   no_exact o begins = ap (λ (b : Bool). b && bytes_eq (spelling o.cursor) (codes "exact")) (unlike k.LowercaseWord w.begins_type o refl begins)
 
   -- `sdiv T V, W`, and so for the other six
-  pub wide_reads : (x : Arithmetic) (name : Text) (value t : ℕ) (a b : Operand) (i : Input) (gap rest : Text) (s : ℕ) → is_plain name ≡ true → ArePair m f t a b
+  pub wide_reads : (x : Arithmetic) (name : Text) (value t : ℕ) (a b : Operand) (i : Input) (gap rest : Text) (s : ℕ) → is_plain name ≡ true → IsNoFloat m t → ArePair m f t a b
       → Sets v u value → AreBlanks gap → IsSeam rest
       → Ready v s i (gap ++ (name ++ (32 ∷ (pair_text m f.locals (typed t a) b ++ rest)))) → Reads u s (numbers.wide_arithmetic x value) i rest (NumberAgain m f.locals (number.Arithmetic x t a b))
   unfolding numbers.wide_arithmetic numbers.exact class_of
-  wide_reads x name value t a b i gap rest s plain own sets blanks seam ready =
+  wide_reads x name value t a b i gap rest s plain flat own sets blanks seam ready =
       let good = NumberAgain m f.locals (number.Arithmetic x t a b) in
       let afterwards = 32 ∷ (pair_text m f.locals (typed t a) b ++ rest) in
       on v u flagged_word (λ _. exact_form) i afterwards rest s s (λ _ o. advanced i ≡ o) good
@@ -181,7 +193,7 @@ module _ {m : Module} {f : Function} (v u : Invariant m f) where
       (looked v numbers.is_exact (either skip (pure tt)) o afterwards s (λ _ q. o ≡ q) false (no_exact o (begins o ready.stands)) (given v tt o afterwards s (λ _ q. o ≡ q) ready refl))
       (λ _ q ready h e.
       on v u numbers.pair set_form q rest rest s s (PairAgain m f.locals t a b) good
-      (pair_reads v t a b q (32 ∷ []) rest s own refl seam ready)
+      (pair_reads v t a b q (32 ∷ []) rest s flat own refl seam ready)
       (λ p r ready h again. set_reads v u (λ n others. IsNumberOpAgain m n f.locals others) value (local.Value p.written) (number.Arithmetic x t a b) (number.Arithmetic x p.written p.first p.second) r rest s sets refl ready
       (λ n others later. (refl, again n others later)))))
     where
@@ -206,11 +218,11 @@ module _ {m : Module} {f : Function} (v u : Invariant m f) where
   -- ---- comparisons
 
   -- `icmp C T V, W`
-  pub compare_reads : (x : Comparison) (name : Text) (value t : ℕ) (a b : Operand) (i : Input) (gap rest : Text) (s : ℕ) → numbers.comparison_of (word_kind name) ≡ Some x → is_plain name ≡ true → ArePair m f t a b
+  pub compare_reads : (x : Comparison) (name : Text) (value t : ℕ) (a b : Operand) (i : Input) (gap rest : Text) (s : ℕ) → numbers.comparison_of (word_kind name) ≡ Some x → is_plain name ≡ true → IsNoFloat m t → ArePair m f t a b
       → Sets v u value → AreBlanks gap → IsSeam rest
       → Ready v s i (gap ++ (codes "icmp" ++ (32 ∷ (name ++ (32 ∷ (pair_text m f.locals (typed t a) b ++ rest)))))) → Reads u s (numbers.compare value) i rest (NumberAgain m f.locals (number.Compare x t a b))
   unfolding numbers.compare numbers.comparison class_of
-  compare_reads x name value t a b i gap rest s is plain own sets blanks seam ready =
+  compare_reads x name value t a b i gap rest s is plain flat own sets blanks seam ready =
       let good = NumberAgain m f.locals (number.Compare x t a b) in
       let t2 = 32 ∷ (pair_text m f.locals (typed t a) b ++ rest) in
       let t1 = 32 ∷ (name ++ t2) in
@@ -225,7 +237,7 @@ module _ {m : Module} {f : Function} (v u : Invariant m f) where
       (λ _ q ready h e. given v x q t2 (s + 1) (λ y _. x ≡ y) ready refl)))
       (λ y q ready h same.
       on v u numbers.pair (bit_form y) q rest rest (s + 1) s (PairAgain m f.locals t a b) good
-      (pair_reads v t a b q (32 ∷ []) rest (s + 1) own refl seam ready)
+      (pair_reads v t a b q (32 ∷ []) rest (s + 1) flat own refl seam ready)
       (λ p r ready hh again.
       on v u (w.intern (type.Integer 1)) (set_form y p) r rest rest s s (λ n o. slice_get o.types n ≡ Some (type.Integer 1)) good
       (intern_reads v (type.Integer 1) r rest s tt ready)
@@ -247,19 +259,19 @@ module _ {m : Module} {f : Function} (v u : Invariant m f) where
   -- ---- changes of width
 
   -- `zext T V to U`, and so for the other two
-  pub resize_reads : (x : Resize) (name : Text) (value from : ℕ) (a : Operand) (to : ℕ) (i : Input) (gap rest : Text) (s : ℕ) → is_plain name ≡ true → IsConverted m f from a to → Sets v u value → AreBlanks gap → EndsType rest
+  pub resize_reads : (x : Resize) (name : Text) (value from : ℕ) (a : Operand) (to : ℕ) (i : Input) (gap rest : Text) (s : ℕ) → is_plain name ≡ true → IsNoFloat m from → IsNoFloat m to → IsConverted m f from a to → Sets v u value → AreBlanks gap → EndsType rest
       → Ready v s i (gap ++ (name ++ (32 ∷ (converted_text m f.locals (typed from a) to ++ rest)))) → Reads u s (numbers.resize x value) i rest (NumberAgain m f.locals (number.Resize x from a to))
   unfolding numbers.resize class_of
-  resize_reads x name value from a to i gap rest s plain own sets blanks ends ready =
+  resize_reads x name value from a to i gap rest s plain flat_from flat_to own sets blanks ends ready =
       let good = NumberAgain m f.locals (number.Resize x from a to) in
       let afterwards = 32 ∷ (converted_text m f.locals (typed from a) to ++ rest) in
-      on v u flagged_word (λ _. lists.typed >>= λ from. expect k.To >> (w.scalar >>= λ to. set_type value to.id >> pure (number.Resize x from.written from.operand to.id))) i afterwards rest s s (λ _ o. advanced i ≡ o) good
+      on v u flagged_word (λ _. numbers.typed_integer >>= λ from. expect k.To >> (w.integer_scalar >>= λ to. set_type value to.id >> pure (number.Resize x from.written from.operand to.id))) i afterwards rest s s (λ _ o. advanced i ≡ o) good
       (word_flagged v name i gap afterwards s s blanks plain refl (omega arith) ready
       (λ o stands word.
       let starts = subst (λ (y : Text). Stands o.cursor (32 ∷ y)) (front (type_text m from) (operand_text m f.locals from a) (type_text m to)) stands in
       type_no_flag word (kind o.cursor) (type_begins v own.0.0 o (32 ∷ []) (32 ∷ (operand_text m f.locals from a ++ (codes " to " ++ (type_text m to ++ rest)))) own.0.1.0.2 refl refl
       (subst (λ (y : Text). Stands o.cursor (32 ∷ (y ++ (32 ∷ (operand_text m f.locals from a ++ (codes " to " ++ (type_text m to ++ rest))))))) (type_shown m own.0.0 from own.0.1.0.0 own.0.1.0.1) starts))))
-      (λ _ o ready g e. converted_reads v u (λ n others. IsNumberOpAgain m n f.locals others) (λ b k. number.Resize x b.written b.operand k) (number.Resize x from a to) value from a to o (32 ∷ []) rest s (λ n others b k argument type. (refl, argument.0, argument.1, type)) own sets refl ends ready)
+      (λ _ o ready g e. integer_converted_reads v u (λ n others. IsNumberOpAgain m n f.locals others) (λ b k. number.Resize x b.written b.operand k) (number.Resize x from a to) value from a to o (32 ∷ []) rest s (λ n others b k argument type. (refl, argument.0, argument.1, type)) flat_from flat_to own sets refl ends ready)
     where
       front : (a b c : Text) → ((a ++ 32 ∷ b) ++ codes " to " ++ c) ++ rest ≡ a ++ (32 ∷ (b ++ (codes " to " ++ (c ++ rest))))
       front a b c = simp append_assoc
@@ -268,20 +280,20 @@ module _ {m : Module} {f : Function} (v u : Invariant m f) where
 
   -- a sum or the like, by its word
   pub by_arithmetic : (value : ℕ) (x : Arithmetic) (name : Text) (t : ℕ) (a b : Operand) (i : Input) (gap rest : Text) (s : ℕ) → arithmetic_word x ≡ name ++ 32 ∷ [] → numbers.arithmetic_of (word_kind name) ≡ Some x → is_plain name ≡ true
-      → ArePair m f t a b → Sets v u value → AreBlanks gap → IsSeam rest → Ready v s i (gap ++ (name ++ (32 ∷ (pair_text m f.locals (typed t a) b ++ rest))))
+      → IsNoFloat m t → ArePair m f t a b → Sets v u value → AreBlanks gap → IsSeam rest → Ready v s i (gap ++ (name ++ (32 ∷ (pair_text m f.locals (typed t a) b ++ rest))))
       → Reads u s (numbers.integer_op value) i rest (NumberAgain m f.locals (number.Arithmetic x t a b))
   unfolding numbers.integer_op class_of
-  by_arithmetic value x name t a b i gap rest s is of plain own sets blanks seam ready =
+  by_arithmetic value x name t a b i gap rest s is of plain flat own sets blanks seam ready =
       looked u (λ i. numbers.arithmetic_of (kind i.cursor)) (numbers.arithmetic_by value) i rest s (NumberAgain m f.locals (number.Arithmetic x t a b)) (Some x)
       (ap numbers.arithmetic_of (word_seen v name i gap (32 ∷ (pair_text m f.locals (typed t a) b ++ rest)) s blanks plain refl ready) ∙ of)
-      (arithmetic_reads x name value t a b i gap rest s is plain own sets blanks seam ready)
+      (arithmetic_reads x name value t a b i gap rest s is plain flat own sets blanks seam ready)
 
   -- a shift, a division or a remainder, by its word
   pub by_wide : (value : ℕ) (x : Arithmetic) (name : Text) (t : ℕ) (a b : Operand) (i : Input) (gap rest : Text) (s : ℕ) → word_kind name ≡ k.LeftOut → numbers.wide_of name ≡ Some x → is_plain name ≡ true → m.wide ≡ true
-      → ArePair m f t a b → Sets v u value → AreBlanks gap → IsSeam rest → Ready v s i (gap ++ (name ++ (32 ∷ (pair_text m f.locals (typed t a) b ++ rest))))
+      → IsNoFloat m t → ArePair m f t a b → Sets v u value → AreBlanks gap → IsSeam rest → Ready v s i (gap ++ (name ++ (32 ∷ (pair_text m f.locals (typed t a) b ++ rest))))
       → Reads u s (numbers.integer_op value) i rest (NumberAgain m f.locals (number.Arithmetic x t a b))
   unfolding numbers.integer_op numbers.wide_or_resized numbers.wide_here class_of
-  by_wide value x name t a b i gap rest s left of plain wide own sets blanks seam ready =
+  by_wide value x name t a b i gap rest s left of plain wide flat own sets blanks seam ready =
       let good = NumberAgain m f.locals (number.Arithmetic x t a b) in
       let comes = word_comes i.cursor gap name (32 ∷ (pair_text m f.locals (typed t a) b ++ rest)) blanks plain refl ready.stands in
       let is : kind i.cursor ≡ k.LeftOut = comes.0 ∙ left in
@@ -290,47 +302,48 @@ module _ {m : Module} {f : Function} (v u : Invariant m f) where
       let here : numbers.wide_here i ≡ Some x = rw (forms, seen k.LeftOut i is, spelled) of in
       looked u (λ i. numbers.arithmetic_of (kind i.cursor)) (numbers.arithmetic_by value) i rest s good None (ap numbers.arithmetic_of is)
       (looked u numbers.wide_here (numbers.wide_by value) i rest s good (Some x) here
-      (wide_reads x name value t a b i gap rest s plain own sets blanks seam ready))
+      (wide_reads x name value t a b i gap rest s plain flat own sets blanks seam ready))
 
   -- a change of width, by its word
   pub by_resize : (value : ℕ) (x : Resize) (name : Text) (from : ℕ) (a : Operand) (to : ℕ) (i : Input) (gap rest : Text) (s : ℕ) → numbers.arithmetic_of (word_kind name) ≡ None → same_kind (word_kind name) k.LeftOut ≡ false → numbers.resize_of (word_kind name) ≡ Some x → is_plain name ≡ true
-      → IsConverted m f from a to → Sets v u value → AreBlanks gap → EndsType rest → Ready v s i (gap ++ (name ++ (32 ∷ (converted_text m f.locals (typed from a) to ++ rest))))
+      → IsNoFloat m from → IsNoFloat m to → IsConverted m f from a to → Sets v u value → AreBlanks gap → EndsType rest → Ready v s i (gap ++ (name ++ (32 ∷ (converted_text m f.locals (typed from a) to ++ rest))))
       → Reads u s (numbers.integer_op value) i rest (NumberAgain m f.locals (number.Resize x from a to))
   unfolding numbers.integer_op numbers.wide_or_resized numbers.wide_here numbers.resized sees class_of
-  by_resize value x name from a to i gap rest s none not_left of plain own sets blanks ends ready =
+  by_resize value x name from a to i gap rest s none not_left of plain flat_from flat_to own sets blanks ends ready =
       let is = word_seen v name i gap (32 ∷ (converted_text m f.locals (typed from a) to ++ rest)) s blanks plain refl ready in
       let good = NumberAgain m f.locals (number.Resize x from a to) in
       looked u (λ i. numbers.arithmetic_of (kind i.cursor)) (numbers.arithmetic_by value) i rest s good None (ap numbers.arithmetic_of is ∙ none)
       (looked u numbers.wide_here (numbers.wide_by value) i rest s good None (nothing_wide i (ap (λ (x : Kind). same_kind x k.LeftOut) is ∙ not_left))
       (looked u (λ i. numbers.resize_of (kind i.cursor)) (numbers.resize_by value) i rest s good (Some x) (ap numbers.resize_of is ∙ of)
-      (resize_reads x name value from a to i gap rest s plain own sets blanks ends ready)))
+      (resize_reads x name value from a to i gap rest s plain flat_from flat_to own sets blanks ends ready)))
 
   -- a comparison, by what it asks
-  pub by_compare : (value : ℕ) (c : Comparison) (t : ℕ) (a b : Operand) (i : Input) (gap rest : Text) (s : ℕ) → ArePair m f t a b → Sets v u value → AreBlanks gap → IsSeam rest
+  pub by_compare : (value : ℕ) (c : Comparison) (t : ℕ) (a b : Operand) (i : Input) (gap rest : Text) (s : ℕ) → IsNoFloat m t → ArePair m f t a b → Sets v u value → AreBlanks gap → IsSeam rest
       → Ready v s i (gap ++ (codes "icmp" ++ (32 ∷ ((comparison_word c ++ pair_text m f.locals (typed t a) b) ++ rest)))) → Reads u s (numbers.compare value) i rest (NumberAgain m f.locals (number.Compare c t a b))
   unfolding word_kind keywords class_of
-  by_compare value comparison.Equal t a b i gap rest s own sets blanks seam ready = compare_reads comparison.Equal (codes "eq") value t a b i gap rest s refl refl own sets blanks seam ready
-  by_compare value comparison.NotEqual t a b i gap rest s own sets blanks seam ready = compare_reads comparison.NotEqual (codes "ne") value t a b i gap rest s refl refl own sets blanks seam ready
-  by_compare value comparison.UnsignedGreater t a b i gap rest s own sets blanks seam ready = compare_reads comparison.UnsignedGreater (codes "ugt") value t a b i gap rest s refl refl own sets blanks seam ready
-  by_compare value comparison.UnsignedGreaterOrEqual t a b i gap rest s own sets blanks seam ready = compare_reads comparison.UnsignedGreaterOrEqual (codes "uge") value t a b i gap rest s refl refl own sets blanks seam ready
-  by_compare value comparison.UnsignedLess t a b i gap rest s own sets blanks seam ready = compare_reads comparison.UnsignedLess (codes "ult") value t a b i gap rest s refl refl own sets blanks seam ready
-  by_compare value comparison.UnsignedLessOrEqual t a b i gap rest s own sets blanks seam ready = compare_reads comparison.UnsignedLessOrEqual (codes "ule") value t a b i gap rest s refl refl own sets blanks seam ready
-  by_compare value comparison.SignedGreater t a b i gap rest s own sets blanks seam ready = compare_reads comparison.SignedGreater (codes "sgt") value t a b i gap rest s refl refl own sets blanks seam ready
-  by_compare value comparison.SignedGreaterOrEqual t a b i gap rest s own sets blanks seam ready = compare_reads comparison.SignedGreaterOrEqual (codes "sge") value t a b i gap rest s refl refl own sets blanks seam ready
-  by_compare value comparison.SignedLess t a b i gap rest s own sets blanks seam ready = compare_reads comparison.SignedLess (codes "slt") value t a b i gap rest s refl refl own sets blanks seam ready
-  by_compare value comparison.SignedLessOrEqual t a b i gap rest s own sets blanks seam ready = compare_reads comparison.SignedLessOrEqual (codes "sle") value t a b i gap rest s refl refl own sets blanks seam ready
+  by_compare value comparison.Equal t a b i gap rest s flat own sets blanks seam ready = compare_reads comparison.Equal (codes "eq") value t a b i gap rest s refl refl flat own sets blanks seam ready
+  by_compare value comparison.NotEqual t a b i gap rest s flat own sets blanks seam ready = compare_reads comparison.NotEqual (codes "ne") value t a b i gap rest s refl refl flat own sets blanks seam ready
+  by_compare value comparison.UnsignedGreater t a b i gap rest s flat own sets blanks seam ready = compare_reads comparison.UnsignedGreater (codes "ugt") value t a b i gap rest s refl refl flat own sets blanks seam ready
+  by_compare value comparison.UnsignedGreaterOrEqual t a b i gap rest s flat own sets blanks seam ready = compare_reads comparison.UnsignedGreaterOrEqual (codes "uge") value t a b i gap rest s refl refl flat own sets blanks seam ready
+  by_compare value comparison.UnsignedLess t a b i gap rest s flat own sets blanks seam ready = compare_reads comparison.UnsignedLess (codes "ult") value t a b i gap rest s refl refl flat own sets blanks seam ready
+  by_compare value comparison.UnsignedLessOrEqual t a b i gap rest s flat own sets blanks seam ready = compare_reads comparison.UnsignedLessOrEqual (codes "ule") value t a b i gap rest s refl refl flat own sets blanks seam ready
+  by_compare value comparison.SignedGreater t a b i gap rest s flat own sets blanks seam ready = compare_reads comparison.SignedGreater (codes "sgt") value t a b i gap rest s refl refl flat own sets blanks seam ready
+  by_compare value comparison.SignedGreaterOrEqual t a b i gap rest s flat own sets blanks seam ready = compare_reads comparison.SignedGreaterOrEqual (codes "sge") value t a b i gap rest s refl refl flat own sets blanks seam ready
+  by_compare value comparison.SignedLess t a b i gap rest s flat own sets blanks seam ready = compare_reads comparison.SignedLess (codes "slt") value t a b i gap rest s refl refl flat own sets blanks seam ready
+  by_compare value comparison.SignedLessOrEqual t a b i gap rest s flat own sets blanks seam ready = compare_reads comparison.SignedLessOrEqual (codes "sle") value t a b i gap rest s refl refl flat own sets blanks seam ready
 
-  -- an operation on integers is one of instructions
+  -- an operation on numbers is one of instructions
   as_number : (form : Form NumberOp) (x : NumberOp) (i : Input) (rest : Text) (s : ℕ) → Reads u s form i rest (NumberAgain m f.locals x) → Reads u s (as_op op.Number form) i rest (OpAgain m f.locals (op.Number x))
   as_number form x i rest s h = op_reads u op.Number form (λ n others. IsNumberOpAgain m n f.locals others) x (op.Number x) i rest s (λ y o again. again) h
 
   -- a word of the seven is not `freeze`
-  wide_op_reads : (value : ℕ) (x : NumberOp) (name afterwards : Text) (i : Input) (gap rest : Text) (s : ℕ) → bytes_eq name (codes "freeze") ≡ false → is_plain name ≡ true → AreBlanks gap → IsSeam afterwards
+  wide_op_reads : (value : ℕ) (x : NumberOp) (name afterwards : Text) (i : Input) (gap rest : Text) (s : ℕ) → bytes_eq name (codes "freeze") ≡ false → floats.float_word_of name ≡ None → is_plain name ≡ true → AreBlanks gap → IsSeam afterwards
       → Ready v s i (gap ++ (name ++ afterwards)) → Reads u s (as_op op.Number (numbers.integer_op value)) i rest (OpAgain m f.locals (op.Number x)) → Reads u s (whole.wide_op value) i rest (OpAgain m f.locals (op.Number x))
-  unfolding whole.wide_op casts.freezes
-  wide_op_reads value x name afterwards i gap rest s other plain blanks seam ready h =
+  unfolding whole.wide_op casts.freezes floats.number_op
+  wide_op_reads value x name afterwards i gap rest s other none plain blanks seam ready h =
       let spelled : spelling i.cursor ≡ name = (word_comes i.cursor gap name afterwards blanks plain seam ready.stands).1 in
-      looked u casts.freezes (whole.wide_op_by value) i rest s (OpAgain m f.locals (op.Number x)) false (rw (spelled, other) (no_both i.wide)) h
+      looked u casts.freezes (whole.wide_op_by value) i rest s (OpAgain m f.locals (op.Number x)) false (rw (spelled, other) (no_both i.wide))
+      (looked u floats.float_word_here (floats.number_op_by value) i rest s (OpAgain m f.locals (op.Number x)) None (nothing_float i name spelled none) h)
     where
       no_both : (t : Bool) → t && false ≡ false
       no_both true = refl
@@ -342,64 +355,65 @@ module _ {m : Module} {f : Function} (v u : Invariant m f) where
   unfolding word_kind keywords class_of same_kind
   named_number_reads site value (number.Arithmetic arithmetic.Add t a b) i gap rest s blanks own sets ends ready =
       by_word v u site value (op.Number (number.Arithmetic arithmetic.Add t a b)) (codes "add") (32 ∷ (pair_text m f.locals (typed t a) b ++ rest)) i gap rest s blanks refl refl ready
-      (as_number (numbers.integer_op value) (number.Arithmetic arithmetic.Add t a b) i rest s (by_arithmetic value arithmetic.Add (codes "add") t a b i gap rest s refl refl refl own.1 sets blanks ends.0 ready))
+      (as_number (numbers.integer_op value) (number.Arithmetic arithmetic.Add t a b) i rest s (by_arithmetic value arithmetic.Add (codes "add") t a b i gap rest s refl refl refl own.1 own.2 sets blanks ends.0 ready))
   named_number_reads site value (number.Arithmetic arithmetic.Sub t a b) i gap rest s blanks own sets ends ready =
       by_word v u site value (op.Number (number.Arithmetic arithmetic.Sub t a b)) (codes "sub") (32 ∷ (pair_text m f.locals (typed t a) b ++ rest)) i gap rest s blanks refl refl ready
-      (as_number (numbers.integer_op value) (number.Arithmetic arithmetic.Sub t a b) i rest s (by_arithmetic value arithmetic.Sub (codes "sub") t a b i gap rest s refl refl refl own.1 sets blanks ends.0 ready))
+      (as_number (numbers.integer_op value) (number.Arithmetic arithmetic.Sub t a b) i rest s (by_arithmetic value arithmetic.Sub (codes "sub") t a b i gap rest s refl refl refl own.1 own.2 sets blanks ends.0 ready))
   named_number_reads site value (number.Arithmetic arithmetic.Mul t a b) i gap rest s blanks own sets ends ready =
       by_word v u site value (op.Number (number.Arithmetic arithmetic.Mul t a b)) (codes "mul") (32 ∷ (pair_text m f.locals (typed t a) b ++ rest)) i gap rest s blanks refl refl ready
-      (as_number (numbers.integer_op value) (number.Arithmetic arithmetic.Mul t a b) i rest s (by_arithmetic value arithmetic.Mul (codes "mul") t a b i gap rest s refl refl refl own.1 sets blanks ends.0 ready))
+      (as_number (numbers.integer_op value) (number.Arithmetic arithmetic.Mul t a b) i rest s (by_arithmetic value arithmetic.Mul (codes "mul") t a b i gap rest s refl refl refl own.1 own.2 sets blanks ends.0 ready))
   named_number_reads site value (number.Arithmetic arithmetic.And t a b) i gap rest s blanks own sets ends ready =
       by_word v u site value (op.Number (number.Arithmetic arithmetic.And t a b)) (codes "and") (32 ∷ (pair_text m f.locals (typed t a) b ++ rest)) i gap rest s blanks refl refl ready
-      (as_number (numbers.integer_op value) (number.Arithmetic arithmetic.And t a b) i rest s (by_arithmetic value arithmetic.And (codes "and") t a b i gap rest s refl refl refl own.1 sets blanks ends.0 ready))
+      (as_number (numbers.integer_op value) (number.Arithmetic arithmetic.And t a b) i rest s (by_arithmetic value arithmetic.And (codes "and") t a b i gap rest s refl refl refl own.1 own.2 sets blanks ends.0 ready))
   named_number_reads site value (number.Arithmetic arithmetic.Or t a b) i gap rest s blanks own sets ends ready =
       by_word v u site value (op.Number (number.Arithmetic arithmetic.Or t a b)) (codes "or") (32 ∷ (pair_text m f.locals (typed t a) b ++ rest)) i gap rest s blanks refl refl ready
-      (as_number (numbers.integer_op value) (number.Arithmetic arithmetic.Or t a b) i rest s (by_arithmetic value arithmetic.Or (codes "or") t a b i gap rest s refl refl refl own.1 sets blanks ends.0 ready))
+      (as_number (numbers.integer_op value) (number.Arithmetic arithmetic.Or t a b) i rest s (by_arithmetic value arithmetic.Or (codes "or") t a b i gap rest s refl refl refl own.1 own.2 sets blanks ends.0 ready))
   named_number_reads site value (number.Arithmetic arithmetic.Xor t a b) i gap rest s blanks own sets ends ready =
       by_word v u site value (op.Number (number.Arithmetic arithmetic.Xor t a b)) (codes "xor") (32 ∷ (pair_text m f.locals (typed t a) b ++ rest)) i gap rest s blanks refl refl ready
-      (as_number (numbers.integer_op value) (number.Arithmetic arithmetic.Xor t a b) i rest s (by_arithmetic value arithmetic.Xor (codes "xor") t a b i gap rest s refl refl refl own.1 sets blanks ends.0 ready))
+      (as_number (numbers.integer_op value) (number.Arithmetic arithmetic.Xor t a b) i rest s (by_arithmetic value arithmetic.Xor (codes "xor") t a b i gap rest s refl refl refl own.1 own.2 sets blanks ends.0 ready))
   named_number_reads site value (number.Arithmetic arithmetic.ShiftLeft t a b) i gap rest s blanks own sets ends ready =
       by_word v u site value (op.Number (number.Arithmetic arithmetic.ShiftLeft t a b)) (codes "shl") (32 ∷ (pair_text m f.locals (typed t a) b ++ rest)) i gap rest s blanks refl refl ready
-      (wide_op_reads value (number.Arithmetic arithmetic.ShiftLeft t a b) (codes "shl") (32 ∷ (pair_text m f.locals (typed t a) b ++ rest)) i gap rest s refl refl blanks refl ready
-      (as_number (numbers.integer_op value) (number.Arithmetic arithmetic.ShiftLeft t a b) i rest s (by_wide value arithmetic.ShiftLeft (codes "shl") t a b i gap rest s refl refl refl (own.0 refl) own.1 sets blanks ends.0 ready)))
+      (wide_op_reads value (number.Arithmetic arithmetic.ShiftLeft t a b) (codes "shl") (32 ∷ (pair_text m f.locals (typed t a) b ++ rest)) i gap rest s refl refl refl blanks refl ready
+      (as_number (numbers.integer_op value) (number.Arithmetic arithmetic.ShiftLeft t a b) i rest s (by_wide value arithmetic.ShiftLeft (codes "shl") t a b i gap rest s refl refl refl (own.0 refl) own.1 own.2 sets blanks ends.0 ready)))
   named_number_reads site value (number.Arithmetic arithmetic.ShiftRight t a b) i gap rest s blanks own sets ends ready =
       by_word v u site value (op.Number (number.Arithmetic arithmetic.ShiftRight t a b)) (codes "lshr") (32 ∷ (pair_text m f.locals (typed t a) b ++ rest)) i gap rest s blanks refl refl ready
-      (wide_op_reads value (number.Arithmetic arithmetic.ShiftRight t a b) (codes "lshr") (32 ∷ (pair_text m f.locals (typed t a) b ++ rest)) i gap rest s refl refl blanks refl ready
-      (as_number (numbers.integer_op value) (number.Arithmetic arithmetic.ShiftRight t a b) i rest s (by_wide value arithmetic.ShiftRight (codes "lshr") t a b i gap rest s refl refl refl (own.0 refl) own.1 sets blanks ends.0 ready)))
+      (wide_op_reads value (number.Arithmetic arithmetic.ShiftRight t a b) (codes "lshr") (32 ∷ (pair_text m f.locals (typed t a) b ++ rest)) i gap rest s refl refl refl blanks refl ready
+      (as_number (numbers.integer_op value) (number.Arithmetic arithmetic.ShiftRight t a b) i rest s (by_wide value arithmetic.ShiftRight (codes "lshr") t a b i gap rest s refl refl refl (own.0 refl) own.1 own.2 sets blanks ends.0 ready)))
   named_number_reads site value (number.Arithmetic arithmetic.ShiftRightSigned t a b) i gap rest s blanks own sets ends ready =
       by_word v u site value (op.Number (number.Arithmetic arithmetic.ShiftRightSigned t a b)) (codes "ashr") (32 ∷ (pair_text m f.locals (typed t a) b ++ rest)) i gap rest s blanks refl refl ready
-      (wide_op_reads value (number.Arithmetic arithmetic.ShiftRightSigned t a b) (codes "ashr") (32 ∷ (pair_text m f.locals (typed t a) b ++ rest)) i gap rest s refl refl blanks refl ready
-      (as_number (numbers.integer_op value) (number.Arithmetic arithmetic.ShiftRightSigned t a b) i rest s (by_wide value arithmetic.ShiftRightSigned (codes "ashr") t a b i gap rest s refl refl refl (own.0 refl) own.1 sets blanks ends.0 ready)))
+      (wide_op_reads value (number.Arithmetic arithmetic.ShiftRightSigned t a b) (codes "ashr") (32 ∷ (pair_text m f.locals (typed t a) b ++ rest)) i gap rest s refl refl refl blanks refl ready
+      (as_number (numbers.integer_op value) (number.Arithmetic arithmetic.ShiftRightSigned t a b) i rest s (by_wide value arithmetic.ShiftRightSigned (codes "ashr") t a b i gap rest s refl refl refl (own.0 refl) own.1 own.2 sets blanks ends.0 ready)))
   named_number_reads site value (number.Arithmetic arithmetic.Divide t a b) i gap rest s blanks own sets ends ready =
       by_word v u site value (op.Number (number.Arithmetic arithmetic.Divide t a b)) (codes "udiv") (32 ∷ (pair_text m f.locals (typed t a) b ++ rest)) i gap rest s blanks refl refl ready
-      (wide_op_reads value (number.Arithmetic arithmetic.Divide t a b) (codes "udiv") (32 ∷ (pair_text m f.locals (typed t a) b ++ rest)) i gap rest s refl refl blanks refl ready
-      (as_number (numbers.integer_op value) (number.Arithmetic arithmetic.Divide t a b) i rest s (by_wide value arithmetic.Divide (codes "udiv") t a b i gap rest s refl refl refl (own.0 refl) own.1 sets blanks ends.0 ready)))
+      (wide_op_reads value (number.Arithmetic arithmetic.Divide t a b) (codes "udiv") (32 ∷ (pair_text m f.locals (typed t a) b ++ rest)) i gap rest s refl refl refl blanks refl ready
+      (as_number (numbers.integer_op value) (number.Arithmetic arithmetic.Divide t a b) i rest s (by_wide value arithmetic.Divide (codes "udiv") t a b i gap rest s refl refl refl (own.0 refl) own.1 own.2 sets blanks ends.0 ready)))
   named_number_reads site value (number.Arithmetic arithmetic.DivideSigned t a b) i gap rest s blanks own sets ends ready =
       by_word v u site value (op.Number (number.Arithmetic arithmetic.DivideSigned t a b)) (codes "sdiv") (32 ∷ (pair_text m f.locals (typed t a) b ++ rest)) i gap rest s blanks refl refl ready
-      (wide_op_reads value (number.Arithmetic arithmetic.DivideSigned t a b) (codes "sdiv") (32 ∷ (pair_text m f.locals (typed t a) b ++ rest)) i gap rest s refl refl blanks refl ready
-      (as_number (numbers.integer_op value) (number.Arithmetic arithmetic.DivideSigned t a b) i rest s (by_wide value arithmetic.DivideSigned (codes "sdiv") t a b i gap rest s refl refl refl (own.0 refl) own.1 sets blanks ends.0 ready)))
+      (wide_op_reads value (number.Arithmetic arithmetic.DivideSigned t a b) (codes "sdiv") (32 ∷ (pair_text m f.locals (typed t a) b ++ rest)) i gap rest s refl refl refl blanks refl ready
+      (as_number (numbers.integer_op value) (number.Arithmetic arithmetic.DivideSigned t a b) i rest s (by_wide value arithmetic.DivideSigned (codes "sdiv") t a b i gap rest s refl refl refl (own.0 refl) own.1 own.2 sets blanks ends.0 ready)))
   named_number_reads site value (number.Arithmetic arithmetic.Remainder t a b) i gap rest s blanks own sets ends ready =
       by_word v u site value (op.Number (number.Arithmetic arithmetic.Remainder t a b)) (codes "urem") (32 ∷ (pair_text m f.locals (typed t a) b ++ rest)) i gap rest s blanks refl refl ready
-      (wide_op_reads value (number.Arithmetic arithmetic.Remainder t a b) (codes "urem") (32 ∷ (pair_text m f.locals (typed t a) b ++ rest)) i gap rest s refl refl blanks refl ready
-      (as_number (numbers.integer_op value) (number.Arithmetic arithmetic.Remainder t a b) i rest s (by_wide value arithmetic.Remainder (codes "urem") t a b i gap rest s refl refl refl (own.0 refl) own.1 sets blanks ends.0 ready)))
+      (wide_op_reads value (number.Arithmetic arithmetic.Remainder t a b) (codes "urem") (32 ∷ (pair_text m f.locals (typed t a) b ++ rest)) i gap rest s refl refl refl blanks refl ready
+      (as_number (numbers.integer_op value) (number.Arithmetic arithmetic.Remainder t a b) i rest s (by_wide value arithmetic.Remainder (codes "urem") t a b i gap rest s refl refl refl (own.0 refl) own.1 own.2 sets blanks ends.0 ready)))
   named_number_reads site value (number.Arithmetic arithmetic.RemainderSigned t a b) i gap rest s blanks own sets ends ready =
       by_word v u site value (op.Number (number.Arithmetic arithmetic.RemainderSigned t a b)) (codes "srem") (32 ∷ (pair_text m f.locals (typed t a) b ++ rest)) i gap rest s blanks refl refl ready
-      (wide_op_reads value (number.Arithmetic arithmetic.RemainderSigned t a b) (codes "srem") (32 ∷ (pair_text m f.locals (typed t a) b ++ rest)) i gap rest s refl refl blanks refl ready
-      (as_number (numbers.integer_op value) (number.Arithmetic arithmetic.RemainderSigned t a b) i rest s (by_wide value arithmetic.RemainderSigned (codes "srem") t a b i gap rest s refl refl refl (own.0 refl) own.1 sets blanks ends.0 ready)))
+      (wide_op_reads value (number.Arithmetic arithmetic.RemainderSigned t a b) (codes "srem") (32 ∷ (pair_text m f.locals (typed t a) b ++ rest)) i gap rest s refl refl refl blanks refl ready
+      (as_number (numbers.integer_op value) (number.Arithmetic arithmetic.RemainderSigned t a b) i rest s (by_wide value arithmetic.RemainderSigned (codes "srem") t a b i gap rest s refl refl refl (own.0 refl) own.1 own.2 sets blanks ends.0 ready)))
   named_number_reads site value (number.Resize resize.ZeroExtend from a to) i gap rest s blanks own sets ends ready =
       by_word v u site value (op.Number (number.Resize resize.ZeroExtend from a to)) (codes "zext") (32 ∷ (converted_text m f.locals (typed from a) to ++ rest)) i gap rest s blanks refl refl ready
-      (as_number (numbers.integer_op value) (number.Resize resize.ZeroExtend from a to) i rest s (by_resize value resize.ZeroExtend (codes "zext") from a to i gap rest s refl refl refl refl own sets blanks (line_ends_type rest ends) ready))
+      (as_number (numbers.integer_op value) (number.Resize resize.ZeroExtend from a to) i rest s (by_resize value resize.ZeroExtend (codes "zext") from a to i gap rest s refl refl refl refl own.0 own.1 own.2 sets blanks (line_ends_type rest ends) ready))
   named_number_reads site value (number.Resize resize.SignExtend from a to) i gap rest s blanks own sets ends ready =
       by_word v u site value (op.Number (number.Resize resize.SignExtend from a to)) (codes "sext") (32 ∷ (converted_text m f.locals (typed from a) to ++ rest)) i gap rest s blanks refl refl ready
-      (as_number (numbers.integer_op value) (number.Resize resize.SignExtend from a to) i rest s (by_resize value resize.SignExtend (codes "sext") from a to i gap rest s refl refl refl refl own sets blanks (line_ends_type rest ends) ready))
+      (as_number (numbers.integer_op value) (number.Resize resize.SignExtend from a to) i rest s (by_resize value resize.SignExtend (codes "sext") from a to i gap rest s refl refl refl refl own.0 own.1 own.2 sets blanks (line_ends_type rest ends) ready))
   named_number_reads site value (number.Resize resize.Truncate from a to) i gap rest s blanks own sets ends ready =
       by_word v u site value (op.Number (number.Resize resize.Truncate from a to)) (codes "trunc") (32 ∷ (converted_text m f.locals (typed from a) to ++ rest)) i gap rest s blanks refl refl ready
-      (as_number (numbers.integer_op value) (number.Resize resize.Truncate from a to) i rest s (by_resize value resize.Truncate (codes "trunc") from a to i gap rest s refl refl refl refl own sets blanks (line_ends_type rest ends) ready))
+      (as_number (numbers.integer_op value) (number.Resize resize.Truncate from a to) i rest s (by_resize value resize.Truncate (codes "trunc") from a to i gap rest s refl refl refl refl own.0 own.1 own.2 sets blanks (line_ends_type rest ends) ready))
   named_number_reads site value (number.Compare c t a b) i gap rest s blanks own sets ends ready =
       let front = ap (λ (y : Text). y ++ rest) (append_assoc (codes "icmp ") (comparison_word c) (pair_text m f.locals (typed t a) b)) in
       let ready : Ready v s i (gap ++ (codes "icmp" ++ (32 ∷ ((comparison_word c ++ pair_text m f.locals (typed t a) b) ++ rest)))) = subst (λ (y : Text). Ready v s i (gap ++ y)) front ready in
       by_word v u site value (op.Number (number.Compare c t a b)) (codes "icmp") (32 ∷ ((comparison_word c ++ pair_text m f.locals (typed t a) b) ++ rest)) i gap rest s blanks refl refl ready
-      (as_number (numbers.compare value) (number.Compare c t a b) i rest s (by_compare value c t a b i gap rest s own sets blanks ends.0 ready))
+      (as_number (numbers.compare value) (number.Compare c t a b) i rest s (by_compare value c t a b i gap rest s own.0 own.1 sets blanks ends.0 ready))
+  named_number_reads site value (number.Float x) i gap rest s blanks own sets ends ready = float_named_reads v u site value x i gap rest s blanks own.0 own.1 sets ends ready
 
 -- ---- its word
 
@@ -423,11 +437,12 @@ number_no_phi m locals (number.Resize resize.ZeroExtend from a to) place rest at
 number_no_phi m locals (number.Resize resize.SignExtend from a to) place rest at = ap (λ (x : Kind). same_kind x k.Phi) (word_comes place (32 ∷ []) (codes "sext") _ refl refl refl at).0
 number_no_phi m locals (number.Resize resize.Truncate from a to) place rest at = ap (λ (x : Kind). same_kind x k.Phi) (word_comes place (32 ∷ []) (codes "trunc") _ refl refl refl at).0
 number_no_phi m locals (number.Compare c t a b) place rest at = ap (λ (x : Kind). same_kind x k.Phi) (word_comes place (32 ∷ []) (codes "icmp") _ refl refl refl at).0
+number_no_phi m locals (number.Float x) place rest at = float_no_phi m locals x place rest at
 
 -- ---- its text
 
 module _ (m n : Module) (locals others : List Text) where
-  -- one operation on integers, one text
+  -- one operation on numbers, one text
   pub number_op_same : (x y : NumberOp) → IsNumberOpAgain m n locals others x y → number_op_text m locals x ≡ number_op_text n others y
   number_op_same (number.Arithmetic kind t a b) (number.Arithmetic other u x y) h =
       same2 (λ c d. c ++ d) (ap arithmetic_word h.0) (pair_same m n locals others (typed t a) (typed u x) b y (h.1.0, h.1.1) h.1.2)
@@ -435,25 +450,33 @@ module _ (m n : Module) (locals others : List Text) where
       same2 (λ a b. a ++ b) (ap resize_word h.0) (converted_same m n locals others (typed t x) (typed u y) to into (h.1, h.2) h.3)
   number_op_same (number.Compare kind t a b) (number.Compare other u x y) h =
       same2 (λ c d. codes "icmp " ++ c ++ d) (ap comparison_word h.0) (pair_same m n locals others (typed t a) (typed u x) b y (h.1.0, h.1.1) h.1.2)
+  number_op_same (number.Float x) (number.Float y) h = float_op_same m n locals others x y h
   number_op_same _ _ h = absurd h
 
 -- an operation on numbers is printable where the module has more types, too
 pub number_longer : (m : Module) (types : List IrType) (fs : List Function) (more : IsLonger m.types types) (same : defined_functions (with_types m types fs) ≡ defined_functions m) (f : Function)
     → (x : NumberOp) → IsNumberOp m f x → IsNumberOp (with_types m types fs) f x
-number_longer m types fs more same f (number.Arithmetic kind t x y) h = (h.0, pair_again m types fs more same f t x y h.1)
-number_longer m types fs more same f (number.Resize kind from x to) h = converted_again m types fs more same f from x to h
-number_longer m types fs more same f (number.Compare kind t x y) h = pair_again m types fs more same f t x y h
+number_longer m types fs more same f (number.Arithmetic kind t x y) h = (h.0, ap is_float_word (word_again m types fs more same h.2.0 t h.2.1) ∙ h.1, pair_again m types fs more same f t x y h.2)
+number_longer m types fs more same f (number.Resize kind from x to) h = (
+  ap is_float_word (word_again m types fs more same h.2.0.0 from h.2.0.1) ∙ h.0,
+  ap is_float_word (word_again m types fs more same h.2.1.0 to h.2.1.1) ∙ h.1,
+  converted_again m types fs more same f from x to h.2,
+)
+number_longer m types fs more same f (number.Compare kind t x y) h = (ap is_float_word (word_again m types fs more same h.1.0 t h.1.1) ∙ h.0, pair_again m types fs more same f t x y h.1)
+number_longer m types fs more same f (number.Float x) h = (h.0, float_longer m types fs more same f x h.1)
 
 -- ---- types and names within the tables
 
 module _ (m : Module) (f : Function) (own : HasModuleNames m) (h : AreDefinedWithin f) where
   pub number_within : (x : NumberOp) → Wide m f (λ m f. IsNumberOp m f x) → IsNumberOpWithin m f x
-  number_within (number.Arithmetic kind written first second) is = pair_within m f own h written first second (λ more. (is more).1)
-  number_within (number.Resize kind from x to) is = converted_within m f own h from x to is
-  number_within (number.Compare kind written first second) is = pair_within m f own h written first second is
+  number_within (number.Arithmetic kind written first second) is = pair_within m f own h written first second (λ more. (is more).2)
+  number_within (number.Resize kind from x to) is = converted_within m f own h from x to (λ more. (is more).2)
+  number_within (number.Compare kind written first second) is = pair_within m f own h written first second (λ more. (is more).1)
+  number_within (number.Float x) is = float_within m f own h x (λ more. (is more).1)
 
 module _ (m n : Module) (types : length m.types ≤ length n.types) (names : MeansAsMuch m n) (f : Function) where
   pub number_within_longer : (x : NumberOp) → IsNumberOpWithin m f x → IsNumberOpWithin n f x
   number_within_longer (number.Arithmetic kind written first second) h = pair_longer m n types names f written first second h
   number_within_longer (number.Resize kind from x to) h = converted_longer m n types names f from x to h
   number_within_longer (number.Compare kind written first second) h = pair_longer m n types names f written first second h
+  number_within_longer (number.Float x) h = float_within_longer m n types names f x h

@@ -10,7 +10,7 @@ use Rattle.ir_ast.specs.declared.ir_type.IrType.{IrType}
 use Rattle.ir_ast.specs.declared.ir_type.IrType.TheVariants as type
 use Rattle.ir_ast.specs.PointerKinds.{has_typed, is_typed_pointer}
 use Rattle.ir_forms.specs.Written.{has_opaque, is_other_kind}
-use Rattle.ir_print_law.specs.Shapes.{Shape, Integer, Pointer, Array, Empty, Struct, Named, Opaque, HasShape, IsWritten}
+use Rattle.ir_print_law.specs.Shapes.{Shape, Integer, Float, Pointer, Array, Empty, Struct, Named, Opaque, HasShape, IsWritten}
 use Rattle.ir_print_law.proofs.Tables.{Begins, IsInOrder, AreInOrder, AreOrdered}
 
 -- where each element fails the test, none passes it
@@ -39,6 +39,8 @@ not_opaque : (n : ℕ) (x : IrType) → IsInOrder false n x → is_same_type typ
 not_opaque n type.Opaque h = absurd cc
 not_opaque n type.Void h = refl
 not_opaque n (type.Integer bits) h = refl
+not_opaque n type.Float h = refl
+not_opaque n type.Double h = refl
 not_opaque n (type.Pointer part) h = refl
 not_opaque n (type.Array count part) h = refl
 not_opaque n type.EmptyStruct h = refl
@@ -50,6 +52,8 @@ not_typed n (type.Pointer part) h = absurd (let no = h.0 in cc)
 not_typed n type.Opaque h = refl
 not_typed n type.Void h = refl
 not_typed n (type.Integer bits) h = refl
+not_typed n type.Float h = refl
+not_typed n type.Double h = refl
 not_typed n (type.Array count part) h = refl
 not_typed n type.EmptyStruct h = refl
 not_typed n (type.Struct first rest) h = refl
@@ -77,6 +81,8 @@ no_other_kind opaque n (type.Pointer part) types h all = and_false (has_opaque t
 no_other_kind opaque n type.Opaque types h all = and_false (has_typed types) _ (no_typed types (subst (λ b. AreInOrder b types) h all))
 no_other_kind opaque n type.Void types h all = refl
 no_other_kind opaque n (type.Integer bits) types h all = refl
+no_other_kind opaque n type.Float types h all = refl
+no_other_kind opaque n type.Double types h all = refl
 no_other_kind opaque n (type.Array count part) types h all = refl
 no_other_kind opaque n type.EmptyStruct types h all = refl
 no_other_kind opaque n (type.Struct first rest) types h all = refl
@@ -131,6 +137,8 @@ module _ (types : List IrType) where
     by type.Opaque other own = refl
     by type.Void other own = tt
     by (type.Integer bits) other own = tt
+    by type.Float other own = tt
+    by type.Double other own = tt
     by (type.Array count part) other own = own
     by type.EmptyStruct other own = tt
     by (type.Struct first rest) other own = own
@@ -148,6 +156,8 @@ module _ (types : List IrType) where
         or_true false = refl
   new_ordered type.Void new next h = so_ordered (has_opaque types) type.Void (kind_same type.Void refl) tt h
   new_ordered (type.Integer bits) new next h = so_ordered (has_opaque types) (type.Integer bits) (kind_same (type.Integer bits) refl) tt h
+  new_ordered type.Float new next h = so_ordered (has_opaque types) type.Float (kind_same type.Float refl) tt h
+  new_ordered type.Double new next h = so_ordered (has_opaque types) type.Double (kind_same type.Double refl) tt h
   new_ordered (type.Array count part) new next h = so_ordered (has_opaque types) (type.Array count part) (kind_same (type.Array count part) refl) next h
   new_ordered type.EmptyStruct new next h = so_ordered (has_opaque types) type.EmptyStruct (kind_same type.EmptyStruct refl) tt h
   new_ordered (type.Struct first rest) new next h = so_ordered (has_opaque types) (type.Struct first rest) (kind_same (type.Struct first rest) refl) next h
@@ -165,12 +175,13 @@ abbrev pub IsLonger : List IrType → List IrType → Type 0
 IsLonger types more = Begins types more × AreOrdered more
 
 -- a type that may be written, in another table that has it
-pub written_in : (types : List IrType) (names : _) (opaque : Bool) (structs : _) (shape : Shape) (n : ℕ) → AreOrdered types → HasShape types names shape n → IsWritten opaque structs shape → IsWritten (has_opaque types) structs shape
-written_in types names opaque structs (Integer bits) n order has h = h
-written_in types names opaque structs (Pointer part) n order has h = ((order n (type.Pointer has.0) has.1).0, written_in types names opaque structs part has.0 order has.2 h.1)
-written_in types names opaque structs (Array count part) n order has h = (h.0, written_in types names opaque structs part has.0 order has.2 h.1)
-written_in types names opaque structs Empty n order has h = tt
-written_in types names opaque structs (Struct first rest) n order has h =
-    (h.0, written_in types names opaque structs first has.0 order has.4 h.1, written_in types names opaque structs rest has.1 order has.5 h.2)
-written_in types names opaque structs (Named name) n order has h = h
-written_in types names opaque structs Opaque n order has h = order n type.Opaque has
+pub written_in : (types : List IrType) (names : _) (wide opaque : Bool) (structs : _) (shape : Shape) (n : ℕ) → AreOrdered types → HasShape types names shape n → IsWritten wide opaque structs shape → IsWritten wide (has_opaque types) structs shape
+written_in types names wide opaque structs (Integer bits) n order has h = h
+written_in types names wide opaque structs (Float t) n order has h = h
+written_in types names wide opaque structs (Pointer part) n order has h = ((order n (type.Pointer has.0) has.1).0, written_in types names wide opaque structs part has.0 order has.2 h.1)
+written_in types names wide opaque structs (Array count part) n order has h = (h.0, written_in types names wide opaque structs part has.0 order has.2 h.1)
+written_in types names wide opaque structs Empty n order has h = tt
+written_in types names wide opaque structs (Struct first rest) n order has h =
+    (h.0, written_in types names wide opaque structs first has.0 order has.4 h.1, written_in types names wide opaque structs rest has.1 order has.5 h.2)
+written_in types names wide opaque structs (Named name) n order has h = h
+written_in types names wide opaque structs Opaque n order has h = order n type.Opaque has

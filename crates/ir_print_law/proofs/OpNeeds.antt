@@ -29,6 +29,7 @@ use Rattle.ir_print_law.proofs.EndsAgain.{EndAgain}
 use Rattle.ir_print_law.proofs.Known.{Far, AreNamed, known}
 use Rattle.ir_print_law.proofs.Parts.{OpAgain}
 use Rattle.ir_print_law.proofs.PhisAgain.{PhiAgain}
+use Rattle.ir_print_law.proofs.Undropped.{Undropped}
 
 -- a token of this kind begins a line of a function's body
 abbrev pub begins_body_line : Kind → Bool
@@ -45,9 +46,9 @@ begins_body_line k.LabelNumber = true
 begins_body_line k.CloseBrace = true
 begins_body_line _ = false
 
--- such a line comes next
+-- such a line comes next, and begins no call that is dropped
 abbrev pub EndsOp : Text → Type 0
-EndsOp rest = IsSeam rest × Comes begins_body_line rest
+EndsOp rest = IsSeam rest × Comes begins_body_line rest × Undropped rest
 
 -- the value that waits for its type has it
 abbrev pub far_set : Text → Far → Far

@@ -1,10 +1,17 @@
 -- Constants, names and operands as they are read.
-use Rattle.std.proofs.Common.{◌≡◌, ℕ, ◌-◌, ◌*◌, ◌<◌, ◌≤◌, Bool, true, false, not, List, [], ◌∷◌, slice_get, if◌then◌else◌, Option, None, Some, is_some, unwrap_or, refl, sym, ap, subst, ◌∙◌, arith}
-use Rattle.std.specs.Prelude.{nat_lt, nat_le, min, ◌==◌, option_and_then}
+use Rattle.std.proofs.Common.{◌≡◌, ℕ, ◌-◌, ◌*◌, ◌<◌, ◌≤◌, ◌^◌, Bool, true, false, not, List, [], ◌∷◌, slice_get, if◌then◌else◌, Option, None, Some, is_some, unwrap_or, refl, sym, ap, subst, ◌∙◌, arith}
+use Rattle.std.specs.Prelude.{nat_lt, nat_le, min, ◌==◌, option_and_then, drop, length, ◌+◌, is_nan, to_bits}
+use Rattle.std.specs.Float.{Float, binary64, float_is_infinite}
+use Rattle.std.specs.Float.Parse.{parse_float}
+use Rattle.ir_ast.specs.Floats.{is_float}
+use Rattle.ir_tokens.specs.Bytes.{digit}
+use Rattle.ir_tokens.specs.declared.token.Token.{Token}
+use Rattle.name_text.specs.Numbers.{small}
 use Rattle.std.proofs.Math.Pow.{pow_pos}
 use Rattle.std.proofs.lemmas.Bool.Decides.{nat_tests}
 use Rattle.lemmas.specs.Lists.{IsIn}
 use Rattle.ir_print_law.proofs.Constants.{half_is}
+use Rattle.ir_print_law.proofs.FiniteFloats.{IsShort, parsed_short}
 use Rattle.grammar.specs.Grammar.{pure, step, ◌>>=◌, ◌>>◌}
 use Rattle.ir_ast.specs.Names.{numbered}
 use Rattle.ir_ast.specs.declared.function.Function.{Function}
@@ -16,7 +23,7 @@ use Rattle.ir_ast.specs.declared.operand.Operand.TheVariants as operand
 use Rattle.ir_tokens.specs.declared.token.Kind.{Kind}
 use Rattle.ir_tokens.specs.declared.token.Kind.TheVariants as k
 use Rattle.ir_tokens.specs.Bytes.{Text}
-use Rattle.ir_forms.specs.Cursor.{kind, spelled, spelling, start, local_key}
+use Rattle.ir_forms.specs.Cursor.{run, begun_at, past_run, next, kind, spelled, spelling, start, local_key}
 use Rattle.ir_forms.specs.Number as numbers
 use Rattle.ir_forms.specs.Intrinsics.{is_intrinsic}
 use Rattle.ir_forms.specs.declared.fault.Fault.TheVariants.{OutOfRange}
@@ -26,8 +33,11 @@ use Rattle.ir_forms.specs.declared.input.Input.{Input}
 use Rattle.ir_forms.specs.Input.{limit, advanced, advanced_falls, skip}
 use Rattle.ir_forms.specs.Names.{used_symbol, symbol_number, with_symbol_use, with_symbol_use_falls, callee, used_global, used_local, local_number, with_local_use, with_local_use_falls, used_label, used_label_by, target}
 use Rattle.ir_forms.specs.Operand as form
-use Rattle.ir_forms.specs.Operand.{zero_of, truth_of, number_at, number_or_zero, number, constant_by, constant, cast_operand, cast_operand_by, cast, operand_by}
-use Rattle.ir_print.specs.Fits.{FitsType}
+use Rattle.ir_forms.specs.FloatNumbers.{finite_bits, decimal_bits, hexadecimal_after, is_hexadecimal, float_bits}
+use Rattle.ir_forms.specs.Operand.{zero_of, truth_of, number_at, number_or_zero, number, number_by, word_by, held_float, float_at, float_or_zero, float_number, after_run, after_run_falls, constant_by, constant, cast_operand, cast_operand_by, cast, operand_by}
+use Rattle.ir_forms.specs.declared.written.Word.{Word}
+use Rattle.ir_forms.specs.declared.written.Word.TheVariants as sort
+use Rattle.ir_print_law.specs.Fits.{FitsType}
 use Rattle.ir_print.specs.Names.{name_at}
 use Rattle.ir_print_law.specs.Definitions.{functions_of, used_keys, used_symbols}
 use Rattle.ir_print_law.specs.Parts.{IsGlobalUse, IsOperand, IsTarget}
@@ -37,14 +47,19 @@ use Rattle.ir_print_law.proofs.Reading.{Reading, Within}
 use Rattle.ir_print_law.proofs.Tables.{stays, name_there}
 use Rattle.ir_print_law.proofs.TypesThat.{pointer_type_keeps}
 
--- a number of bits that an integer type may have, or none
-abbrev pub AreBits : Option ℕ → Type 0
-AreBits None = Unit {0}
-AreBits (Some bits) = (1 ≤ bits) × (bits ≤ 64)
+-- a word that a type may be: an integer has 1 to 64 bits
+abbrev pub AreBits : Word → Type 0
+AreBits (sort.Integer bits) = (1 ≤ bits) × (bits ≤ 64)
+AreBits _ = Unit {0}
 
 -- a constant fits, where its type may be
-abbrev pub Fits : Option ℕ → Constant → Type 0
+abbrev pub Fits : Word → Constant → Type 0
 Fits bits x = AreBits bits → FitsType bits x
+
+-- the bits of a floating point number
+abbrev pub float_bits_of : Constant → ℕ
+float_bits_of (c.Float n) = n
+float_bits_of _ = 0
 
 half_some : (bits : ℕ) → 0 < numbers.half_of bits
 half_some bits = pow_pos (min bits 64 - 1)
@@ -75,26 +90,82 @@ constant_less (byte ∷ digits) bits = by (byte == 45) where
   by true = negative_less (numbers.half_of bits) (numbers.small (numbers.decimal digits)) (half_some bits)
   by false = positive_less (numbers.half_of bits) (numbers.small (numbers.decimal (byte ∷ digits))) (half_some bits)
 
-pub number_fits : (bits : Option ℕ) (i : Input) → Fits bits (number_or_zero bits i)
+pub number_fits : (bits : ℕ) (i : Input) → Fits (sort.Integer bits) (number_or_zero (sort.Integer bits) i)
 unfolding number_at
-number_fits None i u = constant_less (spelling i.cursor) 64
-number_fits (Some bits) i u = (u.0, u.1, subst (λ (n : ℕ). unwrap_or (number_at (Some bits) i) 0 < n) (half_is bits u.0 u.1) (constant_less (spelling i.cursor) bits))
+number_fits bits i u = (u.0, u.1, subst (λ (n : ℕ). unwrap_or (number_at (sort.Integer bits) i) 0 < n) (half_is bits u.0 u.1) (constant_less (spelling i.cursor) bits))
 
-pub zero_fits : (bits : Option ℕ) → Fits bits (zero_of bits)
-zero_fits None u = tt
-zero_fits (Some bits) u = (u.0, u.1, pow_pos bits)
+pointer_number_fits : (i : Input) → Fits sort.Pointer (number_or_zero sort.Pointer i)
+unfolding number_at
+pointer_number_fits i u = constant_less (spelling i.cursor) 64
 
-truth_fits : (bits : Option ℕ) (truth : Bool) → Fits bits (truth_of bits truth)
-truth_fits None truth u = refl
-truth_fits (Some bits) truth u = by (bits == 1) refl truth where
-  by : (t : Bool) → bits == 1 ≡ t → (truth : Bool) → FitsType (Some bits) (if t then c.Number (if truth then 1 else 0) else c.Truth truth)
+-- hexadecimal digits spell a number below 2 to the 64
+hexadecimal_less : (digits : List ℕ) (n : ℕ) → n < 2 ^ 64 → unwrap_or (hexadecimal_after n digits) 0 < 2 ^ 64
+hexadecimal_less [] n less = less
+hexadecimal_less (b ∷ digits) n less = by (λ m below. hexadecimal_less digits m below) (digit b) where
+  inner : ((k : ℕ) → k < 2 ^ 64 → unwrap_or (hexadecimal_after k digits) 0 < 2 ^ 64) → (m : ℕ) (t : Bool) → nat_lt m 18446744073709551616 ≡ t → unwrap_or (option_and_then (λ k. hexadecimal_after k digits) (if t then Some m else None)) 0 < 2 ^ 64
+  inner on m true e = on m (grind (arith, nat_tests))
+  inner on m false e = omega arith
+
+  by : ((k : ℕ) → k < 2 ^ 64 → unwrap_or (hexadecimal_after k digits) 0 < 2 ^ 64) → (d : Option ℕ) → unwrap_or (option_and_then (λ m. hexadecimal_after m digits) (option_and_then (λ d. small (16 * n + d)) d)) 0 < 2 ^ 64
+  by on None = omega arith
+  by on (Some d) = inner on (16 * n + d) (nat_lt (16 * n + d) 18446744073709551616) refl
+
+-- a finite number has 64 bits
+finite_less : (x : Option Float) → IsShort x → unwrap_or (option_and_then finite_bits x) 0 < 2 ^ 64
+finite_less None h = omega arith
+finite_less (Some x) h = by (is_nan x) (float_is_infinite x) where
+  by : (t u : Bool) → unwrap_or (if t then None else (if u then None else Some (to_bits binary64 x))) 0 < 2 ^ 64
+  by true u = omega arith
+  by false true = omega arith
+  by false false = h
+
+-- so is what a word spells
+bits_below : (word : List ℕ) → unwrap_or (float_bits word) 0 < 2 ^ 64
+unfolding float_bits
+bits_below word = by (is_hexadecimal word) where
+  by : (t : Bool) → unwrap_or (if t then hexadecimal_after 0 (drop 2 word) else decimal_bits word) 0 < 2 ^ 64
+  by true = hexadecimal_less (drop 2 word) 0 (omega arith)
+  by false = finite_less (parse_float binary64 word) (parsed_short word)
+
+pub double_fits : (i : Input) → Fits sort.Double (float_or_zero sort.Double i)
+unfolding float_at
+double_fits i u = by (float_bits (run i.cursor)) (bits_below (run i.cursor)) where
+  by : (x : Option ℕ) → unwrap_or x 0 < 2 ^ 64 → unwrap_or (held_float sort.Double x) 0 < 2 ^ 64
+  by None less = less
+  by (Some n) less = less
+
+pub single_fits : (i : Input) → Fits sort.Float (float_or_zero sort.Float i)
+unfolding float_at
+single_fits i u = by (float_bits (run i.cursor)) (bits_below (run i.cursor)) where
+  inner : (n : ℕ) (t : Bool) → is_float n ≡ t → n < 2 ^ 64 → FitsType sort.Float (c.Float (unwrap_or (if t then Some n else None) 0))
+  inner n true e less = (e, less)
+  inner n false e less = (refl, omega arith)
+
+  by : (x : Option ℕ) → unwrap_or x 0 < 2 ^ 64 → FitsType sort.Float (c.Float (unwrap_or (held_float sort.Float x) 0))
+  by None less = (refl, omega arith)
+  by (Some n) less = inner n (is_float n) refl less
+
+pub zero_fits : (word : Word) → Fits word (zero_of word)
+zero_fits sort.Pointer u = tt
+zero_fits (sort.Integer bits) u = (u.0, u.1, pow_pos bits)
+zero_fits sort.Float u = (refl, omega arith)
+zero_fits sort.Double u = omega arith
+
+truth_fits : (word : Word) (truth : Bool) → Fits word (truth_of word truth)
+truth_fits sort.Pointer truth u = refl
+truth_fits sort.Float truth u = refl
+truth_fits sort.Double truth u = refl
+truth_fits (sort.Integer bits) truth u = by (bits == 1) refl truth where
+  by : (t : Bool) → bits == 1 ≡ t → (truth : Bool) → FitsType (sort.Integer bits) (if t then c.Number (if truth then 1 else 0) else c.Truth truth)
   by true e true = let one : bits ≡ 1 = grind (arith, nat_tests) in (u.0, u.1, rw one (omega arith))
   by true e false = (u.0, u.1, pow_pos bits)
   by false e truth = e
 
-null_fits : (bits : Option ℕ) → Fits bits c.Null
-null_fits None u = tt
-null_fits (Some bits) u = tt
+null_fits : (word : Word) → Fits word c.Null
+null_fits sort.Pointer u = tt
+null_fits (sort.Integer bits) u = tt
+null_fits sort.Float u = tt
+null_fits sort.Double u = tt
 
 -- the name is at its number
 pub named_at : (names : List Text) (n : ℕ) (name : Text) → slice_get names n ≡ Some name → name_at names n ≡ name
@@ -103,27 +174,75 @@ named_at names n name e = ap (λ (x : Option Text). unwrap_or x []) e
 module _ {m : Module} (r : Reading m) where
   -- ---- constants
 
-  word_gives : (bits : Option ℕ) (x : Constant) → Fits bits x → (i : Input) → Keeps r.Fore (Same r.Fore) r.Back (skip >> pure x) (Fits bits) i
+  word_gives : (bits : Word) (x : Constant) → Fits bits x → (i : Input) → Keeps r.Fore (Same r.Fore) r.Back (skip >> pure x) (Fits bits) i
   word_gives bits x fits i a o h f =
       let s = skip_passes r i h.0 h.1 h.2 f in
       (subst r.Fore h.3.1 s.0, λ b. ((s.1 (subst r.Back (sym h.3.1) b)).0, subst (Fits bits) h.3.0 fits))
 
-  number_keeps : (bits : Option ℕ) (i : Input) → Keeps r.Fore (Same r.Fore) r.Back (number bits) (Fits bits) i
+  number_keeps : (word : Word) → ((i : Input) → Fits word (number_or_zero word i)) → (i : Input) → Keeps r.Fore (Same r.Fore) r.Back (number word) (Fits word) i
   unfolding number
-  number_keeps bits i =
-      where_true r.Back r.Fore (Same r.Fore) (Fits bits) (λ i. is_some (number_at bits i)) (λ i. OutOfRange (start i.cursor)) (step (number_or_zero bits) advanced advanced_falls) i
-      (λ e. stepped r.Back r.Fore (Same r.Fore) (Fits bits) (number_or_zero bits) advanced advanced_falls i (λ f. (r.on_token i f, λ b. (r.from_token i b, number_fits bits i))))
+  number_keeps word fits i =
+      where_true r.Back r.Fore (Same r.Fore) (Fits word) (λ i. is_some (number_at word i)) (λ i. OutOfRange (start i.cursor)) (step (number_or_zero word) advanced advanced_falls) i
+      (λ e. stepped r.Back r.Fore (Same r.Fore) (Fits word) (number_or_zero word) advanced advanced_falls i (λ f. (r.on_token i f, λ b. (r.from_token i b, fits i))))
 
-  constant_by_keeps : (bits : Option ℕ) (x : Kind) (i : Input) → Keeps r.Fore (Same r.Fore) r.Back (constant_by bits x) (Fits bits) i
-  constant_by_keeps bits k.Number i = number_keeps bits i
-  constant_by_keeps bits k.True i = word_gives bits (truth_of bits true) (truth_fits bits true) i
-  constant_by_keeps bits k.False i = word_gives bits (truth_of bits false) (truth_fits bits false) i
-  constant_by_keeps bits k.Null i = word_gives bits c.Null (null_fits bits) i
-  constant_by_keeps bits k.Undef i = word_gives bits (zero_of bits) (zero_fits bits) i
-  constant_by_keeps bits k.Zeroinitializer i = word_gives bits (zero_of bits) (zero_fits bits) i
-  constant_by_keeps bits _ i = λ a o h f. absurd h
+  -- the same with these tokens left
+  abbrev at : Input → List Token → Input
+  at i ts = record i { cursor = record i.cursor { rest = ts } }
 
-  pub constant_keeps : (bits : Option ℕ) (i : Input) → Keeps r.Fore (Same r.Fore) r.Back (constant bits) (Fits bits) i
+  run_passed : (i : Input) (place : ℕ) (ts : List Token) → r.Fore (at i ts) → r.Fore (at i (begun_at place ts)) × (r.Back (at i (begun_at place ts)) → r.Back (at i ts))
+  unfolding next
+  run_passed i place [] f = (f, λ b. b)
+  run_passed i place (t ∷ ts) f = by (nat_lt t.start place) (run_passed i place ts (r.on_token (at i (t ∷ ts)) f)) where
+    by : (u : Bool) → r.Fore (at i (begun_at place ts)) × (r.Back (at i (begun_at place ts)) → r.Back (at i ts))
+        → r.Fore (at i (if u then begun_at place ts else t ∷ ts)) × (r.Back (at i (if u then begun_at place ts else t ∷ ts)) → r.Back (at i (t ∷ ts)))
+    by true x = (x.0, λ b. r.from_token (at i (t ∷ ts)) (x.1 b))
+    by false x = (f, λ b. b)
+
+  -- a floating point number may be more than one token
+  pub float_number_keeps : (word : Word) → ((i : Input) → Fits word (float_or_zero word i)) → (i : Input) → Keeps r.Fore (Same r.Fore) r.Back (float_number word) (Fits word) i
+  unfolding float_number past_run
+  float_number_keeps word fits i x o h f =
+      let seen = h.2.2.1 in
+      let there = h.2.3.1 in
+      let same = seen ∙ there in
+      let last = stepped r.Back r.Fore (Same r.Fore) (Fits word) (float_or_zero word) after_run after_run_falls h.1
+      (λ f. let p = run_passed h.1 (start h.1.cursor + length (run h.1.cursor)) h.1.cursor.rest f in (p.0, λ b. (p.1 b, fits h.1))) x o h.3 (subst r.Fore same f) in
+      (last.0, λ b. let c = last.1 b in (subst r.Back (sym same) c.0, c.1))
+
+  -- it is one of 64 bits that fits the word
+  pub float_kept : (word : Word) → ((i : Input) → Fits word (float_or_zero word i)) → (i : Input)
+      → Keeps r.Fore (Same r.Fore) r.Back (float_number word) (λ x. (y : Constant) × (c.Float (float_bits_of y) ≡ x) × Fits word (c.Float (float_bits_of y))) i
+  unfolding float_number past_run
+  float_kept word fits i x o h f =
+      let same = h.2.2.1 ∙ h.2.3.1 in
+      let good : Constant → Type 0 = λ x. (y : Constant) × (c.Float (float_bits_of y) ≡ x) × Fits word (c.Float (float_bits_of y)) in
+      let last = stepped r.Back r.Fore (Same r.Fore) good (float_or_zero word) after_run after_run_falls h.1
+      (λ f. let p = run_passed h.1 (start h.1.cursor + length (run h.1.cursor)) h.1.cursor.rest f in (p.0, λ b. (p.1 b, (float_or_zero word h.1, refl, fits h.1)))) x o h.3 (subst r.Fore same f) in
+      (last.0, λ b. let c = last.1 b in (subst r.Back (sym same) c.0, c.1))
+
+  number_by_keeps : (word : Word) (i : Input) → Keeps r.Fore (Same r.Fore) r.Back (number_by word) (Fits word) i
+  number_by_keeps sort.Pointer i = number_keeps sort.Pointer pointer_number_fits i
+  number_by_keeps (sort.Integer bits) i = number_keeps (sort.Integer bits) (number_fits bits) i
+  number_by_keeps sort.Float i = float_number_keeps sort.Float single_fits i
+  number_by_keeps sort.Double i = float_number_keeps sort.Double double_fits i
+
+  word_by_keeps : (word : Word) (i : Input) → Keeps r.Fore (Same r.Fore) r.Back (word_by word) (Fits word) i
+  word_by_keeps sort.Float i = float_number_keeps sort.Float single_fits i
+  word_by_keeps sort.Double i = float_number_keeps sort.Double double_fits i
+  word_by_keeps sort.Pointer i = λ a o h f. absurd h
+  word_by_keeps (sort.Integer bits) i = λ a o h f. absurd h
+
+  constant_by_keeps : (word : Word) (x : Kind) (i : Input) → Keeps r.Fore (Same r.Fore) r.Back (constant_by word x) (Fits word) i
+  constant_by_keeps word k.Number i = number_by_keeps word i
+  constant_by_keeps word k.Word i = word_by_keeps word i
+  constant_by_keeps word k.True i = word_gives word (truth_of word true) (truth_fits word true) i
+  constant_by_keeps word k.False i = word_gives word (truth_of word false) (truth_fits word false) i
+  constant_by_keeps word k.Null i = word_gives word c.Null (null_fits word) i
+  constant_by_keeps word k.Undef i = word_gives word (zero_of word) (zero_fits word) i
+  constant_by_keeps word k.Zeroinitializer i = word_gives word (zero_of word) (zero_fits word) i
+  constant_by_keeps word _ i = λ a o h f. absurd h
+
+  pub constant_keeps : (bits : Word) (i : Input) → Keeps r.Fore (Same r.Fore) r.Back (constant bits) (Fits bits) i
   unfolding constant
   constant_keeps bits i = constant_by_keeps bits (kind i.cursor) i
 
@@ -213,22 +332,22 @@ module _ {m : Module} {f : Function} (v : Within m f) where
   -- ---- operands
 
   -- an operand, where its type may be
-  abbrev pub IsRead : Option ℕ → Operand → Type 0
+  abbrev pub IsRead : Word → Operand → Type 0
   IsRead bits x = AreBits bits → IsOperand m f bits x
 
-  local_operand : (bits : Option ℕ) (i : Input) → Keeps v.reading.Fore (Same v.reading.Fore) v.reading.Back (used_local wants.Value >>= λ value. pure (operand.Local value)) (IsRead bits) i
+  local_operand : (bits : Word) (i : Input) → Keeps v.reading.Fore (Same v.reading.Fore) v.reading.Back (used_local wants.Value >>= λ value. pure (operand.Local value)) (IsRead bits) i
   local_operand bits i x o h fore =
       let r = v.reading in
       let a = used_local_keeps wants.Value i h.0 h.1 h.2 fore in
       (subst r.Fore h.3.1 a.0, λ b. let c = a.1 (subst r.Back (sym h.3.1) b) in (c.0, subst (IsRead bits) h.3.0 (λ u. c.1)))
 
-  global_operand : (bits : Option ℕ) (i : Input) → Keeps v.reading.Fore (Same v.reading.Fore) v.reading.Back (used_global >>= λ symbol. pure (operand.Global symbol)) (IsRead bits) i
+  global_operand : (bits : Word) (i : Input) → Keeps v.reading.Fore (Same v.reading.Fore) v.reading.Back (used_global >>= λ symbol. pure (operand.Global symbol)) (IsRead bits) i
   global_operand bits i x o h fore =
       let r = v.reading in
       let a = used_global_keeps r i h.0 h.1 h.2 fore in
       (subst r.Fore h.3.1 a.0, λ b. let c = a.1 (subst r.Back (sym h.3.1) b) in (c.0, subst (IsRead bits) h.3.0 (λ u. c.1)))
 
-  constant_operand : (bits : Option ℕ) (i : Input) → Keeps v.reading.Fore (Same v.reading.Fore) v.reading.Back (constant bits >>= λ x. pure (operand.Constant x)) (IsRead bits) i
+  constant_operand : (bits : Word) (i : Input) → Keeps v.reading.Fore (Same v.reading.Fore) v.reading.Back (constant bits >>= λ x. pure (operand.Constant x)) (IsRead bits) i
   constant_operand bits i x o h fore =
       let r = v.reading in
       let a = constant_keeps r bits i h.0 h.1 h.2 fore in
@@ -238,7 +357,7 @@ module _ {m : Module} {f : Function} (v : Within m f) where
   cast_name_keeps k.GlobalName i = used_global_keeps v.reading i
   cast_name_keeps _ i = λ a o h f. absurd h
 
-  cast_keeps : (bits : Option ℕ) (i : Input) → Keeps v.reading.Fore (Same v.reading.Fore) v.reading.Back cast (IsRead bits) i
+  cast_keeps : (bits : Word) (i : Input) → Keeps v.reading.Fore (Same v.reading.Fore) v.reading.Back cast (IsRead bits) i
   unfolding cast cast_operand
   cast_keeps bits i x o h fore =
       let r = v.reading in
@@ -267,13 +386,13 @@ module _ {m : Module} {f : Function} (v : Within m f) where
             (b0.0, subst (IsRead bits) t6.3.0 (λ u. (b2.1, b3.1, b5.1))),
       )
 
-  operand_by_keeps : (bits : Option ℕ) (x : Kind) (i : Input) → Keeps v.reading.Fore (Same v.reading.Fore) v.reading.Back (operand_by bits x) (IsRead bits) i
+  operand_by_keeps : (bits : Word) (x : Kind) (i : Input) → Keeps v.reading.Fore (Same v.reading.Fore) v.reading.Back (operand_by bits x) (IsRead bits) i
   operand_by_keeps bits k.LocalName i = local_operand bits i
   operand_by_keeps bits k.LocalNumber i = local_operand bits i
   operand_by_keeps bits k.GlobalName i = global_operand bits i
   operand_by_keeps bits k.Bitcast i = cast_keeps bits i
   operand_by_keeps bits _ i = constant_operand bits i
 
-  pub operand_keeps : (bits : Option ℕ) (i : Input) → Keeps v.reading.Fore (Same v.reading.Fore) v.reading.Back (form.operand bits) (IsRead bits) i
+  pub operand_keeps : (bits : Word) (i : Input) → Keeps v.reading.Fore (Same v.reading.Fore) v.reading.Back (form.operand bits) (IsRead bits) i
   unfolding form.operand
   operand_keeps bits i = operand_by_keeps bits (kind i.cursor) i

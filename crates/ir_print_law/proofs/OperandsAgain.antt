@@ -25,7 +25,9 @@ use Rattle.ir_forms.specs.Input.{Form, advanced, skip, expect, start_of}
 use Rattle.ir_forms.specs.Names.{is_function, sort_of_symbol, symbol_number, used_symbol, used_global, with_symbol_use, with_local_use}
 use Rattle.ir_forms.specs.Operand as form
 use Rattle.ir_forms.specs.Written as w
-use Rattle.ir_print.specs.Fits.{FitsType, is_bit_width, constant_shown}
+use Rattle.ir_forms.specs.declared.written.Word.{Word}
+use Rattle.ir_forms.specs.declared.written.FloatType.TheVariants as size
+use Rattle.ir_print_law.specs.Fits.{FitsType, is_bit_width, constant_shown}
 use Rattle.name_text.specs.Names.{name_text}
 use Rattle.name_text.specs.Readings.{AreBytes}
 use Rattle.name_text.specs.declared.blank.Blank.TheVariants as blank
@@ -39,20 +41,23 @@ use Rattle.name_text.specs.Reading.{name_spelled}
 use Rattle.ir_print_law.proofs.Words.{global_comes, sign_comes, word_comes}
 use Rattle.ir_print_law.specs.PartsAgain.{IsOperandAgain}
 use Rattle.ir_print_law.specs.Parts.{IsType, IsGlobalUse, IsOperand}
-use Rattle.ir_print_law.specs.Shapes.{Shape, Integer, Pointer, Array, Empty, Struct, Named, Opaque, HasShape, bits_of_shape, is_pointer_shape}
+use Rattle.ir_print_law.specs.Shapes.{Shape, Integer, Float, Pointer, Array, Empty, Struct, Named, Opaque, HasShape, word_of_shape, is_pointer_shape}
 use Rattle.ir_print_law.specs.Definitions.{used_keys, used_symbols}
 use Rattle.ir_print_law.proofs.Tables.{begins_itself, stays, name_begins, name_length, name_there, number_within}
 use Rattle.ir_print_law.proofs.State.{Invariant, Ready, Grows, IsLater, Reads}
+use Rattle.ir_print_law.specs.Readings.{after_constant}
 use Rattle.ir_print_law.proofs.Shown.{shown, IsTypeRead}
-use Rattle.ir_print_law.proofs.Steps.{go_on, given, shorter, looked, sign_reads, word_reads, word_skipped, word_seen, later_before, grows_advanced, passed}
+use Rattle.ir_print_law.proofs.Steps.{grows_further, go_on, given, shorter, looked, sign_reads, word_reads, word_skipped, word_seen, later_before, grows_advanced, passed}
 use Rattle.ir_print_law.proofs.Types.{EndsType, Comes, ends_type}
 use Rattle.ir_print_law.proofs.PrintedTypes.{type_shown, read_again, pointer_type_reads}
 
 -- ---- constants
 
 -- whether a type is i1 is told by its shape
-bit_is : (types : List IrType) (names : List Text) (shape : Shape) (n : ℕ) → HasShape types names shape n → is_bit (slice_get types n) ≡ is_bit_width (bits_of_shape shape)
+bit_is : (types : List IrType) (names : List Text) (shape : Shape) (n : ℕ) → HasShape types names shape n → is_bit (slice_get types n) ≡ is_bit_width (word_of_shape shape)
 bit_is types names (Integer bits) n h = ap is_bit h
+bit_is types names (Float size.Single) n h = ap is_bit h
+bit_is types names (Float size.Double) n h = ap is_bit h
 bit_is types names (Pointer part) n h = ap is_bit h.1
 bit_is types names (Array count part) n h = ap is_bit h.1
 bit_is types names Empty n h = ap is_bit h
@@ -61,8 +66,9 @@ bit_is types names (Named name) n h = ap is_bit h.1
 bit_is types names Opaque n h = ap is_bit h
 
 -- a constant is printed by the shape of its type
-pub constant_by_shape : (n : Module) (shape : Shape) (t : ℕ) (x : Constant) → HasShape n.types n.struct_names shape t → constant_text n t x ≡ constant_shown (bits_of_shape shape) x
+pub constant_by_shape : (n : Module) (shape : Shape) (t : ℕ) (x : Constant) → HasShape n.types n.struct_names shape t → constant_text n t x ≡ constant_shown (word_of_shape shape) x
 constant_by_shape n shape t (constant.Number number) h = ap (λ b. number_text b number) (bit_is n.types n.struct_names shape t h)
+constant_by_shape n shape t (constant.Float number) h = refl
 constant_by_shape n shape t constant.Null h = refl
 constant_by_shape n shape t (constant.Truth truth) h = refl
 
@@ -91,6 +97,7 @@ begins_operand k.LocalNumber = true
 begins_operand k.GlobalName = true
 begins_operand k.Bitcast = true
 begins_operand k.Number = true
+begins_operand k.Word = true
 begins_operand k.True = true
 begins_operand k.False = true
 begins_operand k.Null = true
@@ -105,8 +112,9 @@ type_ended k.OpenRound e = absurd cc
 type_ended _ e = refl
 
 -- a constant begins with such a token
-constant_kind : (bits : Option ℕ) (i o : Input) (x : Constant) (y : Kind) → (form.constant_by bits y).says i x o → begins_operand y ≡ true
+constant_kind : (bits : Word) (i o : Input) (x : Constant) (y : Kind) → (form.constant_by bits y).says i x o → begins_operand y ≡ true
 constant_kind bits i o x k.Number h = refl
+constant_kind bits i o x k.Word h = refl
 constant_kind bits i o x k.True h = refl
 constant_kind bits i o x k.False h = refl
 constant_kind bits i o x k.Null h = refl
@@ -115,7 +123,7 @@ constant_kind bits i o x k.Zeroinitializer h = refl
 constant_kind bits i o x _ h = absurd h
 
 -- a constant is an operand
-by_constant : (bits : Option ℕ) (i o : Input) (x : Constant) (y : Kind) → (form.constant_by bits y).says i x o → (form.constant bits).says i x o → (form.operand_by bits y).says i (operand.Constant x) o
+by_constant : (bits : Word) (i o : Input) (x : Constant) (y : Kind) → (form.constant_by bits y).says i x o → (form.constant bits).says i x o → (form.operand_by bits y).says i (operand.Constant x) o
 by_constant bits i o x k.LocalName h said = absurd h
 by_constant bits i o x k.LocalNumber h said = absurd h
 by_constant bits i o x k.GlobalName h said = absurd h
@@ -123,12 +131,12 @@ by_constant bits i o x k.Bitcast h said = absurd h
 by_constant bits i o x _ h said = (x, o, said, (refl, refl))
 
 -- so it is read as one
-constant_said : (bits : Option ℕ) (i o : Input) (x : Constant) → (form.constant bits).says i x o → (form.operand bits).says i (operand.Constant x) o
+constant_said : (bits : Word) (i o : Input) (x : Constant) → (form.constant bits).says i x o → (form.operand bits).says i (operand.Constant x) o
 unfolding form.operand form.constant
 constant_said bits i o x h = by_constant bits i o x (kind i.cursor) h h
 
 -- its first token
-constant_ends : (bits : Option ℕ) (i o : Input) (x : Constant) → (form.constant bits).says i x o → begins_operand (kind i.cursor) ≡ true
+constant_ends : (bits : Word) (i o : Input) (x : Constant) → (form.constant bits).says i x o → begins_operand (kind i.cursor) ≡ true
 unfolding form.constant
 constant_ends bits i o x h = constant_kind bits i o x (kind i.cursor) h
 
@@ -137,7 +145,7 @@ no_local : (x : Constant) (n : ℕ) → operand.Constant x ≡ operand.Local n �
 no_local x n e = cc
 
 -- a local name begins with such a token
-local_kind : (bits : Option ℕ) (i o : Input) (n : ℕ) (y : Kind) → (form.operand_by bits y).says i (operand.Local n) o → begins_operand y ≡ true
+local_kind : (bits : Word) (i o : Input) (n : ℕ) (y : Kind) → (form.operand_by bits y).says i (operand.Local n) o → begins_operand y ≡ true
 local_kind bits i o n k.LocalName h = refl
 local_kind bits i o n k.LocalNumber h = refl
 local_kind bits i o n k.GlobalName h = refl
@@ -145,7 +153,7 @@ local_kind bits i o n k.Bitcast h = refl
 local_kind bits i o n _ h = absurd (no_local h.0 n h.3.0)
 
 -- its first token
-local_ends : (bits : Option ℕ) (i o : Input) (n : ℕ) → (form.operand bits).says i (operand.Local n) o → begins_operand (kind i.cursor) ≡ true
+local_ends : (bits : Word) (i o : Input) (n : ℕ) → (form.operand bits).says i (operand.Local n) o → begins_operand (kind i.cursor) ≡ true
 unfolding form.operand
 local_ends bits i o n h = local_kind bits i o n (kind i.cursor) h
 
@@ -284,19 +292,48 @@ module _ {m : Module} {f : Function} (v : Invariant m f) where
 
   -- ---- operands
 
+  -- after the tokens of a constant
+  pub constant_ready : (x : Constant) (i : Input) (bytes rest : Text) (s : ℕ) → Ready v s i bytes → Stands (after_constant x i).cursor rest → length rest ≤ length bytes → Ready v s (after_constant x i) rest
+  constant_ready (constant.Number n) i bytes rest s ready at le = passed v i bytes rest s s ready at (omega (arith, le))
+  constant_ready constant.Null i bytes rest s ready at le = passed v i bytes rest s s ready at (omega (arith, le))
+  constant_ready (constant.Truth t) i bytes rest s ready at le = passed v i bytes rest s s ready at (omega (arith, le))
+  constant_ready (constant.Float n) i bytes rest s ready at le = record {
+    stands = at;
+    ordered = ready.ordered;
+    forms = ready.forms;
+    room = let room = ready.room in record {
+      types = let h = room.types in omega (arith, le, h);
+      structs = let h = room.structs in omega (arith, le, h);
+      symbols = let h = room.symbols in omega (arith, le, h);
+      locals = let h = room.locals in omega (arith, le, h);
+    };
+    holds = v.on_token (advanced i) (v.on_token i ready.holds);
+  }
+
+  -- they change no table
+  pub constant_grows : (x : Constant) (i : Input) → Grows i (after_constant x i)
+  constant_grows (constant.Number n) i = grows_advanced v i
+  constant_grows constant.Null i = grows_advanced v i
+  constant_grows (constant.Truth t) i = grows_advanced v i
+  constant_grows (constant.Float n) i = grows_further i (advanced i) (advanced (advanced i)) (grows_advanced v i) (grows_advanced v (advanced i))
+
+  -- no fewer bytes are before a word and what follows it
+  pub word_longer : (gap word rest : Text) → length rest ≤ length (gap ++ (word ++ rest))
+  word_longer gap word rest = let a = length-append gap (word ++ rest) in let b = length-append word rest in omega (arith, a, b)
+
   -- a constant is read as itself
-  constant_reads : (shape : Shape) (x : Constant) (i : Input) (gap rest : Text) (s : ℕ) → FitsType (bits_of_shape shape) x → AreBlanks gap → IsSeam rest
-      → Ready v s i (gap ++ (constant_shown (bits_of_shape shape) x ++ rest)) → Reads v s (form.constant (bits_of_shape shape)) i rest (λ y o. x ≡ y)
+  constant_reads : (shape : Shape) (x : Constant) (i : Input) (gap rest : Text) (s : ℕ) → FitsType (word_of_shape shape) x → AreBlanks gap → IsSeam rest
+      → Ready v s i (gap ++ (constant_shown (word_of_shape shape) x ++ rest)) → Reads v s (form.constant (word_of_shape shape)) i rest (λ y o. x ≡ y)
   constant_reads shape x i gap rest s fits blanks seam ready =
-      let r = constant_is_read (bits_of_shape shape) x i gap rest fits blanks seam ready.stands in
-      (x, advanced i, r.0, passed v i (gap ++ (constant_shown (bits_of_shape shape) x ++ rest)) rest s s ready r.1 (shorter v gap (constant_shown (bits_of_shape shape) x) rest s s (omega arith)), grows_advanced v i, refl)
+      let r = constant_is_read (word_of_shape shape) x i gap rest fits blanks seam ready.stands in
+      (x, after_constant x i, r.0, constant_ready x i (gap ++ (constant_shown (word_of_shape shape) x ++ rest)) rest s ready r.1 (word_longer gap (constant_shown (word_of_shape shape) x) rest), constant_grows x i, refl)
 
   -- a local name is read as an operand
   local_reads : (shape : Shape) (value : ℕ) (i : Input) (gap rest : Text) (s : ℕ) → IsIn (name_at f.locals value) (used_keys f wants.Value) → AreBlanks gap → IsSeam rest
-      → Ready v s i (gap ++ (local_text f.locals value ++ rest)) → Reads v s (form.operand (bits_of_shape shape)) i rest (OperandAgain m f.locals (operand.Local value))
+      → Ready v s i (gap ++ (local_text f.locals value ++ rest)) → Reads v s (form.operand (word_of_shape shape)) i rest (OperandAgain m f.locals (operand.Local value))
   local_reads shape value i gap rest s there blanks seam ready =
       let key = name_at f.locals value in
-      let r = local_operands_are_read (bits_of_shape shape) f.locals value i gap rest (v.is_key wants.Value key there) (local_few i _ s key ready) blanks seam ready.stands in (
+      let r = local_operands_are_read (word_of_shape shape) f.locals value i gap rest (v.is_key wants.Value key there) (local_few i _ s key ready) blanks seam ready.stands in (
         operand.Local (number_of key i.locals.names),
         with_local_use wants.Value i,
         r.0,
@@ -307,13 +344,13 @@ module _ {m : Module} {f : Function} (v : Invariant m f) where
 
   -- the name of a global is read as an operand
   global_operand_reads : (shape : Shape) (symbol : ℕ) (i : Input) (gap rest : Text) (s : ℕ) → IsGlobalUse m symbol → AreBlanks gap → IsSeam rest
-      → Ready v s i (gap ++ (global_text m symbol ++ rest)) → Reads v s (form.operand (bits_of_shape shape)) i rest (OperandAgain m f.locals (operand.Global symbol))
+      → Ready v s i (gap ++ (global_text m symbol ++ rest)) → Reads v s (form.operand (word_of_shape shape)) i rest (OperandAgain m f.locals (operand.Global symbol))
   unfolding form.operand
   global_operand_reads shape symbol i gap rest s used blanks seam ready =
       let name = name_at m.symbols symbol in
       let good = OperandAgain m f.locals (operand.Global symbol) in
       let is = v.is_symbol false name used.0 in
-      looked v (λ i. kind i.cursor) (form.operand_by (bits_of_shape shape)) i rest s good k.GlobalName (global_seen name i gap rest s is.0 blanks seam ready)
+      looked v (λ i. kind i.cursor) (form.operand_by (word_of_shape shape)) i rest s good k.GlobalName (global_seen name i gap rest s is.0 blanks seam ready)
       (go_on v used_global (λ n. pure (operand.Global n)) i rest rest s s (λ n o. slice_get o.symbols.names n ≡ Some name) good
       (global_reads name i gap rest s used.0 used.1 blanks seam ready)
       (λ number o ready g there. given v (operand.Global number) o rest s good ready
@@ -322,7 +359,7 @@ module _ {m : Module} {f : Function} (v : Invariant m f) where
   -- a bitcast of a global is read as an operand
   cast_reads : (shape first second : Shape) (from symbol to : ℕ) (i : Input) (gap rest : Text) (s : ℕ)
       → IsType m first from → is_pointer_shape first ≡ true → IsGlobalUse m symbol → IsType m second to → is_pointer_shape second ≡ true → AreBlanks gap
-      → Ready v s i (gap ++ (cast_global_text m from symbol to ++ rest)) → Reads v s (form.operand (bits_of_shape shape)) i rest (OperandAgain m f.locals (operand.CastGlobal from symbol to))
+      → Ready v s i (gap ++ (cast_global_text m from symbol to ++ rest)) → Reads v s (form.operand (word_of_shape shape)) i rest (OperandAgain m f.locals (operand.CastGlobal from symbol to))
   unfolding form.operand form.cast form.cast_operand word_kind keywords class_of
   cast_reads shape first second from symbol to i gap rest s a pa used b pb blanks ready =
       let name = name_at m.symbols symbol in
@@ -339,7 +376,7 @@ module _ {m : Module} {f : Function} (v : Invariant m f) where
       let t1 = shown false first ++ t2 in
       let there : Ready v s i (gap ++ (cast_by (shown false first) (global_text m symbol) (shown false second) ++ rest)) = subst (λ (x : Text). Ready v s i (gap ++ (x ++ rest))) whole ready in
       let there : Ready v s i (gap ++ (codes "bitcast" ++ (32 ∷ 40 ∷ (shown false first ++ (32 ∷ 64 ∷ (name_text blank.Kept (name_at m.symbols symbol) ++ (codes " to " ++ (shown false second ++ 41 ∷ rest)))))))) = simp append_assoc at there in
-      looked v (λ i. kind i.cursor) (form.operand_by (bits_of_shape shape)) i rest s good k.Bitcast (word_seen v (codes "bitcast") i gap (32 ∷ 40 ∷ t1) s blanks refl refl there)
+      looked v (λ i. kind i.cursor) (form.operand_by (word_of_shape shape)) i rest s good k.Bitcast (word_seen v (codes "bitcast") i gap (32 ∷ 40 ∷ t1) s blanks refl refl there)
       (go_on v skip (λ _. form.cast_after) i (32 ∷ 40 ∷ t1) rest s s (λ _ o. advanced i ≡ o) good
       (word_skipped v (codes "bitcast") i gap (32 ∷ 40 ∷ t1) s s blanks refl refl (omega arith) there)
       (λ _ o ready g e.
@@ -372,32 +409,32 @@ module _ {m : Module} {f : Function} (v : Invariant m f) where
       ))))))))))
 
   -- an operand is read as this one again
-  pub operand_reads : (shape : Shape) (t : ℕ) (x : Operand) (i : Input) (gap rest : Text) (s : ℕ) → HasShape m.types m.struct_names shape t → IsOperand m f (bits_of_shape shape) x → AreBlanks gap → IsSeam rest
-      → Ready v s i (gap ++ (operand_text m f.locals t x ++ rest)) → Reads v s (form.operand (bits_of_shape shape)) i rest (OperandAgain m f.locals x)
+  pub operand_reads : (shape : Shape) (t : ℕ) (x : Operand) (i : Input) (gap rest : Text) (s : ℕ) → HasShape m.types m.struct_names shape t → IsOperand m f (word_of_shape shape) x → AreBlanks gap → IsSeam rest
+      → Ready v s i (gap ++ (operand_text m f.locals t x ++ rest)) → Reads v s (form.operand (word_of_shape shape)) i rest (OperandAgain m f.locals x)
   operand_reads shape t (operand.Constant x) i gap rest s has own blanks seam ready =
       let text = constant_by_shape m shape t x has in
       let r = constant_reads shape x i gap rest s own blanks seam (subst (λ (y : Text). Ready v s i (gap ++ (y ++ rest))) text ready) in
-      let said = subst (λ (y : Constant). (form.constant (bits_of_shape shape)).says i y r.1) (sym r.5) r.2 in
-      (operand.Constant x, r.1, constant_said (bits_of_shape shape) i r.1 x said, r.3, r.4, λ n others later. refl)
+      let said = subst (λ (y : Constant). (form.constant (word_of_shape shape)).says i y r.1) (sym r.5) r.2 in
+      (operand.Constant x, r.1, constant_said (word_of_shape shape) i r.1 x said, r.3, r.4, λ n others later. refl)
   operand_reads shape t (operand.Local value) i gap rest s has own blanks seam ready = local_reads shape value i gap rest s own blanks seam ready
   operand_reads shape t (operand.Global symbol) i gap rest s has own blanks seam ready = global_operand_reads shape symbol i gap rest s own blanks seam ready
   operand_reads shape t (operand.CastGlobal from symbol to) i gap rest s has own blanks seam ready =
       cast_reads shape own.0.0 own.2.0 from symbol to i gap rest s own.0.1 own.0.2 own.1 own.2.1 own.2.2 blanks ready
 
   -- no type goes on with an operand
-  pub operand_begins : (shape : Shape) (t : ℕ) (x : Operand) (rest : Text) → HasShape m.types m.struct_names shape t → IsOperand m f (bits_of_shape shape) x → IsSeam rest
+  pub operand_begins : (shape : Shape) (t : ℕ) (x : Operand) (rest : Text) → HasShape m.types m.struct_names shape t → IsOperand m f (word_of_shape shape) x → IsSeam rest
       → Comes begins_operand (32 ∷ (operand_text m f.locals t x ++ rest))
   unfolding class_of word_kind keywords
   operand_begins shape t x rest has own seam = (λ i at. by x own i at) where
-    by : (x : Operand) → IsOperand m f (bits_of_shape shape) x → (i : Input) → Stands i.cursor (32 ∷ (operand_text m f.locals t x ++ rest)) → begins_operand (kind i.cursor) ≡ true
+    by : (x : Operand) → IsOperand m f (word_of_shape shape) x → (i : Input) → Stands i.cursor (32 ∷ (operand_text m f.locals t x ++ rest)) → begins_operand (kind i.cursor) ≡ true
     by (operand.Constant x) own i at =
-        let at : Stands i.cursor ((32 ∷ []) ++ (constant_shown (bits_of_shape shape) x ++ rest)) = subst (λ (y : Text). Stands i.cursor (32 ∷ (y ++ rest))) (constant_by_shape m shape t x has) at in
-        constant_ends (bits_of_shape shape) i (advanced i) x (constant_is_read (bits_of_shape shape) x i (32 ∷ []) rest own refl seam at).0
+        let at : Stands i.cursor ((32 ∷ []) ++ (constant_shown (word_of_shape shape) x ++ rest)) = subst (λ (y : Text). Stands i.cursor (32 ∷ (y ++ rest))) (constant_by_shape m shape t x has) at in
+        constant_ends (word_of_shape shape) i (after_constant x i) x (constant_is_read (word_of_shape shape) x i (32 ∷ []) rest own refl seam at).0
     by (operand.Local value) own i at =
         let key = name_at f.locals value in
         let few : number_of key (start_of i.cursor).locals.names < 2 ^ 32 = omega arith in
-        let r = local_operands_are_read (bits_of_shape shape) f.locals value (start_of i.cursor) (32 ∷ []) rest (v.is_key wants.Value key own) few refl seam at in
-        local_ends (bits_of_shape shape) (start_of i.cursor) _ _ r.0
+        let r = local_operands_are_read (word_of_shape shape) f.locals value (start_of i.cursor) (32 ∷ []) rest (v.is_key wants.Value key own) few refl seam at in
+        local_ends (word_of_shape shape) (start_of i.cursor) _ _ r.0
     by (operand.Global symbol) own i at = ap begins_operand (global_comes i.cursor (32 ∷ []) (name_at m.symbols symbol) rest refl (v.is_symbol false _ own.0).0 seam at).0
     by (operand.CastGlobal from symbol to) own i at =
         let afterwards = 32 ∷ 40 ∷ (type_text m from ++ (32 ∷ (global_text m symbol ++ (codes " to " ++ (type_text m to ++ 41 ∷ rest))))) in
@@ -405,6 +442,6 @@ module _ {m : Module} {f : Function} (v : Invariant m f) where
         ap begins_operand (word_comes i.cursor (32 ∷ []) (codes "bitcast") afterwards refl refl refl at).0
 
   -- so an operand ends a type
-  pub ends_operand : (shape : Shape) (t : ℕ) (x : Operand) (rest : Text) → HasShape m.types m.struct_names shape t → IsOperand m f (bits_of_shape shape) x → IsSeam rest → EndsType (32 ∷ (operand_text m f.locals t x ++ rest))
+  pub ends_operand : (shape : Shape) (t : ℕ) (x : Operand) (rest : Text) → HasShape m.types m.struct_names shape t → IsOperand m f (word_of_shape shape) x → IsSeam rest → EndsType (32 ∷ (operand_text m f.locals t x ++ rest))
   unfolding class_of
   ends_operand shape t x rest has own seam = (refl, λ i at. type_ended (kind i.cursor) (operand_begins shape t x rest has own seam i at))

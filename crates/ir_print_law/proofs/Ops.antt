@@ -1,10 +1,11 @@
 -- Operations are read alike in both.
-use Rattle.std.proofs.Common.{◌≡◌, ℕ, Bool, true, false, not, Option, None, Some, refl, sym, ap, ap₂, subst, ◌∙◌, rules}
+use Rattle.std.proofs.Common.{◌≡◌, ℕ, Bool, true, false, not, Option, None, Some, refl, sym, ap, ap₂, subst, ◌∙◌}
 use Rattle.std.specs.Prelude.{◌&&◌}
 use Rattle.ir_tokens.specs.declared.token.Kind.{Kind}
 use Rattle.ir_tokens.specs.declared.token.Kind.TheVariants as k
 use Rattle.grammar.specs.Grammar.{pure}
 use Rattle.ir_ast.specs.declared.calls.Call.{Call}
+use Rattle.ir_ast.specs.declared.casts.Cast.{Cast}
 use Rattle.ir_ast.specs.declared.function.LocalSort.TheVariants as local
 use Rattle.ir_ast.specs.declared.ir_type.IrType.TheVariants as type
 use Rattle.ir_ast.specs.declared.memory.MemoryOp.{MemoryOp}
@@ -16,6 +17,8 @@ use Rattle.ir_ast.specs.declared.numbers.NumberOp.{NumberOp}
 use Rattle.ir_ast.specs.declared.numbers.Resize.{Resize}
 use Rattle.ir_ast.specs.declared.op.Op.{Op}
 use Rattle.ir_ast.specs.declared.op.Op.TheVariants as op
+use Rattle.ir_ast.specs.declared.operand.Constant.TheVariants as constant
+use Rattle.ir_ast.specs.declared.operand.Operand.TheVariants as operand
 use Rattle.ir_forms.specs.Cursor.{kind, kind_after, kind_third, same_kind}
 use Rattle.ir_forms.specs.declared.choices.Entries.{Entries}
 use Rattle.ir_forms.specs.declared.decorating.Spot.TheVariants as spot
@@ -24,37 +27,46 @@ use Rattle.ir_forms.specs.declared.input.Input.{Input}
 use Rattle.ir_forms.specs.declared.site.Site.{Site}
 use Rattle.ir_forms.specs.declared.written.WrittenType.{WrittenType}
 use Rattle.ir_forms.specs.Input.{Form, unexpected, unread, skip}
-use Rattle.ir_forms.specs.Decorations.{trail_of, either}
+use Rattle.ir_forms.specs.Decorations.{either}
+use Rattle.ir_forms.specs.Records.{trail_of}
 use Rattle.ir_forms.specs.Ops.{as_op}
+use Rattle.ir_forms.specs.FloatOps as floats
+use Rattle.ir_forms.specs.FloatOps.{float_word_here, number_op_by, as_number}
+use Rattle.ir_forms.specs.declared.float_ops.FloatWord.{FloatWord}
+use Rattle.ir_print_law.proofs.AnewFloats.{float_word_same, float_op_same}
 use Rattle.ir_forms.specs.Instructions.{wide_op_by, wide_op, named_op_by}
-use Rattle.ir_tokens.specs.contracts.token.Kind.{the_type}
-use denote.Enum.Bare.{same_true}
 use Rattle.ir_forms.specs.Starts.{is_indirect_callee}
-use Rattle.ir_forms.specs.Written.{bits_of}
-use Rattle.ir_forms.specs.Numbers.{pair, arithmetic_of, arithmetic, wide_here, wide_by, wide_or_resized, wide_arithmetic, exact, is_exact, resize_of, resize, comparison_of, comparison_by, comparison, compare, bit_type, condition, resize_by, resized, arithmetic_by, integer_op}
+use Rattle.ir_forms.specs.Written.{word_of}
+use Rattle.ir_forms.specs.Numbers.{typed_integer, pair, arithmetic_of, arithmetic, wide_here, wide_by, wide_or_resized, wide_arithmetic, exact, is_exact, resize_of, resize, comparison_of, comparison_by, comparison, compare, bit_type, condition, resize_by, resized, arithmetic_by, integer_op}
 use Rattle.ir_forms.specs.Memory.{alloca, place_of, load, store}
 use Rattle.ir_forms.specs.Elements.{element}
 use Rattle.ir_forms.specs.Casts.{bitcast, freezes, freeze}
 use Rattle.ir_forms.specs.Choices.{typed_pair, select, separated, incoming, entry, entry_takes, ends_entries, after_entry, all_entries, is_local, begins_phi, at_no_phi, phi_value_by, phi_value, phi, phi_takes, phis}
-use Rattle.ir_forms.specs.Calls.{called_by, called, call_after, typed_call, call, valued, unnamed, void_call, numbered_call, call_by, call_statement_after, call_statement, sees_call, tail_call, tail_call_statement}
+use Rattle.ir_forms.specs.StandIns.{stand_in, first_of, null_of}
+use Rattle.ir_forms.specs.declared.stand_ins.StandIn.{StandIn}
+use Rattle.ir_forms.specs.declared.stand_ins.StandIn.TheVariants.{Itself, First, Null}
+use Rattle.ir_forms.specs.Calls.{called_by, called, call_after, call_of, typed_call, named_call_by, named_call, call, valued, unnamed, void_call, numbered_call, call_by, call_statement_after, call_statement, sees_call, tail_call, tail_call_statement}
+use Rattle.ir_forms.specs.declared.written.Word.{Word}
+use Rattle.ir_forms.specs.declared.written.Word.TheVariants as sort
 use Rattle.ir_print_law.specs.Shapes.{Integer}
 use Rattle.ir_print_law.proofs.Seats.{Seat, Beside, sees_same, spelling_same, kind_same, after_same, third_same}
 use Rattle.ir_print_law.proofs.Sim.{Between, Any, Equal, At, Both, Same, past, both, by, and, then, give, gives, refuses, so, tells, by_kind, kinds, looks, lists, lists_by}
 use Rattle.ir_print_law.proofs.AnewSteps.{skip_same, expect_same, seen}
 use Rattle.ir_print_law.proofs.Names.{set_sort_at, callee_same, new_value_at, numbered_value_at, unnamed_value_at, incoming_label_at}
-use Rattle.ir_print_law.proofs.AnewTypes.{Written, written_later, bits_same, intern_at, scalar_at, any_type_at}
+use Rattle.ir_print_law.proofs.AnewTypes.{Written, written_later, bits_same, intern_at, integer_scalar_at, scalar_at, any_type_at}
 use Rattle.ir_print_law.proofs.Again.{again_at, pointer_again_at}
-use Rattle.ir_print_law.proofs.AnewOperands.{operand_same, operand_at, arguments_same, typed_same, comma_same, indices_same}
-use Rattle.ir_print_law.proofs.AnewDecorations.{Trails, optional_same, decorations_same, flagged_same, instruction_end_same, trailed_at}
+use Rattle.ir_print_law.proofs.AnewOperands.{operand_same, operand_at, argument_same, arguments_same, typed_same, comma_same, indices_same}
+use Rattle.ir_print_law.proofs.AnewDecorations.{optional_same, past_brackets_same, decorations_same, flagged_same}
+use Rattle.ir_print_law.proofs.AnewRecords.{Trails, equals_is, stands_same, instruction_end_same, trailed_at}
 
 module _ (s : Seat) where
   -- ---- numbers
 
   pair_same : Same s pair
   unfolding pair
-  pair_same i j = then s (scalar_at s i j) (λ v u m q h x y.
+  pair_same i j = then s (integer_scalar_at s i j) (λ v u m q h x y.
       let bits = bits_same m q v u h in
-      and s (operand_at s (bits_of v) (bits_of u) bits m q) (λ a b i j. past s (expect_same s k.Comma i j) (λ i j. and s (operand_at s (bits_of v) (bits_of u) bits i j)
+      and s (operand_at s (word_of v) (word_of u) bits m q) (λ a b i j. past s (expect_same s k.Comma i j) (λ i j. and s (operand_at s (word_of v) (word_of u) bits i j)
       (λ c d. gives s (record { written = v.id; first = a; second = c }) (record { written = u.id; first = b; second = d })))))
 
   arithmetic_same : (x : Arithmetic) (value : ℕ) → Same s (arithmetic x value)
@@ -81,10 +93,15 @@ module _ (s : Seat) where
       past s (flagged_same s i j) (λ i j. past s (exact_same i j) (λ i j. and s (pair_same i j) (λ a b i j. past s (set_sort_at s value (local.Value a.written) (local.Value b.written) refl i j)
       (gives s (number.Arithmetic x a.written a.first a.second) (number.Arithmetic x b.written b.first b.second)))))
 
+  typed_integer_same : Same s typed_integer
+  unfolding typed_integer
+  typed_integer_same i j = then s (integer_scalar_at s i j) (λ v u m q h x y.
+      and s (operand_at s (word_of v) (word_of u) (bits_same m q v u h) m q) (λ a b. gives s (record { written = v.id; operand = a }) (record { written = u.id; operand = b })))
+
   resize_same : (x : Resize) (value : ℕ) → Same s (resize x value)
   unfolding resize
   resize_same x value i j =
-      past s (flagged_same s i j) (λ i j. and s (typed_same s i j) (λ a b i j. past s (expect_same s k.To i j) (λ i j. and s (scalar_at s i j) (λ v u i j.
+      past s (flagged_same s i j) (λ i j. and s (typed_integer_same i j) (λ a b i j. past s (expect_same s k.To i j) (λ i j. and s (integer_scalar_at s i j) (λ v u i j.
       past s (set_sort_at s value (local.Value v.id) (local.Value u.id) refl i j) (gives s (number.Resize x a.written a.operand v.id) (number.Resize x b.written b.operand u.id))))))
 
   comparison_by_same : (x : Option Comparison) → Same s (comparison_by x)
@@ -105,7 +122,7 @@ module _ (s : Seat) where
   unfolding condition
   condition_same i j =
       then s (intern_at s (type.Integer 1) (type.Integer 1) i j) (λ a b m q v x y. past s (again_at s (bit_type a) (bit_type b) m q (Integer 1, v.0, v.1)) (λ i j.
-      and s (operand_same s (Some 1) i j) (λ c d. gives s (record { written = a; operand = c }) (record { written = b; operand = d }))))
+      and s (operand_same s (sort.Integer 1) i j) (λ c d. gives s (record { written = a; operand = c }) (record { written = b; operand = d }))))
 
   resize_by_same : (value : ℕ) (x : Option Resize) → Same s (resize_by value x)
   resize_by_same value None = refuses s unexpected
@@ -150,7 +167,7 @@ module _ (s : Seat) where
   place_at : (v u : WrittenType) (i j : Input) → Written i j v u → At s Any (place_of v) (place_of u) i j
   unfolding place_of
   place_at v u i j h =
-      and s (pointer_again_at s v u i j h) (λ a b i j. and s (operand_same s None i j) (λ c d. gives s (record { written = a; operand = c }) (record { written = b; operand = d })))
+      and s (pointer_again_at s v u i j h) (λ a b i j. and s (operand_same s sort.Pointer i j) (λ c d. gives s (record { written = a; operand = c }) (record { written = b; operand = d })))
 
   load_at : (value : ℕ) → Both s Memories (load value) (load value)
   unfolding load
@@ -163,7 +180,7 @@ module _ (s : Seat) where
   unfolding store
   store_at i j =
       past s (skip_same s i j) (λ i j. past s (optional_same s k.Volatile i j) (λ i j. then s (scalar_at s i j) (λ v u m q h x y.
-      then s (operand_at s (bits_of v) (bits_of u) (bits_same m q v u h) m q) (λ a b m1 q1 _ x1 y1. then s (expect_same s k.Comma m1 q1) (λ _ _ m2 q2 _ x2 y2.
+      then s (operand_at s (word_of v) (word_of u) (bits_same m q v u h) m q) (λ a b m1 q1 _ x1 y1. then s (expect_same s k.Comma m1 q1) (λ _ _ m2 q2 _ x2 y2.
       and s (place_at v u m2 q2 (written_later m1 q1 m2 q2 v u x2 y2 (written_later m q m1 q1 v u x1 y1 h))) (λ c d i j.
       give s {V = Memories} (memory.Store v.id a c.written c.operand) (memory.Store u.id b d.written d.operand) refl))))))
 
@@ -199,9 +216,9 @@ module _ (s : Seat) where
   unfolding typed_pair
   typed_pair_same i j =
       then s (scalar_at s i j) (λ v u m q h x y.
-      then s (operand_at s (bits_of v) (bits_of u) (bits_same m q v u h) m q) (λ a b m1 q1 _ x1 y1. then s (expect_same s k.Comma m1 q1) (λ _ _ m2 q2 _ x2 y2.
+      then s (operand_at s (word_of v) (word_of u) (bits_same m q v u h) m q) (λ a b m1 q1 _ x1 y1. then s (expect_same s k.Comma m1 q1) (λ _ _ m2 q2 _ x2 y2.
       let later = written_later m1 q1 m2 q2 v u x2 y2 (written_later m q m1 q1 v u x1 y1 h) in
-      past s (again_at s v u m2 q2 later.3) (λ i j. and s (operand_at s (bits_of v) (bits_of u) (bits_same m q v u h) i j)
+      past s (again_at s v u m2 q2 later.3) (λ i j. and s (operand_at s (word_of v) (word_of u) (bits_same m q v u h) i j)
       (λ c d. gives s (record { written = v.id; first = a; second = c }) (record { written = u.id; first = b; second = d }))))))
 
   select_same : (value : ℕ) → Same s (select value)
@@ -217,7 +234,7 @@ module _ (s : Seat) where
   separated_same true = expect_same s k.Comma
   separated_same false = gives s {A = Unit {0}} {B = Unit {0}} tt tt
 
-  incoming_same : (bits : Option ℕ) → Same s (incoming bits)
+  incoming_same : (bits : Word) → Same s (incoming bits)
   unfolding incoming
   incoming_same bits i j =
       past s (expect_same s k.OpenSquare i j) (λ i j. and s (operand_same s bits i j) (λ a b i j. past s (expect_same s k.Comma i j) (λ i j. and s (incoming_label_at s i j) (λ c d i j.
@@ -225,24 +242,20 @@ module _ (s : Seat) where
 
   entry_same : (e : Entries) → Same s (entry e)
   unfolding entry
-  entry_same e = both s (separated_same e.is_further) (incoming_same e.bits)
+  entry_same e = both s (separated_same e.is_further) (incoming_same e.word)
 
-  entries_same : (bits : Option ℕ) → Same s (all_entries bits)
+  entries_same : (bits : Word) → Same s (all_entries bits)
   unfolding all_entries
   entries_same bits =
       lists_by s ends_entries entry entry_takes after_entry (λ c i j b. ap (λ (x : Bool). c.is_further && x) (comma_same s i j b)) (λ c i j. so s {V = Any} (λ o p a b e. refl) (entry_same c i j))
-      (record { bits = bits; is_further = false })
+      (record { word = bits; is_further = false })
 
-  entries_at : (bits other : Option ℕ) → bits ≡ other → Both s Any (all_entries bits) (all_entries other)
-  entries_at bits other same i j = subst (λ (x : Option ℕ). At s Any (all_entries bits) (all_entries x) i j) same (entries_same bits i j)
+  entries_at : (bits other : Word) → bits ≡ other → Both s Any (all_entries bits) (all_entries other)
+  entries_at bits other same i j = subst (λ (x : Word). At s Any (all_entries bits) (all_entries x) i j) same (entries_same bits i j)
 
   -- a name is no brace that closes
   local_apart : (x : Kind) → is_local x ≡ true → x ≡ k.CloseBrace → ⊥
   local_apart x is same = let bad = sym (ap is_local same) ∙ is in cc
-
-  equals_is : (x y : Kind) → same_kind x y ≡ true → x ≡ y
-  unfolding same_kind
-  equals_is x y e = same_true the_type (search rules) _ _ e
 
   phi_same_by : (i j : Input) → Beside s i j → (t : Bool) → is_local (kind j.cursor) ≡ t → begins_phi i ≡ begins_phi j
   phi_same_by i j b false e =
@@ -280,7 +293,7 @@ module _ (s : Seat) where
   unfolding phi
   phi_same i j =
       by s (phi_value_at i j) (λ value i j. past s (expect_same s k.Equals i j) (λ i j. past s (expect_same s k.Phi i j) (λ i j. then s (scalar_at s i j) (λ v u m q h x y.
-      and s (entries_at (bits_of v) (bits_of u) (bits_same m q v u h) m q) (λ xs ys i j. past s (set_sort_at s value (local.Value v.id) (local.Value u.id) refl i j) (λ i j.
+      and s (entries_at (word_of v) (word_of u) (bits_same m q v u h) m q) (λ xs ys i j. past s (set_sort_at s value (local.Value v.id) (local.Value u.id) refl i j) (λ i j.
       past s (instruction_end_same s trail.Other i j) (gives s (record { value = value; written = v.id; incoming = xs }) (record { value = value; written = u.id; incoming = ys }))))))))
 
   pub phis_same : Same s phis
@@ -299,13 +312,11 @@ module _ (s : Seat) where
       and s (by_kind s called_by called_by_same i j) (λ f g i j. past s (expect_same s k.OpenRound i j) (λ i j. and s (arguments_same s i j) (λ xs ys i j.
       past s (expect_same s k.CloseRound i j) (λ i j. past s (decorations_same s spot.Call i j) (gives s (record { returned = a; callee = f; arguments = xs }) (record { returned = b; callee = g; arguments = ys }))))))
 
-  typed_call_same : (value : ℕ) → Same s (typed_call value)
-  typed_call_same value i j =
-      and s (scalar_at s i j) (λ v u i j. and s (call_after_at v.id u.id i j) (λ a b i j. past s (set_sort_at s value (local.Value v.id) (local.Value u.id) refl i j) (gives s a b)))
+  call_of_at : (value a b : ℕ) → Both s Any (call_of value a) (call_of value b)
+  call_of_at value a b i j = and s (call_after_at a b i j) (λ x y i j. past s (set_sort_at s value (local.Value a) (local.Value b) refl i j) (gives s x y))
 
-  call_same : (value : ℕ) → Same s (call value)
-  unfolding call
-  call_same value i j = past s (skip_same s i j) (λ i j. past s (decorations_same s spot.Result i j) (typed_call_same value))
+  typed_call_same : (value : ℕ) → Same s (typed_call value)
+  typed_call_same value i j = and s (scalar_at s i j) (λ v u. call_of_at value v.id u.id)
 
   -- an operation after which the same may follow
   pub valued_at : (value : ℕ) (x y : Op) → trail_of x ≡ trail_of y → Both s Any (valued value x) (valued value y)
@@ -316,6 +327,39 @@ module _ (s : Seat) where
 
   call_op : {g : Form Call} → Same s g → Both s Trails (as_op op.Call g) (as_op op.Call g)
   call_op same i j = and s (same i j) (λ x y i j. give s {V = Trails} (op.Call x) (op.Call y) refl)
+
+  -- ---- what stands in the place of a call
+
+  first_of_same : (value : ℕ) → Same s (first_of value)
+  unfolding first_of
+  first_of_same value i j =
+      past s (skip_same s i j) (λ i j. past s (expect_same s k.OpenRound i j) (λ i j. and s (argument_same s i j) (λ x y i j. past s (past_brackets_same s i j) (λ i j.
+      past s (decorations_same s spot.Call i j) (λ i j. past s (set_sort_at s value (local.Value x.written) (local.Value y.written) refl i j)
+      (gives s (record { from = x.written; operand = x.operand; to = x.written }) (record { from = y.written; operand = y.operand; to = y.written })))))))
+
+  null_of_at : (value a b : ℕ) → Both s Any (null_of value a) (null_of value b)
+  unfolding null_of
+  null_of_at value a b i j =
+      past s (skip_same s i j) (λ i j. past s (expect_same s k.OpenRound i j) (λ i j. past s (past_brackets_same s i j) (λ i j.
+      past s (decorations_same s spot.Call i j) (λ i j. past s (set_sort_at s value (local.Value a) (local.Value b) refl i j)
+      (gives s (record { from = a; operand = operand.Constant constant.Null; to = a }) (record { from = b; operand = operand.Constant constant.Null; to = b }))))))
+
+  cast_op : {g h : Form Cast} → Both s Any g h → Both s Trails (as_op op.Cast g) (as_op op.Cast h)
+  cast_op same i j = and s (same i j) (λ x y i j. give s {V = Trails} (op.Cast x) (op.Cast y) refl)
+
+  named_call_by_at : (value a b : ℕ) (x : StandIn) → Both s Trails (named_call_by value a x) (named_call_by value b x)
+  named_call_by_at value a b Itself = λ i j. and s (call_of_at value a b i j) (λ x y i j. give s {V = Trails} (op.Call x) (op.Call y) refl)
+  named_call_by_at value a b First = cast_op (first_of_same value)
+  named_call_by_at value a b Null = cast_op (null_of_at value a b)
+
+  named_call_at : (value : ℕ) → Both s Trails (named_call value) (named_call value)
+  named_call_at value i j =
+      and s (scalar_at s i j) (λ v u i j.
+      looks s {V = Trails} stand_in stand_in (named_call_by value v.id) (named_call_by value u.id) i j (stands_same s i j) (λ x. named_call_by_at value v.id u.id x i j))
+
+  call_at : (value : ℕ) → Both s Trails (call value) (call value)
+  unfolding call
+  call_at value i j = past s (skip_same s i j) (λ i j. past s (decorations_same s spot.Result i j) (named_call_at value))
 
   void_call_same : Same s void_call
   unfolding void_call
@@ -339,9 +383,9 @@ module _ (s : Seat) where
   sees_call_same : Same s sees_call
   sees_call_same = both s (skip_same s) (seen s k.Call)
 
-  tail_call_same : (value : ℕ) → Same s (tail_call value)
+  tail_call_at : (value : ℕ) → Both s Trails (tail_call value) (tail_call value)
   unfolding tail_call
-  tail_call_same value = both s sees_call_same (call_same value)
+  tail_call_at value i j = past s (sees_call_same i j) (call_at value)
 
   pub tail_statement_same : Same s tail_call_statement
   unfolding tail_call_statement
@@ -358,9 +402,14 @@ module _ (s : Seat) where
   pub store_op : Both s Trails (as_op op.Memory store) (as_op op.Memory store)
   store_op = memory_op store_at
 
+  number_op_by_at : (value : ℕ) (x : Option FloatWord) → Both s Trails (number_op_by value x) (number_op_by value x)
+  number_op_by_at value None = number_op (integer_op_same value)
+  number_op_by_at value (Some x) = λ i j. and s (float_op_same s value x i j) (λ x y i j. give s {V = Trails} (as_number x) (as_number y) refl)
+
   wide_op_by_at : (value : ℕ) (x : Bool) → Both s Trails (wide_op_by value x) (wide_op_by value x)
+  unfolding floats.number_op
   wide_op_by_at value true = λ i j. and s (freeze_same value i j) (λ x y i j. give s {V = Trails} (op.Cast x) (op.Cast y) refl)
-  wide_op_by_at value false = number_op (integer_op_same value)
+  wide_op_by_at value false = λ i j. looks s {V = Trails} float_word_here float_word_here (number_op_by value) (number_op_by value) i j (λ b. float_word_same s i j b) (λ x. number_op_by_at value x i j)
 
   wide_op_at : (value : ℕ) → Both s Trails (wide_op value) (wide_op value)
   unfolding wide_op
@@ -373,8 +422,8 @@ module _ (s : Seat) where
   named_op_by_at site value k.Getelementptr = λ i j. and s (element_same site value i j) (λ x y i j. give s {V = Trails} (op.Element x) (op.Element y) refl)
   named_op_by_at site value k.Icmp = number_op (compare_same value)
   named_op_by_at site value k.Select = λ i j. and s (select_same value i j) (λ x y i j. give s {V = Trails} (op.Choice x) (op.Choice y) refl)
-  named_op_by_at site value k.Call = call_op (call_same value)
-  named_op_by_at site value k.Tail = call_op (tail_call_same value)
-  named_op_by_at site value k.Notail = call_op (tail_call_same value)
+  named_op_by_at site value k.Call = call_at value
+  named_op_by_at site value k.Tail = tail_call_at value
+  named_op_by_at site value k.Notail = tail_call_at value
   named_op_by_at site value k.LeftOut = wide_op_at value
   named_op_by_at site value _ = number_op (integer_op_same value)

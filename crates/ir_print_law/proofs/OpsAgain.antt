@@ -20,7 +20,7 @@ use Rattle.ir_print_law.proofs.Steps.{looked, word_seen, grows_itself}
 use Rattle.ir_print_law.proofs.ArgumentsAgain.{EndsLine}
 use Rattle.ir_print_law.proofs.Parts.{IsLaterAgain, OpAgain}
 use Rattle.ir_forms.specs.Calls as calls
-use Rattle.ir_forms.specs.Decorations.{trail_of}
+use Rattle.ir_forms.specs.Records.{trail_of}
 use Rattle.ir_print_law.proofs.ListsAgain.{line_ended}
 
 -- an operation of a family is one of instructions
@@ -50,7 +50,7 @@ module _ {m : Module} {f : Function} (v : Invariant m f) where
   -- an instruction without a value
   pub unnamed_reads : (x y : Op) (i : Input) (rest : Text) (s : ℕ) → EndsLine rest → OpAgain m f.locals x y i → Ready v s i rest → Reads v s (calls.unnamed y) i rest (PlainAgain m f.locals x)
   unnamed_reads x y i rest s ends again ready =
-      let said = line_ended (trail_of y) i (ends.1 i ready.stands) in
+      let said = line_ended (trail_of y) i (ends.1 i ready.stands) (ends.2 i ready.stands) in
       (record { result = None; op = y }, i, (y, i, (tt, i, said, (refl, refl)), (refl, refl)), ready, grows_itself i, λ n others later. (tt, again n others later))
 
   -- an instruction by its word

@@ -41,7 +41,7 @@ types_given m = record {
   struct_body_read = λ v shape written i gap rest s own is blanks ready.
       struct_body_reads v shape i gap rest s own.2 own.1 is blanks (subst (λ (y : Text). Ready v s i (gap ++ (y ++ rest))) (type_shown m shape written own.0 own.1) ready);
   type_comes = λ shape written place gap rest own blanks seam at.
-      shape_comes (has_opaque m.types) (defined_structs m) shape place gap rest own.2 blanks seam (subst (λ (y : Text). Stands place (gap ++ (y ++ rest))) (type_shown m shape written own.0 own.1) at);
+      shape_comes m.wide (has_opaque m.types) (defined_structs m) shape place gap rest own.2 blanks seam (subst (λ (y : Text). Stands place (gap ++ (y ++ rest))) (type_shown m shape written own.0 own.1) at);
 }
 
 -- ---- instructions
@@ -61,7 +61,7 @@ line_of k.CloseBrace e = refl
 line_of _ e = absurd cc
 
 line_ends : (rest : Text) → EndsOp rest → EndsLine rest
-line_ends rest ends = (ends.0, λ i at. line_of (kind i.cursor) (ends.1 i at))
+line_ends rest ends = (ends.0, λ i at. line_of (kind i.cursor) (ends.1 i at), ends.2)
 
 value_sort : (sort : LocalSort) → parts.IsValueSort sort → IsValueSort sort
 value_sort local.Unknown e = absurd cc

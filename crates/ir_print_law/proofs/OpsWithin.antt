@@ -20,13 +20,15 @@ use Rattle.ir_ast.specs.declared.op.Op.TheVariants as op
 use Rattle.ir_tokens.specs.Bytes.{Text}
 use Rattle.ir_forms.specs.CaseValues.{value_of, with_value}
 use Rattle.ir_forms.specs.declared.case_values.CaseValue.{CaseValue}
+use Rattle.ir_forms.specs.declared.written.Word.{Word}
+use Rattle.ir_forms.specs.declared.written.Word.TheVariants as sort
 use Rattle.ir_print_law.specs.Calls.{IsCall, IsCallWithin}
 use Rattle.ir_print_law.specs.Choices.{IsChoice, IsChoiceWithin}
 use Rattle.ir_print_law.specs.Elements.{IsElement, IsElementWithin}
 use Rattle.ir_print_law.specs.ModuleNames.{HasModuleNames}
 use Rattle.ir_print_law.specs.PartsWithin.{HasType, HasValue, HasBlock, HasResult}
 use Rattle.ir_print_law.specs.Printable.{IsOp, IsInstr, IsIncoming, IsPhi, AreCases, IsEnd, IsBlock}
-use Rattle.ir_print_law.specs.Shapes.{bits_of_shape}
+use Rattle.ir_print_law.specs.Shapes.{word_of_shape}
 use Rattle.ir_print_law.specs.Within.{IsOpWithin, IsInstrWithin, IsIncomingWithin, IsPhiWithin, IsCaseWithin, IsEndWithin, IsBlockWithin}
 use Rattle.ir_print_law.proofs.DefinedWithin.{AreDefinedWithin, AreLocalValues}
 use Rattle.ir_print_law.proofs.PartsWithin.{place_type_within, Wide, wide_module, wide, all_wide, callee_within, block_within, target_within, type_within, operand_within, argument_within, arguments_within, pair_within, converted_within, returned_within}
@@ -40,14 +42,14 @@ module _ (m : Module) (f : Function) (own : HasModuleNames m) (h : AreDefinedWit
   element_within x is = (
     type_within m f own h (is []).0 x.source [] (is []).1,
     place_type_within m (is []).0 x.source x.base_type (is []).2,
-    operand_within m f own h x.base (λ more. (None, (is more).3)),
+    operand_within m f own h x.base (λ more. (sort.Pointer, (is more).3)),
     arguments_within m f own h x.indices (λ more. (is more).5),
   )
 
   choice_within : (x : Choice) → Wide m f (λ m f. IsChoice m f x) → IsChoiceWithin m f x
   choice_within x is = (
     slice_get_within m.types x.condition_type (type.Integer 1) (is []).0.0,
-    operand_within m f own h x.condition (λ more. (Some 1, (is more).0.1)),
+    operand_within m f own h x.condition (λ more. (sort.Integer 1, (is more).0.1)),
     pair_within m f own h x.written x.chosen x.other (λ more. (is more).1),
   )
 
@@ -68,17 +70,17 @@ module _ (m : Module) (f : Function) (own : HasModuleNames m) (h : AreDefinedWit
 
   -- ---- blocks
 
-  incoming_within : (x : Incoming) → Wide m f (λ m f. (bits : Option ℕ) × IsIncoming m f bits x) → IsIncomingWithin m f x
+  incoming_within : (x : Incoming) → Wide m f (λ m f. (bits : Word) × IsIncoming m f bits x) → IsIncomingWithin m f x
   incoming_within x is = (operand_within m f own h x.operand (λ more. ((is more).0, (is more).1.0)), block_within f h x.from (λ more. (is more).1.1))
 
   phi_within : (x : Phi) → Wide m f (λ m f. IsPhi m f x) → HasType m x.written × AllByRecursion (IsIncomingWithin m f) x.incoming
   phi_within x is = (
     type_within m f own h (is []).0 x.written [] (is []).1.0,
-    all_wide (λ more y. IsIncoming (wide_module m more) (wide f more) (bits_of_shape (is more).0) y) (IsIncomingWithin m f) x.incoming
-        (λ y on. incoming_within y (λ more. (bits_of_shape (is more).0, on more))) (λ more. (is more).3),
+    all_wide (λ more y. IsIncoming (wide_module m more) (wide f more) (word_of_shape (is more).0) y) (IsIncomingWithin m f) x.incoming
+        (λ y on. incoming_within y (λ more. (word_of_shape (is more).0, on more))) (λ more. (is more).3),
   )
 
-  cases_within : (xs : List Case) → ((more : List Text) → (bits : Option ℕ) × (seen : List CaseValue) × AreCases (wide f more) bits seen xs) → AllByRecursion (IsCaseWithin f) xs
+  cases_within : (xs : List Case) → ((more : List Text) → (bits : Word) × (seen : List CaseValue) × AreCases (wide f more) bits seen xs) → AllByRecursion (IsCaseWithin f) xs
   cases_within [] is = tt
   cases_within (x ∷ xs) is = (
     target_within f h x.target (λ more. (is more).2.2),
@@ -89,15 +91,15 @@ module _ (m : Module) (f : Function) (own : HasModuleNames m) (h : AreDefinedWit
   end_within (end.Jump target) is = target_within f h target is
   end_within (end.Branch condition_type condition taken other) is = (
     slice_get_within m.types condition_type (type.Integer 1) (is []).0.0,
-    operand_within m f own h condition (λ more. (Some 1, (is more).0.1)),
+    operand_within m f own h condition (λ more. (sort.Integer 1, (is more).0.1)),
     target_within f h taken (λ more. (is more).1),
     target_within f h other (λ more. (is more).2),
   )
   end_within (end.Switch written value otherwise cases) is = (
-    type_within m f own h (is []).0 written [] (is []).1.0,
-    operand_within m f own h value (λ more. (bits_of_shape (is more).0, (is more).2)),
-    target_within f h otherwise (λ more. (is more).3),
-    cases_within cases (λ more. (bits_of_shape (is more).0, [], (is more).4)),
+    type_within m f own h (is []).1.0 written [] (is []).1.1.0,
+    operand_within m f own h value (λ more. (word_of_shape (is more).1.0, (is more).1.2)),
+    target_within f h otherwise (λ more. (is more).1.3),
+    cases_within cases (λ more. (word_of_shape (is more).1.0, [], (is more).1.4)),
   )
   end_within end.Unreachable is = tt
   end_within end.ReturnVoid is = tt

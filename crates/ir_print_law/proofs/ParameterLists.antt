@@ -69,6 +69,7 @@ begins_no_void k.LocalName i o w e h = h
 begins_no_void k.OpenSquare i o w e h = h
 begins_no_void k.OpenBrace i o w e h = h
 begins_no_void k.Ptr i o w e h = h
+begins_no_void k.LeftOut i o w e h = h
 begins_no_void _ i o w e h = absurd cc
 
 begins_no_round : (x : Kind) → begins_type x ≡ true → x ≡ k.CloseRound → ⊥

@@ -1,5 +1,5 @@
 -- Parts of instructions: operands with their types, targets, and lists.
-use Rattle.std.proofs.Common.{◌≡◌, ℕ, ◌+◌, ◌≤◌, true, false, List, [], ◌∷◌, ◌++◌, length, slice_get, Option, Some, refl, sym, ap, subst, arith, append_assoc, length-append}
+use Rattle.std.proofs.Common.{◌≡◌, ℕ, ◌+◌, ◌≤◌, true, false, List, [], ◌∷◌, ◌++◌, length, slice_get, Option, Some, refl, sym, ap, subst, ◌∙◌, arith, append_assoc, length-append}
 use Rattle.std.specs.Prelude.{codes}
 use Rattle.lemmas.specs.Lists.{IsIn}
 use Rattle.grammar.specs.Grammar.{pure, ◌>>=◌, ◌>>◌}
@@ -25,7 +25,9 @@ use Rattle.ir_forms.specs.Operand as form
 use Rattle.ir_forms.specs.Written as w
 use Rattle.ir_forms.specs.declared.numbers.TwoOperands.{TwoOperands}
 use Rattle.ir_forms.specs.Lists as lists
+use Rattle.ir_forms.specs.FloatOps as floats
 use Rattle.ir_forms.specs.Numbers as numbers
+use Rattle.ir_forms.specs.declared.written.Word.{Word}
 use Rattle.ir_print.specs.Names.{name_at, key_text, local_text}
 use Rattle.ir_print.specs.Operands.{operand_text, typed_text}
 use Rattle.ir_print.specs.Ends.{target_text}
@@ -35,15 +37,15 @@ use Rattle.ir_print_law.proofs.NamesRead.{locals_are_read}
 use Rattle.ir_print_law.proofs.Words.{sign_comes}
 use Rattle.ir_print_law.specs.PartsAgain.{IsNameAgain, IsArgumentAgain, ArePairAgain}
 use Rattle.ir_print_law.specs.Again.{IsOpAgain}
-use Rattle.ir_print_law.specs.Parts.{IsOperand, IsArgument, ArePair, IsTarget}
-use Rattle.ir_print_law.specs.Shapes.{Shape, HasShape, bits_of_shape}
+use Rattle.ir_print_law.specs.Parts.{IsFloat, IsNoFloat, IsOperand, IsArgument, ArePair, IsTarget}
+use Rattle.ir_print_law.specs.Shapes.{Shape, HasShape, word_of_shape}
 use Rattle.ir_print_law.specs.Definitions.{used_keys}
 use Rattle.ir_print_law.proofs.Tables.{stays}
 use Rattle.ir_print_law.proofs.State.{Invariant, Ready, IsLater, Reads}
-use Rattle.ir_print_law.proofs.Shown.{shown, IsTypeRead, bits_read}
+use Rattle.ir_print_law.proofs.Shown.{shown, IsTypeRead, bits_read, word_told}
 use Rattle.ir_print_law.proofs.Steps.{go_on, given, sign_reads, word_reads, grows_further, later_before}
 use Rattle.ir_print_law.proofs.Types.{EndsType, ends_type}
-use Rattle.ir_print_law.proofs.PrintedTypes.{type_shown, read_again, scalar_reads}
+use Rattle.ir_print_law.proofs.PrintedTypes.{type_shown, read_again, scalar_reads, integer_scalar_reads, float_scalar_reads}
 use Rattle.ir_print_law.proofs.OperandsAgain.{OperandAgain, operand_reads, ends_operand, local_ready, local_grows, local_few, local_there}
 use Rattle.ir_print_law.proofs.AgainTypes.{EndsAgain, no_round}
 
@@ -94,36 +96,79 @@ module _ {m : Module} {f : Function} (v : Invariant m f) where
   -- ---- operands with their types
 
   -- an operand after its type
-  pub operand_at : (shape : Shape) (t : ℕ) (x : Operand) (p : WrittenType) (at i : Input) (gap rest : Text) (s : ℕ) → IsTypeRead shape 64 p at → HasShape m.types m.struct_names shape t → IsOperand m f (bits_of_shape shape) x
-      → AreBlanks gap → IsSeam rest → Ready v s i (gap ++ (operand_text m f.locals t x ++ rest)) → Reads v s (form.operand (w.bits_of p)) i rest (OperandAgain m f.locals x)
+  pub operand_at : (shape : Shape) (t : ℕ) (x : Operand) (p : WrittenType) (at i : Input) (gap rest : Text) (s : ℕ) → IsTypeRead shape 64 p at → HasShape m.types m.struct_names shape t → IsOperand m f (word_of_shape shape) x
+      → AreBlanks gap → IsSeam rest → Ready v s i (gap ++ (operand_text m f.locals t x ++ rest)) → Reads v s (form.operand (w.word_of p)) i rest (OperandAgain m f.locals x)
   operand_at shape t x p at i gap rest s read has own blanks seam ready =
-      subst (λ (b : Option ℕ). Reads v s (form.operand b) i rest (OperandAgain m f.locals x)) (sym (bits_read shape 64 p at read))
+      subst (λ (b : Word). Reads v s (form.operand b) i rest (OperandAgain m f.locals x)) (sym (bits_read shape 64 p at read))
       (operand_reads v shape t x i gap rest s has own blanks seam ready)
 
-  -- `T V`
-  pub typed_reads : (t : ℕ) (x : Operand) (i : Input) (gap rest : Text) (s : ℕ) → IsArgument m f (typed t x) → AreBlanks gap → IsSeam rest
-      → Ready v s i (gap ++ (typed_text m f.locals t x ++ rest)) → Reads v s lists.typed i rest (ArgumentAgain m f.locals (typed t x))
-  unfolding lists.typed
-  typed_reads t x i gap rest s own blanks seam ready =
+  -- an operand after its type, with that type
+  abbrev pub typed_after : WrittenType → Form Argument
+  typed_after p = form.operand (w.word_of p) >>= λ y. pure (record { written = p.id; operand = y })
+
+  -- `T V`, where the type is read by this form
+  typed_by : (type_form : Form WrittenType) (t : ℕ) (x : Operand) (i : Input) (gap rest : Text) (s : ℕ) → (own : IsArgument m f (typed t x)) → IsSeam rest
+      → ((afterwards : Text) → EndsType afterwards → Ready v s i (gap ++ (shown false own.0 ++ afterwards)) → Reads v s type_form i afterwards (IsTypeRead own.0 64))
+      → Ready v s i (gap ++ (typed_text m f.locals t x ++ rest)) → Reads v s (type_form >>= typed_after) i rest (ArgumentAgain m f.locals (typed t x))
+  unfolding class_of
+  typed_by type_form t x i gap rest s own seam reads ready =
       let shape = own.0 in
       let scalar = own.1 in
       let type_is = type_shown m shape t scalar.0.0 scalar.0.1 in
       let o_text = operand_text m f.locals t x in
       let good = ArgumentAgain m f.locals (typed t x) in
       let ready = subst (λ (y : Text). Ready v s i (gap ++ y)) (append_assoc (shown false shape) (32 ∷ o_text) rest) (subst (λ (y : Text). Ready v s i (gap ++ ((y ++ 32 ∷ operand_text m f.locals t x) ++ rest))) type_is ready) in
-      go_on v w.scalar (λ p. form.operand (w.bits_of p) >>= λ y. pure (record { written = p.id; operand = y })) i (32 ∷ (operand_text m f.locals t x ++ rest)) rest s s (IsTypeRead shape 64) good
-      (scalar_reads v shape i gap (32 ∷ (operand_text m f.locals t x ++ rest)) s scalar.0.2 scalar.0.1 scalar.1 blanks (ends_operand v shape t x rest scalar.0.0 own.2 seam) ready)
+      go_on v type_form typed_after i (32 ∷ (operand_text m f.locals t x ++ rest)) rest s s (IsTypeRead shape 64) good
+      (reads (32 ∷ (operand_text m f.locals t x ++ rest)) (ends_operand v shape t x rest scalar.0.0 own.2 seam) ready)
       (λ p o ready g read.
-      go_on v (form.operand (w.bits_of p)) (λ y. pure (record { written = p.id; operand = y })) o rest rest s s (OperandAgain m f.locals x) good
+      go_on v (form.operand (w.word_of p)) (λ y. pure (record { written = p.id; operand = y })) o rest rest s s (OperandAgain m f.locals x) good
       (operand_at shape t x p o o (32 ∷ []) rest s read scalar.0.0 own.2 refl seam ready)
       (λ y q ready h again. given v (record { written = p.id; operand = y }) q rest s good ready
       (λ n others later. (read_again m shape t p.id o n others scalar.0.0 read.has_shape (later_before o q n others h later), again n others later))))
 
-  -- `T V, W`
-  pub pair_reads : (t : ℕ) (x y : Operand) (i : Input) (gap rest : Text) (s : ℕ) → ArePair m f t x y → AreBlanks gap → IsSeam rest
-      → Ready v s i (gap ++ (pair_text m f.locals (typed t x) y ++ rest)) → Reads v s numbers.pair i rest (PairAgain m f.locals t x y)
-  unfolding numbers.pair class_of
-  pair_reads t x y i gap rest s own blanks seam ready =
+  -- `T V`
+  pub typed_reads : (t : ℕ) (x : Operand) (i : Input) (gap rest : Text) (s : ℕ) → IsArgument m f (typed t x) → AreBlanks gap → IsSeam rest
+      → Ready v s i (gap ++ (typed_text m f.locals t x ++ rest)) → Reads v s lists.typed i rest (ArgumentAgain m f.locals (typed t x))
+  unfolding lists.typed
+  typed_reads t x i gap rest s own blanks seam ready =
+      typed_by w.scalar t x i gap rest s own seam (λ afterwards ends ready. scalar_reads v own.0 i gap afterwards s own.1.0.2 own.1.0.1 own.1.1 blanks ends ready) ready
+
+  -- the shape of a type that is none of floating point numbers, and of one that is
+  pub flat_shape : (shape : Shape) (t : ℕ) → HasShape m.types m.struct_names shape t → IsNoFloat m t → w.is_float_word (word_of_shape shape) ≡ false
+  flat_shape shape t has flat = ap w.is_float_word (sym (word_told m.types m.struct_names shape t has)) ∙ flat
+
+  pub float_shape : (shape : Shape) (t : ℕ) → HasShape m.types m.struct_names shape t → IsFloat m t → w.is_float_word (word_of_shape shape) ≡ true
+  float_shape shape t has is = ap w.is_float_word (sym (word_told m.types m.struct_names shape t has)) ∙ is
+
+  -- `T V`, of integers or pointers
+  pub typed_integer_reads : (t : ℕ) (x : Operand) (i : Input) (gap rest : Text) (s : ℕ) → IsNoFloat m t → IsArgument m f (typed t x) → AreBlanks gap → IsSeam rest
+      → Ready v s i (gap ++ (typed_text m f.locals t x ++ rest)) → Reads v s numbers.typed_integer i rest (ArgumentAgain m f.locals (typed t x))
+  unfolding numbers.typed_integer
+  typed_integer_reads t x i gap rest s flat own blanks seam ready =
+      typed_by w.integer_scalar t x i gap rest s own seam
+      (λ afterwards ends ready. integer_scalar_reads v own.0 i gap afterwards s own.1.0.2 own.1.0.1 own.1.1 (flat_shape own.0 t own.1.0.0 flat) blanks ends ready) ready
+
+  -- ---- pairs of operands
+
+  abbrev pair_second : WrittenType → Operand → Form TwoOperands
+  pair_second p x = form.operand (w.word_of p) >>= λ y. pure (record { written = p.id; first = x; second = y })
+
+  abbrev pair_comma : WrittenType → Operand → Form TwoOperands
+  pair_comma p x = expect k.Comma >> pair_second p x
+
+  -- both operands after their type
+  abbrev pub pair_after : WrittenType → Form TwoOperands
+  pair_after p = form.operand (w.word_of p) >>= pair_comma p
+
+  pair_front : (a b c rest : Text) → ((a ++ 32 ∷ b) ++ codes ", " ++ c) ++ rest ≡ a ++ (32 ∷ (b ++ (codes ", " ++ (c ++ rest))))
+  pair_front a b c rest = simp append_assoc
+
+  -- `T V, W`, where the type is read by this form
+  pair_by : (type_form : Form WrittenType) (t : ℕ) (x y : Operand) (i : Input) (gap rest : Text) (s : ℕ) → (own : ArePair m f t x y) → IsSeam rest
+      → ((afterwards : Text) → EndsType afterwards → Ready v s i (gap ++ (shown false own.0 ++ afterwards)) → Reads v s type_form i afterwards (IsTypeRead own.0 64))
+      → Ready v s i (gap ++ (pair_text m f.locals (typed t x) y ++ rest)) → Reads v s (type_form >>= pair_after) i rest (PairAgain m f.locals t x y)
+  unfolding class_of
+  pair_by type_form t x y i gap rest s own seam reads ready =
       let shape = own.0 in
       let scalar = own.1 in
       let type_is = type_shown m shape t scalar.0.0 scalar.0.1 in
@@ -134,33 +179,37 @@ module _ {m : Module} {f : Function} (v : Invariant m f) where
       let ready : Ready v s i (gap ++ (((shown false shape ++ 32 ∷ operand_text m f.locals t x) ++ codes ", " ++ operand_text m f.locals t y) ++ rest)) =
       subst (λ (z : Text). Ready v s i (gap ++ (((z ++ 32 ∷ operand_text m f.locals t x) ++ codes ", " ++ operand_text m f.locals t y) ++ rest))) type_is ready in
       let ready : Ready v s i (gap ++ (shown false shape ++ (32 ∷ (operand_text m f.locals t x ++ (codes ", " ++ (operand_text m f.locals t y ++ rest)))))) = subst (λ (z : Text). Ready v s i (gap ++ z)) (pair_front (shown false shape) a b rest) ready in
-      go_on v w.scalar first_form i (32 ∷ (operand_text m f.locals t x ++ t2)) rest s s (IsTypeRead shape 64) good
-      (scalar_reads v shape i gap (32 ∷ (operand_text m f.locals t x ++ t2)) s scalar.0.2 scalar.0.1 scalar.1 blanks (ends_operand v shape t x t2 scalar.0.0 own.2 refl) ready)
+      go_on v type_form pair_after i (32 ∷ (operand_text m f.locals t x ++ t2)) rest s s (IsTypeRead shape 64) good
+      (reads (32 ∷ (operand_text m f.locals t x ++ t2)) (ends_operand v shape t x t2 scalar.0.0 own.2 refl) ready)
       (λ p o ready g read.
-      go_on v (form.operand (w.bits_of p)) (comma_form p) o t2 rest s s (OperandAgain m f.locals x) good
+      go_on v (form.operand (w.word_of p)) (pair_comma p) o t2 rest s s (OperandAgain m f.locals x) good
       (operand_at shape t x p o o (32 ∷ []) t2 s read scalar.0.0 own.2 refl refl ready)
       (λ x1 q ready h first.
-      go_on v (expect k.Comma) (λ _. second_form p x1) q (32 ∷ (operand_text m f.locals t y ++ rest)) rest s s (λ _ r. advanced q ≡ r) good
+      go_on v (expect k.Comma) (λ _. pair_second p x1) q (32 ∷ (operand_text m f.locals t y ++ rest)) rest s s (λ _ r. advanced q ≡ r) good
       (sign_reads v 44 k.Comma q [] (32 ∷ (operand_text m f.locals t y ++ rest)) s s refl refl refl (omega arith) ready)
       (λ _ r ready hh e.
-      go_on v (form.operand (w.bits_of p)) (λ y1. pure (record { written = p.id; first = x1; second = y1 })) r rest rest s s (OperandAgain m f.locals y) good
+      go_on v (form.operand (w.word_of p)) (λ y1. pure (record { written = p.id; first = x1; second = y1 })) r rest rest s s (OperandAgain m f.locals y) good
       (operand_at shape t y p o r (32 ∷ []) rest s read scalar.0.0 own.3 refl seam ready)
       (λ y1 u ready h3 second. given v (record { written = p.id; first = x1; second = y1 }) u rest s good ready
       (λ n others later.
       let later2 = later_before q u n others (grows_further q r u hh h3) later in
       (read_again m shape t p.id o n others scalar.0.0 read.has_shape (later_before o q n others h later2), first n others later2, second n others later))))))
-    where
-      pair_front : (a b c rest : Text) → ((a ++ 32 ∷ b) ++ codes ", " ++ c) ++ rest ≡ a ++ (32 ∷ (b ++ (codes ", " ++ (c ++ rest))))
-      pair_front a b c rest = simp append_assoc
 
-      second_form : WrittenType → Operand → Form TwoOperands
-      second_form p x = form.operand (w.bits_of p) >>= λ y. pure (record { written = p.id; first = x; second = y })
+  -- `T V, W`, of integers or pointers
+  pub pair_reads : (t : ℕ) (x y : Operand) (i : Input) (gap rest : Text) (s : ℕ) → IsNoFloat m t → ArePair m f t x y → AreBlanks gap → IsSeam rest
+      → Ready v s i (gap ++ (pair_text m f.locals (typed t x) y ++ rest)) → Reads v s numbers.pair i rest (PairAgain m f.locals t x y)
+  unfolding numbers.pair
+  pair_reads t x y i gap rest s flat own blanks seam ready =
+      pair_by w.integer_scalar t x y i gap rest s own seam
+      (λ afterwards ends ready. integer_scalar_reads v own.0 i gap afterwards s own.1.0.2 own.1.0.1 own.1.1 (flat_shape own.0 t own.1.0.0 flat) blanks ends ready) ready
 
-      comma_form : WrittenType → Operand → Form TwoOperands
-      comma_form p x = expect k.Comma >> second_form p x
-
-      first_form : WrittenType → Form TwoOperands
-      first_form p = form.operand (w.bits_of p) >>= comma_form p
+  -- `T V, W`, of floating point numbers
+  pub float_pair_reads : (t : ℕ) (x y : Operand) (i : Input) (gap rest : Text) (s : ℕ) → IsFloat m t → ArePair m f t x y → AreBlanks gap → IsSeam rest
+      → Ready v s i (gap ++ (pair_text m f.locals (typed t x) y ++ rest)) → Reads v s floats.float_pair i rest (PairAgain m f.locals t x y)
+  unfolding floats.float_pair
+  float_pair_reads t x y i gap rest s is own blanks seam ready =
+      pair_by w.float_scalar t x y i gap rest s own seam
+      (λ afterwards ends ready. float_scalar_reads v own.0 i gap afterwards s own.1.0.2 own.1.0.1 own.1.1 (float_shape own.0 t own.1.0.0 is) blanks ends ready) ready
 
   -- ---- targets
 

@@ -20,13 +20,14 @@ use Rattle.ir_print_law.specs.Definitions.{value_keys, label_keys, target_keys, 
 use Rattle.ir_print_law.specs.ModuleNames.{HasModuleNames}
 use Rattle.ir_print_law.specs.Parts.{IsType, IsVoid, IsPointer, IsPlaceType, IsOperand, IsArgument, ArePair, IsConverted, IsReturned}
 use Rattle.ir_print_law.specs.PartsWithin.{HasType, HasSymbol, HasGlobal, HasFunction, HasLocal, HasValue, HasBlock, HasTarget, IsOperandWithin, IsArgumentWithin, ArePairWithin, IsConvertedWithin}
-use Rattle.ir_print_law.specs.Shapes.{Shape, Pointer, Opaque, bits_of_shape}
+use Rattle.ir_print_law.specs.Shapes.{Shape, Pointer, Opaque, word_of_shape}
 use Rattle.ir_print_law.proofs.DefinedWithin.{AreDefinedWithin, all_at, any_all}
 use Rattle.ir_print_law.proofs.FoundNames.{found_number, in_all, place_in, place_after, item_in, each_number, item_keys, items_stay}
 use Rattle.ir_print_law.proofs.FunctionEnds.{whole_of, values_are, labels_are, rest_keys}
 use Rattle.ir_print_law.proofs.LocalNames.{keys_at, names_stay}
 use Rattle.ir_print_law.proofs.Shown.{shape_within}
 use Rattle.ir_print_law.proofs.Tables.{begins_with}
+use Rattle.ir_forms.specs.declared.written.Word.{Word}
 
 -- ---- types
 
@@ -179,7 +180,7 @@ module _ (m : Module) (f : Function) (own : HasModuleNames m) (h : AreDefinedWit
   pub pointer_within : (written : ℕ) (more : List Text) → IsPointer (wide_module m more) written → HasType m written
   pointer_within written more is = type_within is.0 written more is.1
 
-  pub operand_within : (x : Operand) → Wide m f (λ m f. (bits : Option ℕ) × IsOperand m f bits x) → IsOperandWithin m f x
+  pub operand_within : (x : Operand) → Wide m f (λ m f. (bits : Word) × IsOperand m f bits x) → IsOperandWithin m f x
   operand_within (operand.Constant x) is = tt
   operand_within (operand.Local value) is = value_within f h value (λ more. (is more).1)
   operand_within (operand.Global n) is = global_within m own n (λ more. (is more).1.0)
@@ -187,7 +188,7 @@ module _ (m : Module) (f : Function) (own : HasModuleNames m) (h : AreDefinedWit
       (pointer_within from [] (is []).1.0, global_within m own n (λ more. (is more).1.1.0), pointer_within to [] (is []).1.2)
 
   pub argument_within : (x : Argument) → Wide m f (λ m f. IsArgument m f x) → IsArgumentWithin m f x
-  argument_within x is = (type_within (is []).0 x.written [] (is []).1.0, operand_within x.operand (λ more. (bits_of_shape (is more).0, (is more).2)))
+  argument_within x is = (type_within (is []).0 x.written [] (is []).1.0, operand_within x.operand (λ more. (word_of_shape (is more).0, (is more).2)))
 
   pub arguments_within : (xs : List Argument) → Wide m f (λ m f. AllByRecursion (IsArgument m f) xs) → AllByRecursion (IsArgumentWithin m f) xs
   arguments_within xs is = all_wide (λ more x. IsArgument (wide_module m more) (wide f more) x) (IsArgumentWithin m f) xs argument_within is
@@ -195,8 +196,8 @@ module _ (m : Module) (f : Function) (own : HasModuleNames m) (h : AreDefinedWit
   pub pair_within : (written : ℕ) (first second : Operand) → Wide m f (λ m f. ArePair m f written first second) → ArePairWithin m f written first second
   pair_within written first second is = (
     type_within (is []).0 written [] (is []).1.0,
-    operand_within first (λ more. (bits_of_shape (is more).0, (is more).2)),
-    operand_within second (λ more. (bits_of_shape (is more).0, (is more).3)),
+    operand_within first (λ more. (word_of_shape (is more).0, (is more).2)),
+    operand_within second (λ more. (word_of_shape (is more).0, (is more).3)),
   )
 
   pub converted_within : (from : ℕ) (x : Operand) (to : ℕ) → Wide m f (λ m f. IsConverted m f from x to) → IsConvertedWithin m f from x to

@@ -34,6 +34,7 @@ use Rattle.ir_print_law.proofs.Known.{Far, AreNamed, known}
 use Rattle.ir_print_law.proofs.NamesRead.{digits_text, name_key_text}
 use Rattle.ir_print_law.proofs.NewValues.{IsNext, unnamed_then, far_value, value_by, value_goes, kind_then}
 use Rattle.ir_print_law.proofs.OpNeeds.{begins_body_line, EndsOp, OpsRead, phi_rest}
+use Rattle.ir_print_law.proofs.Undropped.{begins_call, no_call_comes}
 use Rattle.ir_print_law.proofs.Parts.{IsLaterAgain}
 use Rattle.ir_print_law.proofs.Steady.{Steady, Onward, onward_itself, onward_further, next_key, steady_value}
 use Rattle.ir_print_law.proofs.WholeForms.{Widens, widens_itself, widens_further, grows_widens, Leads, later_widened}
@@ -94,6 +95,10 @@ local_line : (x : Kind) → IsLocalKind x → begins_body_line x ≡ true
 local_line x (inl e) = ap begins_body_line e
 local_line x (inr e) = ap begins_body_line e
 
+pub local_no_call : (x : Kind) → IsLocalKind x → begins_call x ≡ false
+local_no_call x (inl e) = ap begins_call e
+local_no_call x (inr e) = ap begins_call e
+
 -- a token ends before a new line
 pub seam_line : (rest : Text) → IsSeam (10 ∷ rest)
 unfolding class_of
@@ -150,13 +155,18 @@ module _ (m : Module) (f : Function) (named : AreNamed m f) (ops : OpsRead m f n
   abbrev pub phi_lines : List Phi → Text
   phi_lines xs = flat_map (phi_line m f.locals) xs
 
+  -- the first of these lines begins with the name of a value
+  first_kind : (x : Phi) (xs : List Phi) (i : Input) (rest : Text) → IsKey (phi_key f.locals x) → Stands i.cursor (10 ∷ (phi_lines (x ∷ xs) ++ rest)) → IsLocalKind (kind i.cursor)
+  first_kind x xs i rest key at =
+      (phi_begins m f.locals x i (phi_lines xs ++ rest) key (subst (λ (t : Text). Stands i.cursor (10 ∷ t)) (append_assoc (phi_line m f.locals x) (phi_lines xs) rest) at)).0
+
   -- the next line is one of a phi, or what follows the phis
   pub phis_end : (xs : List Phi) (rest : Text) → AllByRecursion IsKey (map (phi_key f.locals) xs) → EndsOp (10 ∷ rest) → EndsOp (10 ∷ (phi_lines xs ++ rest))
   phis_end [] rest keys ends = ends
   phis_end (x ∷ xs) rest keys ends = (
     seam_line (phi_lines (x ∷ xs) ++ rest),
-    λ i at. local_line (kind i.cursor) (phi_begins m f.locals x i (phi_lines xs ++ rest) keys.0
-        (subst (λ (t : Text). Stands i.cursor (10 ∷ t)) (append_assoc (phi_line m f.locals x) (phi_lines xs) rest) at)).0,
+    λ i at. local_line (kind i.cursor) (first_kind x xs i rest keys.0 at),
+    λ i at. no_call_comes i.cursor (local_no_call (kind i.cursor) (first_kind x xs i rest keys.0 at)),
   )
 
   abbrev pub PhisGo : List Phi → (more : List Text) → Far → Input → (rest : Text) → Type 0

@@ -18,13 +18,14 @@ use Rattle.ir_forms.specs.declared.input.Input.{Input}
 use Rattle.ir_forms.specs.declared.uses.Wanted.TheVariants as wants
 use Rattle.ir_forms.specs.declared.written.WrittenType.{WrittenType}
 use Rattle.ir_forms.specs.Choices as choices
-use Rattle.ir_forms.specs.Decorations.{instruction_end}
+use Rattle.ir_forms.specs.Records.{instruction_end}
 use Rattle.ir_forms.specs.Input.{Form, advanced, expect}
 use Rattle.ir_forms.specs.Lists as lists
 use Rattle.ir_forms.specs.ManyWith.{Follows}
 use Rattle.ir_forms.specs.Names.{incoming_label, set_type}
 use Rattle.ir_forms.specs.Operand as form
 use Rattle.ir_forms.specs.Written as w
+use Rattle.ir_forms.specs.declared.written.Word.{Word}
 use Rattle.ir_print.specs.Choices.{incoming_text}
 use Rattle.ir_print.specs.Names.{name_at, local_text}
 use Rattle.ir_print.specs.Operands.{operand_text, listed}
@@ -33,7 +34,7 @@ use Rattle.ir_print.specs.Types.{type_text}
 use Rattle.ir_print_law.specs.PartsAgain.{AreAlike, IsTypeAgain}
 use Rattle.ir_print_law.specs.Again.{IsIncomingAgain}
 use Rattle.ir_print_law.specs.Printable.{IsIncoming, IsPhi}
-use Rattle.ir_print_law.specs.Shapes.{Shape, HasShape, bits_of_shape}
+use Rattle.ir_print_law.specs.Shapes.{Shape, HasShape, word_of_shape}
 use Rattle.ir_print_law.proofs.State.{Invariant, Ready, Grows, Reads}
 use Rattle.ir_print_law.proofs.Shown.{shown, IsTypeRead, bits_read}
 use Rattle.ir_print_law.proofs.Steps.{given, sign_reads, sign_kind, word_reads, grows_itself, grows_further, later_before}
@@ -62,8 +63,8 @@ module _ {m : Module} {f : Function} (v : Invariant m f) where
   EntryAgain = IsLaterAgain (λ n others. IsIncomingAgain m n f.locals others)
 
   -- `[ V, %b ]`
-  incoming_reads : (shape : Shape) (t : ℕ) (x : Incoming) (i : Input) (gap rest : Text) (s : ℕ) → HasShape m.types m.struct_names shape t → IsIncoming m f (bits_of_shape shape) x → AreBlanks gap
-      → Ready v s i (gap ++ (incoming_text m f.locals t x ++ rest)) → Reads v s (choices.incoming (bits_of_shape shape)) i rest (EntryAgain x)
+  incoming_reads : (shape : Shape) (t : ℕ) (x : Incoming) (i : Input) (gap rest : Text) (s : ℕ) → HasShape m.types m.struct_names shape t → IsIncoming m f (word_of_shape shape) x → AreBlanks gap
+      → Ready v s i (gap ++ (incoming_text m f.locals t x ++ rest)) → Reads v s (choices.incoming (word_of_shape shape)) i rest (EntryAgain x)
   unfolding choices.incoming class_of
   incoming_reads shape t x i gap rest s has own blanks ready =
       let good = EntryAgain x in
@@ -71,10 +72,10 @@ module _ {m : Module} {f : Function} (v : Invariant m f) where
       let t2 = codes ", " ++ t3 in
       let t1 = operand_text m f.locals t x.operand ++ t2 in
       let ready = subst (λ (y : Text). Ready v s i (gap ++ y)) (front (operand_text m f.locals t x.operand) (local_text f.locals x.from)) ready in
-      on v v (expect k.OpenSquare) (λ _. choices.incoming_after (bits_of_shape shape)) i (32 ∷ t1) rest s s (λ _ o. advanced i ≡ o) good
+      on v v (expect k.OpenSquare) (λ _. choices.incoming_after (word_of_shape shape)) i (32 ∷ t1) rest s s (λ _ o. advanced i ≡ o) good
       (sign_reads v 91 k.OpenSquare i gap (32 ∷ t1) s s blanks refl refl (omega arith) ready)
       (λ _ o ready g e.
-      on v v (form.operand (bits_of_shape shape)) comma_form o t2 rest s s (OperandAgain m f.locals x.operand) good
+      on v v (form.operand (word_of_shape shape)) comma_form o t2 rest s s (OperandAgain m f.locals x.operand) good
       (operand_reads v shape t x.operand o (32 ∷ []) t2 s has own.0 refl refl ready)
       (λ y q ready h again.
       on v v (expect k.Comma) (λ _. label_form y) q (32 ∷ t3) rest s s (λ _ r. advanced q ≡ r) good
@@ -112,9 +113,9 @@ module _ {m : Module} {f : Function} (v : Invariant m f) where
   AllEntriesAgain = IsLaterAgain (λ n others. AreAlike (IsIncomingAgain m n f.locals others))
 
   -- further entries are read
-  entries_after : (shape : Shape) (t : ℕ) (xs : List Incoming) (i : Input) (rest : Text) (s : ℕ) → HasShape m.types m.struct_names shape t → AllByRecursion (IsIncoming m f (bits_of_shape shape)) xs → EndsLine rest
+  entries_after : (shape : Shape) (t : ℕ) (xs : List Incoming) (i : Input) (rest : Text) (s : ℕ) → HasShape m.types m.struct_names shape t → AllByRecursion (IsIncoming m f (word_of_shape shape)) xs → EndsLine rest
       → Ready v s i (further_entries t xs ++ rest)
-      → (ys : List Incoming) × (o : Input) × Follows choices.ends_entries (λ c. (choices.entry c).says) choices.after_entry (record { bits = bits_of_shape shape; is_further = true }) i ys o × Ready v s o rest × Grows i o × AllEntriesAgain xs ys o
+      → (ys : List Incoming) × (o : Input) × Follows choices.ends_entries (λ c. (choices.entry c).says) choices.after_entry (record { word = word_of_shape shape; is_further = true }) i ys o × Ready v s o rest × Grows i o × AllEntriesAgain xs ys o
   unfolding choices.entry choices.separated class_of
   entries_after shape t [] i rest s has own ends ready = ([], i, (list_ends i (ends.1 i ready.stands), refl), ready, grows_itself i, λ n others later. tt)
   entries_after shape t (x ∷ xs) i rest s has own ends ready =
@@ -138,8 +139,8 @@ module _ {m : Module} {f : Function} (v : Invariant m f) where
       square_first j a b afterwards s ready = sign_kind v 91 k.OpenSquare j (32 ∷ []) _ s refl refl refl ready
 
   -- the entries of a phi
-  entries_read : (shape : Shape) (t : ℕ) (xs : List Incoming) (i : Input) (rest : Text) (s : ℕ) → 0 < length xs → HasShape m.types m.struct_names shape t → AllByRecursion (IsIncoming m f (bits_of_shape shape)) xs → EndsLine rest
-      → Ready v s i (32 ∷ (listed (incoming_text m f.locals t) xs ++ rest)) → Reads v s (choices.all_entries (bits_of_shape shape)) i rest (AllEntriesAgain xs)
+  entries_read : (shape : Shape) (t : ℕ) (xs : List Incoming) (i : Input) (rest : Text) (s : ℕ) → 0 < length xs → HasShape m.types m.struct_names shape t → AllByRecursion (IsIncoming m f (word_of_shape shape)) xs → EndsLine rest
+      → Ready v s i (32 ∷ (listed (incoming_text m f.locals t) xs ++ rest)) → Reads v s (choices.all_entries (word_of_shape shape)) i rest (AllEntriesAgain xs)
   unfolding choices.all_entries choices.entry choices.separated
   entries_read shape t [] i rest s some has own ends ready = absurd (omega (arith, some))
   entries_read shape t (x ∷ xs) i rest s some has own ends ready =
@@ -178,8 +179,8 @@ module _ {m : Module} {f : Function} (v u : Invariant m f) where
       on v u w.scalar entries_form q t3 rest s s (IsTypeRead shape 64) good
       (scalar_reads v shape q (32 ∷ []) t3 s scalar.0.2 scalar.0.1 scalar.1 refl (ends_entries x.incoming own.2) ready)
       (λ p r ready hh read.
-      on v u (choices.all_entries (w.bits_of p)) (set_form p) r rest rest s s (AllEntriesAgain v x.incoming) good
-      (subst (λ (b : Option ℕ). Reads v s (choices.all_entries b) r rest (AllEntriesAgain v x.incoming)) (sym (bits_read shape 64 p r read)) (entries_read v shape x.written x.incoming r rest s own.2 scalar.0.0 own.3 ends ready))
+      on v u (choices.all_entries (w.word_of p)) (set_form p) r rest rest s s (AllEntriesAgain v x.incoming) good
+      (subst (λ (b : Word). Reads v s (choices.all_entries b) r rest (AllEntriesAgain v x.incoming)) (sym (bits_read shape 64 p r read)) (entries_read v shape x.written x.incoming r rest s own.2 scalar.0.0 own.3 ends ready))
       (λ ys z ready h3 again. trail_form p ys z ready
       (λ n others later. (read_again m shape x.written p.id r n others scalar.0.0 read.has_shape (later_before r z n others h3 later), again n others later))))))
     where
@@ -193,7 +194,7 @@ module _ {m : Module} {f : Function} (v u : Invariant m f) where
       set_form p ys = set_type value p.id >> end_form p ys
 
       entries_form : WrittenType → Form Phi
-      entries_form p = choices.all_entries (w.bits_of p) >>= set_form p
+      entries_form p = choices.all_entries (w.word_of p) >>= set_form p
 
       type_form : Form Phi
       type_form = w.scalar >>= entries_form
@@ -210,4 +211,4 @@ module _ {m : Module} {f : Function} (v u : Invariant m f) where
       trail_form p ys z ready again =
           let a = sort_set v u (λ n others. IsPhiRestAgain m n f.locals others) value (local.Value p.id) x (made p ys) z rest s sets refl ready again in
           let o = a.1 in
-          (made p ys, a.1, (tt, a.1, a.2, (tt, o, line_ended trail.Other o (ends.1 o a.3.stands), (refl, refl))), a.3, a.4, (refl, a.5))
+          (made p ys, a.1, (tt, a.1, a.2, (tt, o, line_ended trail.Other o (ends.1 o a.3.stands) (ends.2 o a.3.stands), (refl, refl))), a.3, a.4, (refl, a.5))

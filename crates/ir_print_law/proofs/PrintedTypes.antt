@@ -1,5 +1,5 @@
 -- A type is printed as its shape is shown, and printed types are read where a type of some sort is allowed.
-use Rattle.std.proofs.Common.{◌≡◌, ℕ, zero, suc, ◌<◌, ◌≤◌, Bool, true, false, List, [], ◌∷◌, ◌++◌, length, slice_get, Option, Some, unwrap_or, if◌then◌else◌, refl, ap, ◌∙◌, arith}
+use Rattle.std.proofs.Common.{◌≡◌, ℕ, zero, suc, ◌<◌, ◌≤◌, Bool, true, false, not, List, [], ◌∷◌, ◌++◌, length, slice_get, Option, Some, unwrap_or, if◌then◌else◌, refl, ap, ◌∙◌, arith}
 use Rattle.std.specs.Prelude.{codes}
 use Rattle.std.specs.Fmt.{decimal}
 use Rattle.std.proofs.lemmas.Option.{slice_get_within}
@@ -13,6 +13,9 @@ use Rattle.ir_tokens.specs.Bytes.{Text}
 use Rattle.ir_forms.specs.Cursor.{sees, left_out}
 use Rattle.ir_forms.specs.declared.input.Input.{Input}
 use Rattle.ir_forms.specs.declared.written.WrittenType.{WrittenType}
+use Rattle.ir_forms.specs.declared.written.FloatType.{FloatType}
+use Rattle.ir_forms.specs.declared.written.FloatType.TheVariants as size
+use Rattle.ir_forms.specs.declared.written.Word.{Word}
 use Rattle.ir_forms.specs.Input.{unexpected}
 use Rattle.ir_forms.specs.Written as w
 use Rattle.ir_forms.specs.Written.{has_opaque, is_pointer, is_scalar, is_passed, is_held}
@@ -22,9 +25,9 @@ use Rattle.ir_print.specs.Types.{type_text, type_within, type_by, fields_text, f
 use Rattle.ir_print_law.specs.Stands.{AreBlanks}
 use Rattle.ir_print_law.specs.PartsAgain.{IsTypeAgain}
 use Rattle.ir_print_law.specs.Definitions.{defined_structs}
-use Rattle.ir_print_law.specs.Shapes.{Shape, Integer, Pointer, Array, Empty, Struct, Named, Opaque, HasShape, IsWritten, levels, is_scalar_shape, is_pointer_shape, is_passed_shape, is_held_shape, is_struct_shape}
+use Rattle.ir_print_law.specs.Shapes.{Shape, Integer, Float, Pointer, Array, Empty, Struct, Named, Opaque, HasShape, IsWritten, levels, word_of_shape, is_scalar_shape, is_pointer_shape, is_passed_shape, is_held_shape, is_struct_shape}
 use Rattle.ir_print_law.proofs.State.{Invariant, Ready, IsLater, Reads}
-use Rattle.ir_print_law.proofs.Shown.{shown, IsTypeRead, shape_stays, some_level, scalar_read, pointer_read, passed_read, held_read}
+use Rattle.ir_print_law.proofs.Shown.{shown, IsTypeRead, shape_stays, some_level, bits_read, scalar_read, pointer_read, passed_read, held_read}
 use Rattle.ir_print_law.proofs.Steps.{go_on, given, checked_then, looked}
 use Rattle.ir_print_law.proofs.Types.{EndsType}
 use Rattle.ir_print_law.proofs.WholeTypes.{claims, braced_reads}
@@ -63,6 +66,22 @@ module _ (n : Module) where
     part_shown (suc room) number h le = at_type room number _ h
 
     fields_shown : FieldsShown (Integer bits)
+    fields_shown room zero number h le less = absurd (omega (arith, less))
+    fields_shown room (suc fuel) number h le less = at_field room fuel number _ h
+  both_shown (Float size.Single) = (part_shown, fields_shown) where
+    part_shown : PartShown (Float size.Single)
+    part_shown zero number h le = absurd (no_level (Float size.Single) le)
+    part_shown (suc room) number h le = at_type room number _ h
+
+    fields_shown : FieldsShown (Float size.Single)
+    fields_shown room zero number h le less = absurd (omega (arith, less))
+    fields_shown room (suc fuel) number h le less = at_field room fuel number _ h
+  both_shown (Float size.Double) = (part_shown, fields_shown) where
+    part_shown : PartShown (Float size.Double)
+    part_shown zero number h le = absurd (no_level (Float size.Double) le)
+    part_shown (suc room) number h le = at_type room number _ h
+
+    fields_shown : FieldsShown (Float size.Double)
     fields_shown room zero number h le less = absurd (omega (arith, less))
     fields_shown room (suc fuel) number h le less = at_field room fuel number _ h
   both_shown (Pointer shape) = (part_shown (both_shown shape).0, fields_shown) where
@@ -138,13 +157,13 @@ module _ {m : Module} {f : Function} (v : Invariant m f) where
   -- ---- types where they are allowed
 
   -- any type
-  pub any_type_reads : (shape : Shape) (i : Input) (gap rest : Text) (s : ℕ) → IsWritten (has_opaque m.types) (defined_structs m) shape → levels shape ≤ 64 → AreBlanks gap → EndsType rest
+  pub any_type_reads : (shape : Shape) (i : Input) (gap rest : Text) (s : ℕ) → IsWritten m.wide (has_opaque m.types) (defined_structs m) shape → levels shape ≤ 64 → AreBlanks gap → EndsType rest
       → Ready v s i (gap ++ (shown false shape ++ rest)) → Reads v s w.any_type i rest (IsTypeRead shape 64)
   unfolding w.any_type w.type_within
   any_type_reads shape i gap rest s own le blanks ends ready = (claims v shape).0 0 64 i gap rest s own (omega (arith, le)) blanks ends ready
 
   -- a type that passes a test
-  pub type_that_reads : (may_stand : WrittenType → Bool) (shape : Shape) (i : Input) (gap rest : Text) (s : ℕ) → IsWritten (has_opaque m.types) (defined_structs m) shape → levels shape ≤ 64 → AreBlanks gap → EndsType rest
+  pub type_that_reads : (may_stand : WrittenType → Bool) (shape : Shape) (i : Input) (gap rest : Text) (s : ℕ) → IsWritten m.wide (has_opaque m.types) (defined_structs m) shape → levels shape ≤ 64 → AreBlanks gap → EndsType rest
       → ((p : WrittenType) (o : Input) → IsTypeRead shape 64 p o → may_stand p ≡ true) → Ready v s i (gap ++ (shown false shape ++ rest)) → Reads v s (w.type_that may_stand 63) i rest (IsTypeRead shape 64)
   unfolding w.type_within
   type_that_reads may_stand shape i gap rest s own le blanks ends may ready =
@@ -155,14 +174,34 @@ module _ {m : Module} {f : Function} (v : Invariant m f) where
       (given v p o rest s (IsTypeRead shape 64) ready read)))
 
   -- a type that a word holds
-  pub scalar_reads : (shape : Shape) (i : Input) (gap rest : Text) (s : ℕ) → IsWritten (has_opaque m.types) (defined_structs m) shape → levels shape ≤ 64 → is_scalar_shape shape ≡ true → AreBlanks gap → EndsType rest
+  pub scalar_reads : (shape : Shape) (i : Input) (gap rest : Text) (s : ℕ) → IsWritten m.wide (has_opaque m.types) (defined_structs m) shape → levels shape ≤ 64 → is_scalar_shape shape ≡ true → AreBlanks gap → EndsType rest
       → Ready v s i (gap ++ (shown false shape ++ rest)) → Reads v s w.scalar i rest (IsTypeRead shape 64)
   unfolding w.scalar w.scalar_within
   scalar_reads shape i gap rest s own le word blanks ends ready =
       type_that_reads is_scalar shape i gap rest s own le blanks ends (λ p o read. scalar_read shape 64 p o read ∙ word) ready
 
+  -- a type of integers, or a pointer type
+  pub integer_scalar_reads : (shape : Shape) (i : Input) (gap rest : Text) (s : ℕ) → IsWritten m.wide (has_opaque m.types) (defined_structs m) shape → levels shape ≤ 64 → is_scalar_shape shape ≡ true
+      → w.is_float_word (word_of_shape shape) ≡ false → AreBlanks gap → EndsType rest → Ready v s i (gap ++ (shown false shape ++ rest)) → Reads v s w.integer_scalar i rest (IsTypeRead shape 64)
+  unfolding w.integer_scalar
+  integer_scalar_reads shape i gap rest s own le word flat blanks ends ready =
+      go_on v w.scalar (λ p. checked (λ _. not (w.is_float p)) unexpected >> pure p) i rest rest s s (IsTypeRead shape 64) (IsTypeRead shape 64)
+      (scalar_reads shape i gap rest s own le word blanks ends ready)
+      (λ p o ready g read. checked_then v (λ _. not (w.is_float p)) unexpected (pure p) o rest s (IsTypeRead shape 64)
+      (ap (λ (x : Word). not (w.is_float_word x)) (bits_read shape 64 p o read) ∙ ap not flat) (given v p o rest s (IsTypeRead shape 64) ready read))
+
+  -- a type of floating point numbers
+  pub float_scalar_reads : (shape : Shape) (i : Input) (gap rest : Text) (s : ℕ) → IsWritten m.wide (has_opaque m.types) (defined_structs m) shape → levels shape ≤ 64 → is_scalar_shape shape ≡ true
+      → w.is_float_word (word_of_shape shape) ≡ true → AreBlanks gap → EndsType rest → Ready v s i (gap ++ (shown false shape ++ rest)) → Reads v s w.float_scalar i rest (IsTypeRead shape 64)
+  unfolding w.float_scalar
+  float_scalar_reads shape i gap rest s own le word is blanks ends ready =
+      go_on v w.scalar (λ p. checked (λ _. w.is_float p) unexpected >> pure p) i rest rest s s (IsTypeRead shape 64) (IsTypeRead shape 64)
+      (scalar_reads shape i gap rest s own le word blanks ends ready)
+      (λ p o ready g read. checked_then v (λ _. w.is_float p) unexpected (pure p) o rest s (IsTypeRead shape 64)
+      (ap w.is_float_word (bits_read shape 64 p o read) ∙ is) (given v p o rest s (IsTypeRead shape 64) ready read))
+
   -- a pointer type
-  pub pointer_type_reads : (shape : Shape) (i : Input) (gap rest : Text) (s : ℕ) → IsWritten (has_opaque m.types) (defined_structs m) shape → levels shape ≤ 64 → is_pointer_shape shape ≡ true → AreBlanks gap → EndsType rest
+  pub pointer_type_reads : (shape : Shape) (i : Input) (gap rest : Text) (s : ℕ) → IsWritten m.wide (has_opaque m.types) (defined_structs m) shape → levels shape ≤ 64 → is_pointer_shape shape ≡ true → AreBlanks gap → EndsType rest
       → Ready v s i (gap ++ (shown false shape ++ rest)) → Reads v s w.pointer_type i rest (IsTypeRead shape 64)
   unfolding w.pointer_type
   pointer_type_reads shape i gap rest s own le pointer blanks ends ready =
@@ -172,21 +211,21 @@ module _ {m : Module} {f : Function} (v : Invariant m f) where
       (given v p o rest s (IsTypeRead shape 64) ready read))
 
   -- the type of a parameter or a result
-  pub passed_type_reads : (shape : Shape) (i : Input) (gap rest : Text) (s : ℕ) → IsWritten (has_opaque m.types) (defined_structs m) shape → levels shape ≤ 64 → is_passed_shape shape ≡ true → AreBlanks gap → EndsType rest
+  pub passed_type_reads : (shape : Shape) (i : Input) (gap rest : Text) (s : ℕ) → IsWritten m.wide (has_opaque m.types) (defined_structs m) shape → levels shape ≤ 64 → is_passed_shape shape ≡ true → AreBlanks gap → EndsType rest
       → Ready v s i (gap ++ (shown false shape ++ rest)) → Reads v s w.passed_type i rest (IsTypeRead shape 64)
   unfolding w.passed_type
   passed_type_reads shape i gap rest s own le is blanks ends ready =
       type_that_reads is_passed shape i gap rest s own le blanks ends (λ p o read. passed_read shape 64 p o read ∙ is) ready
 
   -- the type of a global
-  pub held_type_reads : (shape : Shape) (i : Input) (gap rest : Text) (s : ℕ) → IsWritten (has_opaque m.types) (defined_structs m) shape → levels shape ≤ 64 → is_held_shape shape ≡ true → AreBlanks gap → EndsType rest
+  pub held_type_reads : (shape : Shape) (i : Input) (gap rest : Text) (s : ℕ) → IsWritten m.wide (has_opaque m.types) (defined_structs m) shape → levels shape ≤ 64 → is_held_shape shape ≡ true → AreBlanks gap → EndsType rest
       → Ready v s i (gap ++ (shown false shape ++ rest)) → Reads v s w.held_type i rest (IsTypeRead shape 64)
   unfolding w.held_type
   held_type_reads shape i gap rest s own le is blanks ends ready =
       type_that_reads is_held shape i gap rest s own le blanks ends (λ p o read. held_read shape 64 p o read ∙ is) ready
 
   -- `{ T, .. }` as the definition of a named struct
-  pub struct_body_reads : (shape : Shape) (i : Input) (gap rest : Text) (s : ℕ) → IsWritten (has_opaque m.types) (defined_structs m) shape → levels shape ≤ 64 → is_struct_shape shape ≡ true → AreBlanks gap
+  pub struct_body_reads : (shape : Shape) (i : Input) (gap rest : Text) (s : ℕ) → IsWritten m.wide (has_opaque m.types) (defined_structs m) shape → levels shape ≤ 64 → is_struct_shape shape ≡ true → AreBlanks gap
       → Ready v s i (gap ++ (shown false shape ++ rest)) → Reads v s w.struct_body i rest (λ n o. HasShape o.types o.struct_names.names shape n)
   unfolding w.struct_body
   struct_body_reads shape i gap rest s own le is blanks ready =

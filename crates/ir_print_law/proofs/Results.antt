@@ -51,6 +51,7 @@ result_plain first k.LocalName e = refl
 result_plain first k.OpenSquare e = refl
 result_plain first k.OpenBrace e = refl
 result_plain first k.Ptr e = refl
+result_plain first k.LeftOut e = refl
 result_plain first _ e = absurd cc
 
 -- and has no metadata before it
@@ -60,6 +61,7 @@ declare_plain first k.LocalName e = refl
 declare_plain first k.OpenSquare e = refl
 declare_plain first k.OpenBrace e = refl
 declare_plain first k.Ptr e = refl
+declare_plain first k.LeftOut e = refl
 declare_plain first _ e = absurd cc
 
 defined_by : (x : Kind) (i o : Input) (n : ℕ) → begins_type x ≡ true → (passed_type >>= λ w. pure w.id).says i n o → (defined_result_by x).says i n o
@@ -68,6 +70,7 @@ defined_by k.LocalName i o n e h = h
 defined_by k.OpenSquare i o n e h = h
 defined_by k.OpenBrace i o n e h = h
 defined_by k.Ptr i o n e h = h
+defined_by k.LeftOut i o n e h = h
 defined_by _ i o n e h = absurd cc
 
 declared_by : (x : Kind) (i o : Input) (n : ℕ) → begins_type x ≡ true → (any_type >>= λ w. pure w.id).says i n o → (declared_result_by x).says i n o
@@ -76,6 +79,7 @@ declared_by k.LocalName i o n e h = h
 declared_by k.OpenSquare i o n e h = h
 declared_by k.OpenBrace i o n e h = h
 declared_by k.Ptr i o n e h = h
+declared_by k.LeftOut i o n e h = h
 declared_by _ i o n e h = absurd cc
 
 -- an item begins, or the text ends

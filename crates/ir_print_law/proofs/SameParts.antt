@@ -4,6 +4,7 @@ use Rattle.std.specs.Prelude.{codes}
 use Rattle.std.specs.Fmt.{decimal}
 use Rattle.std.specs.List.{flat_map}
 use Rattle.std.proofs.lemmas.Option.{slice_get_within}
+use Rattle.ir_forms.specs.declared.written.FloatType.TheVariants as size
 use Rattle.ir_print_law.specs.EqualParts.{same2, same3, same4}
 use Rattle.ir_ast.specs.declared.argument.Argument.{Argument}
 use Rattle.ir_ast.specs.declared.module.Module.{Module}
@@ -18,7 +19,7 @@ use Rattle.ir_print.specs.Operands.{constant_text, operand_text, typed_text, arg
 use Rattle.ir_print.specs.Parts.{converted_text, pair_text, placed_text}
 use Rattle.ir_print.specs.Types.{type_text, type_within, fields_text}
 use Rattle.ir_print_law.specs.PartsAgain.{AreAlike, IsNameAgain, IsTypeAgain, IsResultAgain, IsOperandAgain, IsArgumentAgain}
-use Rattle.ir_print_law.specs.Shapes.{Shape, Integer, Pointer, Array, Empty, Struct, Named, Opaque, HasShape}
+use Rattle.ir_print_law.specs.Shapes.{Shape, Integer, Float, Pointer, Array, Empty, Struct, Named, Opaque, HasShape}
 use Rattle.ir_print_law.proofs.Named.{place_name}
 use Rattle.ir_print_law.proofs.OperandsAgain.{constant_by_shape}
 use Rattle.ir_print_law.proofs.PrintedTypes.{at_type, at_field, void_shown}
@@ -93,6 +94,24 @@ module _ (m n : Module) where
     fields_same room zero more t u h g less below = absurd (omega (arith, less))
     fields_same room (suc most) zero t u h g less below = absurd (omega (arith, below))
     fields_same room (suc most) (suc more) t u h g less below = at_field m room most t _ h.1 ∙ sym (at_field n room more u _ g.1)
+  both_same (Float size.Single) = (part_same, fields_same) where
+    part_same : PartSame (Float size.Single)
+    part_same zero t u h g = nothing_within m n t u
+    part_same (suc room) t u h g = at_type m room t _ h ∙ sym (at_type n room u _ g)
+
+    fields_same : FieldsSame (Float size.Single)
+    fields_same room zero more t u h g less below = absurd (omega (arith, less))
+    fields_same room (suc most) zero t u h g less below = absurd (omega (arith, below))
+    fields_same room (suc most) (suc more) t u h g less below = at_field m room most t _ h ∙ sym (at_field n room more u _ g)
+  both_same (Float size.Double) = (part_same, fields_same) where
+    part_same : PartSame (Float size.Double)
+    part_same zero t u h g = nothing_within m n t u
+    part_same (suc room) t u h g = at_type m room t _ h ∙ sym (at_type n room u _ g)
+
+    fields_same : FieldsSame (Float size.Double)
+    fields_same room zero more t u h g less below = absurd (omega (arith, less))
+    fields_same room (suc most) zero t u h g less below = absurd (omega (arith, below))
+    fields_same room (suc most) (suc more) t u h g less below = at_field m room most t _ h ∙ sym (at_field n room more u _ g)
   both_same Empty = (part_same, fields_same) where
     part_same : PartSame Empty
     part_same zero t u h g = nothing_within m n t u

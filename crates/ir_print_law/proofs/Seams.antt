@@ -5,9 +5,11 @@ use Rattle.std.proofs.lemmas.Bool.{eqb-true}
 use Rattle.ir_tokens.specs.declared.class.ByteClass.{ByteClass}
 use Rattle.ir_tokens.specs.declared.class.ByteClass.TheVariants as c
 use Rattle.ir_tokens.specs.declared.token.Kind.{Kind}
+use Rattle.ir_tokens.specs.declared.token.Kind.TheVariants as k
 use Rattle.ir_tokens.specs.Bytes.{Text, is_letter, is_digit, class_of, first_class, is_name, is_name_class}
 use Rattle.ir_tokens.specs.Form.{begins}
 use Rattle.ir_tokens.specs.Tokens.{label_or}
+use Rattle.ir_forms.specs.Cursor.{is_plus}
 use Rattle.ir_print_law.specs.Stands.{ends_token, IsSeam}
 
 no_name_class : (x : ByteClass) → ends_token x ≡ true → is_name_class x ≡ false
@@ -46,3 +48,28 @@ apart_by f v b true e none is =
 
 pub apart : (f : ℕ → Bool) (v b : ℕ) → f v ≡ false → f b ≡ true → b == v ≡ false
 apart f v b = apart_by f v b (b == v) refl
+
+-- ---- signs
+
+-- the class of a byte but for a plus, which is no token where the wide forms may not stand
+abbrev pub but_plus : ByteClass → ByteClass
+but_plus (c.Sign k.Plus) = c.Other
+but_plus x = x
+
+-- the class of a byte but for a plus
+abbrev pub sign_class : ℕ → ByteClass
+sign_class b = but_plus (class_of b)
+
+-- the class is the sign of a plus
+abbrev is_plus_class : ByteClass → Bool
+is_plus_class (c.Sign x) = is_plus x
+is_plus_class _ = false
+
+sign_by : (y : ByteClass) (x : Kind) → but_plus y ≡ c.Sign x → (y ≡ c.Sign x) × (is_plus x ≡ false)
+sign_by (c.Sign k.Plus) x e = absurd cc
+sign_by (c.Sign _) x e = (e, sym (ap is_plus_class e))
+sign_by _ x e = absurd cc
+
+-- a byte of such a class is a sign, and no plus
+pub sign_is : (b : ℕ) (x : Kind) → sign_class b ≡ c.Sign x → (class_of b ≡ c.Sign x) × (is_plus x ≡ false)
+sign_is b x e = sign_by (class_of b) x e

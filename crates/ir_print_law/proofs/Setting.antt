@@ -19,15 +19,16 @@ use Rattle.ir_forms.specs.Written as w
 use Rattle.ir_forms.specs.Lists as lists
 use Rattle.ir_print.specs.Operands.{typed_text}
 use Rattle.ir_print.specs.Parts.{typed, converted_text}
-use Rattle.ir_print_law.specs.Stands.{AreBlanks}
+use Rattle.ir_print_law.specs.Stands.{AreBlanks, IsSeam}
 use Rattle.ir_print_law.specs.PartsAgain.{IsTypeAgain, IsArgumentAgain}
-use Rattle.ir_print_law.specs.Parts.{IsConverted}
+use Rattle.ir_print_law.specs.Parts.{IsNoFloat, IsConverted}
 use Rattle.ir_print_law.proofs.State.{Invariant, Ready, Grows, IsLater, Reads}
 use Rattle.ir_print_law.proofs.Shown.{shown, IsTypeRead}
 use Rattle.ir_print_law.proofs.Steps.{word_reads, grows_itself, grows_further, later_before}
 use Rattle.ir_print_law.proofs.Types.{EndsType}
-use Rattle.ir_print_law.proofs.PrintedTypes.{type_shown, read_again, scalar_reads}
-use Rattle.ir_print_law.proofs.Parts.{IsLaterAgain, ArgumentAgain, IsValueSort, Sets, typed_reads}
+use Rattle.ir_print_law.proofs.PrintedTypes.{type_shown, read_again, scalar_reads, integer_scalar_reads}
+use Rattle.ir_print_law.proofs.Parts.{IsLaterAgain, ArgumentAgain, IsValueSort, Sets, typed_reads, typed_integer_reads, flat_shape}
+use Rattle.ir_forms.specs.Numbers as numbers
 
 -- one form after another, where other things are known of the names after the second
 pub on : {m : Module} {f : Function} (v w : Invariant m f) {A B : Type 0} (form : Form A) (g : A → Form B) (i : Input) (afterwards rest : Text) (s t : ℕ) (P : A → Input → Type 0) (Q : B → Input → Type 0)
@@ -70,14 +71,16 @@ module _ {m : Module} {f : Function} (v u : Invariant m f) where
       let h = sort_set Again value sort x again i rest s sets is ready same in
       (again, h.1, (tt, h.1, h.2, (refl, refl)), h.3, h.4, h.5)
 
-  -- `T V to U`, of which a part is made
-  pub converted_reads : {A B : Type 0} (Again : Module → List Text → A → B → Type 0) (make : Argument → ℕ → B) (x : A) (value from : ℕ) (a : Operand) (to : ℕ) (i : Input) (gap rest : Text) (s : ℕ)
+  -- `T V to U`, of which a part is made, where the operand and the second type are read by these forms
+  pub converted_by : {A B : Type 0} (Again : Module → List Text → A → B → Type 0) (make : Argument → ℕ → B) (argument_form : Form Argument) (into_form : Form WrittenType) (x : A) (value from : ℕ) (a : Operand) (to : ℕ) (i : Input) (gap rest : Text) (s : ℕ)
       → ((n : Module) (others : List Text) (b : Argument) (k : ℕ) → IsArgumentAgain m n f.locals others (typed from a) b → IsTypeAgain m n to k → Again n others x (make b k))
-      → IsConverted m f from a to → Sets v u value → AreBlanks gap → EndsType rest
-      → Ready v s i (gap ++ (converted_text m f.locals (typed from a) to ++ rest))
-      → Reads u s (lists.typed >>= λ from. expect k.To >> (w.scalar >>= λ to. set_type value to.id >> pure (make from to.id))) i rest (IsLaterAgain Again x)
+      → (own : IsConverted m f from a to)
+      → ((afterwards : Text) → IsSeam afterwards → Ready v s i (gap ++ (typed_text m f.locals from a ++ afterwards)) → Reads v s argument_form i afterwards (ArgumentAgain m f.locals (typed from a)))
+      → ((q : Input) → Ready v s q (32 ∷ (shown false own.1.0 ++ rest)) → Reads v s into_form q rest (IsTypeRead own.1.0 64))
+      → Sets v u value → Ready v s i (gap ++ (converted_text m f.locals (typed from a) to ++ rest))
+      → Reads u s (argument_form >>= λ from. expect k.To >> (into_form >>= λ to. set_type value to.id >> pure (make from to.id))) i rest (IsLaterAgain Again x)
   unfolding class_of word_kind keywords
-  converted_reads {B = B} Again make x value from a to i gap rest s makes own sets blanks ends ready =
+  converted_by {B = B} Again make argument_form into_form x value from a to i gap rest s makes own reads into sets ready =
       let good = IsLaterAgain Again x in
       let shape = own.1.0 in
       let scalar = own.1.1 in
@@ -86,14 +89,14 @@ module _ {m : Module} {f : Function} (v u : Invariant m f) where
       let t1 = codes " to " ++ t2 in
       let ready = subst (λ (y : Text). Ready v s i (gap ++ ((typed_text m f.locals from a ++ codes " to " ++ y) ++ rest))) type_is ready in
       let ready = subst (λ (y : Text). Ready v s i (gap ++ y)) (front (typed_text m f.locals from a) (shown false shape)) ready in
-      on v u lists.typed to_form i t1 rest s s (ArgumentAgain m f.locals (typed from a)) good
-      (typed_reads v from a i gap t1 s own.0 blanks refl ready)
+      on v u argument_form to_form i t1 rest s s (ArgumentAgain m f.locals (typed from a)) good
+      (reads t1 refl ready)
       (λ b o ready g again.
       on v u (expect k.To) (λ _. type_form b) o (32 ∷ t2) rest s s (λ _ q. advanced o ≡ q) good
       (word_reads v (codes "to") o (32 ∷ []) (32 ∷ t2) s s refl refl refl (omega arith) ready)
       (λ _ q ready h e.
-      on v u w.scalar (set_form b) q rest rest s s (IsTypeRead shape 64) good
-      (scalar_reads v shape q (32 ∷ []) rest s scalar.0.2 scalar.0.1 scalar.1 refl ends ready)
+      on v u into_form (set_form b) q rest rest s s (IsTypeRead shape 64) good
+      (into q ready)
       (λ p r ready hh read. set_reads Again value (local.Value p.id) x (make b p.id) r rest s sets refl ready
       (λ n others later.
       let latero = later_before o r n others (grows_further o q r h hh) later in
@@ -106,7 +109,29 @@ module _ {m : Module} {f : Function} (v u : Invariant m f) where
       set_form b p = set_type value p.id >> pure (make b p.id)
 
       type_form : Argument → Form B
-      type_form b = w.scalar >>= set_form b
+      type_form b = into_form >>= set_form b
 
       to_form : Argument → Form B
       to_form b = expect k.To >> type_form b
+
+  -- `T V to U`
+  pub converted_reads : {A B : Type 0} (Again : Module → List Text → A → B → Type 0) (make : Argument → ℕ → B) (x : A) (value from : ℕ) (a : Operand) (to : ℕ) (i : Input) (gap rest : Text) (s : ℕ)
+      → ((n : Module) (others : List Text) (b : Argument) (k : ℕ) → IsArgumentAgain m n f.locals others (typed from a) b → IsTypeAgain m n to k → Again n others x (make b k))
+      → IsConverted m f from a to → Sets v u value → AreBlanks gap → EndsType rest
+      → Ready v s i (gap ++ (converted_text m f.locals (typed from a) to ++ rest))
+      → Reads u s (lists.typed >>= λ from. expect k.To >> (w.scalar >>= λ to. set_type value to.id >> pure (make from to.id))) i rest (IsLaterAgain Again x)
+  converted_reads Again make x value from a to i gap rest s makes own sets blanks ends ready =
+      converted_by Again make lists.typed w.scalar x value from a to i gap rest s makes own
+      (λ afterwards seam ready. typed_reads v from a i gap afterwards s own.0 blanks seam ready)
+      (λ q ready. scalar_reads v own.1.0 q (32 ∷ []) rest s own.1.1.0.2 own.1.1.0.1 own.1.1.1 refl ends ready) sets ready
+
+  -- `T V to U`, of integers or pointers
+  pub integer_converted_reads : {A B : Type 0} (Again : Module → List Text → A → B → Type 0) (make : Argument → ℕ → B) (x : A) (value from : ℕ) (a : Operand) (to : ℕ) (i : Input) (gap rest : Text) (s : ℕ)
+      → ((n : Module) (others : List Text) (b : Argument) (k : ℕ) → IsArgumentAgain m n f.locals others (typed from a) b → IsTypeAgain m n to k → Again n others x (make b k))
+      → IsNoFloat m from → IsNoFloat m to → IsConverted m f from a to → Sets v u value → AreBlanks gap → EndsType rest
+      → Ready v s i (gap ++ (converted_text m f.locals (typed from a) to ++ rest))
+      → Reads u s (numbers.typed_integer >>= λ from. expect k.To >> (w.integer_scalar >>= λ to. set_type value to.id >> pure (make from to.id))) i rest (IsLaterAgain Again x)
+  integer_converted_reads Again make x value from a to i gap rest s makes flat_from flat_to own sets blanks ends ready =
+      converted_by Again make numbers.typed_integer w.integer_scalar x value from a to i gap rest s makes own
+      (λ afterwards seam ready. typed_integer_reads v from a i gap afterwards s flat_from own.0 blanks seam ready)
+      (λ q ready. integer_scalar_reads v own.1.0 q (32 ∷ []) rest s own.1.1.0.2 own.1.1.0.1 own.1.1.1 (flat_shape v own.1.0 to own.1.1.0.0 flat_to) refl ends ready) sets ready

@@ -1,5 +1,6 @@
 -- One form after another, and the forms that read a token.
 use Rattle.std.proofs.Common.{◌≡◌, ℕ, ◌+◌, ◌<◌, ◌≤◌, ◌^◌, Bool, true, false, not, List, [], ◌∷◌, ◌++◌, length, slice_get, Some, refl, sym, ap, subst, ◌∙◌, arith, length-append}
+use Rattle.ir_print_law.proofs.Seams.{sign_class}
 use Rattle.ir_print_law.proofs.OneKind.{no_other_kind, type_in_order}
 use Rattle.ir_print_law.proofs.StarsRead.{interned}
 use Rattle.grammar.specs.Grammar.{pure, step, checked, look, ◌>>=◌, ◌>>◌}
@@ -155,21 +156,21 @@ module _ {m : Module} {f : Function} (v : Invariant m f) where
   shorter gap word rest s t le = let a = length-append gap (word ++ rest) in let b = length-append word rest in omega (arith, a, b, le)
 
   -- a sign is read
-  pub sign_reads : (b : ℕ) (x : Kind) (i : Input) (gap rest : Text) (s t : ℕ) → AreBlanks gap → class_of b ≡ c.Sign x → begins_gap (b ∷ rest) ≡ false → t ≤ s + 1
+  pub sign_reads : (b : ℕ) (x : Kind) (i : Input) (gap rest : Text) (s t : ℕ) → AreBlanks gap → sign_class b ≡ c.Sign x → begins_gap (b ∷ rest) ≡ false → t ≤ s + 1
       → Ready v s i (gap ++ b ∷ rest) → Reads v t (expect x) i rest (λ _ o. advanced i ≡ o)
   sign_reads b x i gap rest s t blanks class begins le ready =
       let w = sign_comes i.cursor gap b rest x blanks class begins ready.stands in
       expect_reads x i (gap ++ b ∷ rest) rest s t w.0 ready w.3 (shorter gap (b ∷ []) rest s t le)
 
   -- a sign is skipped
-  pub sign_skipped : (b : ℕ) (x : Kind) (i : Input) (gap rest : Text) (s t : ℕ) → AreBlanks gap → class_of b ≡ c.Sign x → begins_gap (b ∷ rest) ≡ false → t ≤ s + 1
+  pub sign_skipped : (b : ℕ) (x : Kind) (i : Input) (gap rest : Text) (s t : ℕ) → AreBlanks gap → sign_class b ≡ c.Sign x → begins_gap (b ∷ rest) ≡ false → t ≤ s + 1
       → Ready v s i (gap ++ b ∷ rest) → Reads v t skip i rest (λ _ o. advanced i ≡ o)
   sign_skipped b x i gap rest s t blanks class begins le ready =
       let w = sign_comes i.cursor gap b rest x blanks class begins ready.stands in
       skip_reads i (gap ++ b ∷ rest) rest s t ready w.3 (shorter gap (b ∷ []) rest s t le)
 
   -- a sign is seen
-  pub sign_kind : (b : ℕ) (x : Kind) (i : Input) (gap rest : Text) (s : ℕ) → AreBlanks gap → class_of b ≡ c.Sign x → begins_gap (b ∷ rest) ≡ false
+  pub sign_kind : (b : ℕ) (x : Kind) (i : Input) (gap rest : Text) (s : ℕ) → AreBlanks gap → sign_class b ≡ c.Sign x → begins_gap (b ∷ rest) ≡ false
       → Ready v s i (gap ++ b ∷ rest) → kind i.cursor ≡ x
   sign_kind b x i gap rest s blanks class begins ready = (sign_comes i.cursor gap b rest x blanks class begins ready.stands).0
 

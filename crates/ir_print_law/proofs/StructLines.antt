@@ -24,7 +24,7 @@ use Rattle.ir_print.specs.Types.{type_text}
 use Rattle.ir_print_law.proofs.Words.{sign_comes}
 use Rattle.ir_print_law.specs.Again.{IsStructAgain}
 use Rattle.ir_print_law.specs.Parts.{IsType}
-use Rattle.ir_print_law.specs.Shapes.{Shape, Integer, Pointer, Array, Empty, Struct, Named, Opaque, HasShape, is_struct_shape}
+use Rattle.ir_print_law.specs.Shapes.{Shape, Integer, Float, Pointer, Array, Empty, Struct, Named, Opaque, HasShape, is_struct_shape}
 use Rattle.ir_print_law.proofs.Tables.{stays, begins_itself}
 use Rattle.ir_print_law.proofs.State.{Invariant, Ready, Reads, IsLater}
 use Rattle.ir_print_law.proofs.Shown.{shown, shape_stays}
@@ -64,6 +64,7 @@ module _ (m : Module) (f : Function) (named : AreNamed m f) (types : TypesRead m
   brace_comes Empty i gap rest is blanks at = (sign_comes i.cursor gap 123 (codes "}" ++ rest) k.OpenBrace blanks refl refl at).0
   brace_comes (Struct first others) i gap rest is blanks at = (sign_comes i.cursor gap 123 _ k.OpenBrace blanks refl refl at).0
   brace_comes (Integer bits) i gap rest is blanks at = absurd cc
+  brace_comes (Float t) i gap rest is blanks at = absurd cc
   brace_comes (Pointer part) i gap rest is blanks at = absurd cc
   brace_comes (Array count part) i gap rest is blanks at = absurd cc
   brace_comes (Named name) i gap rest is blanks at = absurd cc

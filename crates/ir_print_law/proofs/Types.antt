@@ -22,6 +22,8 @@ use Rattle.ir_forms.specs.Number as numbers
 use Rattle.ir_forms.specs.declared.input.Input.{Input}
 use Rattle.ir_forms.specs.declared.written.Base.{Base}
 use Rattle.ir_forms.specs.declared.written.Base.TheVariants as base
+use Rattle.ir_forms.specs.declared.written.FloatType.{FloatType}
+use Rattle.ir_forms.specs.declared.written.FloatType.TheVariants as size
 use Rattle.ir_forms.specs.declared.written.WrittenType.{WrittenType}
 use Rattle.ir_forms.specs.Input.{limit, advanced, skip}
 use Rattle.ir_forms.specs.Names.{struct_name, with_struct_use}
@@ -35,9 +37,9 @@ use Rattle.ir_print_law.specs.Stars.{stars}
 use Rattle.name_text.specs.Spelled.{number_is}
 use Rattle.ir_print_law.proofs.Constants.{integer_types_are_read, are_digits, no_minus}
 use Rattle.ir_print_law.proofs.NamesRead.{struct_names_are_read}
-use Rattle.ir_print_law.proofs.Words.{local_comes, seen}
+use Rattle.ir_print_law.proofs.Words.{local_comes, word_comes, seen}
 use Rattle.ir_print_law.specs.Definitions.{defined_structs}
-use Rattle.ir_print_law.specs.Shapes.{Shape, Integer, Pointer, Array, Empty, Struct, Named, Opaque, HasShape, levels}
+use Rattle.ir_print_law.specs.Shapes.{Shape, Integer, Float, Pointer, Array, Empty, Struct, Named, Opaque, HasShape, levels}
 use Rattle.ir_print_law.proofs.Tables.{AreInOrder, IsInOrder, begins_itself, name_begins, name_length, place_there, place_stays, number_within}
 use Rattle.ir_print_law.proofs.State.{Invariant, Ready, Grows, Reads}
 use Rattle.ir_print_law.proofs.Shown.{shown, IsTypeRead, shape_stays, shape_within}
@@ -139,6 +141,10 @@ module _ {m : Module} {f : Function} (v : Invariant m f) where
       → IsTypeRead shape most p i → EndsType rest → Ready v s i (stars count ++ rest) → Reads v s (stars_after from p p.base) i rest (StarsRead count p.room shape)
   after_read (Integer bits) from count p i rest s most may has none le read ends ready =
       subst (λ (b : Base). Reads v s (stars_after from p b) i rest (StarsRead count p.room (Integer bits))) (sym read.base_is) (stars_read from count p.room p.id (Integer bits) i rest s may le read.has_shape ends ready)
+  after_read (Float size.Single) from count p i rest s most may has none le read ends ready =
+      subst (λ (b : Base). Reads v s (stars_after from p b) i rest (StarsRead count p.room (Float size.Single))) (sym read.base_is) (stars_read from count p.room p.id (Float size.Single) i rest s may le read.has_shape ends ready)
+  after_read (Float size.Double) from count p i rest s most may has none le read ends ready =
+      subst (λ (b : Base). Reads v s (stars_after from p b) i rest (StarsRead count p.room (Float size.Double))) (sym read.base_is) (stars_read from count p.room p.id (Float size.Double) i rest s may le read.has_shape ends ready)
   after_read (Array size part) from count p i rest s most may has none le read ends ready =
       subst (λ (b : Base). Reads v s (stars_after from p b) i rest (StarsRead count p.room (Array size part))) (sym read.base_is) (stars_read from count p.room p.id (Array size part) i rest s may le read.has_shape ends ready)
   after_read Empty from count p i rest s most may has none le read ends ready =
@@ -208,6 +214,31 @@ module _ {m : Module} {f : Function} (v : Invariant m f) where
       (token_then v integer (λ n. interned (base.Integer n) room (type.Integer n)) i bits (gap ++ (shown false (Integer bits) ++ afterwards)) afterwards afterwards s (s + 1) s good r.1 ready r.2
       (shorter v gap (shown false (Integer bits)) afterwards s (s + 1) (omega arith))
       (λ ready. interned_read (base.Integer bits) room (suc room) (type.Integer bits) (Integer bits) (advanced i) afterwards s tt refl refl (omega arith) (λ n o g ordered there. there) ready))
+
+  -- the word of a type of floating point numbers is read as that type
+  float_by_word : (t : FloatType) (word : Text) (room : ℕ) (i : Input) (gap afterwards : Text) (s : ℕ) → is_plain word ≡ true → word_kind word ≡ k.LeftOut → w.float_of word ≡ Some t → 1 ≤ length word
+      → ((n : ℕ) → IsInOrder (has_opaque m.types) n (w.float_entry t)) → m.wide ≡ true → AreBlanks gap → IsSeam afterwards → Ready v s i (gap ++ (word ++ afterwards))
+      → Reads v s (w.base room (firm room)) i afterwards (IsTypeRead (Float t) (suc room))
+  unfolding w.float_here
+  float_by_word t word room i gap afterwards s plain left of some order wide blanks seam ready =
+      let good = IsTypeRead (Float t) (suc room) in
+      let comes = word_comes i.cursor gap word afterwards blanks plain seam ready.stands in
+      let is : kind i.cursor ≡ k.LeftOut = comes.0 ∙ left in
+      let spelled_so : spelling i.cursor ≡ word = comes.1 in
+      let forms : i.wide ≡ true = ready.forms ∙ wide in
+      let here : w.float_here i ≡ Some t = rw (forms, seen k.LeftOut i is, spelled_so) of in
+      looked v (λ i. kind i.cursor) (w.base_by room (firm room)) i afterwards s good k.LeftOut is
+      (looked v w.float_here (w.float_by room) i afterwards s good (Some t) here
+      (go_on v skip (λ _. interned (w.float_base t) room (w.float_entry t)) i afterwards afterwards (s + 1) s (λ _ o. advanced i ≡ o) good
+      (word_skipped v word i gap afterwards s (s + 1) blanks plain seam (omega (arith, some)) ready)
+      (λ _ o ready g e. interned_read (w.float_base t) room (suc room) (w.float_entry t) (Float t) o afterwards s (order (length o.types)) refl refl (omega arith) (λ n o g ordered there. there) ready)))
+
+  -- a type of floating point numbers is read
+  pub float_read : (t : FloatType) (room : ℕ) (i : Input) (gap afterwards : Text) (s : ℕ) → m.wide ≡ true → AreBlanks gap → IsSeam afterwards → Ready v s i (gap ++ (shown false (Float t) ++ afterwards))
+      → Reads v s (w.base room (firm room)) i afterwards (IsTypeRead (Float t) (suc room))
+  unfolding word_kind keywords
+  float_read size.Single room i gap afterwards s wide blanks seam ready = float_by_word size.Single (codes "float") room i gap afterwards s refl refl refl (omega arith) (λ n. tt) wide blanks seam ready
+  float_read size.Double room i gap afterwards s wide blanks seam ready = float_by_word size.Double (codes "double") room i gap afterwards s refl refl refl (omega arith) (λ n. tt) wide blanks seam ready
 
   -- the name of a struct
   pub struct_read : (name : Text) (i : Input) (gap afterwards : Text) (s : ℕ) → AreBytes name → IsIn name (defined_structs m) → AreBlanks gap → IsSeam afterwards

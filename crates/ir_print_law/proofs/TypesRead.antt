@@ -13,18 +13,20 @@ use Rattle.ir_ast.specs.declared.module.Module.{Module}
 use Rattle.ir_tokens.specs.declared.token.Kind.{Kind}
 use Rattle.ir_tokens.specs.declared.token.Kind.TheVariants as k
 use Rattle.ir_forms.specs.declared.fault.Fault.TheVariants.{OutOfRange}
-use Rattle.ir_forms.specs.Cursor.{start, kind, spelling}
+use Rattle.ir_forms.specs.Cursor.{start, kind, sees, spelling}
 use Rattle.ir_forms.specs.Number as numbers
 use Rattle.ir_forms.specs.declared.input.Input.{Input}
 use Rattle.ir_forms.specs.declared.written.Base.{Base}
 use Rattle.ir_forms.specs.declared.written.Base.TheVariants as base
 use Rattle.ir_forms.specs.declared.written.WrittenType.{WrittenType}
+use Rattle.ir_forms.specs.declared.written.FloatType.{FloatType}
+use Rattle.ir_forms.specs.declared.written.FloatType.TheVariants as size
 use Rattle.ir_forms.specs.Input.{limit, advanced, advanced_falls, skip}
 use Rattle.ir_forms.specs.Names.{struct_name}
 use Rattle.ir_forms.specs.Written as w
 use Rattle.ir_forms.specs.Written.{has_opaque, intern_pointer, opaque_type, stars_after, part_of, integer, bits_at, length_at, array_length, pointers, star_or, at_star, at_brace, comma_or, after_field, field, field_takes, before, struct_of, starred as with_starred, with_stars, interned, part, firm, Firm, no_type}
 use Rattle.ir_print_law.specs.Definitions.{defined_structs}
-use Rattle.ir_print_law.specs.Shapes.{Shape, Integer, Pointer, Array, Empty, Struct, Named, Opaque, HasShape, IsWritten, IsStruct, levels}
+use Rattle.ir_print_law.specs.Shapes.{Shape, Integer, Float, Pointer, Array, Empty, Struct, Named, Opaque, HasShape, IsWritten, IsStruct, levels}
 use Rattle.ir_print_law.proofs.Forms.{Keeps, Same, Any, stepped, where_true, all, each}
 use Rattle.ir_print_law.proofs.Looks.{starred, base_of, stars_of, IsTypeOf, IsShaped, starred_levels, starred_base, starred_stars}
 use Rattle.ir_print_law.proofs.Reading.{Reading}
@@ -37,8 +39,8 @@ AreBits bits = (1 ≤ bits) × (bits ≤ 64)
 -- what stars make of a type
 abbrev IsStarred : Module → (room pointee : ℕ) → ℕ × ℕ → Type 0
 IsStarred m room pointee found =
-    (shape : Shape) → HasShape m.types m.struct_names shape pointee → IsWritten (has_opaque m.types) (defined_structs m) shape
-    → (count : ℕ) × (found.0 + count ≡ room) × HasShape m.types m.struct_names (starred count shape) found.1 × IsWritten (has_opaque m.types) (defined_structs m) (starred count shape)
+    (shape : Shape) → HasShape m.types m.struct_names shape pointee → IsWritten m.wide (has_opaque m.types) (defined_structs m) shape
+    → (count : ℕ) × (found.0 + count ≡ room) × HasShape m.types m.struct_names (starred count shape) found.1 × IsWritten m.wide (has_opaque m.types) (defined_structs m) (starred count shape)
 
 -- a type without stars
 abbrev pub IsBare : Module → (most : ℕ) → WrittenType → Type 0
@@ -85,6 +87,8 @@ module _ {m : Module} (r : Reading m) where
   -- the stars after a base, if it takes any
   after_keeps : (from : ℕ) (p : WrittenType) (x : Base) (i : Input) → Keeps (Has r.Fore p.id) (λ found. Has r.Fore found.1) r.Back (stars_after from p x) (IsStarred m p.room p.id) i
   after_keeps from p (base.Integer bits) i = star_keeps from p.room p.id i
+  after_keeps from p base.Float i = star_keeps from p.room p.id i
+  after_keeps from p base.Double i = star_keeps from p.room p.id i
   after_keeps from p base.Named i = star_keeps from p.room p.id i
   after_keeps from p base.Aggregate i = star_keeps from p.room p.id i
   after_keeps from p base.Opaque i = λ a o h f. (subst (λ (x : ℕ × ℕ). Has r.Fore x.1 o) h.0 (subst (Has r.Fore p.id) h.1 f), λ b. (subst r.Back (sym h.1) b, subst (IsStarred m p.room p.id) h.0 (λ shape has own. (0, omega arith, has, own))))
@@ -139,7 +143,7 @@ module _ {m : Module} (r : Reading m) where
             (r.from_token i b, (grind (arith, nat_tests), grind (arith, nat_tests))),
       )))
 
-  bare_of : (b : Base) (room most : ℕ) (t : IrType) (shape : Shape) (p : WrittenType) → b ≡ base_of shape → stars_of shape ≡ 0 → levels shape + room ≡ most → IsWritten (has_opaque m.types) (defined_structs m) shape
+  bare_of : (b : Base) (room most : ℕ) (t : IrType) (shape : Shape) (p : WrittenType) → b ≡ base_of shape → stars_of shape ≡ 0 → levels shape + room ≡ most → IsWritten m.wide (has_opaque m.types) (defined_structs m) shape
       → IsInterned m b room t p → (IsAt m t p.id → HasShape m.types m.struct_names shape p.id) → IsBare m most p
   bare_of b room most t shape p base_is flat fits written own has =
       let e = own.3 in (
@@ -164,6 +168,38 @@ module _ {m : Module} (r : Reading m) where
             let d = x.1 c.0 in
             (d.0, bare_of (base.Integer h.0) room (suc room) (type.Integer h.0) (Integer h.0) p refl refl (omega arith) d.1 c.1 (λ at. at.0)),
       )
+
+  -- where a type of floating point numbers is named, the wide forms may stand
+  float_here_is : (i : Input) (t : FloatType) → w.float_here i ≡ Some t → i.wide ≡ true
+  unfolding w.float_here
+  float_here_is i t e = pick i.wide refl e where
+    pick : (b : Bool) → i.wide ≡ b → (if b && sees k.LeftOut i.cursor then w.float_of (spelling i.cursor) else None) ≡ Some t → i.wide ≡ true
+    pick true is e = is
+    pick false is e = absurd cc
+
+  -- a type of floating point numbers
+  float_keeps : (room : ℕ) (i : Input) → Keeps r.Fore (λ w. Has r.Fore w.id) r.Back (w.float_written room) (IsBare m (suc room)) i
+  float_keeps room i = by (w.float_here i) refl where
+    by : (t : Option FloatType) → w.float_here i ≡ t → Keeps r.Fore (λ w. Has r.Fore w.id) r.Back (w.float_by room t) (IsBare m (suc room)) i
+    by None e = λ p o h f. absurd h
+    by (Some size.Single) e = λ p o h f.
+        let x = skip_keeps r i h.0 h.1 h.2 f in
+        let y = interned_keeps r base.Float room type.Float h.1 tt p o h.3 x.0 in (
+          y.0,
+          λ b.
+              let c = y.1 b in
+              let d = x.1 c.0 in
+              (d.0, bare_of base.Float room (suc room) type.Float (Float size.Single) p refl refl (omega arith) (sym (r.forms i d.0) ∙ float_here_is i size.Single e) c.1 (λ at. at.0)),
+        )
+    by (Some size.Double) e = λ p o h f.
+        let x = skip_keeps r i h.0 h.1 h.2 f in
+        let y = interned_keeps r base.Double room type.Double h.1 tt p o h.3 x.0 in (
+          y.0,
+          λ b.
+              let c = y.1 b in
+              let d = x.1 c.0 in
+              (d.0, bare_of base.Double room (suc room) type.Double (Float size.Double) p refl refl (omega arith) (sym (r.forms i d.0) ∙ float_here_is i size.Double e) c.1 (λ at. at.0)),
+        )
 
   named_type_keeps : (room : ℕ) (i : Input) → Keeps r.Fore (λ w. Has r.Fore w.id) r.Back (struct_name >>= λ name. interned base.Named room (type.Named name)) (IsBare m (suc room)) i
   named_type_keeps room i p o h f =
@@ -356,6 +392,7 @@ module _ {m : Module} where
   base_keeps r room inner part k.OpenSquare i = array_keeps r room inner part i
   base_keeps r room inner part k.Ptr i = opaque_type_keeps r room i
   base_keeps r room inner part k.OpenBrace i = λ p o h f. let x = struct_keeps r room inner part i p o h f in (x.0, λ b. let c = x.1 b in (c.0, (c.1.0, c.1.1, c.1.2)))
+  base_keeps r room inner part k.LeftOut i = float_keeps r room i
   base_keeps r room inner part _ i = λ p o h f. absurd h
 
   pub part_keeps : (r : Reading m) (levels : ℕ) (i : Input) → Keeps r.Fore (λ w. Has r.Fore w.id) r.Back (part levels) (IsShaped m levels) i

@@ -1,6 +1,7 @@
 -- Types that are allowed somewhere, and pointers to them.
-use Rattle.std.proofs.Common.{◌≡◌, ℕ, ◌<◌, Bool, true, false, length, refl, sym, subst, ◌∙◌, arith, inl, inr}
+use Rattle.std.proofs.Common.{◌≡◌, ℕ, ◌<◌, Bool, true, false, length, refl, sym, ap, subst, ◌∙◌, arith, inl, inr}
 use Rattle.std.specs.Prelude.{nat_lt}
+use Rattle.lemmas.specs.Bools.{not_true}
 use Rattle.std.proofs.lemmas.Bool.Decides.{nat_tests}
 use Rattle.ir_ast.specs.declared.ir_type.IrType.TheVariants as type
 use Rattle.ir_ast.specs.declared.module.Module.{Module}
@@ -8,12 +9,13 @@ use Rattle.ir_tokens.specs.declared.token.Kind.TheVariants as k
 use Rattle.ir_forms.specs.Cursor.{sees, start}
 use Rattle.ir_forms.specs.declared.input.Input.{Input}
 use Rattle.ir_forms.specs.declared.written.WrittenType.{WrittenType}
-use Rattle.ir_forms.specs.Written.{firm, struct_body, type_within, type_that, any_type, scalar_within, scalar, passed_type, held_type, pointer_type, is_scalar, is_passed, is_held, pointer_again, starred_again, opaque_or, opaque_type}
-use Rattle.ir_print_law.specs.Shapes.{Shape, IsStruct, Integer, Pointer, Array, Empty, Struct, Named, Opaque, is_struct_shape}
-use Rattle.ir_print_law.specs.Parts.{IsType, IsScalar, IsPointer, IsPlaceType}
+use Rattle.ir_forms.specs.Written.{firm, struct_body, type_within, type_that, any_type, scalar_within, scalar, integer_scalar, float_scalar, is_float, is_float_word, passed_type, held_type, pointer_type, is_scalar, is_passed, is_held, pointer_again, starred_again, opaque_or, opaque_type}
+use Rattle.ir_print_law.specs.Shapes.{Shape, IsStruct, Integer, Float, Pointer, Array, Empty, Struct, Named, Opaque, is_struct_shape}
+use Rattle.ir_print_law.specs.Parts.{IsType, IsScalar, IsFloat, IsNoFloat, IsPointer, IsPlaceType}
 use Rattle.ir_print_law.specs.Printable.{IsPassed}
 use Rattle.ir_print_law.proofs.Forms.{Keeps, Same}
-use Rattle.ir_print_law.proofs.Looks.{IsTypeOf, IsShaped, scalar_is, passed_is, pointer_is}
+use Rattle.ir_print_law.proofs.Shown.{word_told}
+use Rattle.ir_print_law.proofs.Looks.{IsTypeOf, IsShaped, bits_are, scalar_is, passed_is, pointer_is}
 use Rattle.ir_print_law.proofs.Passes.{again_passes, skip_passes}
 use Rattle.ir_print_law.proofs.Reading.{Reading}
 use Rattle.ir_print_law.proofs.Tokens.{Has, having, pointer_goes}
@@ -36,6 +38,7 @@ is_struct_of : (shape : Shape) → IsStruct shape → is_struct_shape shape ≡ 
 is_struct_of Empty h = refl
 is_struct_of (Struct first rest) h = refl
 is_struct_of (Integer bits) h = absurd h
+is_struct_of (Float t) h = absurd h
 is_struct_of (Pointer part) h = absurd h
 is_struct_of (Array count part) h = absurd h
 is_struct_of (Named name) h = absurd h
@@ -73,6 +76,33 @@ module _ {m : Module} (r : Reading m) where
   pub scalar_keeps : (i : Input) → Keeps r.Fore (Same r.Fore) r.Back scalar (IsFit m is_scalar) i
   unfolding scalar scalar_within
   scalar_keeps i = that_keeps is_scalar i
+
+  -- a type of integers or a pointer type, and one of floating point numbers
+  pub integer_scalar_keeps : (i : Input) → Keeps r.Fore (Same r.Fore) r.Back integer_scalar (λ w. IsFit m is_scalar w × IsNoFloat m w.id) i
+  unfolding integer_scalar
+  integer_scalar_keeps i w o h f =
+      let x = scalar_keeps i h.0 h.1 h.2 f in
+      let t = h.3 in
+      let same = t.2.1 ∙ t.3.1 in (
+        subst r.Fore same x.0,
+        λ b.
+            let c = x.1 (subst r.Back (sym same) b) in
+            let flat = ap is_float_word (word_told m.types m.struct_names c.1.0.0 h.0.id c.1.0.1.has_shape ∙ sym (bits_are m 64 h.0 c.1.0.0 c.1.0.1)) ∙ not_true (is_float h.0) t.2.0 in
+            (c.0, subst (λ (y : WrittenType). IsFit m is_scalar y × IsNoFloat m y.id) t.3.0 (c.1, flat)),
+      )
+
+  pub float_scalar_keeps : (i : Input) → Keeps r.Fore (Same r.Fore) r.Back float_scalar (λ w. IsFit m is_scalar w × IsFloat m w.id) i
+  unfolding float_scalar
+  float_scalar_keeps i w o h f =
+      let x = scalar_keeps i h.0 h.1 h.2 f in
+      let t = h.3 in
+      let same = t.2.1 ∙ t.3.1 in (
+        subst r.Fore same x.0,
+        λ b.
+            let c = x.1 (subst r.Back (sym same) b) in
+            let is = ap is_float_word (word_told m.types m.struct_names c.1.0.0 h.0.id c.1.0.1.has_shape ∙ sym (bits_are m 64 h.0 c.1.0.0 c.1.0.1)) ∙ t.2.0 in
+            (c.0, subst (λ (y : WrittenType). IsFit m is_scalar y × IsFloat m y.id) t.3.0 (c.1, is)),
+      )
 
   pub passed_keeps : (i : Input) → Keeps r.Fore (Same r.Fore) r.Back passed_type (IsFit m is_passed) i
   unfolding passed_type

@@ -6,10 +6,11 @@ use Rattle.ir_ast.specs.declared.items_of_module.SymbolSort.{SymbolSort}
 use Rattle.ir_ast.specs.declared.items_of_module.SymbolSort.TheVariants as symbol
 use Rattle.ir_ast.specs.declared.module.Module.{Module}
 use Rattle.ir_tokens.specs.declared.token.Kind.TheVariants as k
+use Rattle.ir_tokens.specs.declared.token.Token.{Token}
 use Rattle.ir_tokens.specs.Bytes.{Text}
 use Rattle.ir_tokens.specs.Tokens.{IsLexed, lexed_of, lex_from, past_gap}
 use Rattle.ir_tokens.specs.Laws.{found}
-use Rattle.ir_forms.specs.Cursor.{kind, kind_first}
+use Rattle.ir_forms.specs.Cursor.{kind, kind_first, here, bad_from, bad_here}
 use Rattle.ir_forms.specs.Place.{Place}
 use Rattle.ir_forms.specs.declared.uses.StructUse.{StructUse}
 use Rattle.ir_forms.specs.declared.uses.SymbolUse.{SymbolUse}
@@ -79,8 +80,9 @@ unfolding past_gap
 past_end = (refl, refl)
 
 -- after the last line the text ends
-pub ends_there : (c : Place) (gap : Text) → past_gap false gap ≡ [] → Stands c gap → (kind c ≡ k.End) × (c.bad ≡ None)
-unfolding kind
+pub ends_there : (c : Place) (gap : Text) → past_gap false gap ≡ [] → Stands c gap → (kind c ≡ k.End) × (bad_here c ≡ None)
+unfolding kind bad_here
 ends_there c gap e at =
     let l = end_by at.1 (length c.text) at.2 gap e in
-    (ap kind_first (at.5 ∙ l.0), at.6 ∙ l.1)
+    let none = at.5 ∙ l.0 in
+    (ap (λ (ts : List Token). kind_first (here c.wide ts)) none, ap (λ (ts : List Token). bad_from c.wide ts c.bad) none ∙ at.6 ∙ l.1)

@@ -15,6 +15,8 @@ use Rattle.ir_forms.specs.Cursor.{kind}
 use Rattle.ir_forms.specs.declared.input.Input.{Input}
 use Rattle.ir_forms.specs.declared.written.Base.TheVariants as base
 use Rattle.ir_forms.specs.declared.written.WrittenType.{WrittenType}
+use Rattle.ir_forms.specs.declared.written.FloatType.{FloatType}
+use Rattle.ir_forms.specs.declared.written.FloatType.TheVariants as size
 use Rattle.ir_forms.specs.Place.{Place}
 use Rattle.ir_forms.specs.Input.{Form, unexpected, advanced, skip, expect, start_of}
 use Rattle.ir_forms.specs.Written as w
@@ -24,12 +26,12 @@ use Rattle.ir_print_law.specs.Stars.{stars}
 use Rattle.ir_print_law.proofs.Constants.{integer_types_are_read, are_digits}
 use Rattle.ir_print_law.proofs.Words.{sign_comes, number_comes, local_comes, word_comes, seen}
 use Rattle.ir_print_law.specs.Definitions.{defined_structs}
-use Rattle.ir_print_law.specs.Shapes.{Shape, Integer, Pointer, Array, Empty, Struct, Named, Opaque, IsWritten, IsStruct, levels, is_struct_shape}
+use Rattle.ir_print_law.specs.Shapes.{Shape, Integer, Float, Pointer, Array, Empty, Struct, Named, Opaque, IsWritten, IsStruct, levels, is_struct_shape}
 use Rattle.ir_print_law.proofs.State.{Invariant, Ready, Grows, Reads, Any}
 use Rattle.ir_print_law.proofs.Shown.{shown, field_count, IsTypeRead, shape_stays, shape_within, read_stays, some_level}
 use Rattle.ir_print_law.proofs.Looks.{starred, stars_of, MayStar, starred_parts}
 use Rattle.ir_print_law.proofs.Steps.{go_on, so, given, said_then, token_then, shorter, test_reads, looked, less_spare, sign_reads, sign_skipped, sign_kind, word_reads, unlike, grows_itself, grows_further}
-use Rattle.ir_print_law.proofs.Types.{EndsType, ends_type, HasStars, length_said, named_read, integer_read, opaque_read, interned_read, over_read}
+use Rattle.ir_print_law.proofs.Types.{EndsType, ends_type, HasStars, length_said, named_read, integer_read, float_read, opaque_read, interned_read, over_read}
 
 -- what was read of fields stays
 abbrev pub AreFields : (most : ℕ) → Shape → List WrittenType → Input → Type 0
@@ -44,6 +46,7 @@ fields_stay most Empty [] i o g h = h
 fields_stay most (Struct first rest) [] i o g h = absurd h
 fields_stay most Empty (p ∷ ps) i o g h = absurd h
 fields_stay most (Integer bits) ps i o g h = absurd h
+fields_stay most (Float t) ps i o g h = absurd h
 fields_stay most (Pointer part) ps i o g h = absurd h
 fields_stay most (Array count part) ps i o g h = absurd h
 fields_stay most (Named name) ps i o g h = absurd h
@@ -81,32 +84,35 @@ unfolding class_of
 ends_field Empty rest is = (refl, λ i at. ap ends_type (sign_comes i.cursor (32 ∷ []) 125 rest k.CloseBrace refl refl refl at).0)
 ends_field (Struct first others) rest is = (refl, λ i at. ap ends_type (sign_comes i.cursor [] 44 _ k.Comma refl refl refl at).0)
 ends_field (Integer bits) rest is = absurd is
+ends_field (Float t) rest is = absurd is
 ends_field (Pointer part) rest is = absurd is
 ends_field (Array count part) rest is = absurd is
 ends_field (Named name) rest is = absurd is
 ends_field Opaque rest is = absurd is
 
 -- which token a type begins with, at any place
-pub shape_comes : (opaque : Bool) (structs : List Text) (shape : Shape) (place : Place) (gap afterwards : Text) → IsWritten opaque structs shape → AreBlanks gap → IsSeam afterwards → Stands place (gap ++ (shown false shape ++ afterwards)) → begins_type (kind place) ≡ true
+pub shape_comes : (wide opaque : Bool) (structs : List Text) (shape : Shape) (place : Place) (gap afterwards : Text) → IsWritten wide opaque structs shape → AreBlanks gap → IsSeam afterwards → Stands place (gap ++ (shown false shape ++ afterwards)) → begins_type (kind place) ≡ true
 unfolding class_of word_kind keywords
-shape_comes opaque structs (Integer bits) place gap afterwards own blanks seam at = ap begins_type (integer_types_are_read bits (start_of place) gap afterwards own.0 own.1 blanks seam at).0
-shape_comes opaque structs (Pointer part) place gap afterwards own blanks seam at =
-    shape_comes opaque structs part place gap (42 ∷ afterwards) own.1 blanks refl (subst (λ (x : Text). Stands place (gap ++ x)) (append_assoc (shown false part) (42 ∷ []) afterwards) at)
-shape_comes opaque structs (Array count part) place gap afterwards own blanks seam at = ap begins_type (sign_comes place gap 91 _ k.OpenSquare blanks refl refl at).0
-shape_comes opaque structs Empty place gap afterwards own blanks seam at = ap begins_type (sign_comes place gap 123 _ k.OpenBrace blanks refl refl at).0
-shape_comes opaque structs (Struct first rest) place gap afterwards own blanks seam at = ap begins_type (sign_comes place gap 123 _ k.OpenBrace blanks refl refl at).0
-shape_comes opaque structs (Named name) place gap afterwards own blanks seam at = ap begins_type (local_comes place gap name afterwards blanks own.0 seam at).0
-shape_comes opaque structs Opaque place gap afterwards own blanks seam at = ap begins_type (word_comes place gap (codes "ptr") afterwards blanks refl seam at).0
+shape_comes wide opaque structs (Integer bits) place gap afterwards own blanks seam at = ap begins_type (integer_types_are_read bits (start_of place) gap afterwards own.0 own.1 blanks seam at).0
+shape_comes wide opaque structs (Float size.Single) place gap afterwards own blanks seam at = ap begins_type (word_comes place gap (codes "float") afterwards blanks refl seam at).0
+shape_comes wide opaque structs (Float size.Double) place gap afterwards own blanks seam at = ap begins_type (word_comes place gap (codes "double") afterwards blanks refl seam at).0
+shape_comes wide opaque structs (Pointer part) place gap afterwards own blanks seam at =
+    shape_comes wide opaque structs part place gap (42 ∷ afterwards) own.1 blanks refl (subst (λ (x : Text). Stands place (gap ++ x)) (append_assoc (shown false part) (42 ∷ []) afterwards) at)
+shape_comes wide opaque structs (Array count part) place gap afterwards own blanks seam at = ap begins_type (sign_comes place gap 91 _ k.OpenSquare blanks refl refl at).0
+shape_comes wide opaque structs Empty place gap afterwards own blanks seam at = ap begins_type (sign_comes place gap 123 _ k.OpenBrace blanks refl refl at).0
+shape_comes wide opaque structs (Struct first rest) place gap afterwards own blanks seam at = ap begins_type (sign_comes place gap 123 _ k.OpenBrace blanks refl refl at).0
+shape_comes wide opaque structs (Named name) place gap afterwards own blanks seam at = ap begins_type (local_comes place gap name afterwards blanks own.0 seam at).0
+shape_comes wide opaque structs Opaque place gap afterwards own blanks seam at = ap begins_type (word_comes place gap (codes "ptr") afterwards blanks refl seam at).0
 
 module _ {m : Module} {f : Function} (v : Invariant m f) where
   -- which token a type begins with
-  pub type_begins : (shape : Shape) (i : Input) (gap afterwards : Text) → IsWritten (has_opaque m.types) (defined_structs m) shape → AreBlanks gap → IsSeam afterwards → Stands i.cursor (gap ++ (shown false shape ++ afterwards)) → begins_type (kind i.cursor) ≡ true
-  type_begins shape i gap afterwards own blanks seam at = shape_comes (has_opaque m.types) (defined_structs m) shape i.cursor gap afterwards own blanks seam at
+  pub type_begins : (shape : Shape) (i : Input) (gap afterwards : Text) → IsWritten m.wide (has_opaque m.types) (defined_structs m) shape → AreBlanks gap → IsSeam afterwards → Stands i.cursor (gap ++ (shown false shape ++ afterwards)) → begins_type (kind i.cursor) ≡ true
+  type_begins shape i gap afterwards own blanks seam at = shape_comes m.wide (has_opaque m.types) (defined_structs m) shape i.cursor gap afterwards own blanks seam at
 
   -- a type with stars after it is read
   abbrev PartClaim : Shape → Type 0
   PartClaim shape =
-      (count n : ℕ) (i : Input) (gap rest : Text) (s : ℕ) → IsWritten (has_opaque m.types) (defined_structs m) (starred count shape) → levels shape + count ≤ n → AreBlanks gap → EndsType rest
+      (count n : ℕ) (i : Input) (gap rest : Text) (s : ℕ) → IsWritten m.wide (has_opaque m.types) (defined_structs m) (starred count shape) → levels shape + count ≤ n → AreBlanks gap → EndsType rest
       → Ready v s i (gap ++ (shown false shape ++ (stars count ++ rest))) → Reads v s (part n) i rest (IsTypeRead (starred count shape) n)
 
   -- further fields were read
@@ -118,7 +124,7 @@ module _ {m : Module} {f : Function} (v : Invariant m f) where
   -- further fields are read
   abbrev FieldsClaim : Shape → Type 0
   FieldsClaim shape =
-      (n : ℕ) (i : Input) (rest : Text) (s : ℕ) (p : WrittenType) → IsWritten (has_opaque m.types) (defined_structs m) shape → IsStruct shape → levels shape ≤ suc n
+      (n : ℕ) (i : Input) (rest : Text) (s : ℕ) (p : WrittenType) → IsWritten m.wide (has_opaque m.types) (defined_structs m) shape → IsStruct shape → levels shape ≤ suc n
       → Ready v s i (shown true shape ++ (codes " }" ++ rest)) → FieldsRead n shape p s i rest
 
   -- a token ends before stars
@@ -130,7 +136,7 @@ module _ {m : Module} {f : Function} (v : Invariant m f) where
   -- ---- arrays
 
   -- an array is read
-  array_read : (count room : ℕ) (shape : Shape) (i : Input) (gap afterwards : Text) (s : ℕ) → PartClaim shape → count < 2 ^ 64 → IsWritten (has_opaque m.types) (defined_structs m) shape → levels shape ≤ room → AreBlanks gap
+  array_read : (count room : ℕ) (shape : Shape) (i : Input) (gap afterwards : Text) (s : ℕ) → PartClaim shape → count < 2 ^ 64 → IsWritten m.wide (has_opaque m.types) (defined_structs m) shape → levels shape ≤ room → AreBlanks gap
       → Ready v s i (gap ++ (shown false (Array count shape) ++ afterwards)) → Reads v s (w.base room (firm room)) i afterwards (IsTypeRead (Array count shape) (suc room))
   unfolding class_of word_kind keywords
   array_read count room shape i gap afterwards s claim less own le blanks ready =
@@ -169,11 +175,11 @@ module _ {m : Module} {f : Function} (v : Invariant m f) where
   -- ---- fields
 
   -- no brace closes before a type
-  no_brace : (shape : Shape) (i : Input) (afterwards : Text) (s : ℕ) → IsWritten (has_opaque m.types) (defined_structs m) shape → IsSeam afterwards → Ready v s i (32 ∷ (shown false shape ++ afterwards)) → w.at_brace i ≡ false
+  no_brace : (shape : Shape) (i : Input) (afterwards : Text) (s : ℕ) → IsWritten m.wide (has_opaque m.types) (defined_structs m) shape → IsSeam afterwards → Ready v s i (32 ∷ (shown false shape ++ afterwards)) → w.at_brace i ≡ false
   no_brace shape i afterwards s own seam ready = unlike k.CloseBrace begins_type i refl (type_begins shape i (32 ∷ []) afterwards own refl seam ready.stands)
 
   -- a comma, and a further field after it
-  comma_read : (shape : Shape) (i : Input) (afterwards : Text) (s : ℕ) → IsWritten (has_opaque m.types) (defined_structs m) shape → IsSeam afterwards → Ready v s i (44 ∷ 32 ∷ (shown false shape ++ afterwards))
+  comma_read : (shape : Shape) (i : Input) (afterwards : Text) (s : ℕ) → IsWritten m.wide (has_opaque m.types) (defined_structs m) shape → IsSeam afterwards → Ready v s i (44 ∷ 32 ∷ (shown false shape ++ afterwards))
       → Reads v (s + 1) w.after_field i (32 ∷ (shown false shape ++ afterwards)) Any
   unfolding w.after_field class_of
   comma_read shape i afterwards s own seam ready =
@@ -243,6 +249,7 @@ module _ {m : Module} {f : Function} (v : Invariant m f) where
   before_read room Empty (p ∷ ps) whole i bytes s fields read ready = absurd fields
   before_read room (Struct first rest) [] whole i bytes s fields read ready = absurd fields
   before_read room (Integer bits) ps whole i bytes s fields read ready = absurd fields
+  before_read room (Float t) ps whole i bytes s fields read ready = absurd fields
   before_read room (Pointer part) ps whole i bytes s fields read ready = absurd fields
   before_read room (Array count part) ps whole i bytes s fields read ready = absurd fields
   before_read room (Named name) ps whole i bytes s fields read ready = absurd fields
@@ -281,7 +288,7 @@ module _ {m : Module} {f : Function} (v : Invariant m f) where
       (empty_braced room i gap afterwards s blanks ready)
 
   -- a struct with fields is read
-  struct_braced : (first others : Shape) (room : ℕ) (i : Input) (gap afterwards : Text) (s : ℕ) → PartClaim first → FieldsClaim others → IsWritten (has_opaque m.types) (defined_structs m) (Struct first others)
+  struct_braced : (first others : Shape) (room : ℕ) (i : Input) (gap afterwards : Text) (s : ℕ) → PartClaim first → FieldsClaim others → IsWritten m.wide (has_opaque m.types) (defined_structs m) (Struct first others)
       → levels (Struct first others) ≤ suc room → AreBlanks gap → Ready v s i (gap ++ 123 ∷ 32 ∷ (shown false first ++ (shown true others ++ (codes " }" ++ afterwards))))
       → Reads v s (w.braced room (firm room)) i afterwards (IsTypeRead (Struct first others) (suc room))
   unfolding class_of
@@ -299,7 +306,7 @@ module _ {m : Module} {f : Function} (v : Invariant m f) where
       (closed_read room (Struct first others) (b.0 ∷ d.0) d.2 (32 ∷ []) afterwards s (s + 1 + field_count others) refl (omega arith) (read_stays first room b.0 b.1 d.2 d.6 b.5, d.7) d.5))
 
   -- so it is as a type
-  struct_type_read : (first others : Shape) (room : ℕ) (i : Input) (gap afterwards : Text) (s : ℕ) → PartClaim first → FieldsClaim others → IsWritten (has_opaque m.types) (defined_structs m) (Struct first others)
+  struct_type_read : (first others : Shape) (room : ℕ) (i : Input) (gap afterwards : Text) (s : ℕ) → PartClaim first → FieldsClaim others → IsWritten m.wide (has_opaque m.types) (defined_structs m) (Struct first others)
       → levels (Struct first others) ≤ suc room → AreBlanks gap → Ready v s i (gap ++ (shown false (Struct first others) ++ afterwards)) → Reads v s (w.base room (firm room)) i afterwards (IsTypeRead (Struct first others) (suc room))
   unfolding class_of
   struct_type_read first others room i gap afterwards s claim more own le blanks ready =
@@ -324,19 +331,25 @@ module _ {m : Module} {f : Function} (v : Invariant m f) where
     by : PartClaim (Integer bits)
     by count zero i gap rest s own le blanks ends ready = absurd (no_levels (Integer bits) count le)
     by count (suc room) i gap rest s own le blanks ends ready =
-        let p = starred_parts (has_opaque m.types) (defined_structs m) count (Integer bits) own in
+        let p = starred_parts m.wide (has_opaque m.types) (defined_structs m) count (Integer bits) own in
         over_read v count room (Integer bits) i rest s p.0 tt refl le ends (integer_read v bits room i gap (stars count ++ rest) s p.1.0 p.1.1 blanks (seam_after count rest ends.0) ready)
+  claims (Float t) = (by, λ n i rest s p own is le ready. absurd is) where
+    by : PartClaim (Float t)
+    by count zero i gap rest s own le blanks ends ready = absurd (no_levels (Float t) count le)
+    by count (suc room) i gap rest s own le blanks ends ready =
+        let p = starred_parts m.wide (has_opaque m.types) (defined_structs m) count (Float t) own in
+        over_read v count room (Float t) i rest s p.0 tt refl le ends (float_read v t room i gap (stars count ++ rest) s p.1 blanks (seam_after count rest ends.0) ready)
   claims (Named name) = (by, λ n i rest s p own is le ready. absurd is) where
     by : PartClaim (Named name)
     by count zero i gap rest s own le blanks ends ready = absurd (no_levels (Named name) count le)
     by count (suc room) i gap rest s own le blanks ends ready =
-        let p = starred_parts (has_opaque m.types) (defined_structs m) count (Named name) own in
+        let p = starred_parts m.wide (has_opaque m.types) (defined_structs m) count (Named name) own in
         over_read v count room (Named name) i rest s p.0 tt refl le ends (named_read v name room i gap (stars count ++ rest) s p.1.0 p.1.1 blanks (seam_after count rest ends.0) ready)
   claims Empty = (by, no_field_read) where
     by : PartClaim Empty
     by count zero i gap rest s own le blanks ends ready = absurd (no_levels Empty count le)
     by count (suc room) i gap rest s own le blanks ends ready =
-        let p = starred_parts (has_opaque m.types) (defined_structs m) count Empty own in
+        let p = starred_parts m.wide (has_opaque m.types) (defined_structs m) count Empty own in
         over_read v count room Empty i rest s p.0 tt refl le ends (empty_read room i gap (stars count ++ rest) s blanks ready)
   claims Opaque = (by, λ n i rest s p own is le ready. absurd is) where
     none_after : (count : ℕ) → MayStar (has_opaque m.types) count → has_opaque m.types ≡ true → HasStars count Opaque
@@ -346,7 +359,7 @@ module _ {m : Module} {f : Function} (v : Invariant m f) where
     by : PartClaim Opaque
     by count zero i gap rest s own le blanks ends ready = absurd (no_levels Opaque count le)
     by count (suc room) i gap rest s own le blanks ends ready =
-        let p = starred_parts (has_opaque m.types) (defined_structs m) count Opaque own in
+        let p = starred_parts m.wide (has_opaque m.types) (defined_structs m) count Opaque own in
         over_read v count room Opaque i rest s p.0 (none_after count p.0 p.1) refl le ends (opaque_read v room i gap (stars count ++ rest) s p.1 blanks (seam_after count rest ends.0) ready)
   claims (Pointer shape) = (by (claims shape).0, λ n i rest s p own is le ready. absurd is) where
     by : PartClaim shape → PartClaim (Pointer shape)
@@ -357,17 +370,17 @@ module _ {m : Module} {f : Function} (v : Invariant m f) where
     by : PartClaim shape → PartClaim (Array size shape)
     by claim count zero i gap rest s own le blanks ends ready = absurd (no_levels (Array size shape) count le)
     by claim count (suc room) i gap rest s own le blanks ends ready =
-        let p = starred_parts (has_opaque m.types) (defined_structs m) count (Array size shape) own in
+        let p = starred_parts m.wide (has_opaque m.types) (defined_structs m) count (Array size shape) own in
         over_read v count room (Array size shape) i rest s p.0 tt refl le ends (array_read size room shape i gap (stars count ++ rest) s claim p.1.0 p.1.1 (omega (arith, le)) blanks ready)
   claims (Struct first others) = (by (claims first).0 (claims others).1, fields_read first others (claims first).0 (claims others).1) where
     by : PartClaim first → FieldsClaim others → PartClaim (Struct first others)
     by claim more count zero i gap rest s own le blanks ends ready = absurd (no_levels (Struct first others) count le)
     by claim more count (suc room) i gap rest s own le blanks ends ready =
-        let p = starred_parts (has_opaque m.types) (defined_structs m) count (Struct first others) own in
+        let p = starred_parts m.wide (has_opaque m.types) (defined_structs m) count (Struct first others) own in
         over_read v count room (Struct first others) i rest s p.0 tt refl le ends (struct_type_read first others room i gap (stars count ++ rest) s claim more p.1 (omega (arith, le)) blanks ready)
 
   -- the body of a named struct
-  pub braced_reads : (shape : Shape) (i : Input) (gap rest : Text) (s : ℕ) → is_struct_shape shape ≡ true → IsWritten (has_opaque m.types) (defined_structs m) shape → levels shape ≤ 64 → AreBlanks gap
+  pub braced_reads : (shape : Shape) (i : Input) (gap rest : Text) (s : ℕ) → is_struct_shape shape ≡ true → IsWritten m.wide (has_opaque m.types) (defined_structs m) shape → levels shape ≤ 64 → AreBlanks gap
       → Ready v s i (gap ++ (shown false shape ++ rest)) → Reads v s (w.braced 63 (firm 63)) i rest (IsTypeRead shape 64)
   braced_reads Empty i gap rest s is own le blanks ready = empty_braced 63 i gap rest s blanks ready
   braced_reads (Struct first others) i gap rest s is own le blanks ready =

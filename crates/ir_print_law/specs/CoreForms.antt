@@ -1,12 +1,13 @@
 -- Texts in which the wide forms may not stand: they are read as if there were no wide forms.
 use Rattle.std.specs.Prelude.{◌≡◌, ℕ, Bool, false, not, ◌&&◌, ◌||◌, Option, Some, None, codes}
 use Rattle.std.specs.Str.{bytes_eq}
-use Rattle.grammar.specs.Grammar.{checked, look}
+use Rattle.grammar.specs.Grammar.{checked, refuse, look}
 use Rattle.ir_ast.specs.declared.numbers.Arithmetic.{Arithmetic}
 use Rattle.ir_ast.specs.declared.numbers.NumberOp.{NumberOp}
 use Rattle.ir_ast.specs.declared.op.Op.TheVariants as op
 use Rattle.ir_forms.specs.Cursor.{kind, left_out, spelled}
-use Rattle.ir_forms.specs.Input.{Form}
+use Rattle.ir_forms.specs.Input.{Form, left, unread}
+use Rattle.ir_forms.specs.Written.{begins_unread_type, float_written}
 use Rattle.ir_forms.specs.Instructions.{wide_op}
 use Rattle.ir_forms.specs.Intrinsics.{is_intrinsic}
 use Rattle.ir_forms.specs.Names.{not_left_out}
@@ -37,6 +38,10 @@ AreCoreRead = (value : ℕ) (i : Input) → i.wide ≡ false → (integer_op val
 -- and so it is after a word that begins a wide form
 abbrev pub AreCoreWordsRead : Type 0
 AreCoreWordsRead = (value : ℕ) (i : Input) → i.wide ≡ false → (wide_op value).read i ≡ (as_op op.Number (core_op value)).read i
+
+-- and a word begins no type of floating point numbers
+abbrev pub AreCoreTypesRead : Type 0
+AreCoreTypesRead = (room : ℕ) (i : Input) → i.wide ≡ false → (float_written room).read i ≡ (refuse {left = left} (unread begins_unread_type)).read i
 
 -- of the intrinsics, all but three of the runtime are left out
 abbrev pub is_core_left_out : Text → Bool

@@ -5,6 +5,7 @@ use Rattle.ir_ast.specs.declared.elements.Element.{Element}
 use Rattle.ir_ast.specs.declared.function.Function.{Function}
 use Rattle.ir_ast.specs.declared.module.Module.{Module}
 use Rattle.ir_tokens.specs.Bytes.{Text}
+use Rattle.ir_forms.specs.declared.written.Word.TheVariants as sort
 use Rattle.ir_print_law.specs.Shapes.{Shape}
 use Rattle.ir_print_law.specs.Parts.{IsType, IsPlaceType, IsOperand, IsArgument}
 use Rattle.ir_print_law.specs.PartsWithin.{HasType, IsOperandWithin, IsArgumentWithin}
@@ -13,7 +14,7 @@ use Rattle.ir_print_law.specs.PartsAgain.{AreAlike, IsTypeAgain, IsOperandAgain,
 -- a getelementptr
 abbrev pub IsElement : Module → Function → Element → Type 0
 IsElement m f x =
-    (shape : Shape) × IsType m shape x.source × IsPlaceType m shape x.source x.base_type × IsOperand m f None x.base × (0 < length x.indices)
+    (shape : Shape) × IsType m shape x.source × IsPlaceType m shape x.source x.base_type × IsOperand m f sort.Pointer x.base × (0 < length x.indices)
     × AllByRecursion (IsArgument m f) x.indices
 
 -- a getelementptr whose numbers are within the tables

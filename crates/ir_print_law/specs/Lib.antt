@@ -1,5 +1,6 @@
 pub mod Stands
 pub mod Shapes
+pub mod Fits
 pub mod TypeOrder
 pub mod NumberedTypes
 pub mod Definitions
@@ -7,6 +8,7 @@ pub mod EqualParts
 pub mod Parts
 pub mod PartsAgain
 pub mod PartsWithin
+pub mod Floats
 pub mod Numbers
 pub mod Memory
 pub mod Elements

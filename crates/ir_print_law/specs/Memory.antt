@@ -1,11 +1,12 @@
 -- Operations on memory: when they are printable, when their numbers are within the tables, and when one is another one again.
-use Rattle.std.specs.Prelude.{Bool, true, false, List, None}
+use Rattle.std.specs.Prelude.{Bool, true, false, List}
 use Rattle.ir_ast.specs.declared.function.Function.{Function}
 use Rattle.ir_ast.specs.declared.memory.MemoryOp.{MemoryOp}
 use Rattle.ir_ast.specs.declared.memory.MemoryOp.TheVariants as memory
 use Rattle.ir_ast.specs.declared.module.Module.{Module}
 use Rattle.ir_tokens.specs.Bytes.{Text}
-use Rattle.ir_print_law.specs.Shapes.{Shape, bits_of_shape}
+use Rattle.ir_forms.specs.declared.written.Word.TheVariants as sort
+use Rattle.ir_print_law.specs.Shapes.{Shape, word_of_shape}
 use Rattle.ir_print_law.specs.Parts.{IsScalar, IsPlaceType, IsOperand}
 use Rattle.ir_print_law.specs.PartsWithin.{HasType, IsOperandWithin}
 use Rattle.ir_print_law.specs.PartsAgain.{IsTypeAgain, IsOperandAgain}
@@ -14,9 +15,9 @@ use Rattle.ir_print_law.specs.PartsAgain.{IsTypeAgain, IsOperandAgain}
 abbrev pub IsMemoryOp : Module → Function → MemoryOp → Type 0
 IsMemoryOp m f (memory.Alloca held) = (shape : Shape) × IsScalar m shape held
 IsMemoryOp m f (memory.Load loaded place_type place) =
-    (shape : Shape) × IsScalar m shape loaded × IsPlaceType m shape loaded place_type × IsOperand m f None place
+    (shape : Shape) × IsScalar m shape loaded × IsPlaceType m shape loaded place_type × IsOperand m f sort.Pointer place
 IsMemoryOp m f (memory.Store stored value place_type place) =
-    (shape : Shape) × IsScalar m shape stored × IsOperand m f (bits_of_shape shape) value × IsPlaceType m shape stored place_type × IsOperand m f None place
+    (shape : Shape) × IsScalar m shape stored × IsOperand m f (word_of_shape shape) value × IsPlaceType m shape stored place_type × IsOperand m f sort.Pointer place
 
 -- whether it gives a value: all do but stores
 abbrev pub memory_gives_value : MemoryOp → Bool

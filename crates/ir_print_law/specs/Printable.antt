@@ -26,12 +26,14 @@ use Rattle.ir_tokens.specs.Bytes.{Text}
 use Rattle.ir_forms.specs.Intrinsics.{is_left_out}
 use Rattle.ir_forms.specs.CaseValues.{value_of, is_among, with_value}
 use Rattle.ir_forms.specs.declared.case_values.CaseValue.{CaseValue}
+use Rattle.ir_forms.specs.declared.written.Word.{Word}
+use Rattle.ir_forms.specs.declared.written.Word.TheVariants as sort
 use Rattle.name_text.specs.Readings.{AreBytes}
-use Rattle.ir_print.specs.Fits.{FitsType}
+use Rattle.ir_print_law.specs.Fits.{FitsType}
 use Rattle.ir_print.specs.Names.{name_at}
-use Rattle.ir_print_law.specs.Shapes.{Shape, bits_of_shape, is_struct_shape, is_passed_shape, is_held_shape}
+use Rattle.ir_print_law.specs.Shapes.{Shape, word_of_shape, is_struct_shape, is_passed_shape, is_held_shape}
 use Rattle.ir_print_law.specs.Definitions.{AreDefined, AreNew, defined_keys, value_keys, label_keys, defined_structs, defined_globals, functions_of}
-use Rattle.ir_print_law.specs.Parts.{IsType, IsScalar, IsVoid, IsOperand, IsArgument, IsTarget, IsCondition}
+use Rattle.ir_print_law.specs.Parts.{IsType, IsScalar, IsVoid, IsNoFloat, IsOperand, IsArgument, IsTarget, IsCondition}
 use Rattle.ir_print_law.specs.Numbers.{IsNumberOp}
 use Rattle.ir_print_law.specs.Memory.{IsMemoryOp, memory_gives_value}
 use Rattle.ir_print_law.specs.Elements.{IsElement}
@@ -68,25 +70,25 @@ abbrev pub IsInstr : Module → Function → Instr → Type 0
 IsInstr m f x = IsOp m f x.op × (is_some x.result ≡ gives_value m x.op)
 
 -- an entry of a phi of this type
-abbrev pub IsIncoming : Module → Function → Option ℕ → Incoming → Type 0
-IsIncoming m f bits x = IsOperand m f bits x.operand × IsIn (name_at f.locals x.from) (label_keys f)
+abbrev pub IsIncoming : Module → Function → Word → Incoming → Type 0
+IsIncoming m f word x = IsOperand m f word x.operand × IsIn (name_at f.locals x.from) (label_keys f)
 
 -- the cases of a switch, after cases of these values
-abbrev pub AreCases : Function → Option ℕ → (seen : List CaseValue) → List Case → Type 0
-AreCases f bits seen [] = Unit {0}
-AreCases f bits seen (x ∷ xs) =
-    FitsType bits x.constant × (is_among (value_of x.constant) seen ≡ false) × IsTarget f x.target × AreCases f bits (with_value (value_of x.constant) seen) xs
+abbrev pub AreCases : Function → Word → (seen : List CaseValue) → List Case → Type 0
+AreCases f word seen [] = Unit {0}
+AreCases f word seen (x ∷ xs) =
+    FitsType word x.constant × (is_among (value_of x.constant) seen ≡ false) × IsTarget f x.target × AreCases f word (with_value (value_of x.constant) seen) xs
 
 -- a phi
 abbrev pub IsPhi : Module → Function → Phi → Type 0
-IsPhi m f x = (shape : Shape) × IsScalar m shape x.written × (0 < length x.incoming) × AllByRecursion (IsIncoming m f (bits_of_shape shape)) x.incoming
+IsPhi m f x = (shape : Shape) × IsScalar m shape x.written × (0 < length x.incoming) × AllByRecursion (IsIncoming m f (word_of_shape shape)) x.incoming
 
 -- how a block ends
 abbrev pub IsEnd : Module → Function → End → Type 0
 IsEnd m f (end.Jump target) = IsTarget f target
 IsEnd m f (end.Branch condition_type condition taken other) = IsCondition m f condition_type condition × IsTarget f taken × IsTarget f other
 IsEnd m f (end.Switch written value otherwise cases) =
-    (shape : Shape) × IsScalar m shape written × IsOperand m f (bits_of_shape shape) value × IsTarget f otherwise × AreCases f (bits_of_shape shape) [] cases
+    IsNoFloat m written × ((shape : Shape) × IsScalar m shape written × IsOperand m f (word_of_shape shape) value × IsTarget f otherwise × AreCases f (word_of_shape shape) [] cases)
 IsEnd m f end.Unreachable = Unit {0}
 IsEnd m f end.ReturnVoid = Unit {0}
 IsEnd m f (end.Return x) = IsArgument m f x
@@ -127,14 +129,16 @@ abbrev pub IsStructType : Module → StructType → Type 0
 IsStructType m struct = (shape : Shape) × IsType m shape struct.body × (is_struct_shape shape ≡ true)
 
 -- the first value of a global: a number, or null at a pointer type
-abbrev pub IsInitial : Option ℕ → Constant → Type 0
-IsInitial (Some bits) (constant.Number number) = FitsType (Some bits) (constant.Number number)
-IsInitial None constant.Null = Unit {0}
+abbrev pub IsInitial : Word → Constant → Type 0
+IsInitial (sort.Integer bits) (constant.Number number) = FitsType (sort.Integer bits) (constant.Number number)
+IsInitial sort.Float (constant.Float number) = FitsType sort.Float (constant.Float number)
+IsInitial sort.Double (constant.Float number) = FitsType sort.Double (constant.Float number)
+IsInitial sort.Pointer constant.Null = Unit {0}
 IsInitial _ _ = ⊥
 
 -- a global
 abbrev pub IsGlobal : Module → Global → Type 0
-IsGlobal m global = (shape : Shape) × IsType m shape global.held × (is_held_shape shape ≡ true) × IsInitial (bits_of_shape shape) global.initial
+IsGlobal m global = (shape : Shape) × IsType m shape global.held × (is_held_shape shape ≡ true) × IsInitial (word_of_shape shape) global.initial
 
 -- a type of some shape
 abbrev pub IsAnyType : Module → (written : ℕ) → Type 0

@@ -3,6 +3,7 @@ use Rattle.std.specs.Prelude.{◌≡◌, ℕ, ◌<◌, ◌≤◌, ◌^◌, true,
 use Rattle.ir_ast.specs.LocalKeys.{key_of_name, key_of_digits}
 use Rattle.ir_ast.specs.Names.{place_of, number_of}
 use Rattle.ir_ast.specs.declared.operand.Constant.{Constant}
+use Rattle.ir_ast.specs.declared.operand.Constant.TheVariants as c
 use Rattle.ir_ast.specs.declared.operand.Operand.TheVariants.{Local, Global}
 use Rattle.ir_tokens.specs.Bytes.{Text}
 use Rattle.ir_tokens.specs.declared.token.Kind.TheVariants as k
@@ -18,12 +19,13 @@ use Rattle.ir_forms.specs.Names.{struct_name, callee, used_label, target, new_va
 use Rattle.ir_forms.specs.Operand.{constant, operand}
 use Rattle.ir_ast.specs.declared.function.LocalSort.TheVariants.{Unknown}
 use Rattle.ir_forms.specs.Table.{mentioned}
+use Rattle.ir_forms.specs.declared.written.Word.{Word}
 use Rattle.ir_print.specs.Ends.{target_text}
 use Rattle.name_text.specs.Names.{name_text, quoted_text}
 use Rattle.name_text.specs.Readings.{AreBytes}
 use Rattle.name_text.specs.declared.blank.Blank.TheVariants as blank
 use Rattle.ir_print.specs.Names.{name_at, local_text}
-use Rattle.ir_print.specs.Fits.{FitsType, constant_shown}
+use Rattle.ir_print_law.specs.Fits.{FitsType, constant_shown}
 use Rattle.ir_print_law.specs.Stands.{Stands, IsSeam, AreBlanks, AreDigits}
 
 -- After blanks this form reads these bytes as this value, and makes this state of the one that it reads from. Then the bytes after them
@@ -32,9 +34,14 @@ abbrev pub IsRead : {A : Type 0} → Form A → (bytes : Text) → Input → A �
 IsRead form bytes i value o =
     (gap rest : Text) → AreBlanks gap → IsSeam rest → Stands i.cursor (gap ++ (bytes ++ rest)) → form.says i value o × Stands o.cursor rest
 
--- a printed constant that fits its type is read as itself
+-- after a constant: a floating point number is two tokens, as it is printed
+abbrev pub after_constant : Constant → Input → Input
+after_constant (c.Float bits) i = advanced (advanced i)
+after_constant _ i = advanced i
+
+-- a printed constant that fits its word is read as itself, where a floating point number may stand
 abbrev pub ConstantsAreRead : Type 0
-ConstantsAreRead = (bits : Option ℕ) (x : Constant) (i : Input) → FitsType bits x → IsRead (constant bits) (constant_shown bits x) i x (advanced i)
+ConstantsAreRead = (word : Word) (x : Constant) (i : Input) → FitsType word x → IsRead (constant word) (constant_shown word x) i x (after_constant x i)
 
 -- a key of a local name: the digits of a number without zeros before them, or the key of some name
 abbrev pub IsKey : Text → Type 0
@@ -51,18 +58,18 @@ LocalsAreRead =
 -- so is one that is an operand
 abbrev pub LocalOperandsAreRead : Type 0
 LocalOperandsAreRead =
-    (bits : Option ℕ) (locals : List Text) (value : ℕ) (i : Input) (gap rest : Text) → IsKey (name_at locals value) → number_of (name_at locals value) i.locals.names < 2 ^ 32
+    (word : Word) (locals : List Text) (value : ℕ) (i : Input) (gap rest : Text) → IsKey (name_at locals value) → number_of (name_at locals value) i.locals.names < 2 ^ 32
     → AreBlanks gap → IsSeam rest → Stands i.cursor (gap ++ (local_text locals value ++ rest))
-    → (operand bits).says i (Local (number_of (name_at locals value) i.locals.names)) (with_local_use wants.Value i)
+    → (operand word).says i (Local (number_of (name_at locals value) i.locals.names)) (with_local_use wants.Value i)
     × (local_key i.cursor ≡ name_at locals value) × Stands (with_local_use wants.Value i).cursor rest
 
 -- a global name that names no function, and no intrinsic, is read as that name where it is an operand
 abbrev pub GlobalOperandsAreRead : Type 0
 GlobalOperandsAreRead =
-    (bits : Option ℕ) (name : Text) (i : Input) (gap rest : Text) → AreBytes name → is_intrinsic name ≡ false
+    (word : Word) (name : Text) (i : Input) (gap rest : Text) → AreBytes name → is_intrinsic name ≡ false
     → is_function (option_and_then (slice_get i.symbols.sorts) (place_of name i.symbols.names)) ≡ false → number_of name i.symbols.names < 2 ^ 32
     → AreBlanks gap → IsSeam rest → Stands i.cursor (gap ++ 64 ∷ (name_text blank.Kept name ++ rest))
-    → (operand bits).says i (Global (number_of name i.symbols.names)) (with_symbol_use false i)
+    → (operand word).says i (Global (number_of name i.symbols.names)) (with_symbol_use false i)
     × (spelled i.cursor ≡ name) × Stands (with_symbol_use false i).cursor rest
 
 -- the name of a function is read as that name where it is called

@@ -69,6 +69,7 @@ pub record StandsBetween (m : Module) (func : ℕ) (code : Text) (before after :
   pub none_missing : after.missing ≡ None
   pub right : AreRight m after
   pub forms : before.wide ≡ m.wide
+  pub place : before.cursor.wide ≡ m.wide
 
 -- the tables of the module have no room for more, or have pointers of another kind
 abbrev pub IsOfTables : ReadFault → Type 0

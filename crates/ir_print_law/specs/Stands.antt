@@ -3,6 +3,7 @@ use Rattle.std.specs.Prelude.{◌≡◌, ℕ, ◌<◌, ◌≤◌, Bool, true, fa
 use Rattle.std.specs.List.{list_all}
 use Rattle.ir_tokens.specs.declared.class.ByteClass.{ByteClass}
 use Rattle.ir_tokens.specs.declared.class.ByteClass.TheVariants as class
+use Rattle.ir_tokens.specs.declared.token.Kind.TheVariants as k
 use Rattle.ir_tokens.specs.Bytes.{Text, is_digit, first_class}
 use Rattle.ir_tokens.specs.Tokens.{is_blank, lex_from}
 use Rattle.ir_forms.specs.Place.{Place}
@@ -14,11 +15,12 @@ Stands c bytes =
     (front : Text) × (most : ℕ) × (first : Bool) × (c.text ≡ front ++ bytes) × (length bytes ≤ most)
     × (c.rest ≡ (lex_from most (length c.text) first [] bytes).tokens) × (c.bad ≡ (lex_from most (length c.text) first [] bytes).bad)
 
--- a byte of this class ends a name, a word and a number, and makes no label of them
+-- a byte of this class ends a name, a word and a number, and makes no label of them; a plus may belong to a number
 abbrev pub ends_token : ByteClass → Bool
 ends_token class.Letter = false
 ends_token class.Digit = false
 ends_token class.Colon = false
+ends_token (class.Sign k.Plus) = false
 ends_token _ = true
 
 -- a name, a word or a number ends before these bytes

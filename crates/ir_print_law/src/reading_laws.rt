@@ -1,5 +1,5 @@
 //! What is printed is read again.
-ghost use Rattle.ir_print_law.specs.CoreForms.{AreCoreNamesRead, AreCoreRead, AreCoreWordsRead, FormsStay};
+ghost use Rattle.ir_print_law.specs.CoreForms.{AreCoreNamesRead, AreCoreRead, AreCoreTypesRead, AreCoreWordsRead, FormsStay};
 ghost use Rattle.ir_print_law.specs.Ends.{JumpsAreRead, EmptyReturnsAreRead, UnreachablesAreRead};
 ghost use Rattle.ir_print_law.specs.Stars.{StarsAreRead};
 ghost use Rattle.ir_print_law.specs.Readings.{ConstantsAreRead, LocalsAreRead, LocalOperandsAreRead, GlobalOperandsAreRead, CalleesAreRead, StructNamesAreRead, TargetsAreRead, NewValuesAreRead, NumberedValuesAreRead, LabelsAreRead, CollectorsAreRead, IntegerTypesAreRead};
@@ -45,6 +45,7 @@ pub fn star_law()
 pub fn core_law()
     ensures core { AreCoreRead }
     ensures words { AreCoreWordsRead }
+    ensures types { AreCoreTypesRead }
     ensures names { AreCoreNamesRead }
     ensures stay { FormsStay }
 {}

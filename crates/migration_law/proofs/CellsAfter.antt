@@ -72,6 +72,8 @@ module _ (m : Module) (given : Shapes) (typed : is_opaque_text m ≡ false) wher
   word_by shape old field None at is = rw (none_after m.types field at) refl
   word_by shape old field (Some type.Void) at is = rw ((type_after m.types field type.Void at).1) refl
   word_by shape old field (Some (type.Integer bits)) at is = rw ((type_after m.types field (type.Integer bits) at).1) refl
+  word_by shape old field (Some type.Float) at is = rw ((type_after m.types field type.Float at).1) refl
+  word_by shape old field (Some type.Double) at is = rw ((type_after m.types field type.Double at).1) refl
   word_by shape old field (Some (type.Pointer part)) at is = rw ((type_after m.types field (type.Pointer part) at).1) (ap reference_to is)
   word_by shape old field (Some type.Opaque) at is = absurd (no_opaque m field typed at)
   word_by shape old field (Some (type.Array length part)) at is = rw ((type_after m.types field (type.Array length part) at).1) refl
@@ -120,6 +122,8 @@ module _ (m : Module) (given : Shapes) (typed : is_opaque_text m ≡ false) wher
     scalar_by written None at h = absurd cc
     scalar_by written (Some type.Void) at h = rw (after written type.Void at) refl
     scalar_by written (Some (type.Integer bits)) at h = rw (after written (type.Integer bits) at) refl
+    scalar_by written (Some type.Float) at h = rw (after written type.Float at) refl
+    scalar_by written (Some type.Double) at h = rw (after written type.Double at) refl
     scalar_by written (Some (type.Pointer part)) at h = rw (after written (type.Pointer part) at) refl
     scalar_by written (Some type.Opaque) at h = rw (after written type.Opaque at) refl
     scalar_by written (Some (type.Array length part)) at h = absurd cc

@@ -74,6 +74,8 @@ no_integer_after : (m : Module) (t : Option IrType) → is_integer (family_after
 no_integer_after m None = refl
 no_integer_after m (Some type.Void) = refl
 no_integer_after m (Some (type.Integer bits)) = no_integer_by (bits == 8)
+no_integer_after m (Some type.Float) = refl
+no_integer_after m (Some type.Double) = refl
 no_integer_after m (Some (type.Pointer part)) = refl
 no_integer_after m (Some type.Opaque) = refl
 no_integer_after m (Some (type.Array length part)) = refl
@@ -114,6 +116,8 @@ module _ (m : Module) where
     by None e = moved None None e (none_after m.types n e) (inl refl)
     by (Some type.Void) e = some type.Void e (λ parts. inl refl)
     by (Some (type.Integer bits)) e = some (type.Integer bits) e (λ parts. inl refl)
+    by (Some type.Float) e = some type.Float e (λ parts. inl refl)
+    by (Some type.Double) e = some type.Double e (λ parts. inl refl)
     by (Some (type.Pointer part)) e = some (type.Pointer part) e (λ parts. inr (refl, no_integer_pointer m part))
     by (Some type.Opaque) e = some type.Opaque e (λ parts. inl refl)
     by (Some (type.Array length part)) e = some (type.Array length part) e (λ parts. inl refl)
@@ -131,6 +135,8 @@ module _ (m : Module) where
     by None e = no None e refl
     by (Some type.Void) e = no (Some type.Void) e refl
     by (Some (type.Integer bits)) e = no (Some (type.Integer bits)) e refl
+    by (Some type.Float) e = no (Some type.Float) e refl
+    by (Some type.Double) e = no (Some type.Double) e refl
     by (Some (type.Pointer part)) e = λ h. ap is_opaque_type (type_after m.types n (type.Pointer part) e).1
     by (Some type.Opaque) e = no (Some type.Opaque) e refl
     by (Some (type.Array length part)) e = no (Some (type.Array length part)) e refl
@@ -148,6 +154,8 @@ module _ (m : Module) where
     by None e = no None e refl
     by (Some type.Void) e = no (Some type.Void) e refl
     by (Some (type.Integer bits)) e = no (Some (type.Integer bits)) e refl
+    by (Some type.Float) e = no (Some type.Float) e refl
+    by (Some type.Double) e = no (Some type.Double) e refl
     by (Some (type.Pointer part)) e = no (Some (type.Pointer part)) e refl
     by (Some type.Opaque) e = λ h. ap is_opaque_type (type_after m.types n type.Opaque e).1
     by (Some (type.Array length part)) e = no (Some (type.Array length part)) e refl
@@ -163,6 +171,8 @@ module _ (m : Module) where
     by None e h = absurd (true≢false (sym h ∙ ap is_opaque_type e))
     by (Some type.Void) e h = absurd (true≢false (sym h ∙ ap is_opaque_type e))
     by (Some (type.Integer bits)) e h = absurd (true≢false (sym h ∙ ap is_opaque_type e))
+    by (Some type.Float) e h = absurd (true≢false (sym h ∙ ap is_opaque_type e))
+    by (Some type.Double) e h = absurd (true≢false (sym h ∙ ap is_opaque_type e))
     by (Some (type.Pointer part)) e h = absurd (true≢false (sym h ∙ ap is_opaque_type e))
     by (Some (type.Array length part)) e h = absurd (true≢false (sym h ∙ ap is_opaque_type e))
     by (Some type.EmptyStruct) e h = absurd (true≢false (sym h ∙ ap is_opaque_type e))
@@ -197,6 +207,8 @@ module _ (m : Module) where
   of_struct None layout h = absurd cc
   of_struct (Some type.Void) layout h = absurd cc
   of_struct (Some (type.Integer bits)) layout h = absurd cc
+  of_struct (Some type.Float) layout h = absurd cc
+  of_struct (Some type.Double) layout h = absurd cc
   of_struct (Some (type.Pointer part)) layout h = absurd cc
   of_struct (Some type.Opaque) layout h = absurd cc
   of_struct (Some (type.Array length part)) layout h = absurd cc

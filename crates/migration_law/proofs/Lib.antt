@@ -6,6 +6,7 @@ pub mod FamiliesAfter
 pub mod RootsAfter
 pub mod ClaimsAfter
 pub mod SectionsAfter
+pub mod ForeignAfter
 pub mod CellsAfter
 pub mod MigratedCells
 pub mod ShapesAfter

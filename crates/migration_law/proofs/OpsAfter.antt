@@ -1,6 +1,6 @@
 -- Instructions that are printable are so once they are opaque.
 use Rattle.std.proofs.Common.{◌≡◌, ◌<◌, ℕ, not, List, [], ◌∷◌, ◌++◌, map, Option, None, Some, inl, inr, refl, sym, ap, ap₂, ◌∙◌, subst}
-use Rattle.std.specs.Prelude.{drop}
+use Rattle.std.specs.Prelude.{drop, slice_get}
 use Rattle.std.specs.List.{AllByRecursion, flat_map}
 use Rattle.lemmas.specs.Lists.{IsIn}
 use Rattle.ir_ast.specs.Names.{name_at}
@@ -28,16 +28,23 @@ use Rattle.ir_ast.specs.declared.operand.Operand.{Operand}
 use Rattle.ir_ast.specs.declared.operand.Operand.TheVariants as operand
 use Rattle.ir_forms.specs.CaseValues.{value_of, with_value}
 use Rattle.ir_forms.specs.declared.case_values.CaseValue.{CaseValue}
-use Rattle.copies.specs.Opaque.{new_number, opaque_argument, opaque_block, opaque_declare, opaque_end, opaque_function, opaque_global, opaque_incoming, opaque_instr, opaque_memory, opaque_number, opaque_op, opaque_operand, opaque_parameter, opaque_phi}
+use Rattle.ir_forms.specs.declared.written.Word.{Word}
+use Rattle.copies.specs.Opaque.{opaque_float, new_number, opaque_argument, opaque_block, opaque_declare, opaque_end, opaque_function, opaque_global, opaque_incoming, opaque_instr, opaque_memory, opaque_number, opaque_op, opaque_operand, opaque_parameter, opaque_phi}
 use Rattle.ir_print_law.specs.Calls.{IsCall}
 use Rattle.ir_print_law.specs.Definitions.{block_keys, defined_globals, defined_keys, functions_of, label_keys, parameter_key, parameter_keys, phi_key, result_keys, value_keys, value_keys_of}
 use Rattle.ir_print_law.specs.Memory.{IsMemoryOp, memory_gives_value}
 use Rattle.ir_print_law.specs.Numbers.{IsNumberOp}
-use Rattle.ir_print_law.specs.Parts.{ArePair, IsArgument, IsCondition, IsConverted, IsGlobalUse, IsOperand, IsReturned, IsTarget}
+use Rattle.ir_forms.specs.FloatOps.{may_convert}
+use Rattle.ir_forms.specs.Written.{is_float_word}
+use Rattle.ir_forms.specs.declared.written.Word.TheVariants as sort
+use Rattle.ir_ast.specs.declared.floats.FloatOp.{FloatOp}
+use Rattle.ir_ast.specs.declared.floats.FloatOp.TheVariants as float
+use Rattle.ir_print_law.specs.Floats.{IsFloatOp}
+use Rattle.ir_print_law.specs.Parts.{word_of_type, IsFloat, IsNoFloat, ArePair, IsArgument, IsCondition, IsConverted, IsGlobalUse, IsOperand, IsReturned, IsTarget}
 use Rattle.ir_print_law.specs.Printable.{AreCases, IsBlock, IsEnd, IsIncoming, IsInstr, IsOp, IsPhi, gives_value}
-use Rattle.ir_print_law.specs.Shapes.{Shape, bits_of_shape}
+use Rattle.ir_print_law.specs.Shapes.{Shape, HasShape, word_of_shape}
 use Rattle.migration_law.specs.PartsBefore.{ArePartsBefore}
-use Rattle.migration_law.proofs.ShapesAfter.{bits_same, integer_still, map_twice, numbers, o, opaque_shape, place_still, scalar_type_still, type_still, void_same, void_still}
+use Rattle.migration_law.proofs.ShapesAfter.{word_still, bits_same, integer_still, map_twice, numbers, o, opaque_shape, place_still, scalar_type_still, type_still, void_same, void_still}
 
 -- ---- lists
 
@@ -96,21 +103,21 @@ module _ (m : Module) (ordered : ArePartsBefore m.types) where
 
     -- ---- operands
 
-    read : (bits : Option ℕ) (x : Operand) → IsOperand m f bits x → IsOperand (o m ordered) made bits (opaque_operand x)
+    read : (bits : Word) (x : Operand) → IsOperand m f bits x → IsOperand (o m ordered) made bits (opaque_operand x)
     read bits (operand.Constant x) h = h
     read bits (operand.Local value) h = subst (IsIn (name_at f.locals value)) (sym values_same) h
     read bits (operand.Global symbol) h = global_use symbol h
     read bits (operand.CastGlobal from symbol to) h = global_use symbol h.1
 
     -- at a type of this shape
-    read_at : (shape : Shape) (x : Operand) → IsOperand m f (bits_of_shape shape) x → IsOperand (o m ordered) made (bits_of_shape (opaque_shape shape)) (opaque_operand x)
-    read_at shape x h = subst (λ (bits : Option ℕ). IsOperand (o m ordered) made bits (opaque_operand x)) (sym (bits_same shape)) (read (bits_of_shape shape) x h)
+    read_at : (shape : Shape) (x : Operand) → IsOperand m f (word_of_shape shape) x → IsOperand (o m ordered) made (word_of_shape (opaque_shape shape)) (opaque_operand x)
+    read_at shape x h = subst (λ (bits : Word). IsOperand (o m ordered) made bits (opaque_operand x)) (sym (bits_same shape)) (read (word_of_shape shape) x h)
 
     argument : (x : Argument) → IsArgument m f x → IsArgument (o m ordered) made (opaque_argument (numbers m ordered) x)
     argument x h = (opaque_shape h.0, scalar_type_still m ordered h.0 x.written h.1, read_at h.0 x.operand h.2)
 
     condition : (t : ℕ) (x : Operand) → IsCondition m f t x → IsCondition (o m ordered) made (new_number (numbers m ordered) t) (opaque_operand x)
-    condition t x h = (integer_still m ordered t 1 h.0, read (Some 1) x h.1)
+    condition t x h = (integer_still m ordered t 1 h.0, read (sort.Integer 1) x h.1)
 
     pair : (t : ℕ) (x y : Operand) → ArePair m f t x y → ArePair (o m ordered) made (new_number (numbers m ordered) t) (opaque_operand x) (opaque_operand y)
     pair t x y h = (opaque_shape h.0, scalar_type_still m ordered h.0 t h.1, read_at h.0 x h.2, read_at h.0 y h.3)
@@ -124,16 +131,34 @@ module _ (m : Module) (ordered : ArePartsBefore m.types) where
 
     -- ---- instructions
 
+    -- a type is one of floating point numbers where it was one, and no other is
+    no_float : (shape : Shape) (t : ℕ) → HasShape m.types m.struct_names shape t → IsNoFloat m t → IsNoFloat (o m ordered) (new_number (numbers m ordered) t)
+    no_float shape t has h = ap is_float_word (word_still m ordered shape t has) ∙ h
+
+    is_float : (shape : Shape) (t : ℕ) → HasShape m.types m.struct_names shape t → IsFloat m t → IsFloat (o m ordered) (new_number (numbers m ordered) t)
+    is_float shape t has h = ap is_float_word (word_still m ordered shape t has) ∙ h
+
+    float_op : (x : FloatOp) → IsFloatOp m f x → IsFloatOp (o m ordered) made (opaque_float (numbers m ordered) x)
+    float_op (float.Arithmetic kind t x y) h = (is_float h.1.0 t h.1.1.0.0 h.0, pair t x y h.1)
+    float_op (float.Negate t x) h = (is_float h.1.0 t h.1.1.0.0 h.0, argument (record { written = t; operand = x }) h.1)
+    float_op (float.Compare kind t x y) h = (is_float h.1.0 t h.1.1.0.0 h.0, pair t x y h.1)
+    float_op (float.Convert kind from x to) h = (
+      ap (λ (w : Word). may_convert kind w (word_of_type (slice_get (o m ordered).types (new_number (numbers m ordered) to)))) (word_still m ordered h.1.0.0 from h.1.0.1.0.0)
+          ∙ ap (may_convert kind (word_of_type (slice_get m.types from))) (word_still m ordered h.1.1.0 to h.1.1.1.0.0) ∙ h.0,
+      converted from x to h.1,
+    )
+
     number_op : (x : NumberOp) → IsNumberOp m f x → IsNumberOp (o m ordered) made (opaque_number (numbers m ordered) x)
-    number_op (number.Arithmetic kind t x y) h = (h.0, pair t x y h.1)
-    number_op (number.Resize kind from x to) h = converted from x to h
-    number_op (number.Compare kind t x y) h = pair t x y h
+    number_op (number.Arithmetic kind t x y) h = (h.0, no_float h.2.0 t h.2.1.0.0 h.1, pair t x y h.2)
+    number_op (number.Resize kind from x to) h = (no_float h.2.0.0 from h.2.0.1.0.0 h.0, no_float h.2.1.0 to h.2.1.1.0.0 h.1, converted from x to h.2)
+    number_op (number.Compare kind t x y) h = (no_float h.1.0 t h.1.1.0.0 h.0, pair t x y h.1)
+    number_op (number.Float x) h = (h.0, float_op x h.1)
 
     memory_op : (x : MemoryOp) → IsMemoryOp m f x → IsMemoryOp (o m ordered) made (opaque_memory (numbers m ordered) x)
     memory_op (memory.Alloca held) h = (opaque_shape h.0, scalar_type_still m ordered h.0 held h.1)
-    memory_op (memory.Load loaded place_type place) h = (opaque_shape h.0, scalar_type_still m ordered h.0 loaded h.1, place_still m ordered h.0 loaded place_type h.2, read None place h.3)
+    memory_op (memory.Load loaded place_type place) h = (opaque_shape h.0, scalar_type_still m ordered h.0 loaded h.1, place_still m ordered h.0 loaded place_type h.2, read sort.Pointer place h.3)
     memory_op (memory.Store stored x place_type place) h =
-        (opaque_shape h.0, scalar_type_still m ordered h.0 stored h.1, read_at h.0 x h.2, place_still m ordered h.0 stored place_type h.3, read None place h.4)
+        (opaque_shape h.0, scalar_type_still m ordered h.0 stored h.1, read_at h.0 x h.2, place_still m ordered h.0 stored place_type h.3, read sort.Pointer place h.4)
 
     call : (x : Call) → IsCall m f x → IsCall (o m ordered) made (record { returned = new_number (numbers m ordered) x.returned; callee = x.callee; arguments = map (opaque_argument (numbers m ordered)) x.arguments })
     call x h = (
@@ -149,7 +174,7 @@ module _ (m : Module) (ordered : ArePartsBefore m.types) where
       opaque_shape h.0,
       type_still m ordered h.0 x.source h.1,
       place_still m ordered h.0 x.source x.base_type h.2,
-      read None x.base h.3,
+      read sort.Pointer x.base h.3,
       subst (λ (k : ℕ). 0 < k) (sym (map-length (opaque_argument (numbers m ordered)) x.indices)) h.4,
       all_map (IsArgument m f) (IsArgument (o m ordered) made) (opaque_argument (numbers m ordered)) x.indices argument h.5,
     )
@@ -175,7 +200,7 @@ module _ (m : Module) (ordered : ArePartsBefore m.types) where
 
     -- ---- blocks
 
-    incoming : (bits : Option ℕ) (x : Incoming) → IsIncoming m f bits x → IsIncoming (o m ordered) made bits (opaque_incoming x)
+    incoming : (bits : Word) (x : Incoming) → IsIncoming m f bits x → IsIncoming (o m ordered) made bits (opaque_incoming x)
     incoming bits x h = (read bits x.operand h.0, subst (IsIn (name_at f.locals x.from)) (sym labels_same) h.1)
 
     phi : (x : Phi) → IsPhi m f x → IsPhi (o m ordered) made (opaque_phi (numbers m ordered) x)
@@ -183,24 +208,28 @@ module _ (m : Module) (ordered : ArePartsBefore m.types) where
       opaque_shape h.0,
       scalar_type_still m ordered h.0 x.written h.1,
       subst (λ (k : ℕ). 0 < k) (sym (map-length opaque_incoming x.incoming)) h.2,
-      subst (λ (bits : Option ℕ). AllByRecursion (IsIncoming (o m ordered) made bits) (map opaque_incoming x.incoming)) (sym (bits_same h.0))
-          (all_map (IsIncoming m f (bits_of_shape h.0)) (IsIncoming (o m ordered) made (bits_of_shape h.0)) opaque_incoming x.incoming (incoming (bits_of_shape h.0)) h.3),
+      subst (λ (bits : Word). AllByRecursion (IsIncoming (o m ordered) made bits) (map opaque_incoming x.incoming)) (sym (bits_same h.0))
+          (all_map (IsIncoming m f (word_of_shape h.0)) (IsIncoming (o m ordered) made (word_of_shape h.0)) opaque_incoming x.incoming (incoming (word_of_shape h.0)) h.3),
     )
 
-    cases : (bits : Option ℕ) (seen : List CaseValue) (xs : List Case) → AreCases f bits seen xs → AreCases made bits seen xs
+    cases : (bits : Word) (seen : List CaseValue) (xs : List Case) → AreCases f bits seen xs → AreCases made bits seen xs
     cases bits seen [] h = tt
     cases bits seen (x ∷ xs) h = (h.0, h.1, target x.target h.2, cases bits (with_value (value_of x.constant) seen) xs h.3)
 
     ending : (x : End) → IsEnd m f x → IsEnd (o m ordered) made (opaque_end (numbers m ordered) x)
     ending (end.Jump label) h = target label h
     ending (end.Branch t x taken other) h = (condition t x h.0, target taken h.1, target other h.2)
-    ending (end.Switch t x otherwise xs) h = (
-      opaque_shape h.0,
-      scalar_type_still m ordered h.0 t h.1,
-      read_at h.0 x h.2,
-      target otherwise h.3,
-      subst (λ (bits : Option ℕ). AreCases made bits [] xs) (sym (bits_same h.0)) (cases (bits_of_shape h.0) [] xs h.4),
-    )
+    ending (end.Switch t x otherwise xs) k =
+        let h = k.1 in (
+          no_float h.0 t h.1.0.0 k.0,
+          (
+            opaque_shape h.0,
+            scalar_type_still m ordered h.0 t h.1,
+            read_at h.0 x h.2,
+            target otherwise h.3,
+            subst (λ (word : Word). AreCases made word [] xs) (sym (bits_same h.0)) (cases (word_of_shape h.0) [] xs h.4),
+          ),
+        )
     ending end.Unreachable h = tt
     ending end.ReturnVoid h = tt
     ending (end.Return x) h = argument x h

@@ -16,6 +16,7 @@ use Rattle.ir_print_law.specs.Printable.{IsAnyType, IsBlock, IsDeclare, IsFuncti
 use Rattle.migration_law.specs.PartsBefore.{ArePartsBefore}
 use Rattle.migration_law.proofs.OpsAfter.{all_map, block, defined_same, symbols_same, values_same}
 use Rattle.migration_law.proofs.ShapesAfter.{bits_same, held_still, numbers, o, opaque_shape, passed_still, struct_shape_still, structs_same, type_still, void_still}
+use Rattle.ir_forms.specs.declared.written.Word.{Word}
 
 -- as many on both sides
 few : {A B : Type 0} (g : A → B) (xs : List A) (most : ℕ) → length xs ≤ most → length (map g xs) ≤ most
@@ -48,7 +49,7 @@ module _ (m : Module) (ordered : ArePartsBefore m.types) where
 
   global : (x : Global) → IsGlobal m x → IsGlobal (o m ordered) (opaque_global (numbers m ordered) x)
   global x h =
-      (opaque_shape h.0, type_still m ordered h.0 x.held h.1, held_still h.0 h.2, subst (λ (bits : Option ℕ). IsInitial bits x.initial) (sym (bits_same h.0)) h.3)
+      (opaque_shape h.0, type_still m ordered h.0 x.held h.1, held_still h.0 h.2, subst (λ (bits : Word). IsInitial bits x.initial) (sym (bits_same h.0)) h.3)
 
   any_type : (t : ℕ) → IsAnyType m t → IsAnyType (o m ordered) (new_number (numbers m ordered) t)
   any_type t h = (opaque_shape h.0, type_still m ordered h.0 t h.1)

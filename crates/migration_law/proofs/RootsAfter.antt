@@ -199,6 +199,7 @@ module _ (m : Module) where
     rooted_same names arguments (Some runtime.GcRead) = refl
     rooted_same names arguments (Some runtime.GcWrite) = refl
     rooted_same names arguments (Some (runtime.Integer function bits)) = refl
+    rooted_same names arguments (Some (runtime.Float function bits)) = refl
 
     op_rooted : (names : List (Option ℕ)) (x : Op) → slot_rooted_by (o m) names (opaque_op (numbers m) x) ≡ slot_rooted_by m names x
     op_rooted names (op.Number x) = refl

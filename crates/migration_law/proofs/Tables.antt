@@ -108,6 +108,8 @@ type_in_order types n t at order = h.4 ∙ ap Some (by t order) where
   by : (t : IrType) → ComesAfterParts n t → opaque_type h.0 t ≡ opaque_type (opaque_types types).numbers t
   by type.Void order = refl
   by (type.Integer bits) order = refl
+  by type.Float order = refl
+  by type.Double order = refl
   by (type.Pointer part) order = refl
   by type.Opaque order = refl
   by (type.Array length part) order = ap (type.Array length) (number part order)

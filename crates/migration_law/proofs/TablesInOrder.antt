@@ -34,6 +34,8 @@ module _ (done : List IrType) (t : IrType) (r : Renumbered) (h : AreInOrder done
   next_rest : (t : IrType) → ComesAfterParts (length done) t → (first rest : ℕ) → opaque_type r.numbers t ≡ type.Struct first rest → rest < length r.types
   next_rest type.Void order first rest e = absurd cc
   next_rest (type.Integer bits) order first rest e = absurd cc
+  next_rest type.Float order first rest e = absurd cc
+  next_rest type.Double order first rest e = absurd cc
   next_rest (type.Pointer part) order first rest e = absurd cc
   next_rest type.Opaque order first rest e = absurd cc
   next_rest (type.Array count part) order first rest e = absurd cc

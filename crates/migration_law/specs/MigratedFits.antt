@@ -11,6 +11,7 @@ use Rattle.copies.specs.Opaque.{opaque_module}
 use Rattle.types.specs.References.{pointee}
 use Rattle.types.specs.ValueTypes.{instruction_at}
 use Rattle.certs.specs.Fits.{fits}
+use Rattle.certs.specs.ForeignFit.{foreign_fits}
 use Rattle.certs.specs.declared.certs.Certs.{Certs}
 use Rattle.certificate.specs.Migrated.{IsMigration, is_typed_text}
 
@@ -27,3 +28,7 @@ IsTypedModule m = (number : ℕ) (f : Function) → slice_get m.functions number
 abbrev pub AreMigratedFitting : Type 0
 AreMigratedFitting = (m : Module) (certs migrated : Certs) → is_typed_text m (opaque_module m) ≡ true → IsTypedModule m → fits m certs.sections ≡ true → IsMigration m certs (Ok migrated)
     → fits (opaque_module m) migrated.sections ≡ true
+
+-- functions outside that fit a module are kept, and fit its opaque text
+abbrev pub AreMigratedForeign : Type 0
+AreMigratedForeign = (m : Module) (certs migrated : Certs) → foreign_fits m certs.foreign ≡ true → IsMigration m certs (Ok migrated) → (migrated.foreign ≡ certs.foreign) × (foreign_fits (opaque_module m) migrated.foreign ≡ true)

@@ -38,6 +38,8 @@ parts_below opaque number count (type.Array size part) less h = omega (arith, le
 parts_below opaque number count (type.Struct first rest) less h = let a = h.0 in let b = h.1 in (omega (arith, less, a), omega (arith, less, b))
 parts_below opaque number count type.Void less h = tt
 parts_below opaque number count (type.Integer bits) less h = tt
+parts_below opaque number count type.Float less h = tt
+parts_below opaque number count type.Double less h = tt
 parts_below opaque number count type.Opaque less h = tt
 parts_below opaque number count type.EmptyStruct less h = tt
 parts_below opaque number count (type.Named name) less h = tt

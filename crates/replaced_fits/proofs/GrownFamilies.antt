@@ -70,6 +70,8 @@ module _ (m n : Module) (g : Grows m n) (closed : IsClosed m) where
   after_same None = refl
   after_same (Some type.Void) = refl
   after_same (Some (type.Integer bits)) = refl
+  after_same (Some type.Float) = refl
+  after_same (Some type.Double) = refl
   after_same (Some (type.Pointer part)) = refl
   after_same (Some type.Opaque) = refl
   after_same (Some (type.Array length part)) = refl
@@ -83,6 +85,8 @@ module _ (m n : Module) (g : Grows m n) (closed : IsClosed m) where
   in_same : (t : IrType) → ArePartsBelow (length m.types) t → family_in n (Some t) ≡ family_in m (Some t)
   in_same type.Void h = refl
   in_same (type.Integer bits) h = refl
+  in_same type.Float h = refl
+  in_same type.Double h = refl
   in_same (type.Pointer part) h = pointer_same part h
   in_same type.Opaque h = refl
   in_same (type.Array length part) h = refl
@@ -123,6 +127,8 @@ module _ (m n : Module) (g : Grows m n) (closed : IsClosed m) where
   field_found None k h = inl refl
   field_found (Some type.Void) k h = inl refl
   field_found (Some (type.Integer bits)) k h = inl refl
+  field_found (Some type.Float) k h = inl refl
+  field_found (Some type.Double) k h = inl refl
   field_found (Some (type.Pointer part)) k h = inl refl
   field_found (Some type.Opaque) k h = inl refl
   field_found (Some (type.Array length part)) k h = inl refl
@@ -161,6 +167,8 @@ module _ (m n : Module) (g : Grows m n) (closed : IsClosed m) where
   written_field written k None less e = inl refl
   written_field written k (Some type.Void) less e = field_of written k less
   written_field written k (Some (type.Integer bits)) less e = field_of written k less
+  written_field written k (Some type.Float) less e = field_of written k less
+  written_field written k (Some type.Double) less e = field_of written k less
   written_field written k (Some (type.Pointer part)) less e = field_of written k less
   written_field written k (Some type.Opaque) less e = field_of written k less
   written_field written k (Some (type.Array length part)) less e = field_of written k less
@@ -213,6 +221,8 @@ module _ (m n : Module) (g : Grows m n) (closed : IsClosed m) where
   part_by written index None less h = index_found written index less
   part_by written index (Some type.Void) less h = index_found written index less
   part_by written index (Some (type.Integer bits)) less h = index_found written index less
+  part_by written index (Some type.Float) less h = index_found written index less
+  part_by written index (Some type.Double) less h = index_found written index less
   part_by written index (Some (type.Pointer part)) less h = index_found written index less
   part_by written index (Some type.Opaque) less h = index_found written index less
   part_by written index (Some (type.Array length part)) less h = part_then (is_integer_type (slice_get m.types index.written)) (is_integer_type (slice_get n.types index.written)) part (integer_then index.written) h

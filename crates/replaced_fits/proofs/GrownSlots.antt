@@ -31,6 +31,8 @@ module _ (m n : Module) (g : Grows m n) (closed : IsClosed m) where
   layout_same None = refl
   layout_same (Some type.Void) = refl
   layout_same (Some (type.Integer bits)) = refl
+  layout_same (Some type.Float) = refl
+  layout_same (Some type.Double) = refl
   layout_same (Some (type.Pointer part)) = refl
   layout_same (Some type.Opaque) = refl
   layout_same (Some (type.Array length part)) = refl
@@ -42,6 +44,8 @@ module _ (m n : Module) (g : Grows m n) (closed : IsClosed m) where
   referenced_by None h = refl
   referenced_by (Some type.Void) h = refl
   referenced_by (Some (type.Integer bits)) h = refl
+  referenced_by (Some type.Float) h = refl
+  referenced_by (Some type.Double) h = refl
   referenced_by (Some (type.Pointer part)) h = ap (layout_of_struct n) (type_same m n g closed part h) ∙ layout_same (slice_get m.types part)
   referenced_by (Some type.Opaque) h = refl
   referenced_by (Some (type.Array length part)) h = refl

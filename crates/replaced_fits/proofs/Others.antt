@@ -1,8 +1,8 @@
--- The sections of the other functions, and the shapes, fit as they did where one function is replaced.
+-- The sections of the other functions, the shapes, and the functions outside fit as they did where one function is replaced.
 use Rattle.std.proofs.Common.{refl}
 use Rattle.ir_print_law.specs.Growing.{ReplacingKeepsTables}
-use Rattle.replaced_fits.specs.ReplacedFits.{OthersStayFitting, PointersStay, ShapesStayFitting}
-use Rattle.replaced_fits.proofs.Replaced.{others, pointers_by, shapes_stay_by}
+use Rattle.replaced_fits.specs.ReplacedFits.{OthersStayFitting, PointersStay, ShapesStayFitting, ForeignStaysFitting}
+use Rattle.replaced_fits.proofs.Replaced.{others, pointers_by, shapes_stay_by, foreign_stay}
 
 module _ (grown : ReplacingKeepsTables) where
   pub others_stay : OthersStayFitting
@@ -13,3 +13,6 @@ module _ (grown : ReplacingKeepsTables) where
 
   pub shapes_stay : ShapesStayFitting
   shapes_stay m func code n closed is opaque shaped fit = shapes_stay_by grown m func code n is closed opaque shaped fit
+
+  pub foreign_stays : ForeignStaysFitting
+  foreign_stays m func code n is = foreign_stay grown m func code n is

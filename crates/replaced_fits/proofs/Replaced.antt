@@ -17,8 +17,10 @@ use Rattle.ir_text.specs.declared.anew.Replacement.{Replacement}
 use Rattle.ir_print_law.specs.Growing.{ReplacingKeepsTables, TablesStay}
 use Rattle.layout.specs.Layouts.{wants_shapes}
 use Rattle.types.specs.References.{struct_in, struct_in_is}
+use Rattle.types.specs.RuntimeCall.{is_outside_declare}
 use Rattle.certs.specs.Families.{is_opaque_text}
 use Rattle.certs.specs.Fits.{fits, section_fits}
+use Rattle.certs.specs.ForeignFit.{foreign_fits, foreign_same}
 use Rattle.certs.specs.ShapesFit.{all_shapes_fit, roots_fit, shapes_fit}
 use Rattle.certs.specs.declared.section.Section.{Section}
 use Rattle.certificate.specs.Replaced.{FitOthers}
@@ -55,13 +57,23 @@ module _ (grown : ReplacingKeepsTables) (m : Module) (func : ℕ) (code : Text) 
   shapes_same : n.shapes ≡ m.shapes
   shapes_same = sym (ap (λ (x : Module). x.shapes) is.2)
 
+  declares_same : n.declares ≡ m.declares
+  declares_same = sym (ap (λ (x : Module). x.declares) is.2)
+
+  -- the same functions outside are trusted, and may be
+  pub foreign_stay : (n.trusted ≡ m.trusted) × ((foreign : List ℕ) → foreign_fits m foreign ≡ true → foreign_fits n foreign ≡ true)
+  foreign_stay = (
+    sym (ap (λ (x : Module). x.trusted) is.2),
+    λ foreign fit. foreign_same m n sorts_same (λ d. ap (λ x. is_outside_declare (slice_get x d)) declares_same) (sym (ap (λ (x : Module). x.wide) is.2)) foreign ∙ fit,
+  )
+
   grows : is_opaque_text n ≡ is_opaque_text m → Grows m n
   grows opaque = record {
     types = stay.types;
     names = λ name. struct_in_is (slice_get n.struct_of name) ∙ stay.names name ∙ sym (struct_in_is (slice_get m.struct_of name));
     structs = stay.structs;
     globals = sym (ap (λ (x : Module). x.globals) is.2);
-    declares = sym (ap (λ (x : Module). x.declares) is.2);
+    declares = declares_same;
     sorts = sorts_same;
     shapes = shapes_same;
     opaque = opaque;

@@ -10,6 +10,7 @@ use Rattle.ir_print_law.specs.Within.{IsWithin}
 use Rattle.layout.specs.Layouts.{wants_shapes}
 use Rattle.certs.specs.Families.{is_opaque_text}
 use Rattle.certs.specs.Fits.{fits}
+use Rattle.certs.specs.ForeignFit.{foreign_fits}
 use Rattle.certs.specs.ShapesFit.{roots_fit, shapes_fit}
 use Rattle.certs.specs.declared.section.Section.{Section}
 use Rattle.certificate.specs.Replaced.{FitOthers}
@@ -36,3 +37,7 @@ AreRootsShaped n func = (given : Shapes) (f : Function) → n.shapes ≡ Some gi
 abbrev pub ShapesStayFitting : Type 0
 ShapesStayFitting = (m : Module) (func : ℕ) (code : Text) (n : Module) → IsClosed m → IsReplaced m func code n → is_opaque_text n ≡ is_opaque_text m → AreRootsShaped n func → shapes_fit m m.shapes ≡ true
     → shapes_fit n n.shapes ≡ true
+
+-- where the code of one function is replaced, the module trusts what it did, and functions outside fit it as they did
+abbrev pub ForeignStaysFitting : Type 0
+ForeignStaysFitting = (m : Module) (func : ℕ) (code : Text) (n : Module) → IsReplaced m func code n → (n.trusted ≡ m.trusted) × ((foreign : List ℕ) → foreign_fits m foreign ≡ true → foreign_fits n foreign ≡ true)

@@ -2,6 +2,11 @@
 use Rattle.std.proofs.Common.{◌≡◌, ℕ, List, [], ◌∷◌, ◌++◌, Option, None, Some, ◌⊎◌, inl, inr, refl, ap, ap₂, ◌∙◌}
 use Rattle.std.specs.Prelude.{codes}
 use Rattle.std.specs.List.{AllByRecursion, flat_map}
+use Rattle.ir_forms.specs.declared.written.Word.TheVariants as sort
+use Rattle.ir_ast.specs.declared.floats.FloatOp.{FloatOp}
+use Rattle.ir_ast.specs.declared.floats.FloatOp.TheVariants as float
+use Rattle.ir_print.specs.Floats.{float_arithmetic_word, float_comparison_word, conversion_word, float_op_text}
+use Rattle.ir_print_law.specs.Floats.{IsFloatOp}
 use Rattle.ir_print_law.specs.EqualParts.{same3}
 use Rattle.ir_ast.specs.declared.argument.Argument.{Argument}
 use Rattle.ir_ast.specs.declared.block.Block.{Block}
@@ -47,8 +52,9 @@ use Rattle.ir_print_law.specs.Memory.{IsMemoryOp}
 use Rattle.ir_print_law.specs.Numbers.{IsNumberOp}
 use Rattle.ir_print_law.specs.Parts.{ArePair, IsArgument, IsCondition, IsConverted, IsOperand, IsPlaceType, IsReturned, IsVoid}
 use Rattle.ir_print_law.specs.Printable.{IsAnyType, IsBlock, IsDeclare, IsEnd, IsFunction, IsGlobal, IsIncoming, IsInstr, IsOp, IsParameter, IsPassed, IsPhi, IsStructType}
-use Rattle.ir_print_law.specs.Shapes.{Shape, Integer, Pointer, Opaque, HasShape, bits_of_shape}
+use Rattle.ir_print_law.specs.Shapes.{Shape, Integer, Pointer, Opaque, HasShape, word_of_shape}
 use Rattle.replaced_text.proofs.Types.{Stay, constant_same, plain_same, type_same, with_types}
+use Rattle.ir_forms.specs.declared.written.Word.{Word}
 
 -- ---- lists
 
@@ -85,24 +91,24 @@ module _ (m : Module) (types : List IrType) (fs : List Function) (more : Stay m.
   -- ---- operands
 
   module _ (f : Function) where
-    operands : (bits : Option ℕ) (shape : Shape) (t : ℕ) (x : Operand) → HasShape m.types m.struct_names shape t → IsOperand m f bits x → operand_text m f.locals t x ≡ operand_text n f.locals t x
+    operands : (bits : Word) (shape : Shape) (t : ℕ) (x : Operand) → HasShape m.types m.struct_names shape t → IsOperand m f bits x → operand_text m f.locals t x ≡ operand_text n f.locals t x
     operands bits shape t (operand.Constant x) has h = same_constant shape t x has
     operands bits shape t (operand.Local value) has h = refl
     operands bits shape t (operand.Global symbol) has h = refl
     operands bits shape t (operand.CastGlobal from symbol to) has h =
         ap₂ (λ a b. codes "bitcast (" ++ a ++ 32 ∷ global_text m symbol ++ codes " to " ++ b ++ 41 ∷ []) (same_type h.0.0 from h.0.1.0) (same_type h.2.0 to h.2.1.0)
 
-    with_type : (bits : Option ℕ) (shape : Shape) (t : ℕ) (x : Operand) → HasShape m.types m.struct_names shape t → IsOperand m f bits x → typed_text m f.locals t x ≡ typed_text n f.locals t x
+    with_type : (bits : Word) (shape : Shape) (t : ℕ) (x : Operand) → HasShape m.types m.struct_names shape t → IsOperand m f bits x → typed_text m f.locals t x ≡ typed_text n f.locals t x
     with_type bits shape t x has h = ap₂ (λ a b. a ++ 32 ∷ b) (same_type shape t has) (operands bits shape t x has h)
 
     argument : (x : Argument) → IsArgument m f x → argument_text m f.locals x ≡ argument_text n f.locals x
-    argument x h = with_type (bits_of_shape h.0) h.0 x.written x.operand h.1.0.0 h.2
+    argument x h = with_type (word_of_shape h.0) h.0 x.written x.operand h.1.0.0 h.2
 
     condition : (t : ℕ) (x : Operand) → IsCondition m f t x → typed_text m f.locals t x ≡ typed_text n f.locals t x
-    condition t x h = with_type (Some 1) (Integer 1) t x h.0 h.1
+    condition t x h = with_type (sort.Integer 1) (Integer 1) t x h.0 h.1
 
     pair : (t : ℕ) (x y : Operand) → ArePair m f t x y → pair_text m f.locals (typed t x) y ≡ pair_text n f.locals (typed t x) y
-    pair t x y h = ap₂ (λ a b. a ++ codes ", " ++ b) (with_type (bits_of_shape h.0) h.0 t x h.1.0.0 h.2) (operands (bits_of_shape h.0) h.0 t y h.1.0.0 h.3)
+    pair t x y h = ap₂ (λ a b. a ++ codes ", " ++ b) (with_type (word_of_shape h.0) h.0 t x h.1.0.0 h.2) (operands (word_of_shape h.0) h.0 t y h.1.0.0 h.3)
 
     converted : (from : ℕ) (x : Operand) (to : ℕ) → IsConverted m f from x to → converted_text m f.locals (typed from x) to ≡ converted_text n f.locals (typed from x) to
     converted from x to h = ap₂ (λ a b. a ++ codes " to " ++ b) (argument (typed from x) h.0) (same_type h.1.0 to h.1.1.0.0)
@@ -111,23 +117,30 @@ module _ (m : Module) (types : List IrType) (fs : List Function) (more : Stay m.
     returned t (inl h) = same_void t h
     returned t (inr h) = same_type h.0 t h.1.0.0
 
-    placed : (shape : Shape) (held place : ℕ) (x : Operand) → HasShape m.types m.struct_names shape held → IsPlaceType m shape held place → IsOperand m f None x
+    placed : (shape : Shape) (held place : ℕ) (x : Operand) → HasShape m.types m.struct_names shape held → IsPlaceType m shape held place → IsOperand m f sort.Pointer x
         → placed_text m f.locals held (typed place x) ≡ placed_text n f.locals held (typed place x)
-    placed shape held place x has is h = let s = place_shape shape held place has is in ap₂ (λ a b. a ++ codes ", " ++ b) (same_type shape held has) (with_type None s.0 place x s.1 h)
+    placed shape held place x has is h = let s = place_shape shape held place has is in ap₂ (λ a b. a ++ codes ", " ++ b) (same_type shape held has) (with_type sort.Pointer s.0 place x s.1 h)
 
     -- ---- instructions
 
+    float_op : (x : FloatOp) → IsFloatOp m f x → float_op_text m f.locals x ≡ float_op_text n f.locals x
+    float_op (float.Arithmetic kind t x y) h = ap (λ (text : Text). float_arithmetic_word kind ++ text) (pair t x y h.1)
+    float_op (float.Negate t x) h = ap (λ (text : Text). codes "fneg " ++ text) (argument (typed t x) h.1)
+    float_op (float.Compare kind t x y) h = ap (λ (text : Text). codes "fcmp " ++ float_comparison_word kind ++ text) (pair t x y h.1)
+    float_op (float.Convert kind from x to) h = ap (λ (text : Text). conversion_word kind ++ text) (converted from x to h.1)
+
     number_op : (x : NumberOp) → IsNumberOp m f x → number_op_text m f.locals x ≡ number_op_text n f.locals x
-    number_op (number.Arithmetic kind t x y) h = ap (λ (text : Text). arithmetic_word kind ++ text) (pair t x y h.1)
-    number_op (number.Resize kind from x to) h = ap (λ (text : Text). resize_word kind ++ text) (converted from x to h)
-    number_op (number.Compare kind t x y) h = ap (λ (text : Text). codes "icmp " ++ comparison_word kind ++ text) (pair t x y h)
+    number_op (number.Arithmetic kind t x y) h = ap (λ (text : Text). arithmetic_word kind ++ text) (pair t x y h.2)
+    number_op (number.Resize kind from x to) h = ap (λ (text : Text). resize_word kind ++ text) (converted from x to h.2)
+    number_op (number.Compare kind t x y) h = ap (λ (text : Text). codes "icmp " ++ comparison_word kind ++ text) (pair t x y h.1)
+    number_op (number.Float x) h = float_op x h.1
 
     memory_op : (x : MemoryOp) → IsMemoryOp m f x → memory_op_text m f.locals x ≡ memory_op_text n f.locals x
     memory_op (memory.Alloca held) h = ap (λ (text : Text). codes "alloca " ++ text) (same_type h.0 held h.1.0.0)
     memory_op (memory.Load loaded place_type place) h = ap (λ (text : Text). codes "load " ++ text) (placed h.0 loaded place_type place h.1.0.0 h.2 h.3)
     memory_op (memory.Store stored x place_type place) h =
         let s = place_shape h.0 stored place_type h.1.0.0 h.3 in
-        ap₂ (λ a b. codes "store " ++ a ++ codes ", " ++ b) (with_type (bits_of_shape h.0) h.0 stored x h.1.0.0 h.2) (with_type None s.0 place_type place s.1 h.4)
+        ap₂ (λ a b. codes "store " ++ a ++ codes ", " ++ b) (with_type (word_of_shape h.0) h.0 stored x h.1.0.0 h.2) (with_type sort.Pointer s.0 place_type place s.1 h.4)
 
     call : (x : Call) → IsCall m f x → call_text m f.locals x ≡ call_text n f.locals x
     call x h =
@@ -144,7 +157,7 @@ module _ (m : Module) (types : List IrType) (fs : List Function) (more : Stay m.
     operation (op.Choice x) h =
         let p = h.1 in
         same3 (λ a b c. codes "select " ++ a ++ codes ", " ++ b ++ codes ", " ++ c) (condition x.condition_type x.condition h.0)
-        (with_type (bits_of_shape p.0) p.0 x.written x.chosen p.1.0.0 p.2) (with_type (bits_of_shape p.0) p.0 x.written x.other p.1.0.0 p.3)
+        (with_type (word_of_shape p.0) p.0 x.written x.chosen p.1.0.0 p.2) (with_type (word_of_shape p.0) p.0 x.written x.other p.1.0.0 p.3)
     operation (op.Call x) h = call x h
 
     instruction : (x : Instr) → IsInstr m f x → instruction_line m f.locals x ≡ instruction_line n f.locals x
@@ -152,13 +165,13 @@ module _ (m : Module) (types : List IrType) (fs : List Function) (more : Stay m.
 
     -- ---- blocks
 
-    incoming : (bits : Option ℕ) (shape : Shape) (t : ℕ) → HasShape m.types m.struct_names shape t → (x : Incoming) → IsIncoming m f bits x → incoming_text m f.locals t x ≡ incoming_text n f.locals t x
+    incoming : (bits : Word) (shape : Shape) (t : ℕ) → HasShape m.types m.struct_names shape t → (x : Incoming) → IsIncoming m f bits x → incoming_text m f.locals t x ≡ incoming_text n f.locals t x
     incoming bits shape t has x h = ap (λ (text : Text). codes "[ " ++ text ++ codes ", " ++ local_text f.locals x.from ++ codes " ]") (operands bits shape t x.operand has h.0)
 
     phi : (x : Phi) → IsPhi m f x → phi_line m f.locals x ≡ phi_line n f.locals x
     phi x h =
         ap₂ (λ a b. codes "  " ++ local_text f.locals x.value ++ codes " = phi " ++ a ++ 32 ∷ b ++ codes "\n") (same_type h.0 x.written h.1.0.0)
-        (list (IsIncoming m f (bits_of_shape h.0)) (incoming_text m f.locals x.written) (incoming_text n f.locals x.written) x.incoming (incoming (bits_of_shape h.0) h.0 x.written h.1.0.0) h.3)
+        (list (IsIncoming m f (word_of_shape h.0)) (incoming_text m f.locals x.written) (incoming_text n f.locals x.written) x.incoming (incoming (word_of_shape h.0) h.0 x.written h.1.0.0) h.3)
 
     cases : (shape : Shape) (t : ℕ) → HasShape m.types m.struct_names shape t → (xs : List Case) → flat_map (case_text m f.locals t) xs ≡ flat_map (case_text n f.locals t) xs
     cases shape t has [] = refl
@@ -169,7 +182,7 @@ module _ (m : Module) (types : List IrType) (fs : List Function) (more : Stay m.
     ending (end.Jump label) h = refl
     ending (end.Branch t x taken other) h = ap (λ (text : Text). codes "br " ++ text ++ codes ", " ++ target_text f.locals taken ++ codes ", " ++ target_text f.locals other) (condition t x h.0)
     ending (end.Switch t x otherwise xs) h =
-        ap₂ (λ a b. codes "switch " ++ a ++ codes ", " ++ target_text f.locals otherwise ++ codes " [" ++ b ++ codes " ]") (with_type (bits_of_shape h.0) h.0 t x h.1.0.0 h.2) (cases h.0 t h.1.0.0 xs)
+        ap₂ (λ a b. codes "switch " ++ a ++ codes ", " ++ target_text f.locals otherwise ++ codes " [" ++ b ++ codes " ]") (with_type (word_of_shape h.1.0) h.1.0 t x h.1.1.0.0 h.1.2) (cases h.1.0 t h.1.1.0.0 xs)
     ending end.Unreachable h = refl
     ending end.ReturnVoid h = refl
     ending (end.Return x) h = ap (λ (text : Text). codes "ret " ++ text) (argument x h)

@@ -11,7 +11,8 @@ use Rattle.ir_ast.specs.declared.operand.Constant.TheVariants as constant
 use Rattle.ir_tokens.specs.Bytes.{Text}
 use Rattle.ir_print.specs.Operands.{constant_text, is_bit, number_text}
 use Rattle.ir_print.specs.Types.{fields_text, further_field, type_by, type_text, type_within}
-use Rattle.ir_print_law.specs.Shapes.{Shape, Integer, Pointer, Array, Empty, Struct, Named, Opaque, HasShape}
+use Rattle.ir_forms.specs.declared.written.FloatType.TheVariants as size
+use Rattle.ir_print_law.specs.Shapes.{Shape, Integer, Float, Pointer, Array, Empty, Struct, Named, Opaque, HasShape}
 
 -- the module with these types and these functions
 abbrev pub with_types : Module → List IrType → List Function → Module
@@ -52,6 +53,8 @@ module _ (m : Module) (types : List IrType) (fs : List Function) (more : Stay m.
   fields_same room same (Integer bits) (suc most) (suc other) t h less below = field_same room most other t _ h refl
   fields_same room same (Pointer part) (suc most) (suc other) t h less below = field_same room most other t _ h.1 refl
   fields_same room same (Array count part) (suc most) (suc other) t h less below = field_same room most other t _ h.1 refl
+  fields_same room same (Float size.Single) (suc most) (suc other) t h less below = field_same room most other t _ h refl
+  fields_same room same (Float size.Double) (suc most) (suc other) t h less below = field_same room most other t _ h refl
   fields_same room same Empty (suc most) (suc other) t h less below = field_same room most other t _ h refl
   fields_same room same (Struct first rest) (suc most) (suc other) t h less below =
       let before = h.3 in
@@ -66,6 +69,8 @@ module _ (m : Module) (types : List IrType) (fs : List Function) (more : Stay m.
   within_same (suc room) (Integer bits) t h = part_same room t _ h refl
   within_same (suc room) (Pointer part) t h = part_same room t _ h.1 (ap (λ (x : Text). x ++ 42 ∷ []) (within_same room part h.0 h.2))
   within_same (suc room) (Array count part) t h = part_same room t _ h.1 (ap (λ (x : Text). 91 ∷ decimal count ++ codes " x " ++ x ++ 93 ∷ []) (within_same room part h.0 h.2))
+  within_same (suc room) (Float size.Single) t h = part_same room t _ h refl
+  within_same (suc room) (Float size.Double) t h = part_same room t _ h refl
   within_same (suc room) Empty t h = part_same room t _ h refl
   within_same (suc room) (Struct first rest) t h =
       let before = h.3 in
@@ -92,6 +97,8 @@ module _ (m : Module) (types : List IrType) (fs : List Function) (more : Stay m.
   there (Integer bits) t h = (_, h)
   there (Pointer part) t h = (_, h.1)
   there (Array count part) t h = (_, h.1)
+  there (Float size.Single) t h = (_, h)
+  there (Float size.Double) t h = (_, h)
   there Empty t h = (_, h)
   there (Struct first rest) t h = (_, h.2)
   there (Named name) t h = (_, h.1)
@@ -101,5 +108,6 @@ module _ (m : Module) (types : List IrType) (fs : List Function) (more : Stay m.
   constant_same shape t (constant.Number number) h =
       let type = there shape t h in
       ap (λ y. number_text (is_bit y) number) (type.1 ∙ sym (more t type.0 type.1))
+  constant_same shape t (constant.Float number) h = refl
   constant_same shape t constant.Null h = refl
   constant_same shape t (constant.Truth truth) h = refl

@@ -1,1 +1,2 @@
+mod Foreign
 mod Opaque

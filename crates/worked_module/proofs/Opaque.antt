@@ -59,6 +59,7 @@ m0 = record {
   declares = [];
   functions = f0 ∷ [];
   shapes = Some (record { words = (Some 0 ∷ []) ∷ []; globals = Some 0 ∷ []; roots = [] });
+  trusted = [];
   wide = false;
 }
 
@@ -74,7 +75,7 @@ abbrev pub heap : Setup
 heap = record { threads = 1; late = []; layouts = (Reference 0 ∷ []) ∷ []; pools = 1 ∷ []; globals = Reference 0 ∷ []; values = 0 ∷ [] }
 
 abbrev pub starts : ℕ → ProgramThread
-starts t = record { heap = heap; program = program; state = start m0 (Some f0) 0 [] }
+starts t = record { heap = heap; program = program; state = start m0 (Some f0) 0 []; values = [] }
 
 -- ---- what holds of them
 
@@ -103,7 +104,7 @@ worked = record {
   certified = certified;
   of_program = record { layouts = refl; globals = globals };
   set_up = set_up;
-  begun = λ t below. record { func = 0; function = f0; arguments = []; is = refl; takes = record { takes_integers = refl; fit = refl; meet = tt }; stands = refl };
+  begun = λ t below. record { func = 0; function = f0; arguments = []; values = []; is = refl; takes = record { takes_integers = refl; fit = refl; meet = tt }; stands = refl };
   some_thread = lit< tt;
   reads = refl;
 }

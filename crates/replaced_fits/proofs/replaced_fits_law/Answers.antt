@@ -1,5 +1,5 @@
 use Rattle.replaced_fits.proofs.Closed.{within_closed}
-use Rattle.replaced_fits.proofs.Others.{others_stay, pointers_stay, shapes_stay}
+use Rattle.replaced_fits.proofs.Others.{others_stay, pointers_stay, shapes_stay, foreign_stays}
 use Rattle.replaced_fits.proofs.replaced_fits_law.Goals as goal
 
 pub returns-clause-closed : goal.returns-clause-closed
@@ -13,3 +13,6 @@ returns-clause-pointers c = pointers_stay c.grown_law.ensures
 
 pub returns-clause-shapes : goal.returns-clause-shapes
 returns-clause-shapes c = shapes_stay c.grown_law.ensures
+
+pub returns-clause-foreign : goal.returns-clause-foreign
+returns-clause-foreign c = foreign_stays c.grown_law.ensures
