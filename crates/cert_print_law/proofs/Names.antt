@@ -10,6 +10,7 @@ use Rattle.ir_print_law.specs.FunctionNames.{IsKeyOfName, IsKeyOfNumber, HasName
 use Rattle.ir_print_law.specs.ModuleNames.{HasModuleNames}
 use Rattle.ir_print_law.specs.ModuleNames as names
 use Rattle.types.specs.Globals.{global_of_sort}
+use Rattle.types.specs.RuntimeCall.{is_outside_sort}
 use Rattle.certs.specs.Fits.{is_value_sort}
 use Rattle.certificate.specs.KeyText.{name_key_text}
 use Rattle.certificate.specs.Named.{AreNames, IsNameKey, IsNumberKey, IsNamedFunction, IsNamed}
@@ -23,6 +24,10 @@ table xs are short number name there = let own = are number name there in ((own.
 global_sort : (sort : Option SymbolSort) → is_some (global_of_sort sort) ≡ true → (own : SymbolSort) × (sort ≡ Some own)
 global_sort None e = absurd cc
 global_sort (Some own) e = (own, refl)
+
+outside_sort : (m : Module) (sort : Option SymbolSort) → is_outside_sort m sort ≡ true → (own : SymbolSort) × (sort ≡ Some own)
+outside_sort m None e = absurd cc
+outside_sort m (Some own) e = (own, refl)
 
 value_sort : (sort : Option LocalSort) → is_value_sort sort ≡ true → (own : LocalSort) × (sort ≡ Some own)
 value_sort None e = absurd cc
@@ -46,6 +51,7 @@ pub module_named : (m : Module) → HasModuleNames m → HasShortNames m → IsN
 module_named m own short = record {
   symbols = table m.symbols own.symbols short.symbols;
   globals = λ name is. let sort = global_sort (slice_get m.sorts name) is in own.sorts name sort.0 sort.1;
+  outside = λ name is. let sort = outside_sort m (slice_get m.sorts name) is in own.sorts name sort.0 sort.1;
   structs = table m.struct_names own.struct_names short.structs;
   layouts = λ layout name there. let is = own.layouts layout name there in (is.0.0, is.0.1, is.0.2, is.1);
   functions = λ number f there.

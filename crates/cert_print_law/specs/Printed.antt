@@ -35,6 +35,6 @@ AreReadAgain = (bytes text : Text) (m : Module) (certs : Certs) → AreBytes byt
 abbrev pub AreRootsNamed : Type 0
 AreRootsNamed = (m : Module) → IsWithin m → HasRootValues m
 
--- what is printed of certificates that are read for such a module is a text of certificates with the same sections, and with shapes that say the same of it
+-- what is printed of certificates that are read for such a module is a text of certificates with the same sections and functions outside, and with shapes that say the same of it
 abbrev pub AreReadAlike : Type 0
 AreReadAlike = (bytes text : Text) (m : Module) (certs : Certs) → AreBytes bytes → IsText bytes m → HasShortNames m → IsCert text m certs → IsCertAlike (cert_text certs m) m certs

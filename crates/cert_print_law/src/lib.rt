@@ -19,8 +19,8 @@ pub fn printed_again_law()
 }
 
 /// What is printed of certificates that are read for a module that is read from bytes, and whose names are short when they are printed, is a
-/// text of certificates with the same sections and with shapes that say the same of the module, whether its text writes `ptr` or not. Each root
-/// slot's name is that of a value where the module's numbers are within its tables, as they are after edits too.
+/// text of certificates with the same sections and functions outside, and with shapes that say the same of the module, whether its text writes
+/// `ptr` or not. Each root slot's name is that of a value where the module's numbers are within its tables, as they are after edits too.
 pub fn printed_alike_law()
     ensures roots { AreRootsNamed }
     ensures alike { AreReadAlike }

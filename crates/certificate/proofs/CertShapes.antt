@@ -1,5 +1,5 @@
 -- The shapes that a text is are shapes of the module.
-use Rattle.std.proofs.Common.{◌≡◌, ◌⊎◌, inl, inr, ℕ, zero, suc, ◌+◌, Bool, true, false, not, ◌&&◌, ◌||◌, [], ◌∷◌, codes, List, map, Option, Some, None, is_some, slice_get, slice_set, unwrap_or, refl, ap, sym, subst, ◌∙◌, arith}
+use Rattle.std.proofs.Common.{◌≡◌, ◌⊎◌, inl, inr, ℕ, zero, suc, ◌+◌, Bool, true, false, not, ◌&&◌, ◌||◌, [], ◌∷◌, List, map, Option, Some, None, is_some, slice_get, slice_set, unwrap_or, refl, ap, sym, subst, ◌∙◌, arith}
 use Rattle.std.specs.Prelude.{if◌then◌else◌, is_none}
 use Rattle.std.specs.List.{list_all}
 use Rattle.lemmas.specs.Bools.{and_true, and_first, and_second}
@@ -38,9 +38,10 @@ use Rattle.certificate.specs.declared.mistake.Mistake.{Mistake}
 use Rattle.certificate.specs.declared.mistake.Mistake.TheVariants.{MissingGlobal, MissingRoot}
 use Rattle.certificate.specs.declared.shape_draft.ShapeDraft.{ShapeDraft}
 use Rattle.certificate.proofs.Between.{all_set}
-use Rattle.certificate.proofs.CertFits.{still_version}
+use Rattle.certificate.proofs.CertFits.{still_head}
+use Rattle.certificate.proofs.ReadForeign.{names_are}
 use Rattle.certificate.proofs.ReadShapes.{IsTarget, Gives, lines_hold, none_is_missing}
-use Rattle.certificate.proofs.ReadWords.{taken_is, still_expect, still_line_end}
+use Rattle.certificate.proofs.ReadWords.{taken_is}
 
 -- ---- lists
 
@@ -298,10 +299,10 @@ fit_if m shapes false e all = ap not e
 pub opaque_begun : (m : Module) (shapes : ShapeDraft) → is_opaque_text m ≡ true → AreStart m shapes → AreBegun m shapes
 opaque_begun m shapes e start = let may : may_be_shaped m ≡ true = ap (λ b. b || not (has_typed m.types)) e in subst (λ b. are_begun_if b m shapes) may start
 
--- the shapes after the first line fit, if they were begun where the text is opaque
-first_line_shaped : (m : Module) (i : Input) (certs : Certs) (o : Input) → HasGlobals m → (is_opaque_text m ≡ true → AreBegun m i.read.shapes) → (text.with_shapes m).says i certs o → shapes_fit m certs.shapes ≡ true
+-- the shapes after the functions outside fit, if they were begun where the text is opaque
+head_shaped : (m : Module) (foreign : List ℕ) (i : Input) (certs : Certs) (o : Input) → HasGlobals m → (is_opaque_text m ≡ true → AreBegun m i.read.shapes) → (text.with_shapes m foreign).says i certs o → shapes_fit m certs.shapes ≡ true
 unfolding text.with_shapes taken_shapes
-first_line_shaped m i certs o named begun h =
+head_shaped m foreign i certs o named begun h =
     let b = h.3 in
     let c = b.3 in
     let d = c.3 in
@@ -321,10 +322,12 @@ cert_shaped bytes m certs named h =
     let a = h.3 in
     let b = a.3 in
     let c = b.3 in
-    let same = still_expect (codes "cert") (start_of m h.0 bytes) a.0 a.1 a.2 ∙ still_version m a.1 b.0 b.1 b.2 ∙ still_line_end b.1 c.0 c.1 c.2 in
-    let start : h.0 ≡ c.1.read.shapes = ap (λ (x : Input). x.read.shapes) same in
-    by b.0 c.1 (λ is. version_one m a.1 b.0 b.1 b.2 is) (λ opaque. subst (AreBegun m) start (opaque_begun m h.0 opaque h.1)) c.3
+    let d = c.3 in
+    let same = still_head m (start_of m h.0 bytes) a.0 a.1 a.2 b.0 b.1 b.2 c.0 c.1 c.2 in
+    let names = names_are m c.1 d.0 d.1 d.2 (sym (ap (λ (x : Input). x.read.foreign) same)) in
+    let start : h.0 ≡ d.1.read.shapes = ap (λ (x : Input). x.read.shapes) same ∙ names.2 in
+    by d.0 b.0 d.1 (λ is. version_one m a.1 b.0 b.1 b.2 is) (λ opaque. subst (AreBegun m) start (opaque_begun m h.0 opaque h.1)) d.3
   where
-    by : (shaped : Bool) (i : Input) → (shaped ≡ false → is_opaque_text m ≡ false) → (is_opaque_text m ≡ true → AreBegun m i.read.shapes) → (text.certs_by m shaped).says i certs h.2 → shapes_fit m certs.shapes ≡ true
-    by true i typed begun says = first_line_shaped m i certs h.2 named begun says
-    by false i typed begun says = subst (λ (x : Certs). shapes_fit m x.shapes ≡ true) says.3.3.0 (ap not (typed refl))
+    by : (foreign : List ℕ) (shaped : Bool) (i : Input) → (shaped ≡ false → is_opaque_text m ≡ false) → (is_opaque_text m ≡ true → AreBegun m i.read.shapes) → (text.certs_by m foreign shaped).says i certs h.2 → shapes_fit m certs.shapes ≡ true
+    by foreign true i typed begun says = head_shaped m foreign i certs h.2 named begun says
+    by foreign false i typed begun says = subst (λ (x : Certs). shapes_fit m x.shapes ≡ true) says.3.3.0 (ap not (typed refl))

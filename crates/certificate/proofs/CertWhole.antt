@@ -1,5 +1,5 @@
 -- Of the shapes that a text is, none is missing, and there is none for another word.
-use Rattle.std.proofs.Common.{◌≡◌, ◌<◌, ℕ, zero, suc, ◌+◌, Bool, true, false, not, ◌&&◌, [], ◌∷◌, List, length, Option, Some, None, is_some, slice_get, unwrap_or, codes, refl, ap, sym, subst, ◌∙◌, arith}
+use Rattle.std.proofs.Common.{◌≡◌, ◌<◌, ℕ, zero, suc, ◌+◌, Bool, true, false, not, ◌&&◌, [], ◌∷◌, List, length, Option, Some, None, is_some, slice_get, unwrap_or, refl, ap, sym, subst, ◌∙◌, arith}
 use Rattle.std.specs.Prelude.{if◌then◌else◌}
 use Rattle.lemmas.specs.Bools.{same_truth}
 use Rattle.lemmas.specs.Lists.{get_some}
@@ -23,10 +23,10 @@ use Rattle.certificate.specs.Named.{HasGlobals, HasStructs}
 use Rattle.certificate.specs.ShapeDrafts.{pointers_at, name_in, is_pointer, has_word_shape, first_of, word_gap, struct_gap, words_gap, globals_gap, slot_gap, roots_gap_in, roots_gap, has_root_shape}
 use Rattle.certificate.specs.declared.mistake.Mistake.TheVariants.{MissingWord}
 use Rattle.certificate.specs.declared.shape_draft.ShapeDraft.{ShapeDraft}
-use Rattle.certificate.proofs.CertFits.{still_version}
+use Rattle.certificate.proofs.CertFits.{still_head}
 use Rattle.certificate.proofs.CertShapes.{Shaped, map_at, slot_there, first_none, begun_shaped, lines_shaped, shaped_fit, version_one, opaque_begun}
 use Rattle.certificate.proofs.ReadShapes.{none_is_missing}
-use Rattle.certificate.proofs.ReadWords.{still_expect, still_line_end}
+use Rattle.certificate.proofs.ReadForeign.{names_are}
 
 -- ---- what is not missing is there
 
@@ -114,9 +114,9 @@ whole_if : (m : Module) (shapes : Shapes) (opaque : Bool) → is_opaque_text m �
 whole_if m shapes true e all = let both = all refl in (e, both.0, both.1, both.2)
 whole_if m shapes false e all = e
 
-first_line_whole : (m : Module) (i : Input) (certs : Certs) (o : Input) → HasGlobals m → HasStructs m → (is_opaque_text m ≡ true → AreBegun m i.read.shapes) → (text.with_shapes m).says i certs o → are_whole m certs.shapes
+head_whole : (m : Module) (foreign : List ℕ) (i : Input) (certs : Certs) (o : Input) → HasGlobals m → HasStructs m → (is_opaque_text m ≡ true → AreBegun m i.read.shapes) → (text.with_shapes m foreign).says i certs o → are_whole m certs.shapes
 unfolding text.with_shapes taken_shapes
-first_line_whole m i certs o globals structs begun h =
+head_whole m foreign i certs o globals structs begun h =
     let b = h.3 in
     let c = b.3 in
     let d = c.3 in
@@ -139,10 +139,12 @@ cert_whole bytes m certs globals structs h =
     let a = h.3 in
     let b = a.3 in
     let c = b.3 in
-    let same = still_expect (codes "cert") (start_of m h.0 bytes) a.0 a.1 a.2 ∙ still_version m a.1 b.0 b.1 b.2 ∙ still_line_end b.1 c.0 c.1 c.2 in
-    let start : h.0 ≡ c.1.read.shapes = ap (λ (x : Input). x.read.shapes) same in
-    by b.0 c.1 (λ is. version_one m a.1 b.0 b.1 b.2 is) (λ opaque. subst (AreBegun m) start (opaque_begun m h.0 opaque h.1)) c.3
+    let d = c.3 in
+    let same = still_head m (start_of m h.0 bytes) a.0 a.1 a.2 b.0 b.1 b.2 c.0 c.1 c.2 in
+    let names = names_are m c.1 d.0 d.1 d.2 (sym (ap (λ (x : Input). x.read.foreign) same)) in
+    let start : h.0 ≡ d.1.read.shapes = ap (λ (x : Input). x.read.shapes) same ∙ names.2 in
+    by d.0 b.0 d.1 (λ is. version_one m a.1 b.0 b.1 b.2 is) (λ opaque. subst (AreBegun m) start (opaque_begun m h.0 opaque h.1)) d.3
   where
-    by : (shaped : Bool) (i : Input) → (shaped ≡ false → is_opaque_text m ≡ false) → (is_opaque_text m ≡ true → AreBegun m i.read.shapes) → (text.certs_by m shaped).says i certs h.2 → are_whole m certs.shapes
-    by true i typed begun says = first_line_whole m i certs h.2 globals structs begun says
-    by false i typed begun says = subst (λ (x : Certs). are_whole m x.shapes) says.3.3.0 (typed refl)
+    by : (foreign : List ℕ) (shaped : Bool) (i : Input) → (shaped ≡ false → is_opaque_text m ≡ false) → (is_opaque_text m ≡ true → AreBegun m i.read.shapes) → (text.certs_by m foreign shaped).says i certs h.2 → are_whole m certs.shapes
+    by foreign true i typed begun says = head_whole m foreign i certs h.2 globals structs begun says
+    by foreign false i typed begun says = subst (λ (x : Certs). are_whole m x.shapes) says.3.3.0 (typed refl)

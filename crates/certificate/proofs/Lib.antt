@@ -10,6 +10,8 @@ pub mod PrintedNames
 pub mod PrintedLines
 pub mod PrintedPromises
 pub mod PrintedBlocks
+mod ReadForeign
+mod PrintedForeign
 pub mod PrintedCerts
 pub mod AnewFits
 mod NoRoots

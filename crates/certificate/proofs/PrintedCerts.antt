@@ -26,7 +26,10 @@ use Rattle.certificate.specs.Starts.{goes_with, may_be_shaped, AreStart}
 use Rattle.certificate.specs.declared.mistake.Mistake.{Mistake}
 use Rattle.certificate.specs.declared.shape_draft.ShapeDraft.{ShapeDraft}
 use Rattle.certs.specs.Families.{family_of_type, family_of_value, is_opaque_text}
+use Rattle.certs.specs.ForeignFit.{foreign_fits}
 use Rattle.certs.specs.Fits.{claims_fit, promise_fits, promised_fits, parameter_fits, parameters_fit, blocks_fit, section_fits, fits, entry_is_empty}
+use Rattle.certificate.specs.ForeignForms.{past_foreign}
+use Rattle.certificate.specs.ForeignPrint.{foreign_text}
 use Rattle.certificate.specs.Named.{IsNamed, IsNamedFunction}
 use Rattle.certificate.specs.Print.{local_text, global_text, claims_text, block_text, blocks_text, promise_text, parameter_text, parameters_text, result_text, mark_text, section_text, sections_text, head_text, shapes_with, cert_text}
 use Rattle.certificate.specs.Laws.{ArePrintedAgain}
@@ -34,6 +37,7 @@ use Rattle.certs.specs.declared.certs.Certs.{Certs}
 use Rattle.ir_ast.specs.declared.shapes.Shapes.{Shapes}
 use Rattle.name_text.specs.Seams.{word_on, blanks_on}
 use Rattle.certificate.proofs.PrintedLines.{at, ComesAfter, word_is, taken_on, expect_on, line_end_on, as_on}
+use Rattle.certificate.proofs.PrintedForeign.{begins_foreign, foreign_on}
 use Rattle.certificate.proofs.PrintedNames.{function_printed}
 use Rattle.certificate.proofs.PrintedPromises.{parameter_on, result_on}
 use Rattle.certificate.proofs.PrintedBlocks.{EndsLines, block_on}
@@ -373,6 +377,14 @@ module _ (m : Module) (named : IsNamed m) where
   sections_begin (f ∷ fs) [] = refl
   sections_begin (f ∷ fs) (s ∷ ss) = refl
 
+  -- no function outside comes where a section begins, or the text ends
+  pub sections_follow : (i : Input) (fs : List Function) (ss : List Section) → past_foreign (at i (sections_text m fs ss)) ≡ true
+  sections_follow i [] ss = refl
+  sections_follow i (f ∷ fs) [] = refl
+  sections_follow i (f ∷ fs) (s ∷ ss) =
+      let first : word_at (sections_text m (f ∷ fs) (s ∷ ss)) ≡ codes "function" = word_on (codes "function") (drop 8 (sections_text m (f ∷ fs) (s ∷ ss))) refl refl in
+      ap (λ w. not (bytes_eq w (codes "foreign"))) first
+
   sections_on_from : (fs : List Function) (ss : List Section) (n : ℕ) (i : Input) (done : List (Option Kept)) → ((k : ℕ) → slice_get m.functions (n + k) ≡ slice_get fs k) → length ss ≡ length fs
       → list_all (λ p. section_fits m p.0 p.1) (zip fs ss) ≡ true → length done ≡ n → i.read.sections ≡ done ++ map (λ _. None) fs
       → (o : Input) × (count : List (Unit {0})) × Listed ended (text.section m).says (at i (sections_text m fs ss)) count (at o []) × (o.read.sections ≡ done ++ kept_whole ss)
@@ -421,12 +433,13 @@ module _ (m : Module) (named : IsNamed m) where
   goes_one false two opaque may a b = absurd cc
 
   -- what is printed of certificates of a typed text is a text of them
-  pub typed_printed : (shapes : ShapeDraft) (ss : List Section) → AreStart m shapes → is_opaque_text m ≡ false → fits m ss ≡ true
-      → IsCert ((codes "cert 1" ++ 10 ∷ []) ++ sections_text m m.functions ss) m (record { sections = ss; shapes = None })
+  pub typed_printed : (shapes : ShapeDraft) (ss : List Section) (foreign : List ℕ) → AreStart m shapes → is_opaque_text m ≡ false → fits m ss ≡ true → foreign_fits m foreign ≡ true
+      → IsCert ((codes "cert 1" ++ 10 ∷ foreign_text m foreign) ++ sections_text m m.functions ss) m (record { sections = ss; shapes = None; foreign = foreign })
   unfolding text.file text.version text.without_shapes emptied
-  typed_printed shapes ss start typed e =
-      let rest = sections_text m m.functions ss in
-      let i : Input = start_of m shapes ((codes "cert 1" ++ 10 ∷ []) ++ rest) in
+  typed_printed shapes ss foreign start typed e trusted =
+      let sect = sections_text m m.functions ss in
+      let rest = foreign_text m foreign ++ sect in
+      let i : Input = start_of m shapes ((codes "cert 1" ++ 10 ∷ foreign_text m foreign) ++ sect) in
       let read = sections_printed i ss e refl in
       let o = read.0 in
       let afterwards : ComesAfter (32 ∷ (codes "1" ++ 10 ∷ rest)) (codes "1" ++ 10 ∷ rest) = (refl, refl) in
@@ -435,7 +448,8 @@ module _ (m : Module) (named : IsNamed m) where
       let goes : goes_with m (word j) ≡ true = ap (goes_with m) one ∙ goes_one (bytes_eq (codes "1") (49 ∷ [])) (bytes_eq (codes "1") (50 ∷ [])) (is_opaque_text m) (may_be_shaped m) refl typed in
       let two : begins (50 ∷ []) j ≡ false = ap (λ x. bytes_eq x (50 ∷ [])) one in
       let number : (text.version m).says j false (at i (10 ∷ rest)) =
-      (tt, j, (ap is_number one, refl), (tt, j, (goes, refl), subst (λ (b : Bool). (taken {M = Mistake} b).says j false (at i (10 ∷ rest))) (sym two) (taken_on false i (codes "1") (10 ∷ rest) (10 ∷ rest) refl (refl, refl)))) in (
+      (tt, j, (ap is_number one, refl), (tt, j, (goes, refl), subst (λ (b : Bool). (taken {M = Mistake} b).says j false (at i (10 ∷ rest))) (sym two) (taken_on false i (codes "1") (10 ∷ rest) (10 ∷ rest) refl (refl, refl)))) in
+      let names = foreign_on m named i foreign sect trusted refl (sections_begin m.functions ss) (sections_follow i m.functions ss) in (
         shapes,
         start,
         recorded emptied (at o []),
@@ -450,16 +464,17 @@ module _ (m : Module) (named : IsNamed m) where
             (
               tt,
               at i rest,
-              line_end_on i rest rest (sections_begin m.functions ss),
-              (tt, at o [], read.1, (ss, recorded emptied (at o []), read.2, (refl, refl))),
+              line_end_on i rest rest (begins_foreign m foreign sect (sections_begin m.functions ss)),
+              (foreign, at i sect, names, (tt, at o [], read.1, (ss, recorded emptied (at o []), read.2, (refl, refl)))),
             ),
           ),
         ),
       )
 
 pub cert_printed : ArePrintedAgain
-cert_printed m certs begun start named typed own none fit =
+cert_printed m certs begun start named typed own none fit trusted =
     let rest = sections_text m m.functions certs.sections in
-    let text : (codes "cert 1" ++ 10 ∷ []) ++ rest ≡ cert_text certs m = ap (λ x. head_text m x ++ rest) (sym (ap (λ x. shapes_with x m.shapes) none ∙ own)) in
-    let same : ◌≡◌ {A = Certs} (record { sections = certs.sections; shapes = None }) certs = ap (λ (x : Option Shapes). record { sections = certs.sections; shapes = x }) (sym none) in
-    subst (λ x. IsCert x m certs) text (subst (λ x. IsCert ((codes "cert 1" ++ 10 ∷ []) ++ rest) m x) same (typed_printed m named begun certs.sections start typed fit))
+    let head : Text = codes "cert 1" ++ 10 ∷ foreign_text m certs.foreign in
+    let text : head ++ rest ≡ cert_text certs m = ap (λ x. head_text m certs.foreign x ++ rest) (sym (ap (λ x. shapes_with x m.shapes) none ∙ own)) in
+    let same : ◌≡◌ {A = Certs} (record { sections = certs.sections; shapes = None; foreign = certs.foreign }) certs = ap (λ (x : Option Shapes). record { sections = certs.sections; shapes = x; foreign = certs.foreign }) (sym none) in
+    subst (λ x. IsCert x m certs) text (subst (λ x. IsCert (head ++ rest) m x) same (typed_printed m named begun certs.sections certs.foreign start typed fit trusted))

@@ -1,6 +1,6 @@
 -- Printed names are read as what they name.
 use Rattle.std.proofs.Common.{◌≡◌, ℕ, zero, suc, ◌<◌, Bool, true, false, ◌||◌, List, [], ◌∷◌, length, slice_get, Option, Some, None, is_some, refl, ap, ◌∙◌}
-use Rattle.std.specs.Prelude.{◌==◌, unwrap_or}
+use Rattle.std.specs.Prelude.{◌==◌, if◌then◌else◌, unwrap_or}
 use Rattle.std.specs.List.{list_any}
 use Rattle.std.proofs.lemmas.Bool.{eqb-true}
 use Rattle.lemmas.specs.Lists.{get_some}
@@ -11,9 +11,10 @@ use Rattle.ir_ast.specs.declared.function.LocalSort.{LocalSort}
 use Rattle.ir_ast.specs.declared.function.LocalSort.TheVariants as local
 use Rattle.ir_ast.specs.declared.module.Module.{Module}
 use Rattle.types.specs.Globals.{global_named}
+use Rattle.types.specs.RuntimeCall.{is_outside}
 use Rattle.ir_tokens.specs.Bytes.{Text}
 use Rattle.name_text.specs.Naming.{name_in}
-use Rattle.certificate.specs.Names.{value_of_word, value_by, block_of_word, function_of_word, global_by, global_of_word, layout_of_word}
+use Rattle.certificate.specs.Names.{value_of_word, value_by, block_of_word, function_of_word, global_by, global_of_word, outside_of_word, layout_of_word}
 use Rattle.certificate.specs.Print.{name_text, key_text, name_at, local_text, global_text, layout_text, struct_name}
 use Rattle.name_text.specs.Readings.{IsShort}
 use Rattle.name_text.specs.declared.blank.Blank.TheVariants as blank
@@ -84,6 +85,16 @@ pub global_printed : (m : Module) (symbol : ℕ) → IsNamed m → is_some (glob
 global_printed m symbol named e =
     let n = name_is m.symbols symbol named.symbols (named.globals symbol e) in
     (rw (n.1, global_read n.0 n.3, n.4) (symbol_is symbol (global_named m symbol) e), rw n.1 (all_bytes (name_text n.0) n.2))
+
+outside_by : (symbol : ℕ) (is : Bool) → is ≡ true → (if is then naming.Named symbol else naming.Unknown) ≡ naming.Named symbol
+outside_by symbol true e = refl
+outside_by symbol false e = absurd cc
+
+-- and that of a function outside
+pub outside_printed : (m : Module) (symbol : ℕ) → IsNamed m → is_outside m symbol ≡ true → (outside_of_word m (global_text m symbol) ≡ naming.Named symbol) × (is_word (global_text m symbol) ≡ true)
+outside_printed m symbol named e =
+    let n = name_is m.symbols symbol named.symbols (named.outside symbol e) in
+    (rw (n.1, global_read n.0 n.3, n.4) (outside_by symbol (is_outside m symbol) e), rw n.1 (all_bytes (name_text n.0) n.2))
 
 struct_found : (layout : ℕ) (xs : List (Option ℕ)) → list_any (stands_for layout) xs ≡ true → (name : ℕ) × (slice_get xs name ≡ Some (Some layout))
 struct_found layout [] e = absurd cc

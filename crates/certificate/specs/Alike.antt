@@ -46,6 +46,6 @@ abbrev pub are_whole : Module → Option Shapes → Type 0
 are_whole m None = is_opaque_text m ≡ false
 are_whole m (Some shapes) = (is_opaque_text m ≡ true) × (all_shapes_fit m shapes ≡ true) × HasWordShapes m shapes × HasRootShapes m shapes
 
--- the text is one of certificates with these sections and such shapes
+-- the text is one of certificates with these sections, such shapes, and these functions outside
 abbrev pub IsCertAlike : Text → Module → Certs → Type 0
-IsCertAlike text m certs = (again : Certs) × IsCert text m again × (again.sections ≡ certs.sections) × are_alike m certs.shapes again.shapes
+IsCertAlike text m certs = (again : Certs) × IsCert text m again × (again.sections ≡ certs.sections) × are_alike m certs.shapes again.shapes × (again.foreign ≡ certs.foreign)

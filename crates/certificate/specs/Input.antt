@@ -1,5 +1,5 @@
 -- What a certificate is read from, and what is read so far.
-use Rattle.std.specs.Prelude.{ℕ, false, List, [], Option, Some, None, map, slice_set}
+use Rattle.std.specs.Prelude.{ℕ, false, List, [], ◌∷◌, ◌++◌, Option, Some, None, map, slice_set}
 use Rattle.ir_ast.specs.declared.function.Function.{Function}
 use Rattle.ir_ast.specs.declared.module.Module.{Module}
 use Rattle.ir_tokens.specs.Bytes.{Text}
@@ -21,6 +21,7 @@ pub record Progress : Type 0 where
   pub sections : List (Option Kept)  -- by the numbers of the functions
   pub draft : SectionDraft  -- of the section that is read
   pub shapes : ShapeDraft
+  pub foreign : List ℕ  -- the functions outside that are trusted
 
 -- a certificate's text, and what is read of it so far
 abbrev pub Input : Type 0
@@ -32,7 +33,7 @@ Form A = reader.Form Progress Mistake A
 
 -- nothing is read so far: no function has a section
 abbrev pub nothing_read : Module → ShapeDraft → Progress
-nothing_read m shapes = record { sections = map (λ _. None) m.functions; draft = no_draft; shapes = shapes }
+nothing_read m shapes = record { sections = map (λ _. None) m.functions; draft = no_draft; shapes = shapes; foreign = [] }
 
 -- the state before a text
 abbrev pub start_of : Module → ShapeDraft → Text → Input
@@ -81,3 +82,11 @@ shaping change p = record p { shapes = change p.shapes }
 -- with no shapes left
 unfoldable pub unshaped : Progress → Progress
 unshaped p = record p { shapes = no_shapes }
+
+-- with one more function outside
+unfoldable pub with_foreign : (symbol : ℕ) → Progress → Progress
+with_foreign symbol p = record p { foreign = p.foreign ++ symbol ∷ [] }
+
+-- with no function outside left
+unfoldable pub without_foreign : Progress → Progress
+without_foreign p = record p { foreign = [] }

@@ -4,6 +4,7 @@ use Rattle.ir_ast.specs.declared.module.Module.{Module}
 use Rattle.ir_tokens.specs.Bytes.{Text}
 use Rattle.certs.specs.Families.{is_opaque_text}
 use Rattle.certs.specs.Fits.{fits}
+use Rattle.certs.specs.ForeignFit.{foreign_fits}
 use Rattle.certs.specs.ShapesFit.{shapes_fit}
 use Rattle.certs.specs.declared.certs.Certs.{Certs}
 use Rattle.certs.specs.declared.section.Section.{Section}
@@ -23,16 +24,20 @@ AreFitting = (bytes : Text) (m : Module) (certs : Certs) → IsCert bytes m cert
 abbrev pub AreShaped : Type 0
 AreShaped = (bytes : Text) (m : Module) (certs : Certs) → HasGlobals m → HasStructs m → IsCert bytes m certs → (shapes_fit m certs.shapes ≡ true) × are_whole m certs.shapes
 
+-- so do the functions outside that they trust
+abbrev pub AreForeignFitting : Type 0
+AreForeignFitting = (bytes : Text) (m : Module) (certs : Certs) → IsCert bytes m certs → foreign_fits m certs.foreign ≡ true
+
 -- what is printed of certificates of a typed text that fit is a text of them, where each of the module's names is found as what it names
 abbrev pub ArePrintedAgain : Type 0
 ArePrintedAgain =
-    (m : Module) (certs : Certs) (begun : ShapeDraft) → AreStart m begun → IsNamed m → is_opaque_text m ≡ false → m.shapes ≡ None → certs.shapes ≡ None → fits m certs.sections ≡ true
+    (m : Module) (certs : Certs) (begun : ShapeDraft) → AreStart m begun → IsNamed m → is_opaque_text m ≡ false → m.shapes ≡ None → certs.shapes ≡ None → fits m certs.sections ≡ true → foreign_fits m certs.foreign ≡ true
     → IsCert (cert_text certs m) m certs
 
--- what is printed of certificates that fit, and of which no shape is missing, is a text of certificates with these sections and such shapes
+-- what is printed of certificates that fit, and of which no shape is missing, is a text of certificates with these sections, such shapes, and these functions outside
 abbrev pub ArePrintedAlike : Type 0
 ArePrintedAlike =
-    (m : Module) (certs : Certs) (begun : ShapeDraft) → AreStart m begun → IsNamed m → HasGlobals m → HasStructs m → HasRootValues m → m.shapes ≡ None → fits m certs.sections ≡ true → are_whole m certs.shapes
+    (m : Module) (certs : Certs) (begun : ShapeDraft) → AreStart m begun → IsNamed m → HasGlobals m → HasStructs m → HasRootValues m → m.shapes ≡ None → fits m certs.sections ≡ true → foreign_fits m certs.foreign ≡ true → are_whole m certs.shapes
     → IsCertAlike (cert_text certs m) m certs
 
 -- certificates in which one section is replaced by that of some text fit their module, if they fitted with some section in its place

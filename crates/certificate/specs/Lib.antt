@@ -20,6 +20,8 @@ pub mod ShapeDrafts
 pub mod ShapeForms
 pub mod ShapeText
 pub mod ShapesPrint
+pub mod ForeignForms
+pub mod ForeignPrint
 pub mod Starts
 pub mod TypedShapes
 pub mod Migrated

@@ -62,7 +62,7 @@ sections_from m function (section ∷ more) = migrated_section_in m (slice_get m
 
 -- certificates with these shapes, where none of them is missing
 abbrev pub migrated_by : Module → Certs → ShapeDraft → Option Mistake → Result Certs CertFault
-migrated_by m certs draft None = Ok (record { sections = sections_from m 0 certs.sections; shapes = Some draft.shapes })
+migrated_by m certs draft None = Ok (record { sections = sections_from m 0 certs.sections; shapes = Some draft.shapes; foreign = certs.foreign })
 migrated_by m certs draft (Some gap) = Err (placed [] (Wrong gap))
 
 -- the same with the shapes that the types say

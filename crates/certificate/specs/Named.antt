@@ -15,6 +15,7 @@ use Rattle.ir_tokens.specs.Bytes.{Text, is_digit}
 use Rattle.name_text.specs.Readings.{IsShort}
 use Rattle.name_text.specs.declared.blank.Blank.TheVariants as blank
 use Rattle.types.specs.Globals.{global_named}
+use Rattle.types.specs.RuntimeCall.{is_outside}
 use Rattle.certs.specs.Fits.{is_value}
 use Rattle.certs.specs.RootNames.{root_names}
 
@@ -45,6 +46,7 @@ pub record IsNamedFunction (f : Function) : Type 0 where
 pub record IsNamed (m : Module) : Type 0 where
   pub symbols : AreNames m.symbols
   pub globals : (symbol : ℕ) → is_some (global_named m symbol) ≡ true → symbol < length m.symbols
+  pub outside : (symbol : ℕ) → is_outside m symbol ≡ true → symbol < length m.symbols
   pub structs : AreNames m.struct_names
   pub layouts : (layout name : ℕ) → slice_get m.struct_of name ≡ Some (Some layout) → (struct : StructType) × (slice_get m.structs layout ≡ Some struct) × (struct.name ≡ name) × (name < length m.struct_names)
   pub functions : (number : ℕ) (f : Function) → slice_get m.functions number ≡ Some f → (f.symbol < length m.symbols) × (slice_get m.sorts f.symbol ≡ Some (sort.Defined number)) × IsNamedFunction f

@@ -1,5 +1,5 @@
 -- What the words of a certificate name.
-use Rattle.std.specs.Prelude.{ℕ, ◌∷◌, Option, Some, None, slice_get}
+use Rattle.std.specs.Prelude.{ℕ, if◌then◌else◌, ◌∷◌, Option, Some, None, slice_get}
 use Rattle.ir_ast.specs.Names.{place_of}
 use Rattle.ir_ast.specs.declared.function.Function.{Function}
 use Rattle.ir_ast.specs.declared.function.LocalSort.{LocalSort}
@@ -8,6 +8,7 @@ use Rattle.ir_ast.specs.declared.module.Module.{Module}
 use Rattle.ir_ast.specs.declared.items_of_module.SymbolSort.{SymbolSort}
 use Rattle.ir_ast.specs.declared.items_of_module.SymbolSort.TheVariants as sort
 use Rattle.types.specs.Globals.{global_named}
+use Rattle.types.specs.RuntimeCall.{is_outside}
 pub use Rattle.types.specs.Globals.{sort_at}
 pub use Rattle.types.specs.References.{struct_at}
 use Rattle.ir_tokens.specs.Bytes.{Text}
@@ -50,6 +51,20 @@ global_of_name m (Some name) = global_at m (place_of name m.symbols)
 -- the symbol of the global that a word names
 abbrev pub global_of_word : Module → (word : Text) → Naming
 global_of_word m word = global_of_name m (name_in sigil.Global word)
+
+-- the symbol with this number, if it is that of a function outside
+abbrev pub outside_at : Module → Option ℕ → Naming
+outside_at m None = Unknown
+outside_at m (Some symbol) = if is_outside m symbol then Named symbol else Unknown
+
+-- the symbol of the function outside of this name
+abbrev pub outside_of_name : Module → Option Text → Naming
+outside_of_name m None = NoName
+outside_of_name m (Some name) = outside_at m (place_of name m.symbols)
+
+-- the symbol of the function outside that a word names
+abbrev pub outside_of_word : Module → (word : Text) → Naming
+outside_of_word m word = outside_of_name m (name_in sigil.Global word)
 
 -- ---- local names
 

@@ -11,6 +11,7 @@ use Rattle.ir_ast.specs.declared.module.Module.{Module}
 use Rattle.ir_ast.specs.declared.shapes.Shapes.{Shapes}
 use Rattle.ir_tokens.specs.Bytes.{Text}
 pub use Rattle.certificate.specs.NameTexts.{name_text, key_text, local_text, global_text, layout_text}
+use Rattle.certificate.specs.ForeignPrint.{foreign_text}
 use Rattle.certificate.specs.ShapesPrint.{shapes_text}
 use Rattle.pools.specs.WordSets.{has_word}
 use Rattle.certs.specs.declared.certs.Certs.{Certs}
@@ -160,11 +161,11 @@ abbrev pub shapes_with : Option Shapes → (own : Option Shapes) → Option Shap
 shapes_with None own = own
 shapes_with (Some shapes) own = Some shapes
 
--- the first line and the shapes
-abbrev pub head_text : Module → Option Shapes → Text
-head_text m None = codes "cert 1" ++ 10 ∷ []
-head_text m (Some shapes) = codes "cert 2" ++ 10 ∷ shapes_text m shapes
+-- the first line, the functions outside and the shapes
+abbrev pub head_text : Module → (foreign : List ℕ) → Option Shapes → Text
+head_text m foreign None = codes "cert 1" ++ 10 ∷ foreign_text m foreign
+head_text m foreign (Some shapes) = codes "cert 2" ++ 10 ∷ (foreign_text m foreign ++ shapes_text m shapes)
 
 -- the text of certificates, by the numbers of their functions
 abbrev pub cert_text : Certs → Module → Text
-cert_text certs m = head_text m (shapes_with certs.shapes m.shapes) ++ sections_text m m.functions certs.sections
+cert_text certs m = head_text m certs.foreign (shapes_with certs.shapes m.shapes) ++ sections_text m m.functions certs.sections

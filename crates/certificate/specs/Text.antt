@@ -17,6 +17,7 @@ use Rattle.certificate.specs.Input.{Progress, Input, Form, start_of, with_promis
 use Rattle.certificate.specs.Forms.{unknown, marked, new_function, new_parameter, new_block, begin}
 use Rattle.certificate.specs.Lines.{promise, line}
 use Rattle.certificate.specs.Ends.{line_takes}
+use Rattle.certificate.specs.ForeignForms.{foreign_names}
 use Rattle.certificate.specs.ShapeForms.{shape_lines, taken_shapes, none_missing}
 use Rattle.certificate.specs.Starts.{goes_with, AreStart}
 use Rattle.certificate.specs.declared.shape_draft.ShapeDraft.{ShapeDraft}
@@ -204,27 +205,27 @@ finished = look (λ i. first_gap 0 i.read.sections) finished_by
 abbrev pub shapes_of : Module → Shapes → Option Shapes
 shapes_of m shapes = if is_opaque_text m then Some shapes else None
 
--- certificates after the first line, without shapes
-unfoldable pub without_shapes : Module → Form Certs
-without_shapes m = do
+-- certificates after the functions outside, without shapes
+unfoldable pub without_shapes : Module → (foreign : List ℕ) → Form Certs
+without_shapes m foreign = do
   sections m
   own ← finished
-  pure (record { sections = own; shapes = None })
+  pure (record { sections = own; shapes = None; foreign = foreign })
 
--- certificates after the first line, with shapes, of which none is missing
-unfoldable pub with_shapes : Module → Form Certs
-with_shapes m = do
+-- certificates after the functions outside, with shapes, of which none is missing
+unfoldable pub with_shapes : Module → (foreign : List ℕ) → Form Certs
+with_shapes m foreign = do
   shape_lines m
   draft ← taken_shapes
   sections m
   none_missing m draft
   own ← finished
-  pure (record { sections = own; shapes = shapes_of m draft.shapes })
+  pure (record { sections = own; shapes = shapes_of m draft.shapes; foreign = foreign })
 
 -- with shapes or without them
-abbrev pub certs_by : Module → (shaped : Bool) → Form Certs
-certs_by m true = with_shapes m
-certs_by m false = without_shapes m
+abbrev pub certs_by : Module → (foreign : List ℕ) → (shaped : Bool) → Form Certs
+certs_by m foreign true = with_shapes m foreign
+certs_by m foreign false = without_shapes m foreign
 
 -- a text of certificates
 unfoldable pub file : Module → Form Certs
@@ -232,7 +233,8 @@ file m = do
   expect (codes "cert")
   shaped ← version m
   line_end
-  certs_by m shaped
+  foreign ← foreign_names m
+  certs_by m foreign shaped
 
 -- the text is one of these certificates
 abbrev pub IsCert : Bytes → Module → Certs → Type 0

@@ -12,7 +12,7 @@ use crate::replaced::{copied_blocks, copied_certs, copied_section};
 use crate::shape_draft::shapes_gap;
 use crate::typed_shapes::typed_draft;
 use certs::{Certs, Promise, Section, is_opaque_text};
-use copies::opaque;
+use copies::{copy_symbols, opaque};
 use ir_ast::{Function, Module, Parameter, Shapes, TypeId};
 use items::Items;
 use layout::field_rows;
@@ -124,12 +124,14 @@ fn with_shapes(
     module: &Module,
     shapes: Shapes,
 ) -> Result<Certs, AllocError>
-    ensures { IfOk result (λ migrated. migrated ≡ record { sections = spec.sections_from «module».now 0 certs.now.sections; shapes = Some shapes }) }
+    ensures { IfOk result (λ migrated. migrated ≡ record { sections = spec.sections_from «module».now 0 certs.now.sections; shapes = Some shapes; foreign = certs.now.foreign }) }
 {
     let sections = migrated_sections(alloc, module, certs.sections.as_slice())?;
+    let foreign = copy_symbols(alloc, certs.foreign.as_slice())?;
     Ok(Certs {
         sections,
         shapes: Some(shapes),
+        foreign,
     })
 }
 

@@ -6,7 +6,7 @@ use crate::plain::{plain_global, plain_key, plain_layout};
 use ir_ast::{Function, LocalSort, Module, SymbolId, SymbolSort};
 use name_text::{Sigil, layout_name_in, name_in};
 use std::alloc::{AllocError, Global};
-use types::global_named;
+use types::{global_named, is_outside};
 
 /// What a word names where something is to be named.
 #[derive(Clone, Copy)]
@@ -63,6 +63,31 @@ pub fn global_of_word(alloc: Global, module: &Module, word: &[u8]) -> Result<Nam
     match name_in(alloc, Sigil::Global, word)? {
         None => Ok(Naming::NoName),
         Some(name) => Ok(global_of_name(module, name.as_slice())),
+    }
+}
+
+fn outside_of_name(module: &Module, name: &[u8]) -> Naming
+    ensures { result ≡ spec.outside_of_name «module».now (Some name.now) }
+{
+    match module.symbols.find(name) {
+        None => Naming::Unknown,
+        Some(symbol) => {
+            if is_outside(module, SymbolId::new(symbol as u32)) {
+                Naming::Named(symbol as u32)
+            } else {
+                Naming::Unknown
+            }
+        }
+    }
+}
+
+/// The symbol of the function outside of the module that a word names.
+pub fn outside_of_word(alloc: Global, module: &Module, word: &[u8]) -> Result<Naming, AllocError>
+    ensures { IfOk result (λ naming. naming ≡ spec.outside_of_word «module».now word.now) }
+{
+    match name_in(alloc, Sigil::Global, word)? {
+        None => Ok(Naming::NoName),
+        Some(name) => Ok(outside_of_name(module, name.as_slice())),
     }
 }
 

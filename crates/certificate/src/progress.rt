@@ -1,5 +1,6 @@
 //! What is read so far of a certificate.
-ghost use Rattle.std.specs.Prelude.{◌≡◌, OnOk};
+ghost use Rattle.std.specs.Prelude.{◌≡◌, ◌==◌, [], OnOk};
+ghost use Rattle.std.specs.List.{list_any};
 ghost use Rattle.certificate.specs.Input as spec;
 ghost use Rattle.certificate.specs.Drafts.{no_draft, first_missing};
 ghost use Rattle.certificate.specs.ShapeDrafts.{with_word_shape, with_global_shape, with_root_shape};
@@ -23,12 +24,13 @@ pub struct Kept {
     pub missing: Option<usize>,
 }
 
-/// The sections that are read, the draft of the next one, and the shapes.
+/// The sections that are read, the draft of the next one, the shapes, and the functions outside that are trusted.
 #[derive(Drop)]
 pub struct Progress {
     sections: Vec<Option<Kept>>,
     draft: SectionDraft,
     shapes: ShapeDraft,
+    foreign: Items<SymbolId>,
 }
 
 impl Model for Progress {
@@ -44,12 +46,13 @@ impl Model for Progress {
 impl Progress {
     /// No section is begun.
     pub fn new(alloc: Global, sections: Vec<Option<Kept>>, shapes: ShapeDraft) -> Progress
-        ensures { result ≡ record { sections = sections.items; draft = no_draft; shapes = shapes } }
+        ensures { result ≡ record { sections = sections.items; draft = no_draft; shapes = shapes; foreign = [] } }
     {
         Progress {
             sections,
             draft: SectionDraft::none(alloc),
             shapes,
+            foreign: Items::new(alloc),
         }
     }
 
@@ -118,6 +121,34 @@ impl Progress {
         ensures rest { self.new ≡ spec.unshaped self.old }
     {
         mem::replace(&mut self.shapes, ShapeDraft::none(alloc))
+    }
+
+    /// Whether this function outside is listed so far.
+    pub fn lists_foreign(&self, symbol: SymbolId) -> bool
+        ensures { result ≡ list_any (λ t. t == symbol) self.now.foreign }
+    {
+        self.foreign
+            .as_slice()
+            .iter()
+            .any(|listed| *listed == symbol)
+    }
+
+    /// Lists a function outside.
+    #[tactic(auto, unfolding(crate::specs::Input::with_foreign))]
+    pub fn put_foreign(&mut self, symbol: SymbolId) -> Result<(), AllocError>
+        ensures { OnOk result (self.new ≡ spec.with_foreign symbol self.old) }
+    {
+        self.foreign.push(symbol)?;
+        Ok(())
+    }
+
+    /// Takes the functions outside out.
+    #[tactic(auto, unfolding(crate::specs::Input::without_foreign))]
+    pub fn take_foreign(&mut self, alloc: Global) -> Items<SymbolId>
+        ensures symbols { result ≡ self.old.foreign }
+        ensures rest { self.new ≡ spec.without_foreign self.old }
+    {
+        mem::replace(&mut self.foreign, Items::new(alloc))
     }
 
     /// Begins the section of a function.

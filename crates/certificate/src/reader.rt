@@ -3,6 +3,7 @@ ghost use Rattle.std.specs.Prelude.{◌≡◌, ◌≢◌, ◌+◌, None, true, m
 ghost use Rattle.certificate.specs.Drafts as drafts;
 ghost use Rattle.certificate.specs.Drafts.{is_in};
 ghost use Rattle.certs.specs.Fits.{fits};
+ghost use Rattle.certs.specs.ForeignFit.{foreign_fits};
 ghost use Rattle.certs.specs.ShapesFit.{shapes_fit};
 ghost use Rattle.certs.specs.declared.certs.Certs.{Certs as SomeCerts};
 ghost use Rattle.certificate.specs.Input.{start_of};
@@ -20,6 +21,7 @@ ghost use Rattle.name_text.specs.declared.found.WordFault.TheVariants.{Memory};
 use crate::draft::{RequiredValue, SectionDraft};
 use crate::facts::line;
 use crate::fault::CertFault;
+use crate::foreign_forms::foreign_names;
 use crate::forms::{mark, new_block, new_function, new_parameter};
 use crate::input::{Input, WordFault};
 use crate::mistake::Mistake;
@@ -29,7 +31,7 @@ use crate::shape_draft::ShapeDraft;
 use crate::shape_forms::{none_missing, shape_lines};
 use crate::starts::{goes_with, shapes_at_start};
 use certs::{Certs, Promise, Section, family_of_type, family_of_value, is_opaque_text};
-use ir_ast::{BlockId, FuncId, Function, Module, Shapes};
+use ir_ast::{BlockId, FuncId, Function, Module, Shapes, SymbolId};
 use items::Items;
 use name_text::{is_number, place};
 use std::alloc::{AllocError, Global};
@@ -364,16 +366,22 @@ fn finished(alloc: Global, input: &mut Input<'_>) -> Result<Items<Section>, Word
     Ok(sections_in(alloc, kept)?)
 }
 
-/// Certificates after the first line, without shapes.
+/// Certificates after the functions outside, without shapes.
 #[tactic(auto, unfolding(crate::specs::Text::without_shapes))]
-fn without_shapes(alloc: Global, input: &mut Input<'_>, module: &Module) -> Result<Certs, WordFault>
-    ensures { Reads ((text.without_shapes «module».now).read input.old) result input.new }
+fn without_shapes(
+    alloc: Global,
+    input: &mut Input<'_>,
+    module: &Module,
+    foreign: Items<SymbolId>,
+) -> Result<Certs, WordFault>
+    ensures { Reads ((text.without_shapes «module».now foreign).read input.old) result input.new }
 {
     sections(alloc, input, module)?;
     let sections = finished(alloc, input)?;
     Ok(Certs {
         sections,
         shapes: None,
+        foreign,
     })
 }
 
@@ -388,10 +396,15 @@ fn shapes_of(module: &Module, shapes: Shapes) -> Option<Shapes>
     }
 }
 
-/// Certificates after the first line, with shapes.
+/// Certificates after the functions outside, with shapes.
 #[tactic(auto, unfolding(crate::specs::Text::with_shapes, crate::specs::ShapeForms::taken_shapes))]
-fn with_shapes(alloc: Global, input: &mut Input<'_>, module: &Module) -> Result<Certs, WordFault>
-    ensures { Reads ((text.with_shapes «module».now).read input.old) result input.new }
+fn with_shapes(
+    alloc: Global,
+    input: &mut Input<'_>,
+    module: &Module,
+    foreign: Items<SymbolId>,
+) -> Result<Certs, WordFault>
+    ensures { Reads ((text.with_shapes «module».now foreign).read input.old) result input.new }
 {
     shape_lines(alloc, input, module)?;
     let draft = input.read.take_shapes(alloc);
@@ -401,6 +414,7 @@ fn with_shapes(alloc: Global, input: &mut Input<'_>, module: &Module) -> Result<
     Ok(Certs {
         sections,
         shapes: shapes_of(module, draft.shapes),
+        foreign,
     })
 }
 
@@ -411,10 +425,11 @@ fn file(alloc: Global, input: &mut Input<'_>, module: &Module) -> Result<Certs, 
     input.expect(b"cert")?;
     let shaped = version(input, module)?;
     input.line_end()?;
+    let foreign = foreign_names(alloc, input, module)?;
     if shaped {
-        with_shapes(alloc, input, module)
+        with_shapes(alloc, input, module, foreign)
     } else {
-        without_shapes(alloc, input, module)
+        without_shapes(alloc, input, module, foreign)
     }
 }
 
@@ -495,6 +510,8 @@ pub fn read_cert(alloc: Global, bytes: &[u8], module: &Module) -> Result<Certs, 
     ensures fits { IfOk result (λ certs. fits «module».now certs.sections ≡ true) }
     // Those of an opaque text have its shapes, those of a typed text none.
     ensures shapes { HasGlobals «module».now → IfOk result (λ certs. shapes_fit «module».now certs.shapes ≡ true) }
+    // They trust functions outside of the module alone, each once, and none where the wide forms may not stand.
+    ensures foreign { IfOk result (λ certs. foreign_fits «module».now certs.foreign ≡ true) }
     // What is a text of some certificates is read, unless memory runs out.
     ensures only { (certs : SomeCerts) → IsCert bytes.now «module».now certs → Gives fault.Memory result (Ok certs) }
     // What is refused is refused for its first fault.

@@ -12,7 +12,7 @@ ghost use Rattle.std.specs.Prelude.{List};
 use crate::anew::read_section;
 use crate::fault::CertFault;
 use certs::{Certs, Claim, Section};
-use copies::copy_shapes;
+use copies::{copy_shapes, copy_symbols};
 use ir_ast::{FuncId, Module};
 use items::Items;
 use std::alloc::{AllocError, Global};
@@ -58,10 +58,15 @@ pub(crate) fn copied_certs(alloc: Global, certs: &Certs) -> Result<Certs, AllocE
 {
     let sections = copied_sections(alloc, certs.sections.as_slice())?;
     let shapes = copy_shapes(alloc, &certs.shapes)?;
-    Ok(Certs { sections, shapes })
+    let foreign = copy_symbols(alloc, certs.foreign.as_slice())?;
+    Ok(Certs {
+        sections,
+        shapes,
+        foreign,
+    })
 }
 
-/// Certificates of a module in which the section of one function is the one of this text. All others, and the shapes, are copied.
+/// Certificates of a module in which the section of one function is the one of this text. All else is copied.
 pub fn replace_section(
     alloc: Global,
     certs: &Certs,
@@ -75,7 +80,7 @@ pub fn replace_section(
     // They are certificates of the module where all other sections are.
     ensures fits { FitOthers «module».now function certs.now.sections → IfOk result (λ new. fits «module».now new.sections ≡ true) }
     // What is a text of some section is read, unless memory runs out.
-    ensures only { (new : List ASection) → IsReplaced bytes.now «module».now function certs.now.sections new → Gives fault.Memory result (Ok (record { sections = new; shapes = certs.now.shapes })) }
+    ensures only { (new : List ASection) → IsReplaced bytes.now «module».now function certs.now.sections new → Gives fault.Memory result (Ok (record { sections = new; shapes = certs.now.shapes; foreign = certs.now.foreign })) }
     // What is refused is refused for its first fault.
     ensures fault { IfErr result (λ e. e ≢ fault.Memory → IsSectionFault bytes.now «module».now function e) }
     // What has a first fault is refused for it, unless memory runs out.

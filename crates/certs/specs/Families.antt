@@ -34,6 +34,8 @@ family_of_pointer m part = family_after m (slice_get m.types part)
 -- what a value of the type with this text is, if there is one
 abbrev pub family_in : Module → Option IrType → Family
 family_in m (Some (ty.Integer bits)) = Number bits
+family_in m (Some ty.Float) = Number 32
+family_in m (Some ty.Double) = Number 64
 family_in m (Some (ty.Pointer part)) = family_of_pointer m part
 family_in m (Some ty.Opaque) = Opaque
 family_in m _ = Nothing

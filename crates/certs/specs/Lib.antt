@@ -4,5 +4,6 @@ pub mod RootNames
 pub mod Fits
 pub mod Families
 pub mod ShapesFit
+pub mod ForeignFit
 pub mod Plain
 pub mod Runs

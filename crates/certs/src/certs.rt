@@ -2,12 +2,14 @@ ghost use Rattle.std.specs.Prelude.{◌≡◌, ◌<◌, ◌&&◌, Some, length, 
 ghost use Rattle.std.specs.Option.{option_copied};
 ghost use Rattle.certs.specs.Certs.{mark_of};
 ghost use Rattle.certs.specs.Fits as spec;
+ghost use Rattle.certs.specs.ForeignFit.{foreign_fits};
 ghost use Rattle.certs.specs.ShapesFit.{shapes_fit};
 
 use crate::fits::sections_fit;
+use crate::foreign::foreign_fits;
 use crate::section::{Mark, Section};
 use crate::shapes::shapes_fit;
-use ir_ast::{FuncId, Module, Shapes};
+use ir_ast::{FuncId, Module, Shapes, SymbolId};
 use items::Items;
 
 /// The certificates of a module's functions.
@@ -17,6 +19,8 @@ pub struct Certs {
     pub sections: Items<Section>,
     /// What the words, globals and slots of type `ptr` refer to. Those of a typed text have none.
     pub shapes: Option<Shapes>,
+    /// The functions outside of the module whose promise is trusted.
+    pub foreign: Items<SymbolId>,
 }
 
 impl Certs {
@@ -41,6 +45,7 @@ impl Certs {
         ensures given_back { slice_get self.old.sections function ≡ Some result }
         ensures new { self.new.sections ≡ slice_set self.old.sections function section }
         ensures shapes { self.new.shapes ≡ self.old.shapes }
+        ensures foreign { self.new.foreign ≡ self.old.foreign }
     {
         self.sections.replace(function.number() as usize, section)
     }
@@ -66,10 +71,13 @@ impl Certs {
     }
 
     /// Whether these are certificates of this module: its sections, and shapes exactly where its text writes `ptr`, which name layouts of it,
-    /// one for each global and each root slot of type `ptr`. Whether each word of that type has one is told by the layouts. It takes no memory.
+    /// one for each global and each root slot of type `ptr`. Whether each word of that type has one is told by the layouts. Functions outside are
+    /// trusted of a module of the wide forms alone, each once; they are compared with one another. It takes no memory.
     pub fn fits(&self, module: &Module) -> bool
-        ensures { result ≡ spec.fits «module».now self.now.sections && shapes_fit «module».now self.now.shapes }
+        ensures { result ≡ spec.fits «module».now self.now.sections && shapes_fit «module».now self.now.shapes && foreign_fits «module».now self.now.foreign }
     {
-        self.sections_fit(module) && shapes_fit(module, &self.shapes)
+        self.sections_fit(module)
+            && shapes_fit(module, &self.shapes)
+            && foreign_fits(module, self.foreign.as_slice())
     }
 }

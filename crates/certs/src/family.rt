@@ -12,7 +12,7 @@ use types::{element_type, is_opaque};
 /// What a value is, and so which facts may be given of it.
 #[derive(Clone, Copy)]
 pub enum Family {
-    /// An integer of this number of bits.
+    /// A number of this number of bits: an integer, or a floating point number.
     Number(u32),
     /// A reference to cells of one layout.
     Reference(LayoutId),
@@ -66,6 +66,8 @@ pub fn family_of_type(module: &Module, written: TypeId) -> Family
     };
     match written {
         IrType::Integer(bits) => Family::Number(bits),
+        IrType::Float => Family::Number(32),
+        IrType::Double => Family::Number(64),
         IrType::Pointer(part) => family_of_pointer(module, part),
         IrType::Opaque => Family::Opaque,
         _ => Family::Nothing,

@@ -4,6 +4,7 @@
 mod certs;
 mod family;
 mod fits;
+mod foreign;
 mod roots;
 mod runs;
 mod section;

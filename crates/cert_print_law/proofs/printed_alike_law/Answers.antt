@@ -12,4 +12,4 @@ returns-clause-alike c bytes text m certs own is short read =
     let named = module_named m names short in
     let shaped = c.cert_law.ensures.shaped text m certs names.globals names.structs read in
     let values = root_values m (c.within_law.ensures.read bytes m own is) in
-    c.cert_law.ensures.alike m certs read.0 read.1 named names.globals names.structs values (read_unshaped bytes m is) (c.cert_law.ensures.fit text m certs read) shaped.1
+    c.cert_law.ensures.alike m certs read.0 read.1 named names.globals names.structs values (read_unshaped bytes m is) (c.cert_law.ensures.fit text m certs read) (c.cert_law.ensures.foreign text m certs read) shaped.1

@@ -1,5 +1,5 @@
 use Rattle.certificate.proofs.AnewFits.{stay_fitting}
-use Rattle.certificate.proofs.CertFits.{cert_fits}
+use Rattle.certificate.proofs.CertFits.{cert_fits, cert_foreign}
 use Rattle.certificate.proofs.CertShapes.{cert_shaped}
 use Rattle.certificate.proofs.CertWhole.{cert_whole}
 use Rattle.certificate.proofs.PrintedCerts.{cert_printed}
@@ -11,6 +11,9 @@ returns-clause-fit c = cert_fits
 
 pub returns-clause-shaped : goal.returns-clause-shaped
 returns-clause-shaped c bytes m certs globals structs is = (cert_shaped bytes m certs globals is, cert_whole bytes m certs globals structs is)
+
+pub returns-clause-foreign : goal.returns-clause-foreign
+returns-clause-foreign c = cert_foreign
 
 pub returns-clause-printed : goal.returns-clause-printed
 returns-clause-printed c = cert_printed
