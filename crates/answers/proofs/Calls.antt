@@ -1,11 +1,11 @@
 -- What is asked of a call of a function that is known, and what is known after it, does not depend on functions.
 use Rattle.std.specs.List.{list_all}
 use Rattle.std.specs.Prelude.{Bool, List, None, Option, Some, [], false, not, refl, ℕ, ◌&&◌, ◌||◌, ◌∷◌, ◌≡◌}
-use Rattle.block_rules.specs.Calls.{after_defined, after_integer_call, all_available, all_current, all_taken, all_values, alloc_conditions, are_root_arguments, defined_conditions, drop_arguments, integer_conditions, is_taken, is_unrooted, is_written_with, may_root, no_slots, number_layouts, numbers_layout, read_call_conditions, receive_result, refused_conditions, root_conditions, safepoint_conditions, takes_address, takes_slot, write_call_conditions}
+use Rattle.block_rules.specs.Calls.{after_defined, after_integer_call, all_available, all_current, all_taken, all_values, alloc_conditions, are_root_arguments, defined_conditions, drop_arguments, foreign_conditions, integer_conditions, is_foreign_argument, is_taken, is_unrooted, is_written_to, is_written_with, may_root, no_slots, number_layouts, numbers_layout, read_call_conditions, receive_result, refused_conditions, root_conditions, safepoint_conditions, takes_address, takes_slot, write_call_conditions}
 use Rattle.block_rules.specs.Integers.{define_number}
 use Rattle.block_rules.specs.Operands.{is_no_opaque_slot, is_null, known_fits, known_of, slot_named}
 use Rattle.block_rules.specs.Promises.{callee_mark, given_by, promised_in, promises_in, show_promises}
-use Rattle.block_rules.specs.TypeKinds.{is_reference}
+use Rattle.block_rules.specs.TypeKinds.{is_integer, is_pointer, is_reference}
 use Rattle.block_rules.specs.declared.rule.Rule.TheVariants.{K1, K10, K12, K13, K17, K18, K2, K3, K9}
 use Rattle.block_rules.specs.declared.instr_context.InstrContext.{InstrContext}
 use Rattle.certs.specs.declared.section.Promise.{Promise}
@@ -88,6 +88,16 @@ defined_conditions_same m fs = λ along f slots here facts returned arguments ca
     ∷ (K12, here.may_move_references)
     ∷ (K13, show_promises facts arguments (promises_in section))
     ∷ (K17, marks_agree here.mark (callee_mark section)) ∷ []
+
+pub is_foreign_argument_same : (m : Module) (fs : List Function) → is_foreign_argument (with_functions m fs) ≡ is_foreign_argument m
+is_foreign_argument_same m fs = λ along f slots facts argument. (is_integer (kind_of_same m fs along argument.written) && is_value_same m fs along f slots facts argument.written argument.operand)
+    || (is_null argument.operand && is_pointer (kind_of_same m fs along argument.written))
+
+pub foreign_conditions_same : (m : Module) (fs : List Function) → foreign_conditions (with_functions m fs) ≡ foreign_conditions m
+foreign_conditions_same m fs = λ along f slots here facts returned arguments called. (K1, all_available slots facts arguments)
+    ∷ (K2, list_all (is_foreign_argument_same m fs along f slots facts) arguments && is_written_to returned arguments called)
+    ∷ (K10, no_slots slots arguments)
+    ∷ (K12, here.may_move_references) ∷ []
 
 pub is_taken_same : (m : Module) (fs : List Function) → is_taken (with_functions m fs) ≡ is_taken m
 is_taken_same m fs = λ along f slots facts named argument. is_typed_same m fs along f argument.written argument.operand

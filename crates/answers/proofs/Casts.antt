@@ -1,9 +1,10 @@
 -- What is asked of bitcasts, and what is known after them, does not depend on functions.
 use Rattle.std.specs.Prelude.{List, None, Option, Some, false, refl, ℕ, ◌&&◌, ◌==◌, ◌||◌, ◌≡◌}
 use Rattle.block_rules.specs.Casts.{after_cast, cast_constant, cast_number, casts_base, casts_constant, casts_global, casts_known, casts_local, casts_null, casts_operand, casts_other, casts_slot, casts_to, casts_words, layout_of_null, may_cast}
+use Rattle.block_rules.specs.Integers.{define_number}
 use Rattle.block_rules.specs.Operands.{known_of}
 use Rattle.block_rules.specs.Places.{define_held, layout_of_word}
-use Rattle.block_rules.specs.TypeKinds.{fits_layout, may_be_reference}
+use Rattle.block_rules.specs.TypeKinds.{fits_layout, is_bits, may_be_reference}
 use Rattle.fact_tables.specs.Rows.{known_at}
 use Rattle.facts.specs.Facts.{FactSet}
 use Rattle.fact_tables.specs.declared.known.Known.{Known}
@@ -11,7 +12,7 @@ use Rattle.fact_tables.specs.declared.known.Known.TheVariants.{Address, Cell, Gl
 use Rattle.ir_ast.specs.declared.function.Function.{Function}
 use Rattle.ir_ast.specs.declared.module.Module.{Module}
 use Rattle.ir_ast.specs.declared.operand.Constant.{Constant}
-use Rattle.ir_ast.specs.declared.operand.Constant.TheVariants.{Null as NullWritten, Number as Numeral, Truth}
+use Rattle.ir_ast.specs.declared.operand.Constant.TheVariants.{Float as Floating, Null as NullWritten, Number as Numeral, Truth}
 use Rattle.ir_ast.specs.declared.operand.Operand.{Operand}
 use Rattle.ir_ast.specs.declared.operand.Operand.TheVariants.{CastGlobal, Constant as Written, Local}
 use Rattle.layout.specs.Globals.{global_word}
@@ -49,28 +50,28 @@ casts_operand_by m fs _ = refl
 pub casts_operand_same : (m : Module) (fs : List Function) → casts_operand (with_functions m fs) ≡ casts_operand m
 casts_operand_same m fs = λ along operand. casts_operand_by m fs operand along
 
-casts_known_by : (p : LaidOut) (fs : List Function) (facts : FactSet) (to : ℕ) (known : Known) → casts_known (laid_with p fs) facts to known ≡ casts_known p facts to known
-casts_known_by p fs facts to Nothing = refl
-casts_known_by p fs facts to (Number bits below) = refl
-casts_known_by p fs facts to (Cell class layout stale) = λ along. fits_layout layout (kind_of_same p.of_module fs along to)
-casts_known_by p fs facts to Null = λ along. may_be_reference (kind_of_same p.of_module fs along to)
-casts_known_by p fs facts to (Address base words) = λ along. casts_base_same p fs along to words (known_at facts.values base)
-casts_known_by p fs facts to (GlobalAddress symbol) = λ along. casts_global_same p.of_module fs along to symbol
+casts_known_by : (p : LaidOut) (fs : List Function) (facts : FactSet) (from : ℕ) (to : ℕ) (known : Known) → casts_known (laid_with p fs) facts from to known ≡ casts_known p facts from to known
+casts_known_by p fs facts from to Nothing = refl
+casts_known_by p fs facts from to (Number bits below) = λ along. is_bits bits (kind_of_same p.of_module fs along from) && is_bits bits (kind_of_same p.of_module fs along to)
+casts_known_by p fs facts from to (Cell class layout stale) = λ along. fits_layout layout (kind_of_same p.of_module fs along to)
+casts_known_by p fs facts from to Null = λ along. may_be_reference (kind_of_same p.of_module fs along to)
+casts_known_by p fs facts from to (Address base words) = λ along. casts_base_same p fs along to words (known_at facts.values base)
+casts_known_by p fs facts from to (GlobalAddress symbol) = λ along. casts_global_same p.of_module fs along to symbol
 
 pub casts_known_same : (p : LaidOut) (fs : List Function) → casts_known (laid_with p fs) ≡ casts_known p
-casts_known_same p fs = λ along facts to known. casts_known_by p fs facts to known along
+casts_known_same p fs = λ along facts from to known. casts_known_by p fs facts from to known along
 
-casts_local_by : (p : LaidOut) (fs : List Function) (slots : SlotTable) (facts : FactSet) (to : ℕ) (known : Known) (slot : Option ℕ) → casts_local (laid_with p fs) slots facts to known slot ≡ casts_local p slots facts to known slot
-casts_local_by p fs slots facts to known None = λ along. casts_known_same p fs along facts to known
-casts_local_by p fs slots facts to known (Some s) = λ along. casts_slot (slot_kind_same p.of_module fs along slots s) (place_kind_same p.of_module fs along to)
+casts_local_by : (p : LaidOut) (fs : List Function) (slots : SlotTable) (facts : FactSet) (from : ℕ) (to : ℕ) (known : Known) (slot : Option ℕ) → casts_local (laid_with p fs) slots facts from to known slot ≡ casts_local p slots facts from to known slot
+casts_local_by p fs slots facts from to known None = λ along. casts_known_same p fs along facts from to known
+casts_local_by p fs slots facts from to known (Some s) = λ along. casts_slot (slot_kind_same p.of_module fs along slots s) (place_kind_same p.of_module fs along to)
 
 pub casts_local_same : (p : LaidOut) (fs : List Function) → casts_local (laid_with p fs) ≡ casts_local p
-casts_local_same p fs = λ along slots facts to known slot. casts_local_by p fs slots facts to known slot along
+casts_local_same p fs = λ along slots facts from to known slot. casts_local_by p fs slots facts from to known slot along
 
 casts_other_by : (p : LaidOut) (fs : List Function) (slots : SlotTable) (facts : FactSet) (from : ℕ) (to : ℕ) (operand : Operand) → casts_other (laid_with p fs) slots facts from to operand ≡ casts_other p slots facts from to operand
 casts_other_by p fs slots facts from to (Written c) = λ along. casts_constant_same p.of_module fs along from to c
-casts_other_by p fs slots facts from to (Local v) = λ along. casts_local_same p fs along slots facts to (known_at facts.values v) (slot_of slots v)
-casts_other_by p fs slots facts from to operand = λ along. casts_known_same p fs along facts to (known_of facts operand)
+casts_other_by p fs slots facts from to (Local v) = λ along. casts_local_same p fs along slots facts from to (known_at facts.values v) (slot_of slots v)
+casts_other_by p fs slots facts from to operand = λ along. casts_known_same p fs along facts from to (known_of facts operand)
 
 pub casts_other_same : (p : LaidOut) (fs : List Function) → casts_other (laid_with p fs) ≡ casts_other p
 casts_other_same p fs = λ along slots facts from to operand. casts_other_by p fs slots facts from to operand along
@@ -80,6 +81,7 @@ may_cast_same p fs = λ along slots facts from to operand. (from == to) || casts
 
 cast_constant_by : (m : Module) (fs : List Function) (v : ℕ) (from : ℕ) (to : ℕ) (constant : Constant) (facts : FactSet) → cast_constant (with_functions m fs) v from to constant facts ≡ cast_constant m v from to constant facts
 cast_constant_by m fs v from to (Numeral n) facts = λ along. cast_number v n (kind_of_same m fs along to) facts
+cast_constant_by m fs v from to (Floating n) facts = λ along. define_number v (kind_of_same m fs along to) None facts
 cast_constant_by m fs v from to (Truth b) facts = refl
 cast_constant_by m fs v from to NullWritten facts = λ along. define_held v (layout_of_null (kind_of_same m fs along from) (kind_of_same m fs along to)) false facts
 

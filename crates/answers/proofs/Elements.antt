@@ -3,7 +3,7 @@ use Rattle.std.specs.List.{list_all}
 use Rattle.std.specs.Prelude.{List, None, Option, Some, [], if◌then◌else◌, is_some, length, refl, slice_get, ℕ, ◌&&◌, ◌∷◌, ◌≡◌}
 use Rattle.block_rules.specs.Elements.{after_element, are_indices, array_stride, base_layout, counted_words, define_words, element_part, element_words, is_index, is_zero, leads_from, leads_into, may_lead, part_led, part_reached, start_of, stays_at_first, stays_in, step_part, step_stride, strode, words_after}
 use Rattle.block_rules.specs.Operands.{number_of}
-use Rattle.block_rules.specs.TypeKinds.{is_integer}
+use Rattle.types.specs.Elements.{is_integer}
 use Rattle.fact_tables.specs.Rows.{known_at}
 use Rattle.facts.specs.Facts.{FactSet}
 use Rattle.fact_tables.specs.declared.known.Known.{Known}
@@ -81,7 +81,7 @@ pub may_lead_same : (p : LaidOut) (fs : List Function) → may_lead (laid_with p
 may_lead_same p fs = λ along facts source indices base. may_lead_by p fs facts source indices base along
 
 pub is_index_same : (m : Module) (fs : List Function) → is_index (with_functions m fs) ≡ is_index m
-is_index_same m fs = λ along f slots facts index. is_value_same m fs along f slots facts index.written index.operand && is_integer (kind_of_same m fs along index.written)
+is_index_same m fs = λ along f slots facts index. is_value_same m fs along f slots facts index.written index.operand && is_integer (slice_get m.types index.written)
 
 pub are_indices_same : (m : Module) (fs : List Function) → are_indices (with_functions m fs) ≡ are_indices m
 are_indices_same m fs = λ along f slots facts indices. list_all (is_index_same m fs along f slots facts) indices

@@ -4,7 +4,7 @@ use Rattle.block_rules.specs.Operands.{constant_fits, is_no_opaque_slot, is_of_t
 use Rattle.block_rules.specs.TypeKinds.{kind_at, kind_held, kind_in, kind_of, kind_of_type, place_kind, pointer_kind, pointer_to, slot_kind, struct_pointer}
 use Rattle.ir_ast.specs.declared.function.Function.{Function}
 use Rattle.ir_ast.specs.declared.ir_type.IrType.{IrType}
-use Rattle.ir_ast.specs.declared.ir_type.IrType.TheVariants.{Array, EmptyStruct, Integer, Named, Opaque, Pointer, Struct, Void}
+use Rattle.ir_ast.specs.declared.ir_type.IrType.TheVariants.{Array, Double, EmptyStruct, Float, Integer, Named, Opaque, Pointer, Struct, Void}
 use Rattle.ir_ast.specs.declared.module.Module.{Module}
 use Rattle.ir_ast.specs.declared.operand.Operand.{Operand}
 use Rattle.ir_ast.specs.declared.operand.Operand.TheVariants.{CastGlobal, Constant as Written, Global, Local}
@@ -15,6 +15,8 @@ use Rattle.answers.specs.Local.{with_functions}
 pointer_to_by : (m : Module) (fs : List Function) (type : IrType) → pointer_to (with_functions m fs) type ≡ pointer_to m type
 pointer_to_by m fs Void = refl
 pointer_to_by m fs (Integer bits) = refl
+pointer_to_by m fs Float = refl
+pointer_to_by m fs Double = refl
 pointer_to_by m fs (Pointer t) = refl
 pointer_to_by m fs Opaque = refl
 pointer_to_by m fs (Array length part) = refl
@@ -35,6 +37,8 @@ pointer_kind_same m fs = λ along type. pointer_kind_by m fs type along
 kind_of_type_by : (m : Module) (fs : List Function) (type : IrType) → kind_of_type (with_functions m fs) type ≡ kind_of_type m type
 kind_of_type_by m fs Void = refl
 kind_of_type_by m fs (Integer bits) = refl
+kind_of_type_by m fs Float = refl
+kind_of_type_by m fs Double = refl
 kind_of_type_by m fs (Pointer t) = λ along. pointer_kind_same m fs along (slice_get m.types t)
 kind_of_type_by m fs Opaque = refl
 kind_of_type_by m fs (Array length part) = refl

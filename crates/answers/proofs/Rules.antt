@@ -3,6 +3,7 @@ use Rattle.std.specs.List.{list_all}
 use Rattle.std.specs.Prelude.{List, None, Option, Some, [], refl, ℕ, ◌&&◌, ◌==◌, ◌||◌, ◌∷◌, ◌≡◌}
 use Rattle.block_rules.specs.Calls.{no_slots}
 use Rattle.block_rules.specs.Elements.{may_be_base}
+use Rattle.block_rules.specs.Floats.{float_conditions, float_kind, is_number_of}
 use Rattle.block_rules.specs.Integers.{after_select, arithmetic_below, below_of, define_number, known_layout, may_choose, may_compare, may_resize, one_layout, resized_below}
 use Rattle.block_rules.specs.Operands.{constant_fits, is_available, is_based, is_current, is_no_slot, known_of, place_known}
 use Rattle.block_rules.specs.Promises.{keeps_promise}
@@ -12,6 +13,7 @@ use Rattle.block_rules.specs.declared.rule.Rule.TheVariants.{K1, K10, K11, K12, 
 use Rattle.block_rules.specs.declared.instr_context.InstrContext.{InstrContext}
 use Rattle.facts.specs.Facts.{FactSet}
 use Rattle.ir_ast.specs.declared.ends.End.{End}
+use Rattle.ir_ast.specs.declared.floats.FloatOp.{FloatOp}
 use Rattle.ir_ast.specs.declared.function.Function.{Function}
 use Rattle.ir_ast.specs.declared.memory.MemoryOp.{MemoryOp}
 use Rattle.ir_ast.specs.declared.module.Module.{Module}
@@ -27,6 +29,7 @@ use Rattle.answers.proofs.Operands.{is_typed_same, is_value_same, kind_of_same}
 use Rattle.answers.proofs.Places.{is_one_layout_same, after_load_same, may_load_same, may_store_same, needs_no_barrier_same}
 use Rattle.answers.specs.Local.{laid_with, with_functions}
 use Rattle.ir_ast.specs.declared.ends.End.TheVariants as end
+use Rattle.ir_ast.specs.declared.floats.FloatOp.TheVariants as float
 use Rattle.ir_ast.specs.declared.memory.MemoryOp.TheVariants as memory
 use Rattle.ir_ast.specs.declared.numbers.NumberOp.TheVariants as number
 use Rattle.ir_ast.specs.declared.op.Op.TheVariants as op
@@ -54,6 +57,39 @@ are_cases_same m fs = λ along f written cases. list_all (is_case_same m fs alon
 pub is_condition_same : (m : Module) (fs : List Function) → is_condition (with_functions m fs) ≡ is_condition m
 is_condition_same m fs = λ along f slots facts written condition. is_bits 1 (kind_of_same m fs along written) && is_value_same m fs along f slots facts written condition
 
+pub is_number_of_same : (m : Module) (fs : List Function) → is_number_of (with_functions m fs) ≡ is_number_of m
+is_number_of_same m fs = λ along f slots facts written operand. is_value_same m fs along f slots facts written operand && is_integer (kind_of_same m fs along written)
+
+float_conditions_by : (m : Module) (fs : List Function) (f : Function) (slots : SlotTable) (here : InstrContext) (facts : FactSet) (x : FloatOp) → float_conditions (with_functions m fs) f slots here facts x ≡ float_conditions m f slots here facts x
+float_conditions_by m fs f slots here facts (float.Arithmetic kind written first second) = λ along. (K1, is_available slots facts first && is_available slots facts second)
+    ∷ (K2, is_number_of_same m fs along f slots facts written first && is_number_of_same m fs along f slots facts written second)
+    ∷ (K10, is_no_slot slots first && is_no_slot slots second)
+    ∷ (K12, here.may_move_references) ∷ []
+float_conditions_by m fs f slots here facts (float.Negate written operand) = λ along. (K1, is_available slots facts operand)
+    ∷ (K2, is_number_of_same m fs along f slots facts written operand)
+    ∷ (K10, is_no_slot slots operand)
+    ∷ (K12, here.may_move_references) ∷ []
+float_conditions_by m fs f slots here facts (float.Compare kind written first second) = λ along. (K1, is_available slots facts first && is_available slots facts second)
+    ∷ (K2, is_number_of_same m fs along f slots facts written first && is_number_of_same m fs along f slots facts written second)
+    ∷ (K10, is_no_slot slots first && is_no_slot slots second)
+    ∷ (K12, here.may_move_references) ∷ []
+float_conditions_by m fs f slots here facts (float.Convert kind from operand to) = λ along. (K1, is_available slots facts operand)
+    ∷ (K2, is_number_of_same m fs along f slots facts from operand && is_integer (kind_of_same m fs along to))
+    ∷ (K10, is_no_slot slots operand)
+    ∷ (K12, here.may_move_references) ∷ []
+
+pub float_conditions_same : (m : Module) (fs : List Function) → float_conditions (with_functions m fs) ≡ float_conditions m
+float_conditions_same m fs = λ along f slots here facts x. float_conditions_by m fs f slots here facts x along
+
+float_kind_by : (m : Module) (fs : List Function) (x : FloatOp) → float_kind (with_functions m fs) x ≡ float_kind m x
+float_kind_by m fs (float.Arithmetic kind written first second) = λ along. kind_of_same m fs along written
+float_kind_by m fs (float.Negate written operand) = λ along. kind_of_same m fs along written
+float_kind_by m fs (float.Compare kind written first second) = refl
+float_kind_by m fs (float.Convert kind from operand to) = λ along. kind_of_same m fs along to
+
+pub float_kind_same : (m : Module) (fs : List Function) → float_kind (with_functions m fs) ≡ float_kind m
+float_kind_same m fs = λ along x. float_kind_by m fs x along
+
 number_conditions_by : (p : LaidOut) (fs : List Function) (f : Function) (slots : SlotTable) (here : InstrContext) (facts : FactSet) (x : NumberOp) → number_conditions (laid_with p fs) f slots here facts x ≡ number_conditions p f slots here facts x
 number_conditions_by p fs f slots here facts (number.Arithmetic kind written first second) = λ along. (K1, is_available slots facts first && is_available slots facts second)
     ∷ (K2, is_value_same p.of_module fs along f slots facts written first && is_value_same p.of_module fs along f slots facts written second && is_integer (kind_of_same p.of_module fs along written) && is_no_slot slots first && is_no_slot slots second)
@@ -66,6 +102,7 @@ number_conditions_by p fs f slots here facts (number.Compare kind written first 
     ∷ (K3, is_current facts (known_of facts first) && is_current facts (known_of facts second))
     ∷ (K10, is_no_slot slots first && is_no_slot slots second)
     ∷ (K12, here.may_move_references) ∷ []
+number_conditions_by p fs f slots here facts (number.Float x) = λ along. float_conditions_same p.of_module fs along f slots here facts x
 
 pub number_conditions_same : (p : LaidOut) (fs : List Function) → number_conditions (laid_with p fs) ≡ number_conditions p
 number_conditions_same p fs = λ along f slots here facts x. number_conditions_by p fs f slots here facts x along
@@ -150,6 +187,7 @@ after_number_by : (m : Module) (fs : List Function) (v : ℕ) (x : NumberOp) (fa
 after_number_by m fs v (number.Arithmetic kind written first second) facts = λ along. define_number v (kind_of_same m fs along written) (arithmetic_below kind first second) facts
 after_number_by m fs v (number.Resize kind from operand to) facts = λ along. define_number v (kind_of_same m fs along to) (resized_below kind (below_of facts operand)) facts
 after_number_by m fs v (number.Compare kind written first second) facts = refl
+after_number_by m fs v (number.Float x) facts = λ along. define_number v (float_kind_same m fs along x) None facts
 
 pub after_number_same : (m : Module) (fs : List Function) → after_number (with_functions m fs) ≡ after_number m
 after_number_same m fs = λ along v x facts. after_number_by m fs v x facts along

@@ -11,23 +11,23 @@ use Rattle.ir_ast.specs.declared.items_of_module.SymbolSort.{SymbolSort}
 use Rattle.ir_ast.specs.declared.items_of_module.SymbolSort.TheVariants.{Unknown, Global, Declared, Defined}
 use Rattle.ir_ast.specs.declared.module.Module.{Module}
 use Rattle.ir_ast.specs.declared.runtime.Runtime.{Runtime}
-use Rattle.ir_ast.specs.declared.runtime.Runtime.TheVariants.{Alloc, Safepoint, GcRoot, GcRead, GcWrite, Integer}
+use Rattle.ir_ast.specs.declared.runtime.Runtime.TheVariants.{Alloc, Safepoint, GcRoot, GcRead, GcWrite, Integer, Float}
 use Rattle.certs.specs.declared.section.Section.{Section}
 use Rattle.layout.specs.Layouts.{LaidOut}
 use Rattle.shadow_stack.specs.Slots.{SlotTable}
 use Rattle.safepoints.specs.Marks.{marks_agree, after_mark}
 use Rattle.facts.specs.Facts.{FactSet}
 use Rattle.block_rules.specs.declared.callee.Callee.{Callee}
-use Rattle.block_rules.specs.declared.callee.Callee.TheVariants.{OfRuntime, OfModule, NoFunction}
+use Rattle.block_rules.specs.declared.callee.Callee.TheVariants.{OfRuntime, OfModule, Foreign, NoFunction}
 use Rattle.block_rules.specs.declared.rule.Rule.TheVariants.{K1, K2, K3, K10, K12, K13, K17}
 use Rattle.block_rules.specs.declared.instr_context.InstrContext.{InstrContext}
 use Rattle.block_rules.specs.Promises.{show_promises}
 use Rattle.block_rules.specs.RuntimeNames.{runtime_named}
-use Rattle.block_rules.specs.Signature.{signature_of, is_declared_as, callable, callable_declare, callable_function, callable_sort}
+use Rattle.block_rules.specs.Signature.{signature_of, is_declared_as, is_foreign, callable, callable_declare, callable_function, callable_sort}
 use Rattle.block_rules.specs.Calls.{all_available, all_current, no_slots, is_written_for, is_written_with, defined_conditions, call_conditions, drop_arguments, after_call}
 use Rattle.answers.specs.Local.{with_functions, laid_with, types_of, Interface, function_of_sort, IfThere, LooksSame}
 use Rattle.answers.proofs.Signature.{callable_declare_same}
-use Rattle.answers.proofs.Calls.{all_values_same, root_conditions_same, alloc_conditions_same, safepoint_conditions_same, integer_conditions_same, read_call_conditions_same, write_call_conditions_same, refused_conditions_same, receive_result_same, after_integer_call_same}
+use Rattle.answers.proofs.Calls.{all_values_same, root_conditions_same, alloc_conditions_same, safepoint_conditions_same, integer_conditions_same, foreign_conditions_same, read_call_conditions_same, write_call_conditions_same, refused_conditions_same, receive_result_same, after_integer_call_same}
 use Rattle.answers.proofs.Places.{after_read_call_same}
 
 -- ---- types
@@ -74,19 +74,24 @@ callee_is m callee arguments number (Some f) =
 abbrev pub IfDefined : (ℕ → Type 0) → Callee → Type 0
 IfDefined P (OfModule number) = P number
 IfDefined P (OfRuntime runtime) = Unit {0}
+IfDefined P (Foreign number) = Unit {0}
 IfDefined P (NoFunction named) = Unit {0}
 
 no_module_by : (P : ℕ → Type 0) (b : Bool) (runtime : Runtime) → IfDefined P (if b then OfRuntime runtime else NoFunction (Some runtime))
 no_module_by P true runtime = tt
 no_module_by P false runtime = tt
 
-no_module_callable : (P : ℕ → Type 0) (m : Module) (arguments : ℕ) (declared : Declare) (runtime : Option Runtime) → IfDefined P (callable m arguments declared runtime)
-no_module_callable P m arguments declared None = tt
-no_module_callable P m arguments declared (Some runtime) = no_module_by P (is_declared_as m declared runtime && (arguments == length (signature_of runtime).parameters)) runtime
+no_module_foreign : (P : ℕ → Type 0) (b : Bool) (number : ℕ) → IfDefined P (if b then Foreign number else NoFunction None)
+no_module_foreign P true number = tt
+no_module_foreign P false number = tt
 
-no_module_declared : (P : ℕ → Type 0) (m : Module) (arguments : ℕ) (declared : Option Declare) → IfDefined P (callable_declare m arguments declared)
-no_module_declared P m arguments None = tt
-no_module_declared P m arguments (Some declared) = no_module_callable P m arguments declared declared.runtime
+no_module_callable : (P : ℕ → Type 0) (m : Module) (arguments number : ℕ) (declared : Declare) (runtime : Option Runtime) → IfDefined P (callable m arguments number declared runtime)
+no_module_callable P m arguments number declared None = no_module_foreign P (is_foreign m arguments declared) number
+no_module_callable P m arguments number declared (Some runtime) = no_module_by P (is_declared_as m declared runtime && (arguments == length (signature_of runtime).parameters)) runtime
+
+no_module_declared : (P : ℕ → Type 0) (m : Module) (arguments number : ℕ) (declared : Option Declare) → IfDefined P (callable_declare m arguments number declared)
+no_module_declared P m arguments number None = tt
+no_module_declared P m arguments number (Some declared) = no_module_callable P m arguments number declared declared.runtime
 
 this_module_by : (P : ℕ → Type 0) (b : Bool) (number : ℕ) (named : Option Runtime) → P number → IfDefined P (if b then OfModule number else NoFunction named)
 this_module_by P true number named h = h
@@ -109,7 +114,7 @@ module _ (p : LaidOut) (certs : List Section) (fs : List Function) (others : Lis
   callee_same callee arguments None h = refl
   callee_same callee arguments (Some Unknown) h = refl
   callee_same callee arguments (Some (Global g)) h = refl
-  callee_same callee arguments (Some (Declared d)) h = λ along. callable_declare_same p.of_module fs along arguments (slice_get p.of_module.declares d)
+  callee_same callee arguments (Some (Declared d)) h = λ along. callable_declare_same p.of_module fs along arguments d (slice_get p.of_module.declares d)
   callee_same callee arguments (Some (Defined f)) h =
       let m = p.of_module in
       callee_is (with_functions m fs) callee arguments f (slice_get fs f)
@@ -121,7 +126,7 @@ module _ (p : LaidOut) (certs : List Section) (fs : List Function) (others : Lis
   callee_looks_same callee arguments None h = tt
   callee_looks_same callee arguments (Some Unknown) h = tt
   callee_looks_same callee arguments (Some (Global g)) h = tt
-  callee_looks_same callee arguments (Some (Declared d)) h = no_module_declared Same p.of_module arguments (slice_get p.of_module.declares d)
+  callee_looks_same callee arguments (Some (Declared d)) h = no_module_declared Same p.of_module arguments d (slice_get p.of_module.declares d)
   callee_looks_same callee arguments (Some (Defined f)) h =
       let m = p.of_module in
       subst (IfDefined Same) (sym (callee_is m callee arguments f (slice_get m.functions f))) (this_module Same m callee arguments f (types_of (slice_get m.functions f)) h)
@@ -149,7 +154,9 @@ module _ (p : LaidOut) (certs : List Section) (fs : List Function) (others : Lis
   call_same f slots here facts returned arguments (OfRuntime GcRead) h = λ along. read_call_conditions_same p fs along f slots here facts returned arguments
   call_same f slots here facts returned arguments (OfRuntime GcWrite) h = λ along. write_call_conditions_same p fs along f slots here facts returned arguments
   call_same f slots here facts returned arguments (OfRuntime (Integer function bits)) h = λ along. integer_conditions_same p.of_module fs along f slots here facts (Integer function bits) returned arguments
+  call_same f slots here facts returned arguments (OfRuntime (Float function bits)) h = λ along. integer_conditions_same p.of_module fs along f slots here facts (Float function bits) returned arguments
   call_same f slots here facts returned arguments (OfModule called) h = defined_same f slots here facts returned arguments called h
+  call_same f slots here facts returned arguments (Foreign d) h = λ along. foreign_conditions_same p.of_module fs along f slots here facts returned arguments (slice_get p.of_module.declares d)
   call_same f slots here facts returned arguments (NoFunction named) h = λ along. refused_conditions_same p.of_module fs along f slots here facts named arguments
 
   -- what is known after a call
@@ -161,6 +168,8 @@ module _ (p : LaidOut) (certs : List Section) (fs : List Function) (others : Lis
   after_call_same slots result returned arguments (OfRuntime GcRead) facts h = λ along. after_read_call_same p fs along result arguments facts
   after_call_same slots result returned arguments (OfRuntime GcWrite) facts h = refl
   after_call_same slots result returned arguments (OfRuntime (Integer function bits)) facts h = λ along. after_integer_call_same p.of_module fs along result returned facts
+  after_call_same slots result returned arguments (OfRuntime (Float function bits)) facts h = λ along. after_integer_call_same p.of_module fs along result returned facts
   after_call_same slots result returned arguments (OfModule called) facts h =
       λ along. receive_result_same p.of_module fs along result returned (h along).result (after_mark (h along).mark (drop_arguments arguments facts))
+  after_call_same slots result returned arguments (Foreign d) facts h = λ along. after_integer_call_same p.of_module fs along result returned facts
   after_call_same slots result returned arguments (NoFunction named) facts h = refl

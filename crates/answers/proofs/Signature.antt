@@ -1,9 +1,9 @@
 -- With which types a function is written, and what a call of a declared name is of, does not depend on functions.
-use Rattle.std.specs.List.{list_all, zip}
+use Rattle.std.specs.List.{list_all, list_any, zip}
 use Rattle.std.specs.Prelude.{List, None, Option, Some, if◌then◌else◌, length, refl, ℕ, ◌&&◌, ◌||◌, ◌==◌, ◌≡◌}
-use Rattle.block_rules.specs.Signature.{callable, callable_declare, is_argument_of, is_declared_as, is_of_type, is_runtime_type, is_written_as, signature_of}
-use Rattle.block_rules.specs.TypeKinds.{is_any_reference, is_bits, is_void}
-use Rattle.block_rules.specs.declared.callee.Callee.TheVariants.{NoFunction, OfRuntime}
+use Rattle.block_rules.specs.Signature.{callable, callable_declare, is_argument_of, is_declared_as, is_foreign, is_of_type, is_runtime_type, is_written_as, signature_of}
+use Rattle.block_rules.specs.TypeKinds.{is_any_reference, is_bits, is_integer, is_void}
+use Rattle.block_rules.specs.declared.callee.Callee.TheVariants.{Foreign, NoFunction, OfRuntime}
 use Rattle.block_rules.specs.declared.signature.RuntimeType.{RuntimeType}
 use Rattle.block_rules.specs.declared.signature.RuntimeType.TheVariants.{Bits, Pointer, PointerToPointer, Void}
 use Rattle.ir_ast.specs.declared.argument.Argument.{Argument}
@@ -45,16 +45,20 @@ pub is_written_as_same : (m : Module) (fs : List Function) → is_written_as (wi
 is_written_as_same m fs = λ along returned arguments runtime. let signature = signature_of runtime in
     is_runtime_type_same m fs along returned signature.returned && list_all (is_argument_of_same m fs along) (zip arguments signature.parameters)
 
-callable_by : (m : Module) (fs : List Function) (arguments : ℕ) (declared : Declare) (runtime : Option Runtime) → callable (with_functions m fs) arguments declared runtime ≡ callable m arguments declared runtime
-callable_by m fs arguments declared None = refl
-callable_by m fs arguments declared (Some runtime) = λ along. if is_declared_as_same m fs along declared runtime && (arguments == length (signature_of runtime).parameters) then OfRuntime runtime else NoFunction (Some runtime)
+pub is_foreign_same : (m : Module) (fs : List Function) → is_foreign (with_functions m fs) ≡ is_foreign m
+is_foreign_same m fs = λ along arguments declared. m.wide && (list_any (λ s. s == declared.symbol) m.trusted
+    && ((is_void (kind_of_same m fs along declared.returned) || is_integer (kind_of_same m fs along declared.returned)) && (arguments == length declared.parameters)))
+
+callable_by : (m : Module) (fs : List Function) (arguments number : ℕ) (declared : Declare) (runtime : Option Runtime) → callable (with_functions m fs) arguments number declared runtime ≡ callable m arguments number declared runtime
+callable_by m fs arguments number declared None = λ along. if is_foreign_same m fs along arguments declared then Foreign number else NoFunction None
+callable_by m fs arguments number declared (Some runtime) = λ along. if is_declared_as_same m fs along declared runtime && (arguments == length (signature_of runtime).parameters) then OfRuntime runtime else NoFunction (Some runtime)
 
 pub callable_same : (m : Module) (fs : List Function) → callable (with_functions m fs) ≡ callable m
-callable_same m fs = λ along arguments declared runtime. callable_by m fs arguments declared runtime along
+callable_same m fs = λ along arguments number declared runtime. callable_by m fs arguments number declared runtime along
 
-callable_declare_by : (m : Module) (fs : List Function) (arguments : ℕ) (declared : Option Declare) → callable_declare (with_functions m fs) arguments declared ≡ callable_declare m arguments declared
-callable_declare_by m fs arguments None = refl
-callable_declare_by m fs arguments (Some declared) = λ along. callable_same m fs along arguments declared declared.runtime
+callable_declare_by : (m : Module) (fs : List Function) (arguments number : ℕ) (declared : Option Declare) → callable_declare (with_functions m fs) arguments number declared ≡ callable_declare m arguments number declared
+callable_declare_by m fs arguments number None = refl
+callable_declare_by m fs arguments number (Some declared) = λ along. callable_same m fs along arguments number declared declared.runtime
 
 pub callable_declare_same : (m : Module) (fs : List Function) → callable_declare (with_functions m fs) ≡ callable_declare m
-callable_declare_same m fs = λ along arguments declared. callable_declare_by m fs arguments declared along
+callable_declare_same m fs = λ along arguments number declared. callable_declare_by m fs arguments number declared along

@@ -6,7 +6,7 @@ use Rattle.ir_ast.specs.declared.function.LocalSort.{LocalSort}
 use Rattle.ir_ast.specs.declared.function.LocalSort.TheVariants.{Element as ElementOf, Slot, Value}
 use Rattle.ir_ast.specs.declared.instr.Instr.{Instr}
 use Rattle.ir_ast.specs.declared.ir_type.IrType.{IrType}
-use Rattle.ir_ast.specs.declared.ir_type.IrType.TheVariants.{Array, EmptyStruct, Integer, Named, Opaque, Pointer, Struct, Void}
+use Rattle.ir_ast.specs.declared.ir_type.IrType.TheVariants.{Array, Double, EmptyStruct, Float, Integer, Named, Opaque, Pointer, Struct, Void}
 use Rattle.ir_ast.specs.declared.items_of_module.SymbolSort.{SymbolSort}
 use Rattle.ir_ast.specs.declared.items_of_module.SymbolSort.TheVariants.{Declared, Defined, Global, Unknown}
 use Rattle.ir_ast.specs.declared.module.Module.{Module}
@@ -36,6 +36,8 @@ layout_of_struct_by : (m : Module) (fs : List Function) (type : Option IrType) â
 layout_of_struct_by m fs None = refl
 layout_of_struct_by m fs (Some Void) = refl
 layout_of_struct_by m fs (Some (Integer bits)) = refl
+layout_of_struct_by m fs (Some Float) = refl
+layout_of_struct_by m fs (Some Double) = refl
 layout_of_struct_by m fs (Some (Pointer part)) = refl
 layout_of_struct_by m fs (Some Opaque) = refl
 layout_of_struct_by m fs (Some (Array length part)) = refl

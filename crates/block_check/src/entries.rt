@@ -97,6 +97,7 @@ fn is_same_constant(one: Constant, other: Constant) -> bool
 {
     match (one, other) {
         (Constant::Number(n), Constant::Number(m)) => n == m,
+        (Constant::Float(n), Constant::Float(m)) => n == m,
         (Constant::Null, Constant::Null) => true,
         (Constant::Truth(b), Constant::Truth(c)) => b == c,
         _ => false,

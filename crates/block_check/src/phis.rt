@@ -1,7 +1,7 @@
 //! What the phis of a block take where it is entered from another.
 ghost use Rattle.std.specs.Prelude.{◌≡◌, OnOk};
 ghost use Rattle.block_rules.specs.InstrContext.{phis_of};
-ghost use Rattle.block_rules.specs.Edges.{operand_from, number_comes_in, constant_comes_in, known_comes_in, comes_in};
+ghost use Rattle.block_rules.specs.Edges.{operand_from, number_comes_in, float_comes_in, constant_comes_in, known_comes_in, comes_in};
 ghost use Rattle.block_check.specs.PhiOperands.{entries_at};
 ghost use Rattle.block_check.specs.FunctionUnderCheck.{IsReady};
 
@@ -24,11 +24,22 @@ fn number_comes_in(n: u64, kind: TypeKind) -> Known
     }
 }
 
+/// What is known of a floating point number that comes in.
+fn float_comes_in(kind: TypeKind) -> Known
+    ensures { result ≡ float_comes_in kind }
+{
+    match kind {
+        TypeKind::Bits(bits) => Known::Number { bits, below: None },
+        _ => Known::Nothing,
+    }
+}
+
 fn constant_comes_in(constant: Constant, kind: TypeKind) -> Known
     ensures { result ≡ constant_comes_in constant kind }
 {
     match constant {
         Constant::Number(n) => number_comes_in(n, kind),
+        Constant::Float(_) => float_comes_in(kind),
         Constant::Null => Known::Null,
         Constant::Truth(_) => Known::Nothing,
     }

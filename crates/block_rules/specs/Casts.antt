@@ -2,7 +2,7 @@
 use Rattle.std.specs.Prelude.{ℕ, ◌==◌, Bool, true, false, ◌&&◌, ◌||◌, if◌then◌else◌, List, Option, Some, None}
 use Rattle.ir_ast.specs.declared.module.Module.{Module}
 use Rattle.ir_ast.specs.declared.operand.Constant.{Constant}
-use Rattle.ir_ast.specs.declared.operand.Constant.TheVariants.{Number as Numeral, Truth, Null as NullWritten}
+use Rattle.ir_ast.specs.declared.operand.Constant.TheVariants.{Number as Numeral, Float as Floating, Truth, Null as NullWritten}
 use Rattle.ir_ast.specs.declared.operand.Operand.{Operand}
 use Rattle.ir_ast.specs.declared.operand.Operand.TheVariants.{Constant as Written, Local, CastGlobal}
 use Rattle.layout.specs.Globals.{global_word}
@@ -18,8 +18,9 @@ use Rattle.block_rules.specs.declared.type_kind.TypeKind.{TypeKind}
 use Rattle.block_rules.specs.declared.type_kind.TypeKind.TheVariants.{Bits, Reference}
 use Rattle.block_rules.specs.Operands.{known_of}
 use Rattle.block_rules.specs.Places.{layout_of_word, loads_words, define_held}
-use Rattle.block_rules.specs.TypeKinds.{kind_of, slot_kind, place_kind, may_be_reference, fits_layout, layout_of_kind}
+use Rattle.block_rules.specs.TypeKinds.{kind_of, slot_kind, place_kind, is_bits, may_be_reference, fits_layout, layout_of_kind}
 use Rattle.block_rules.specs.Bounds.{below_next}
+use Rattle.block_rules.specs.Integers.{define_number}
 
 -- null of a reference type is null of each, and null of an address of references likewise
 abbrev pub casts_null : Module → (from to : ℕ) → Bool
@@ -27,7 +28,7 @@ casts_null m from to =
     (may_be_reference (kind_of m from) && may_be_reference (kind_of m to))
     || (may_be_reference (place_kind m from) && may_be_reference (place_kind m to))
 
--- a number is never of another type
+-- a constant that is a number is never of another type
 abbrev pub casts_constant : Module → (from to : ℕ) → Constant → Bool
 casts_constant m from to NullWritten = casts_null m from to
 casts_constant m from to _ = false
@@ -60,27 +61,27 @@ abbrev pub casts_operand : Module → Operand → Bool
 casts_operand m (CastGlobal from symbol to) = (from == to) || casts_global m to symbol
 casts_operand m _ = true
 
--- a reference to a layout may be named as one, or as `i8*`
-abbrev pub casts_known : LaidOut → FactSet → (to : ℕ) → Known → Bool
-casts_known p facts to Nothing = true
-casts_known p facts to (Number bits below) = false
-casts_known p facts to (Cell class layout stale) = fits_layout layout (kind_of p.of_module to)
-casts_known p facts to Null = may_be_reference (kind_of p.of_module to)
-casts_known p facts to (Address base words) = casts_base p to words (known_at facts.values base)
-casts_known p facts to (GlobalAddress symbol) = casts_global p.of_module to symbol
+-- a number of a type of its bits may be named as one of another type of as many; a reference to a layout as one, or as `i8*`
+abbrev pub casts_known : LaidOut → FactSet → (from to : ℕ) → Known → Bool
+casts_known p facts from to Nothing = true
+casts_known p facts from to (Number bits below) = is_bits bits (kind_of p.of_module from) && is_bits bits (kind_of p.of_module to)
+casts_known p facts from to (Cell class layout stale) = fits_layout layout (kind_of p.of_module to)
+casts_known p facts from to Null = may_be_reference (kind_of p.of_module to)
+casts_known p facts from to (Address base words) = casts_base p to words (known_at facts.values base)
+casts_known p facts from to (GlobalAddress symbol) = casts_global p.of_module to symbol
 
 -- a name names a slot, or a value
-abbrev pub casts_local : LaidOut → SlotTable → FactSet → (to : ℕ) → Known → (slot : Option ℕ) → Bool
-casts_local p slots facts to known None = casts_known p facts to known
-casts_local p slots facts to known (Some s) = casts_slot (slot_kind p.of_module slots s) (place_kind p.of_module to)
+abbrev pub casts_local : LaidOut → SlotTable → FactSet → (from to : ℕ) → Known → (slot : Option ℕ) → Bool
+casts_local p slots facts from to known None = casts_known p facts from to known
+casts_local p slots facts from to known (Some s) = casts_slot (slot_kind p.of_module slots s) (place_kind p.of_module to)
 
 -- a bitcast to another type keeps the layout
 abbrev pub casts_other : LaidOut → SlotTable → FactSet → (from to : ℕ) → Operand → Bool
 casts_other p slots facts from to (Written c) = casts_constant p.of_module from to c
-casts_other p slots facts from to (Local v) = casts_local p slots facts to (known_at facts.values v) (slot_of slots v)
-casts_other p slots facts from to operand = casts_known p facts to (known_of facts operand)
+casts_other p slots facts from to (Local v) = casts_local p slots facts from to (known_at facts.values v) (slot_of slots v)
+casts_other p slots facts from to operand = casts_known p facts from to (known_of facts operand)
 
--- K19: a bitcast leads to the same type, or to a type of the same layout
+-- K19: a bitcast leads to the same type, to one of numbers of as many bits, or to a type of the same layout
 abbrev pub may_cast : LaidOut → SlotTable → FactSet → (from to : ℕ) → Operand → Bool
 may_cast p slots facts from to operand = (from == to) || casts_other p slots facts from to operand
 
@@ -96,6 +97,7 @@ cast_number v n _ facts = define v Nothing facts
 -- a constant under another type; null is a reference where a type says its layout
 abbrev pub cast_constant : Module → (v from to : ℕ) → Constant → FactSet → FactSet
 cast_constant m v from to (Numeral n) facts = cast_number v n (kind_of m to) facts
+cast_constant m v from to (Floating n) facts = define_number v (kind_of m to) None facts
 cast_constant m v from to (Truth b) facts = define v Nothing facts
 cast_constant m v from to NullWritten facts = define_held v (layout_of_null (kind_of m from) (kind_of m to)) false facts
 

@@ -113,9 +113,15 @@ abbrev pub number_comes_in : (n : ℕ) → TypeKind → Known
 number_comes_in n (kind.Bits bits) = Number bits (below_next n)
 number_comes_in n _ = Nothing
 
+-- what is known of a floating point number that comes in at a type of this kind
+abbrev pub float_comes_in : TypeKind → Known
+float_comes_in (kind.Bits bits) = Number bits None
+float_comes_in _ = Nothing
+
 -- what is known of a constant that comes in
 abbrev pub constant_comes_in : Constant → TypeKind → Known
 constant_comes_in (constant.Number n) kind = number_comes_in n kind
+constant_comes_in (constant.Float n) kind = float_comes_in kind
 constant_comes_in constant.Null kind = Null
 constant_comes_in (constant.Truth b) kind = Nothing
 
@@ -172,6 +178,7 @@ precedes f to (Some from) = is_predecessor f to from
 -- two constants are one
 abbrev pub is_same_constant : Constant → Constant → Bool
 is_same_constant (constant.Number n) (constant.Number m) = n == m
+is_same_constant (constant.Float n) (constant.Float m) = n == m
 is_same_constant constant.Null constant.Null = true
 is_same_constant (constant.Truth true) (constant.Truth true) = true
 is_same_constant (constant.Truth false) (constant.Truth false) = true

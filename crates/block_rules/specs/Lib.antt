@@ -8,6 +8,7 @@ pub mod FirstFailing
 pub mod RuleNames
 pub mod Bounds
 pub mod Integers
+pub mod Floats
 pub mod Promises
 pub mod Casts
 pub mod Elements

@@ -38,6 +38,7 @@ use Rattle.block_rules.specs.TypeKinds.{kind_of, is_integer, is_pointer, is_void
 use Rattle.block_rules.specs.Barriers.{needs_no_barrier}
 use Rattle.block_rules.specs.Casts.{casts_operand, may_cast, after_cast}
 use Rattle.block_rules.specs.Elements.{may_be_base, are_indices, may_lead, after_element}
+use Rattle.block_rules.specs.Floats.{float_conditions, float_kind}
 use Rattle.block_rules.specs.Integers.{below_of, arithmetic_below, define_number, may_resize, resized_below, may_compare, after_compare, known_layout, one_layout, may_choose, after_select}
 use Rattle.block_rules.specs.Promises.{keeps_promise}
 use Rattle.block_rules.specs.Calls.{no_slots, call_conditions, after_call}
@@ -94,7 +95,7 @@ is_condition m f slots facts written condition = is_bits 1 (kind_of m written) &
 
 -- ---- the conditions, in the order of their numbers
 
--- of an operation on integers
+-- of an operation on numbers
 abbrev pub number_conditions : LaidOut → Function → SlotTable → InstrContext → FactSet → NumberOp → List (Rule × Bool)
 number_conditions p f slots here facts (number.Arithmetic kind written first second) =
     (K1, is_available slots facts first && is_available slots facts second)
@@ -110,6 +111,7 @@ number_conditions p f slots here facts (number.Compare kind written first second
     ∷ (K3, is_current facts (known_of facts first) && is_current facts (known_of facts second))
     ∷ (K10, is_no_slot slots first && is_no_slot slots second)
     ∷ (K12, here.may_move_references) ∷ []
+number_conditions p f slots here facts (number.Float x) = float_conditions p.of_module f slots here facts x
 
 -- of an operation on memory
 abbrev pub memory_conditions : LaidOut → Function → SlotTable → InstrContext → FactSet → (result : Option ℕ) → MemoryOp → List (Rule × Bool)
@@ -220,11 +222,12 @@ abbrev pub after_alloca : (slot : Option ℕ) → FactSet → FactSet
 after_alloca None facts = facts
 after_alloca (Some s) facts = end_slot s facts
 
--- an operation on integers that defines this name
+-- an operation on numbers that defines this name
 abbrev pub after_number : Module → (v : ℕ) → NumberOp → FactSet → FactSet
 after_number m v (number.Arithmetic kind written first second) facts = define_number v (kind_of m written) (arithmetic_below kind first second) facts
 after_number m v (number.Resize kind from operand to) facts = define_number v (kind_of m to) (resized_below kind (below_of facts operand)) facts
 after_number m v (number.Compare kind written first second) facts = after_compare v kind first second facts
+after_number m v (number.Float x) facts = define_number v (float_kind m x) None facts
 
 -- an operation on memory, by the name that it defines, if it does
 abbrev pub after_memory : LaidOut → SlotTable → (result : Option ℕ) → MemoryOp → FactSet → FactSet

@@ -1,13 +1,14 @@
-ghost use Rattle.std.specs.Prelude.{◌≡◌, OnOk};
+ghost use Rattle.std.specs.Prelude.{◌≡◌, ◌&&◌, OnOk};
 ghost use Rattle.fact_tables.specs.Rows.{is_on, off_base};
 ghost use Rattle.block_rules.specs.FirstFailing.{first_failing};
 ghost use Rattle.block_rules.specs.Rules.{cast_conditions};
+ghost use Rattle.block_rules.specs.TypeKinds.{kind_of, is_bits};
 ghost use Rattle.block_rules.specs.Casts.{casts_null, casts_constant, casts_slot, casts_words, casts_base, casts_to, casts_global, casts_operand, casts_known, casts_other, may_cast, layout_of_null, cast_number, cast_constant, cast_local, after_cast};
 
 use crate::conditions::first_failing;
 use crate::context::RuleContext;
 use crate::instr_context::InstrContext;
-use crate::numbers::below_next;
+use crate::numbers::{below_next, define_number};
 use crate::operands::{is_available, is_operand_current, is_typed, known_of};
 use crate::places::{define_held, layout_of_word, loads_words};
 use crate::rule::Rule;
@@ -86,12 +87,19 @@ pub fn casts_operand(module: &Module, operand: &Operand) -> bool
     }
 }
 
-fn casts_known(program: &Program, facts: &Facts, to: TypeId, known: &Known) -> bool
-    ensures { result ≡ casts_known program.now facts.now to known.now }
+/// Whether numbers of these bits are of both types.
+fn is_number_of(module: &Module, bits: u32, from: TypeId, to: TypeId) -> bool
+    ensures { result ≡ (is_bits bits (kind_of «module».now from) && is_bits bits (kind_of «module».now to)) }
+{
+    TypeKind::of(module, from).is_bits(bits as u64) && TypeKind::of(module, to).is_bits(bits as u64)
+}
+
+fn casts_known(program: &Program, facts: &Facts, from: TypeId, to: TypeId, known: &Known) -> bool
+    ensures { result ≡ casts_known program.now facts.now from to known.now }
 {
     match known {
         Known::Nothing => true,
-        Known::Number { .. } => false,
+        Known::Number { bits, .. } => is_number_of(program.module(), *bits, from, to),
         Known::Cell { layout, .. } => TypeKind::of(program.module(), to).fits_layout(*layout),
         Known::Null => TypeKind::of(program.module(), to).may_be_reference(),
         Known::Address { base, words } => casts_base(program, to, words, &facts.known(*base)),
@@ -116,9 +124,9 @@ fn casts_other(
                 TypeKind::of_slot(context.module(), context.slots, s),
                 TypeKind::of_place(context.module(), to),
             ),
-            None => casts_known(context.program, facts, to, &facts.known(*v)),
+            None => casts_known(context.program, facts, from, to, &facts.known(*v)),
         },
-        operand => casts_known(context.program, facts, to, &known_of(facts, operand)),
+        operand => casts_known(context.program, facts, from, to, &known_of(facts, operand)),
     }
 }
 
@@ -168,6 +176,7 @@ fn cast_constant(
 {
     match constant {
         Constant::Number(number) => cast_number(facts, v, number, TypeKind::of(module, to)),
+        Constant::Float(_) => define_number(facts, v, TypeKind::of(module, to), None),
         Constant::Truth(_) => facts.define(v, Known::Nothing),
         Constant::Null => {
             let layout = layout_of_null(TypeKind::of(module, from), TypeKind::of(module, to));

@@ -12,6 +12,8 @@ mod conditions;
 mod context;
 mod elements;
 mod ends;
+mod floats;
+mod foreign;
 mod head;
 mod instr_context;
 mod may_move_references;

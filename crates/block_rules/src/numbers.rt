@@ -7,6 +7,7 @@ ghost use Rattle.ir_ast.specs.declared.numbers.Arithmetic.{Arithmetic};
 
 use crate::conditions::first_failing;
 use crate::context::RuleContext;
+use crate::floats::{float_kind, float_refusal};
 use crate::instr_context::InstrContext;
 use crate::operands::{
     is_available, is_no_slot, is_operand_current, is_value, known_of, number_of,
@@ -101,7 +102,7 @@ pub fn arithmetic_below(kind: Arithmetic, first: &Operand, second: &Operand) -> 
     }
 }
 
-/// A value is an integer of a type of this kind.
+/// A value is a number of a type of this kind.
 pub fn define_number(
     facts: &mut Facts,
     v: ValueId,
@@ -303,7 +304,7 @@ fn compare_refusal(
     ])
 }
 
-/// The rule that an operation on integers breaks, if it breaks one.
+/// The rule that an operation on numbers breaks, if it breaks one.
 pub fn number_refusal(
     context: &RuleContext,
     here: InstrContext,
@@ -343,10 +344,11 @@ pub fn number_refusal(
             };
             compare_refusal(context, here, facts, *kind, &first, second)
         }
+        NumberOp::Float(op) => float_refusal(context, here, facts, op),
     }
 }
 
-/// Goes on to what is known after an operation on integers that defines this name.
+/// Goes on to what is known after an operation on numbers that defines this name.
 pub fn after_number(
     context: &RuleContext,
     facts: &mut Facts,
@@ -380,5 +382,6 @@ pub fn after_number(
             second,
             ..
         } => after_compare(facts, v, *kind, first, second),
+        NumberOp::Float(op) => define_number(facts, v, float_kind(context.module(), op), None),
     }
 }

@@ -80,5 +80,6 @@ pub fn claims_as_certs(
     Ok(Certs {
         sections,
         shapes: None,
+        foreign: Items::new(alloc),
     })
 }

@@ -122,6 +122,7 @@ learn_number_test v n _ taken f = f
 -- what the edge says of a value that was compared with a constant
 abbrev pub learn_constant_test : (v : ℕ) → Constant → Comparison → (taken : Bool) → FactSet → FactSet
 learn_constant_test v (constant.Number n) kind taken f = learn_number_test v n kind taken f
+learn_constant_test v (constant.Float n) kind taken f = f
 learn_constant_test v constant.Null kind taken f = learn_null_test v kind taken f
 learn_constant_test v (constant.Truth b) kind taken f = f
 

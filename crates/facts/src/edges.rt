@@ -36,7 +36,7 @@ impl Facts {
         match constant {
             Constant::Number(n) => self.learn_number_test(v, n, kind, taken),
             Constant::Null => self.learn_null_test(v, kind, taken),
-            Constant::Truth(_) => Ok(()),
+            Constant::Float(_) | Constant::Truth(_) => Ok(()),
         }
     }
 

@@ -5,7 +5,7 @@ use Rattle.ir_ast.specs.declared.function.Function.{Function}
 use Rattle.ir_ast.specs.declared.items_of_module.Global.{Global}
 use Rattle.ir_ast.specs.declared.items_of_module.StructType.{StructType}
 use Rattle.ir_ast.specs.declared.ir_type.IrType.{IrType}
-use Rattle.ir_ast.specs.declared.ir_type.IrType.TheVariants.{Void, Integer, Pointer, Opaque, Array, EmptyStruct, Struct, Named}
+use Rattle.ir_ast.specs.declared.ir_type.IrType.TheVariants.{Void, Integer, Float, Double, Pointer, Opaque, Array, EmptyStruct, Struct, Named}
 use Rattle.ir_ast.specs.declared.module.Module.{Module}
 use Rattle.pools.specs.declared.word_kind.WordKind.{WordKind}
 use Rattle.pools.specs.declared.word_kind.WordKind.TheVariants as kind
@@ -32,6 +32,8 @@ module _ (m n : Module) (grow : TablesGrow m n) where
   scalar_by written None at h = absurd cc
   scalar_by written (Some Void) at h = rw (grow.types written Void at) refl
   scalar_by written (Some (Integer bits)) at h = rw (grow.types written (Integer bits) at) refl
+  scalar_by written (Some Float) at h = rw (grow.types written Float at) refl
+  scalar_by written (Some Double) at h = rw (grow.types written Double at) refl
   scalar_by written (Some (Pointer part)) at h = rw (grow.types written (Pointer part) at) refl
   scalar_by written (Some Opaque) at h = rw (grow.types written Opaque at) refl
   scalar_by written (Some (Array length part)) at h = absurd cc
@@ -61,6 +63,8 @@ module _ (m n : Module) (grow : TablesGrow m n) where
   shaped_by : (shape : Option ℕ) (field : ℕ) (word : WordKind) (type : Option IrType) → slice_get m.types field ≡ type → (if is_opaque_type type then reference_to shape else word_of_type m type) ≡ Some word → shaped_word n shape field ≡ Some word
   shaped_by shape field word (Some Opaque) at h = rw (grow.types field Opaque at) h
   shaped_by shape field word (Some (Integer bits)) at h = rw (grow.types field (Integer bits) at) h
+  shaped_by shape field word (Some Float) at h = rw (grow.types field Float at) h
+  shaped_by shape field word (Some Double) at h = rw (grow.types field Double at) h
   shaped_by shape field word (Some (Pointer part)) at h = rw (grow.types field (Pointer part) at) (reference_stays part word (layout_of_struct m (slice_get m.types part)) refl h)
   shaped_by shape field word _ at h = absurd cc
 

@@ -181,7 +181,7 @@ impl<'a> Reading<'a> {
         self.set_place(slot, place);
     }
 
-    /// An integer is read or written at a place: where that is a reference, its cell begins with such an integer.
+    /// A number is read or written at a place: where that is a reference, its cell begins with such a number.
     fn integer(
         &mut self,
         written: TypeId,
@@ -195,10 +195,13 @@ impl<'a> Reading<'a> {
             return Ok(());
         }
         match (self.place(*base), self.module_read().types.get(written)) {
-            (Place::Unknown, Some(IrType::Integer(bits))) => {
-                let base = self.number(*base);
-                self.evidence.add_integer(base, bits)
-            }
+            (Place::Unknown, Some(written)) => match word_bits(written) {
+                Some(bits) => {
+                    let base = self.number(*base);
+                    self.evidence.add_integer(base, bits)
+                }
+                None => Ok(()),
+            },
             _ => Ok(()),
         }
     }
@@ -485,6 +488,16 @@ fn callee_of(module: &Module, symbol: SymbolId) -> Callee {
     match runtime_called(module, symbol) {
         Some(runtime) => Callee::Runtime(runtime),
         None => Callee::Unknown,
+    }
+}
+
+/// The bits of a word that holds numbers of this type.
+fn word_bits(written: IrType) -> Option<u32> {
+    match written {
+        IrType::Integer(bits) => Some(bits),
+        IrType::Float => Some(32),
+        IrType::Double => Some(64),
+        _ => None,
     }
 }
 

@@ -1,2 +1,3 @@
 mod Threads
 pub mod First
+mod Marked

@@ -3,7 +3,7 @@ use Rattle.std.proofs.Common.{◌≡◌, sym, subst}
 use Rattle.std.specs.Prelude.{◌<◌, ℕ, List, Option, length}
 use Rattle.ir_ast.specs.declared.module.Module.{Module}
 use Rattle.pools.specs.declared.word_kind.WordKind.{WordKind}
-use Rattle.layout.specs.Functions.{with_shapes}
+use Rattle.layout.specs.Functions.{with_certified}
 use Rattle.layout.specs.Layouts.{AreLayouts, AreSizes, IsLayoutFault, LaidOut}
 use Rattle.layout.specs.declared.fault.LayoutFault.{LayoutFault}
 use Rattle.layout.specs.declared.fault.LayoutFault.TheVariants as layout
@@ -22,9 +22,9 @@ pub record CertifiedProgram : Type 0 where
   pub program : LaidOut
   pub certs : Certs
 
--- the module that is checked with certificates: it has their shapes in place of its own
+-- the module that is checked with certificates: it has their shapes, and what they trust, in place of its own
 abbrev pub shaped : Module → Certs → Module
-shaped m certs = with_shapes m certs.shapes
+shaped m certs = with_certified m certs.shapes certs.foreign
 
 -- the first `count` functions of a module are certified
 abbrev pub IsModuleCertified : LaidOut → List Section → (count : ℕ) → Type 0

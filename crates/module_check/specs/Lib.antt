@@ -3,3 +3,4 @@ pub mod OneLayout
 pub mod Exclusive
 pub mod Discipline
 pub mod Refusals
+pub mod Trusts

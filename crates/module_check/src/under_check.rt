@@ -1,25 +1,34 @@
 ghost use Rattle.std.specs.Prelude.{◌≡◌, List, IfOk, IfErr};
-ghost use Rattle.layout.specs.Functions.{with_shapes};
+ghost use Rattle.layout.specs.Functions.{with_certified};
 ghost use Rattle.layout.specs.Layouts.{AreLayouts, AreSizes};
 ghost use Rattle.module_check.specs.Accepted.{IsLayoutReason, shaped};
 ghost use Rattle.pools.specs.declared.word_kind.WordKind.{WordKind as AWord};
 
 use crate::verdict::{NotAccepted, Reason};
 use certs::Certs;
-use copies::copy_shapes;
-use ir_ast::{Module, Shapes};
+use copies::{Certified, copy_shapes, copy_symbols};
+use ir_ast::Module;
 use layout::Program;
-use std::alloc::Global;
+use std::alloc::{AllocError, Global};
 use std::mem;
 
-/// A module with its layouts and the certificates with which it is checked. It has their shapes in place of its own; a module as it
-/// is read has no shapes.
+/// A module with its layouts and the certificates with which it is checked. It has their shapes in place of its own, and trusts what they
+/// trust; a module as it is read has no shapes, and trusts nothing.
 #[derive(Drop)]
 pub struct UnderCheck {
     program: Program,
     certs: Certs,
-    /// The shapes of the module itself.
-    own: Option<Shapes>,
+    /// The shapes of the module itself, and what it trusts.
+    own: Certified,
+}
+
+/// What these certificates say of their module.
+fn said_by(alloc: Global, certs: &Certs) -> Result<Certified, AllocError>
+    ensures { IfOk result (λ said. said ≡ record { shapes = certs.now.shapes; trusted = certs.now.foreign }) }
+{
+    let shapes = copy_shapes(alloc, &certs.shapes)?;
+    let trusted = copy_symbols(alloc, certs.foreign.as_slice())?;
+    Ok(Certified { shapes, trusted })
 }
 
 impl UnderCheck {
@@ -27,14 +36,14 @@ impl UnderCheck {
     pub fn new(alloc: Global, of_module: Module, certs: Certs) -> Result<Self, NotAccepted>
         ensures of_module { IfOk result (λ under. under.program.of_module ≡ shaped of_module certs) }
         ensures certs { IfOk result (λ under. under.certs ≡ certs) }
-        ensures own { IfOk result (λ under. under.own ≡ of_module.shapes) }
+        ensures own { IfOk result (λ under. under.own ≡ record { shapes = of_module.shapes; trusted = of_module.trusted }) }
         ensures laid_out { IfOk result (λ under. AreLayouts (shaped of_module certs) under.program.layouts × AreSizes (shaped of_module certs) under.program.sizes) }
         ensures fault { IfErr result (λ refused. IsLayoutReason (shaped of_module certs) refused.verdict) }
         ensures only { (words : List (List AWord)) → AreLayouts (shaped of_module certs) words → IfErr result (λ refused. refused.verdict ≡ Reason.Memory) }
         ensures given_back { IfErr result (λ refused. (refused.of_module ≡ of_module) × (refused.certs ≡ certs)) }
     {
-        let shapes = match copy_shapes(alloc, &certs.shapes) {
-            Ok(shapes) => shapes,
+        let said = match said_by(alloc, &certs) {
+            Ok(said) => said,
             Err(_) => {
                 return Err(NotAccepted {
                     verdict: Reason::Memory,
@@ -44,7 +53,10 @@ impl UnderCheck {
             }
         };
         let mut of_module = of_module;
-        let own = mem::replace(&mut of_module.shapes, shapes);
+        let own = Certified {
+            shapes: mem::replace(&mut of_module.shapes, said.shapes),
+            trusted: mem::replace(&mut of_module.trusted, said.trusted),
+        };
         match Program::new(alloc, of_module) {
             Ok(program) => Ok(UnderCheck {
                 program,
@@ -53,7 +65,7 @@ impl UnderCheck {
             }),
             Err(refused) => Err(NotAccepted {
                 verdict: Reason::from(refused.fault),
-                of_module: with_shapes(refused.of_module, own),
+                of_module: with_certified(refused.of_module, own),
                 certs,
             }),
         }
@@ -83,22 +95,23 @@ impl UnderCheck {
     /// The module as it was and the certificates, given back for this reason.
     pub fn refused(self, verdict: Reason) -> NotAccepted
         ensures verdict { result.verdict ≡ verdict }
-        ensures of_module { result.of_module ≡ with_shapes self.program.of_module self.own }
+        ensures of_module { result.of_module ≡ with_certified self.program.of_module self.own.shapes self.own.trusted }
         ensures certs { result.certs ≡ self.certs }
     {
         NotAccepted {
             verdict,
-            of_module: with_shapes(self.program.into_module(), self.own),
+            of_module: with_certified(self.program.into_module(), self.own),
             certs: self.certs,
         }
     }
 }
 
-/// A module with these shapes in place of its own.
-fn with_shapes(of_module: Module, shapes: Option<Shapes>) -> Module
-    ensures { result ≡ with_shapes of_module shapes }
+/// A module with this in place of what it has of certificates.
+fn with_certified(of_module: Module, said: Certified) -> Module
+    ensures { result ≡ with_certified of_module said.shapes said.trusted }
 {
     let mut of_module = of_module;
-    of_module.shapes = shapes;
+    of_module.shapes = said.shapes;
+    of_module.trusted = said.trusted;
     of_module
 }

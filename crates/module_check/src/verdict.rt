@@ -107,9 +107,9 @@ fn fault_in_own_rooms(
     }
 }
 
-/// Checks a module against its certificates. It has their shapes then in place of its own. Where it is not accepted, the verdict is
-/// the first refusal in the order of functions, blocks, instructions and targets, or the fault of its layouts; module and
-/// certificates are given back as they were.
+/// Checks a module against its certificates. It has their shapes then in place of its own, and trusts what they trust. Where it is
+/// not accepted, the verdict is the first refusal in the order of functions, blocks, instructions and targets, or the fault of its
+/// layouts; module and certificates are given back as they were.
 /// Take a thread that begins at a function of an accepted module, with integer arguments that fit their types and meet what is
 /// promised of the parameters. It is never wrong, its roots are null or held, and its steps on the heap obey the discipline,
 /// whatever possible answers it gets, in whole calls and at each atomic step of a call. So for every number of such threads and

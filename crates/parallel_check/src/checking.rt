@@ -2,7 +2,7 @@
 ghost use Rattle.std.specs.Prelude.{◌≡◌, ◌<◌, ◌≤◌, Some, length, slice_get, IfErr, IfOk, IfSome, MatchOption, OnOk};
 ghost use Rattle.block_rules.specs.declared.block_fault.BlockFault.{BlockFault as ABlockFault};
 ghost use Rattle.block_rules.specs.declared.block_fault.Refusal.{Refusal as ARefusal};
-ghost use Rattle.layout.specs.Functions.{with_shapes};
+ghost use Rattle.layout.specs.Functions.{with_certified};
 ghost use Rattle.module_check.specs.Accepted.{IsAccepted, IsFirstInModule, IsModuleCertified, IsModuleFault, IsProgramCertified, IsVerdictOf, reason_of_block, shaped};
 ghost use Rattle.module_check.specs.Discipline.{AreDisciplined};
 ghost use Rattle.module_check.specs.Refusals.{AreOfFunctions};
@@ -100,7 +100,7 @@ fn check_under<R: Threads + Sync, G: Gate + Sync>(
     ensures careful { IfOk result (λ accepted. IsCarefulProgram accepted.program accepted.certs.sections) }
     ensures safe { IfOk result (λ accepted. IsSafeProgram accepted.program accepted.certs.sections) }
     ensures refused { IfErr result (λ refused. (fault : ABlockFault) × IsModuleFault under.program under.certs.sections (length under.program.of_module.functions) fault × (refused.verdict ≡ reason_of_block fault)) }
-    ensures given_back { IfErr result (λ refused. (refused.of_module ≡ with_shapes under.program.of_module under.own) × (refused.certs ≡ under.certs)) }
+    ensures given_back { IfErr result (λ refused. (refused.of_module ≡ with_certified under.program.of_module under.own.shapes under.own.trusted) × (refused.certs ≡ under.certs)) }
 {
     match fault_in_module(rt, alloc, workers, gate, under.program(), under.certs()) {
         None => {
