@@ -1,7 +1,9 @@
 mod Turns
 mod WrittenTypes
+mod FloatWords
 mod Few
 mod AsksArguments
+mod ForeignArguments
 mod Phis
 mod Arguments
 mod Kept

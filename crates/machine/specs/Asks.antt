@@ -10,8 +10,13 @@ use Rattle.ir_ast.specs.declared.ends.End.{End as AnEnd}
 use Rattle.ir_ast.specs.declared.ends.End.TheVariants as end
 use Rattle.ir_ast.specs.declared.function.Function.{Function}
 use Rattle.ir_ast.specs.declared.function.Parameter.{Parameter}
+use Rattle.ir_ast.specs.FloatFunctions as floats
 use Rattle.ir_ast.specs.IntegerFunctions.{widths}
+use Rattle.ir_ast.specs.declared.float_function.FloatFunction.{FloatFunction}
+use Rattle.ir_ast.specs.declared.floats.FloatOp.{FloatOp}
+use Rattle.ir_ast.specs.declared.floats.FloatOp.TheVariants as float
 use Rattle.ir_ast.specs.declared.integer_function.IntegerFunction.{IntegerFunction}
+use Rattle.ir_ast.specs.declared.ir_type.IrType.{IrType}
 use Rattle.ir_ast.specs.declared.items_of_module.Declare.{Declare}
 use Rattle.ir_ast.specs.declared.items_of_module.SymbolSort.{SymbolSort}
 use Rattle.ir_ast.specs.declared.items_of_module.SymbolSort.TheVariants as symbol
@@ -40,8 +45,8 @@ use Rattle.machine.specs.declared.value.Pointee.TheVariants as place
 use Rattle.machine.specs.declared.value.Value.{Value}
 use Rattle.machine.specs.declared.value.Value.TheVariants as value
 use Rattle.machine.specs.declared.action.Action.{Action}
-use Rattle.machine.specs.declared.action.Action.TheVariants.{Local, Read, Write, StorePlain, Alloc, Safepoint, End, Wrong}
-use Rattle.machine.specs.Kinds.{is_integer, is_integer_of, is_void, is_byte_pointer, is_place_of_bytes, leads_to, may_refer, may_lead, refers_to, may_cast_word, bits_at, is_set, is_reference, fits_layout_of, are_of_one_layout, number_in, value_of, is_typed, is_usable, is_usable_number, is_local_of, slot_at_place, address_at_place}
+use Rattle.machine.specs.declared.action.Action.TheVariants.{Local, Foreign, Read, Write, StorePlain, Alloc, Safepoint, End, Wrong}
+use Rattle.machine.specs.Kinds.{is_integer, is_integer_of, is_void, is_pointer_type, is_null_operand, bits_of, is_byte_pointer, is_place_of_bytes, leads_to, may_refer, may_lead, refers_to, may_cast_word, bits_at, is_set, is_reference, fits_layout_of, are_of_one_layout, number_in, value_of, is_typed, is_usable, is_usable_number, is_local_of, slot_at_place, address_at_place}
 use Rattle.machine.specs.Integers.{may_resize, is_equality}
 use Rattle.machine.specs.Elements.{element_offset, element_place, globals_cell, global_kind, is_read_as, takes_value}
 use Rattle.machine.specs.Jumps.{phis_of, phis_fit, switch_edge, cases_fit}
@@ -74,10 +79,11 @@ may_cast_place p to place.OfNull = may_lead p.of_module to
 may_cast_place p to (place.Word layout at word) = may_cast_word p.of_module to (kind_of_word p.layouts layout word)
 may_cast_place p to (place.Global g) = may_cast_word p.of_module to (global_kind p.of_module g)
 
--- a value may be cast to another type: a reference to i8* or to a reference of its layout, null also from place to place, an address as above
+-- a value may be cast to another type: a number to one of as many bits, a reference to i8* or to a reference of its layout, null also from place to place, an address as above
 abbrev pub may_cast_value : LaidOut → (from to : ℕ) → Value → Bool
 may_cast_value p from to value.Unset = false
-may_cast_value p from to (value.Number n) = false
+may_cast_value p from to (value.Number n) =
+    is_integer (slice_get p.of_module.types from) && (is_integer (slice_get p.of_module.types to) && (bits_at p.of_module from == bits_at p.of_module to))
 may_cast_value p from to value.Null = may_refer p.of_module to || (may_lead p.of_module from && may_lead p.of_module to)
 may_cast_value p from to (value.Cell layout at) = refers_to p.of_module layout to
 may_cast_value p from to (value.Address at) = may_cast_place p to at
@@ -139,9 +145,9 @@ store_action p slots stored usable v (Some slot) address =
     only_if (usable && (is_held_as p.of_module (slot_layout slots slot) (held_type slots slot) stored && fits_layout_of (slot_layout slots slot) v)) Local
 store_action p slots stored usable v None address = if usable then plain_action p stored v address else Wrong
 
--- ---- getelementptr, integers and references
+-- ---- getelementptr, numbers and references
 
--- each of these is an integer
+-- each of these is a number
 abbrev pub are_integers : Module → Function → SlotTable → List Value → List Argument → Bool
 are_integers m f slots registers arguments = list_all (λ argument. is_usable_number m f slots registers argument.written argument.operand) arguments
 
@@ -153,7 +159,7 @@ element_action p f slots registers x =
     && (is_some (element_type p.of_module x.source x.indices)
     && is_some (element_place p (element_offset p registers x.source x.indices) (value_of p.of_module registers x.base_type x.base))))) Local
 
--- two operands of a type are integers
+-- two operands of a type are numbers
 abbrev pub are_numbers : Module → Function → SlotTable → List Value → (written : ℕ) → (first second : Operand) → Bool
 are_numbers m f slots registers written first second =
     is_usable_number m f slots registers written first && is_usable_number m f slots registers written second
@@ -165,12 +171,12 @@ are_references m f slots registers written first second =
     && ((is_typed m f slots written first && is_reference (value_of m registers written first))
     && (is_typed m f slots written second && is_reference (value_of m registers written second)))
 
--- an icmp of two integers, or of two references, which are only compared for equality
+-- an icmp of two numbers, or of two references, which are only compared for equality
 abbrev pub may_compare : Module → Function → SlotTable → List Value → Comparison → (written : ℕ) → (first second : Operand) → Bool
 may_compare m f slots registers kind written first second =
     are_numbers m f slots registers written first second || (is_equality kind && are_references m f slots registers written first second)
 
--- a select of one of two integers, or of two references of one layout
+-- a select of one of two numbers, or of two references of one layout
 abbrev pub may_select : Module → Function → SlotTable → List Value → (written : ℕ) → (chosen other : Operand) → Bool
 may_select m f slots registers written chosen other =
     are_numbers m f slots registers written chosen other
@@ -208,7 +214,7 @@ abbrev pub are_safepoint_types : Module → (returned : ℕ) → List ℕ → Bo
 are_safepoint_types m returned [] = is_void (slice_get m.types returned)
 are_safepoint_types m returned parameters = false
 
--- these are integers of these widths
+-- these are numbers of these widths
 abbrev pub are_of_widths : Module → (widths types : List ℕ) → Bool
 are_of_widths m [] [] = true
 are_of_widths m (bits ∷ widths) (type ∷ types) = is_integer_of bits (slice_get m.types type) && are_of_widths m widths types
@@ -218,6 +224,10 @@ are_of_widths m _ _ = false
 abbrev pub are_integer_types : Module → IntegerFunction → (bits returned : ℕ) → List ℕ → Bool
 are_integer_types m function bits returned parameters = is_integer_of bits (slice_get m.types returned) && are_of_widths m (widths function bits) parameters
 
+-- the types of a function of floating point numbers: what it takes, and a number of its width
+abbrev pub are_float_types : Module → FloatFunction → (bits returned : ℕ) → List ℕ → Bool
+are_float_types m function bits returned parameters = is_integer_of bits (slice_get m.types returned) && are_of_widths m (floats.widths (floats.taken_by function) bits) parameters
+
 -- these are the types of a function of the runtime
 abbrev pub are_types_of : Module → Runtime → (returned : ℕ) → (parameters : List ℕ) → Bool
 are_types_of m runtime.Alloc = are_alloc_types m
@@ -226,6 +236,7 @@ are_types_of m runtime.GcRoot = are_gcroot_types m
 are_types_of m runtime.GcRead = are_gcread_types m
 are_types_of m runtime.GcWrite = are_gcwrite_types m
 are_types_of m (runtime.Integer function bits) = are_integer_types m function bits
+are_types_of m (runtime.Float function bits) = are_float_types m function bits
 
 -- whether a name is declared with types that pass a test
 abbrev pub declared_with : (ℕ → List ℕ → Bool) → Option Declare → Bool
@@ -330,7 +341,40 @@ defined_action m f slots registers returned arguments None = Wrong
 defined_action m f slots registers returned arguments (Some callee) =
     only_if ((returned == callee.returned) && arguments_pass m f slots registers callee.parameters arguments) Local
 
--- a call of a function of the runtime, declared and called with its types, or of a defined function; no other callee is known
+-- ---- calls of functions outside
+
+-- what a function outside gives, by its type: nothing, or a number
+abbrev pub asked_outside : Option IrType → Action
+asked_outside t = if is_void t then Local else (if is_integer t then Foreign (bits_of t) else Wrong)
+
+-- null, written at a pointer type
+abbrev pub is_null_argument : Module → Argument → Bool
+is_null_argument m argument = is_null_operand argument.operand && is_pointer_type (slice_get m.types argument.written)
+
+-- a function outside takes numbers or null, of its parameters' types
+abbrev pub are_outside_arguments : Module → Function → SlotTable → List Value → List ℕ → List Argument → Bool
+are_outside_arguments m f slots registers [] [] = true
+are_outside_arguments m f slots registers (type ∷ types) (argument ∷ arguments) =
+    (argument.written == type) && ((is_usable_number m f slots registers argument.written argument.operand || is_null_argument m argument)
+    && are_outside_arguments m f slots registers types arguments)
+are_outside_arguments m f slots registers _ _ = false
+
+-- a call of a declared function of a wide text, with its types; other names are those of defined functions
+abbrev pub outside_action : Module → Function → SlotTable → List Value → (returned : ℕ) → List Argument → Option Declare → (callee : Option Function) → Action
+outside_action m f slots registers returned arguments None callee = defined_action m f slots registers returned arguments callee
+outside_action m f slots registers returned arguments (Some d) callee =
+    only_if (m.wide && ((returned == d.returned) && are_outside_arguments m f slots registers d.parameters arguments)) (asked_outside (slice_get m.types returned))
+
+-- ---- functions of floating point numbers
+
+-- a function of floating point numbers takes numbers, and gives one from outside
+abbrev pub float_action : Module → Function → SlotTable → List Value → FloatFunction → (bits returned : ℕ) → List Argument → Action
+float_action m f slots registers function bits returned arguments =
+    only_if (are_float_types m function bits returned (written_types arguments) && are_integers m f slots registers arguments) (asked_outside (slice_get m.types returned))
+
+-- ---- calls
+
+-- a call of a function of the runtime, declared and called with its types, of a defined function, or of a function outside; no other callee is known
 abbrev pub call_action : LaidOut → Function → SlotTable → List Value → (returned : ℕ) → List Argument → Option Declare → (callee : Option Function) → Option Runtime → Action
 call_action p f slots registers returned arguments declare callee (Some runtime.Alloc) =
     only_if (declared_with (are_alloc_types p.of_module) declare) (alloc_action p.of_module returned arguments)
@@ -344,7 +388,9 @@ call_action p f slots registers returned arguments declare callee (Some runtime.
     only_if (declared_with (are_safepoint_types p.of_module) declare) (safepoint_action p.of_module returned arguments)
 call_action p f slots registers returned arguments declare callee (Some (runtime.Integer function bits)) =
     only_if (declared_with (are_integer_types p.of_module function bits) declare) (integer_action p.of_module f slots registers function bits returned arguments)
-call_action p f slots registers returned arguments declare callee None = defined_action p.of_module f slots registers returned arguments callee
+call_action p f slots registers returned arguments declare callee (Some (runtime.Float function bits)) =
+    only_if (declared_with (are_float_types p.of_module function bits) declare) (float_action p.of_module f slots registers function bits returned arguments)
+call_action p f slots registers returned arguments declare callee None = outside_action p.of_module f slots registers returned arguments declare callee
 
 -- ---- the end of a block
 
@@ -387,16 +433,38 @@ end_action m f slots from registers (end.Return argument) =
 
 -- ---- instructions
 
--- an operation on integers gives a number: its operands are set and of its types; a comparison for equality may be one of references
+-- an operation on floating point numbers gives a number: its operands are numbers of its types
+abbrev pub gives_float : Module → Function → SlotTable → List Value → FloatOp → Bool
+gives_float m f slots registers (float.Arithmetic kind written first second) = are_numbers m f slots registers written first second
+gives_float m f slots registers (float.Negate written o) = is_usable_number m f slots registers written o
+gives_float m f slots registers (float.Compare kind written first second) = are_numbers m f slots registers written first second
+gives_float m f slots registers (float.Convert kind from o to) = is_usable_number m f slots registers from o && is_integer (slice_get m.types to)
+
+-- how many bits that number has
+abbrev pub float_bits : Module → FloatOp → ℕ
+float_bits m (float.Arithmetic kind written first second) = bits_at m written
+float_bits m (float.Negate written o) = bits_at m written
+float_bits m (float.Compare kind written first second) = 1
+float_bits m (float.Convert kind from o to) = bits_at m to
+
+-- an operation on numbers gives a number: its operands are set and of its types; a comparison for equality may be one of references
 abbrev pub gives_number : Module → Function → SlotTable → List Value → NumberOp → Bool
 gives_number m f slots registers (number.Arithmetic kind written first second) = are_numbers m f slots registers written first second
 gives_number m f slots registers (number.Resize kind written o to) =
     is_usable_number m f slots registers written o && (is_integer (slice_get m.types to) && may_resize kind (bits_at m written) (bits_at m to))
 gives_number m f slots registers (number.Compare kind written first second) = may_compare m f slots registers kind written first second
+gives_number m f slots registers (number.Float x) = gives_float m f slots registers x
 
--- an operation on integers
+-- what an operation on numbers asks for: one on floating point numbers for a number from outside, one on integers for nothing
+abbrev pub number_asked : Module → NumberOp → Action
+number_asked m (number.Arithmetic kind written first second) = Local
+number_asked m (number.Resize kind written o to) = Local
+number_asked m (number.Compare kind written first second) = Local
+number_asked m (number.Float x) = Foreign (float_bits m x)
+
+-- an operation on numbers
 abbrev pub number_action : Module → Function → SlotTable → List Value → NumberOp → Action
-number_action m f slots registers x = only_if (gives_number m f slots registers x) Local
+number_action m f slots registers x = only_if (gives_number m f slots registers x) (number_asked m x)
 
 -- a select
 abbrev pub choice_action : Module → Function → SlotTable → List Value → Choice → Action

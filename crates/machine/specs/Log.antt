@@ -6,7 +6,7 @@ use Rattle.pools.specs.declared.word_kind.WordKind.TheVariants.{Integer, Referen
 use Rattle.pools.specs.Heap.{Setup, IsOfLayout, kind_of}
 use Rattle.layout.specs.Layouts.{LaidOut}
 use Rattle.machine.specs.declared.action.Action.{Action}
-use Rattle.machine.specs.declared.action.Action.TheVariants.{Local, Read, Write, StorePlain, Alloc, Safepoint, End, Wrong}
+use Rattle.machine.specs.declared.action.Action.TheVariants.{Local, Foreign, Read, Write, StorePlain, Alloc, Safepoint, End, Wrong}
 use Rattle.machine.specs.declared.answer.Answer.{Answer}
 use Rattle.machine.specs.declared.answer.Answer.TheVariants as answer
 use Rattle.machine.specs.declared.value.Reference.{Reference}
@@ -93,9 +93,10 @@ MayBeRead heap log (Some (Referring layout)) answer.Null = Unit {0}
 MayBeRead heap log (Some (Referring layout)) (answer.Cell at) = IsOfLayout heap layout at.cell × (IsFresh log at.cell → ⊥)
 MayBeRead heap log kind given = ⊥
 
--- what may be answered: to an alloc null, or a cell of the asked pool to which the thread holds no reference. To a safepoint: that nothing new was posted, or that the stage was answered
+-- what may be answered: to an ask for a number from outside one of its bits. To an alloc null, or a cell of the asked pool to which the thread holds no reference. To a safepoint: that nothing new was posted, or that the stage was answered
 abbrev pub Possible : Setup → Log → Action → Answer → Type 0
 Possible heap log Local answer.Done = Unit {0}
+Possible heap log (Foreign bits) (answer.Number n) = n < 2 ^ bits
 Possible heap log (Read at word) given = MayBeRead heap log (kind_of heap at.cell word) given
 Possible heap log (StorePlain at word v) answer.Done = Unit {0}
 Possible heap log (Write at word v) answer.Done = Unit {0}
@@ -132,6 +133,7 @@ MayBeWritten heap log kind v = ⊥
 -- an action is not wrong, and obeys the discipline: it touches words of the globals and of held cells alone
 abbrev pub Keeps : Setup → Log → Action → Type 0
 Keeps heap log Local = Unit {0}
+Keeps heap log (Foreign bits) = Unit {0}
 Keeps heap log (Read at word) = MayTouch log at × (kind_of heap at.cell word ≢ None)
 Keeps heap log (StorePlain at word v) = MayTouch log at × MayBeStored heap log at.cell (kind_of heap at.cell word) v
 Keeps heap log (Write at word v) = MayTouch log at × MayBeWritten heap log (kind_of heap at.cell word) v

@@ -193,20 +193,28 @@ integers_value m registers function bits arguments =
     let taken = λ (n : ℕ). integer_argument m registers (slice_get arguments n) in
     value.Number (function_value function bits (taken 0) (taken 1) (taken 2))
 
+-- a number from outside, as it is given
+abbrev pub given_value : Answer → Value
+given_value (answer.Number n) = value.Number n
+given_value given = value.Unset
+
 -- the frame after a call
 abbrev pub after_call : LaidOut → Function → SlotTable → (name : Option ℕ) → List Argument → Option Runtime → Answer → Frame → Frame
 after_call p f slots name arguments (Some runtime.Alloc) given frame = set_register name (alloc_value (layout_of_call p.of_module arguments) given) frame
 after_call p f slots name arguments (Some runtime.GcRoot) given frame = set_slot (root_of_call p.of_module f slots arguments) value.Null frame
 after_call p f slots name arguments (Some runtime.GcRead) given frame = set_register name (read_at p (place_of_call p.of_module f slots frame.registers arguments) given) frame
 after_call p f slots name arguments (Some (runtime.Integer function bits)) given frame = set_register name (integers_value p.of_module frame.registers function bits arguments) frame
+after_call p f slots name arguments (Some (runtime.Float function bits)) given frame = set_register name (given_value given) frame
+after_call p f slots name arguments None given frame = set_register name (given_value given) frame
 after_call p f slots name arguments _ given frame = frame
 
--- what an operation on integers gives
-abbrev pub number_value : Module → List Value → NumberOp → Value
-number_value m registers (number.Arithmetic kind written first second) =
+-- what an operation on numbers gives: one on floating point numbers what is given from outside
+abbrev pub number_value : Module → List Value → NumberOp → Answer → Value
+number_value m registers (number.Arithmetic kind written first second) given =
     value.Number (computed kind (bits_at m written) (number_in (value_of m registers written first)) (number_in (value_of m registers written second)))
-number_value m registers (number.Resize kind from o to) = value.Number (resized kind (bits_at m from) (bits_at m to) (number_in (value_of m registers from o)))
-number_value m registers (number.Compare kind written first second) = compared kind (bits_at m written) (value_of m registers written first) (value_of m registers written second)
+number_value m registers (number.Resize kind from o to) given = value.Number (resized kind (bits_at m from) (bits_at m to) (number_in (value_of m registers from o)))
+number_value m registers (number.Compare kind written first second) given = compared kind (bits_at m written) (value_of m registers written first) (value_of m registers written second)
+number_value m registers (number.Float x) given = given_value given
 
 -- what a select gives
 abbrev pub choice_value : Module → List Value → Choice → Value
@@ -232,7 +240,7 @@ after_memory p f slots name (memory.Store stored v place_type place) given frame
 
 -- the frame after an instruction that calls no defined function
 abbrev pub after_op : LaidOut → Function → SlotTable → (name : Option ℕ) → Op → Answer → Frame → Frame
-after_op p f slots name (op.Number x) given frame = set_register name (number_value p.of_module frame.registers x) frame
+after_op p f slots name (op.Number x) given frame = set_register name (number_value p.of_module frame.registers x given) frame
 after_op p f slots name (op.Memory x) given frame = after_memory p f slots name x given frame
 after_op p f slots name (op.Element x) given frame = set_register name (element_address p frame.registers x) frame
 after_op p f slots name (op.Cast x) given frame = after_cast p slots name x frame

@@ -9,6 +9,10 @@ use pools::LayoutId;
 pub enum Action {
     /// One step that touches no shared word.
     Local,
+    /// A number of this number of bits, from outside of the program.
+    Foreign {
+        bits: u32,
+    },
     /// What this word of a cell holds.
     Read {
         at: Reference,

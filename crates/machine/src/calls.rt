@@ -3,13 +3,15 @@ ghost use Rattle.std.specs.Prelude.{◌≡◌, IfOk, slice_get};
 ghost use Rattle.std.specs.Option.{option_copied};
 ghost use Rattle.types.specs.RuntimeCall.{runtime_called};
 ghost use Rattle.ir_ast.specs.IntegerFunctions.{widths_taken};
-ghost use Rattle.machine.specs.Asks.{are_gcroot_types, are_gcread_types, are_gcwrite_types, are_alloc_types, are_safepoint_types, are_of_widths, are_integer_types, written_types, declare_of, are_types_of, declared_with, is_root_place, gcroot_action, gcread_action, gcwrite_action, layout_numbered, layout_named, alloc_of, alloc_action, safepoint_action, integer_action, number_called, function_numbered, arguments_pass, defined_action, action_of_call};
+ghost use Rattle.machine.specs.Asks.{are_gcroot_types, are_gcread_types, are_gcwrite_types, are_alloc_types, are_safepoint_types, are_of_widths, are_integer_types, written_types, declare_of, are_types_of, declared_with, is_root_place, gcroot_action, gcread_action, gcwrite_action, layout_numbered, layout_named, alloc_of, alloc_action, safepoint_action, integer_action, number_called, function_numbered, arguments_pass, defined_action, outside_action, action_of_call};
 ghost use Rattle.machine.specs.Kinds.{slot_at_place, address_at_place};
 ghost use Rattle.machine.specs.Machine.{alloc_value, layout_of_call, root_of_call, place_of_call, values_of, function_called};
 
 use crate::action::{Action, only_if};
 use crate::answer::Answer;
 use crate::elements::are_integers;
+use crate::floats::{are_float_types, float_action};
+use crate::foreign::{are_outside_arguments, asked_outside};
 use crate::frame_context::FrameContext;
 use crate::kinds::{is_byte_pointer, is_integer_of, is_place_of_bytes, is_void};
 use crate::memory::{barrier_action, read_action};
@@ -252,6 +254,9 @@ fn are_types_of(
         Runtime::Integer { function, bits } => {
             are_integer_types(of_module, function, bits, returned, parameters)
         }
+        Runtime::Float { function, bits } => {
+            are_float_types(of_module, function, bits, returned, parameters)
+        }
     }
 }
 
@@ -284,9 +289,9 @@ fn safepoint_action(of_module: &Module, returned: TypeId, arguments: &[Argument]
     }
 }
 
-/// Whether there is one argument for each width, written as an integer of it.
+/// Whether there is one argument for each width, written as a number of it.
 #[tactic(auto, using(crate::proofs::WrittenTypes::other_count))]
-fn are_written_with(of_module: &Module, widths: &[u64], arguments: &[Argument]) -> bool
+pub fn are_written_with(of_module: &Module, widths: &[u64], arguments: &[Argument]) -> bool
     ensures { result ≡ are_of_widths of_module.now widths.now (written_types arguments.now) }
 {
     if widths.len() != arguments.len() {
@@ -395,7 +400,30 @@ fn defined_action(
     }
 }
 
-/// What a call asks for; no callee is known but the runtime's, declared and called with its types, and defined functions.
+/// What a call asks for that is of no function of the runtime: of a declared function of a wide text, or else of a defined one.
+fn outside_action(
+    context: &FrameContext<'_>,
+    returned: TypeId,
+    arguments: &[Argument],
+    declare: Option<&Declare>,
+    callee: SymbolId,
+) -> Action
+    ensures { let m = context.now.program.now.of_module in result ≡ outside_action m context.now.function.now context.now.slots.now context.now.registers.now returned arguments.now (option_copied declare.entry) (function_numbered m (number_called m callee)) }
+{
+    let of_module = context.of_module();
+    let Some(declare) = declare else {
+        let function = function_named(of_module, callee);
+        return defined_action(context, returned, arguments, function);
+    };
+    only_if(
+        of_module.wide
+            && (returned == declare.returned
+                && are_outside_arguments(context, declare.parameters.as_slice(), arguments)),
+        asked_outside(of_module, returned),
+    )
+}
+
+/// What a call asks for; no callee is known but the runtime's, declared and called with its types, defined functions, and those outside.
 pub fn call_action(context: &FrameContext<'_>, call: &Call) -> Action
     ensures { result ≡ action_of_call context.now.program.now context.now.function.now context.now.slots.now context.now.registers.now call.now }
 {
@@ -432,12 +460,11 @@ pub fn call_action(context: &FrameContext<'_>, call: &Call) -> Action
             declares(of_module, Runtime::Integer { function, bits }, declare),
             integer_action(context, function, bits, returned, arguments),
         ),
-        None => defined_action(
-            context,
-            returned,
-            arguments,
-            function_named(of_module, callee),
+        Some(Runtime::Float { function, bits }) => only_if(
+            declares(of_module, Runtime::Float { function, bits }, declare),
+            float_action(context, function, bits, returned, arguments),
         ),
+        None => outside_action(context, returned, arguments, declare, callee),
     }
 }
 

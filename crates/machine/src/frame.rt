@@ -8,6 +8,7 @@ use crate::answer::Answer;
 use crate::calls::{alloc_value, layout_of_call, place_of_call, root_of_call};
 use crate::choices::choice_value;
 use crate::elements::element_address;
+use crate::foreign::given_value;
 use crate::frame_code::FrameCode;
 use crate::frame_context::FrameContext;
 use crate::integer_functions::integers_value;
@@ -69,7 +70,7 @@ impl Frame {
         } = *code;
         match op {
             Op::Number(op) => {
-                let value = number_value(&self.context(program, function, slots), op);
+                let value = number_value(&self.context(program, function, slots), op, answer);
                 self.set_register(name, value);
             }
             Op::Memory(op) => self.after_memory(code, name, op, answer),
@@ -171,7 +172,8 @@ impl Frame {
                 let value = integers_value(&context, function, bits, arguments);
                 self.set_register(name, value);
             }
-            _ => {}
+            Some(Runtime::Float { .. }) | None => self.set_register(name, given_value(answer)),
+            Some(Runtime::Safepoint | Runtime::GcWrite) => {}
         }
     }
 

@@ -1,12 +1,15 @@
-//! Operations on integers: what they ask for, and what they give.
+//! Operations on numbers: what they ask for, and what they give.
 ghost use Rattle.std.specs.Prelude.{◌≡◌, ◌&&◌, slice_get};
 ghost use Rattle.machine.specs.Kinds.{value_of, is_integer, is_usable_number, bits_at, number_in};
 ghost use Rattle.machine.specs.Integers.{may_resize, computed, resized};
-ghost use Rattle.machine.specs.Asks.{may_compare, gives_number, number_action};
+ghost use Rattle.machine.specs.Asks.{may_compare, gives_number, number_asked, number_action};
 ghost use Rattle.machine.specs.Machine.{are_equal, compared, number_value};
 ghost use Rattle.machine.specs.declared.value.Value.TheVariants as value;
 
 use crate::action::{Action, only_if};
+use crate::answer::Answer;
+use crate::floats::{float_bits, gives_float};
+use crate::foreign::given_value;
 use crate::frame_context::FrameContext;
 use crate::integers::{
     compares, compares_equal, computed, is_equality, may_resize, resized, truth,
@@ -14,7 +17,7 @@ use crate::integers::{
 use crate::kinds::{bits_at, is_integer, number_in};
 use crate::operands::{are_numbers, are_references, is_usable_number, value_of};
 use crate::value::Value;
-use ir_ast::{Arithmetic, Comparison, NumberOp, Operand, Resize, TypeId};
+use ir_ast::{Arithmetic, Comparison, Module, NumberOp, Operand, Resize, TypeId};
 
 fn may_compare(
     context: &FrameContext<'_>,
@@ -66,14 +69,30 @@ fn gives_number(context: &FrameContext<'_>, op: &NumberOp) -> bool
             first,
             second,
         } => may_compare(context, *kind, *written, first, second),
+        NumberOp::Float(op) => gives_float(context, op),
     }
 }
 
-/// What an operation on integers asks for.
+/// What an operation on numbers asks for: one on floating point numbers for a number from outside, one on integers for nothing.
+fn number_asked(of_module: &Module, op: &NumberOp) -> Action
+    ensures { result ≡ number_asked of_module.now op.now }
+{
+    match op {
+        NumberOp::Float(op) => Action::Foreign {
+            bits: float_bits(of_module, op),
+        },
+        _ => Action::Local,
+    }
+}
+
+/// What an operation on numbers asks for, if it has a meaning.
 pub fn number_action(context: &FrameContext<'_>, op: &NumberOp) -> Action
     ensures { result ≡ number_action context.now.program.now.of_module context.now.function.now context.now.slots.now context.now.registers.now op.now }
 {
-    only_if(gives_number(context, op), Action::Local)
+    only_if(
+        gives_number(context, op),
+        number_asked(context.of_module(), op),
+    )
 }
 
 /// What an integer instruction of two operands gives.
@@ -134,9 +153,9 @@ fn compared(kind: Comparison, bits: u32, first: Value, second: Value) -> Value
     }
 }
 
-/// What an operation on integers gives.
-pub fn number_value(context: &FrameContext<'_>, op: &NumberOp) -> Value
-    ensures { result ≡ number_value context.now.program.now.of_module context.now.registers.now op.now }
+/// What an operation on numbers gives.
+pub fn number_value(context: &FrameContext<'_>, op: &NumberOp, answer: Answer) -> Value
+    ensures { result ≡ number_value context.now.program.now.of_module context.now.registers.now op.now answer }
 {
     match op {
         NumberOp::Arithmetic {
@@ -162,5 +181,6 @@ pub fn number_value(context: &FrameContext<'_>, op: &NumberOp) -> Value
             value_of(context, *written, first),
             value_of(context, *written, second),
         ),
+        NumberOp::Float(_) => given_value(answer),
     }
 }

@@ -1,5 +1,5 @@
 -- What a thread gets for what it asked for, and what it reads by it.
-use Rattle.std.proofs.Common.{◌≡◌, ◌≢◌, ◌<◌, ◌^◌, ℕ, zero, suc, refl, sym, ap, subst, ◌∙◌, arith, true, false, Bool, Option, Some, None, slice_get, inl, inr}
+use Rattle.std.proofs.Common.{◌≡◌, ◌≢◌, ◌<◌, ◌^◌, List, ℕ, zero, suc, refl, sym, ap, subst, ◌∙◌, arith, true, false, Bool, Option, Some, None, slice_get, inl, inr}
 use Rattle.std.proofs.lemmas.Bool.Decides.{Decides-eqb}
 use Rattle.std.specs.Prelude.{◌⊎◌, ◌==◌, if◌then◌else◌}
 use Rattle.ir_ast.specs.declared.module.Module.{Module}
@@ -9,20 +9,20 @@ use Rattle.pools.specs.declared.word_kind.WordKind.{WordKind}
 use Rattle.pools.specs.declared.word_kind.WordKind.TheVariants as kind
 use Rattle.layout.specs.Layouts.{LaidOut}
 use Rattle.machine.specs.declared.action.Action.{Action}
-use Rattle.machine.specs.declared.action.Action.TheVariants.{Local, Read, StorePlain, Write, Alloc, Safepoint, End, Wrong}
+use Rattle.machine.specs.declared.action.Action.TheVariants.{Local, Foreign, Read, StorePlain, Write, Alloc, Safepoint, End, Wrong}
 use Rattle.machine.specs.declared.answer.Answer.{Answer}
 use Rattle.machine.specs.declared.answer.Answer.TheVariants as answer
 use Rattle.machine.specs.declared.value.Pointee.{Pointee}
 use Rattle.machine.specs.declared.value.Pointee.TheVariants as place
 use Rattle.machine.specs.Asks.{only_if, read_action}
 use Rattle.machine.specs.Elements.{global_kind, is_read_as, read_value}
-use Rattle.machine.specs.Machine.{alloc_value, read_at}
+use Rattle.machine.specs.Machine.{alloc_value, given_value, read_at}
 use Rattle.runs.specs.Machine as runs
 use Rattle.runs.specs.Machine.{WordValue}
 use Rattle.moves.specs.Kinds.{MayHold, AnswersByKind}
-use Rattle.program_safety.specs.Threads.{asked_as, word_read, given_as}
+use Rattle.program_safety.specs.Threads.{asked_as, word_read, next_value, given_as}
 use Rattle.program_runner.specs.Kinds.{FitsHeap, IsHeapWith}
-use Rattle.program_runner.specs.Values.{PlaceFits}
+use Rattle.program_runner.specs.Values.{PlaceFits, wrapped_below}
 
 -- ---- words
 
@@ -60,6 +60,7 @@ GivesNothing _ = ⊥
 
 -- what is given fits what was asked for
 abbrev pub FitsAsked : Setup → Action → Answer → Type 0
+FitsAsked s (Foreign bits) given = FitsHeap s (given_value given)
 FitsAsked s (Read at word) given = FitsHeap s (read_value (kind_of s at.cell word) given)
 FitsAsked s (Alloc layout) given = FitsHeap s (alloc_value (Some layout) given)
 FitsAsked s asked given = GivesNothing given
@@ -86,6 +87,14 @@ module _ (s : Setup) where
   nothing_claimed layout (answer.Number n) h = absurd h
   nothing_claimed layout answer.Null h = absurd h
   nothing_claimed layout (answer.Cell at) h = absurd h
+
+  -- nor got from outside
+  pub nothing_given : (given : Answer) → GivesNothing given → FitsHeap s (given_value given)
+  nothing_given answer.Done h = tt
+  nothing_given answer.Answered h = tt
+  nothing_given (answer.Number n) h = absurd h
+  nothing_given answer.Null h = absurd h
+  nothing_given (answer.Cell at) h = absurd h
 
   -- nor is anything read at an address
   pub nothing_at : (p : LaidOut) (address : Option Pointee) (given : Answer) → GivesNothing given → FitsHeap s (read_at p address given)
@@ -114,23 +123,24 @@ module _ (s : Setup) where
   word_fits (Some (kind.Integer bits)) r h = h
   word_fits (Some (kind.Reference layout)) r h = found layout r h (r.cell == 0) refl
 
-  -- what is answered in a run fits what a thread asked for
-  pub given_fits : (asked : Action) (given : runs.Answer) → AnswersByKind s (asked_as asked) given → FitsAsked s asked (given_as s asked given)
-  given_fits (Read at word) runs.Done h = nothing_read (kind_of s at.cell word) answer.Done tt
-  given_fits (Read at word) (runs.Got r) h = word_fits (kind_of s at.cell word) r h
-  given_fits (Read at word) (runs.Answered stage) h = nothing_read (kind_of s at.cell word) answer.Done tt
-  given_fits (Alloc layout) runs.Done h = tt
-  given_fits (Alloc layout) (runs.Got r) h = claimed layout r h (r.cell == 0) refl
-  given_fits (Alloc layout) (runs.Answered stage) h = tt
-  given_fits Safepoint runs.Done h = tt
-  given_fits Safepoint (runs.Got r) h = tt
-  given_fits Safepoint (runs.Answered None) h = tt
-  given_fits Safepoint (runs.Answered (Some stage)) h = tt
-  given_fits Local given h = tt
-  given_fits (StorePlain at word v) given h = tt
-  given_fits (Write at word v) given h = tt
-  given_fits End given h = tt
-  given_fits Wrong given h = tt
+  -- what is answered in a run fits what a thread asked for, whatever numbers it has from outside
+  pub given_fits : (values : List ℕ) (asked : Action) (given : runs.Answer) → AnswersByKind s (asked_as asked) given → FitsAsked s asked (given_as s values asked given)
+  given_fits values (Foreign bits) given h = wrapped_below bits (next_value values)
+  given_fits values (Read at word) runs.Done h = nothing_read (kind_of s at.cell word) answer.Done tt
+  given_fits values (Read at word) (runs.Got r) h = word_fits (kind_of s at.cell word) r h
+  given_fits values (Read at word) (runs.Answered stage) h = nothing_read (kind_of s at.cell word) answer.Done tt
+  given_fits values (Alloc layout) runs.Done h = tt
+  given_fits values (Alloc layout) (runs.Got r) h = claimed layout r h (r.cell == 0) refl
+  given_fits values (Alloc layout) (runs.Answered stage) h = tt
+  given_fits values Safepoint runs.Done h = tt
+  given_fits values Safepoint (runs.Got r) h = tt
+  given_fits values Safepoint (runs.Answered None) h = tt
+  given_fits values Safepoint (runs.Answered (Some stage)) h = tt
+  given_fits values Local given h = tt
+  given_fits values (StorePlain at word v) given h = tt
+  given_fits values (Write at word v) given h = tt
+  given_fits values End given h = tt
+  given_fits values Wrong given h = tt
 
   -- under a condition the same is asked for, or nothing
   pub only_gives : (b : Bool) (asked : Action) (given : Answer) → FitsAsked s (only_if b asked) given → FitsAsked s asked given ⊎ GivesNothing given

@@ -7,6 +7,8 @@ use Rattle.ir_ast.specs.declared.ends.End.{End as AnEnd}
 use Rattle.ir_ast.specs.declared.ends.End.TheVariants as end
 use Rattle.ir_ast.specs.declared.function.Function.{Function}
 use Rattle.ir_ast.specs.declared.instr.Instr.{Instr}
+use Rattle.ir_ast.specs.declared.float_function.FloatFunction.{FloatFunction}
+use Rattle.ir_ast.specs.declared.ir_type.IrType.{IrType}
 use Rattle.ir_ast.specs.declared.items_of_module.Declare.{Declare}
 use Rattle.ir_ast.specs.declared.memory.MemoryOp.{MemoryOp}
 use Rattle.ir_ast.specs.declared.memory.MemoryOp.TheVariants as memory
@@ -22,19 +24,20 @@ use Rattle.pools.specs.Heap.{Setup}
 use Rattle.layout.specs.Layouts.{LaidOut}
 use Rattle.types.specs.RuntimeCall.{runtime_called}
 use Rattle.shadow_stack.specs.Slots.{SlotTable, slots_of, operand_slot}
+use Rattle.machine.specs.declared.action.Action.TheVariants.{Local, Foreign, Wrong}
 use Rattle.machine.specs.declared.answer.Answer.{Answer}
 use Rattle.machine.specs.declared.frame.Frame.{Frame}
 use Rattle.machine.specs.declared.value.Pointee.{Pointee}
 use Rattle.machine.specs.declared.value.Value.{Value}
 use Rattle.machine.specs.declared.value.Value.TheVariants as value
-use Rattle.machine.specs.Asks.{read_action, load_action, gcread_action, alloc_of, alloc_action, layout_named, call_action, declare_of, function_numbered, number_called, target_at, edge_of, memory_action, op_action}
+use Rattle.machine.specs.Asks.{read_action, load_action, gcread_action, alloc_of, alloc_action, layout_named, defined_action, asked_outside, outside_action, float_action, gives_number, number_asked, number_action, call_action, declare_of, function_numbered, number_called, target_at, edge_of, memory_action, op_action}
 use Rattle.machine.specs.Elements.{element_offset}
 use Rattle.machine.specs.Jumps.{entry_for, entry_value, phi_value, phis_of, put_register, put_phis}
-use Rattle.machine.specs.Kinds.{register_at, bits_at, value_of, slot_at_place, address_at_place}
-use Rattle.machine.specs.Machine.{State, entry_frame, has_room, with_room, function_called, instr_at, end_at, step_action, frame_action, action, slot_value, set_register, set_slot, cast_from, read_at, loaded_from, alloc_value, layout_of_call, place_of_call, integers_value, after_call, number_value, choice_value, element_address, after_memory, after_op, go_on, enter_block, values_of, called_with, frames_called, result_of, frames_returned, after_instr, after_end, after_last, after_step, after_frame, after_answer}
+use Rattle.machine.specs.Kinds.{is_integer, is_void, bits_of, register_at, bits_at, value_of, slot_at_place, address_at_place}
+use Rattle.machine.specs.Machine.{State, entry_frame, has_room, with_room, function_called, instr_at, end_at, step_action, frame_action, action, slot_value, set_register, set_slot, cast_from, read_at, loaded_from, alloc_value, layout_of_call, place_of_call, integers_value, given_value, after_call, number_value, choice_value, element_address, after_memory, after_op, go_on, enter_block, values_of, called_with, frames_called, result_of, frames_returned, after_instr, after_end, after_last, after_step, after_frame, after_answer}
 use Rattle.program_runner.specs.Kinds.{FitsHeap, FrameFits, FramesFit, IsHeapWith}
 use Rattle.program_runner.specs.Values.{PlaceFits, computed_below, function_value_below, resized_below, compared_fits, selected_fits, one_more_fits, value_fits, element_fits}
-use Rattle.program_runner.specs.Given.{GivesNothing, FitsAsked, nothing_at, nothing_claimed, only_gives, read_fits}
+use Rattle.program_runner.specs.Given.{GivesNothing, FitsAsked, nothing_at, nothing_claimed, nothing_given, only_gives, read_fits}
 use Rattle.program_runner.specs.Asks.{operand_fits, place_fits}
 use Rattle.program_runner.specs.Begun.{AllFit, entry_fits}
 
@@ -137,7 +140,38 @@ module _ (s : Setup) where
             by (inr g) = nothing_at s p (address_at_place p.of_module f slots frame.registers place.written place.operand) given g
       gcread_fits returned (object ∷ (place ∷ (other ∷ arguments))) given h = nothing_at s p (address_at_place p.of_module f slots frame.registers place.written place.operand) given h
 
-      -- the frame after a call of the runtime
+      -- what a call of a defined function gives at once
+      defined_fits : (returned : ℕ) (arguments : List Argument) (callee : Option Function) (given : Answer) → FitsAsked s (defined_action p.of_module f slots frame.registers returned arguments callee) given → FitsHeap s (given_value given)
+      defined_fits returned arguments None given h = nothing_given s given h
+      defined_fits returned arguments (Some callee) given h = by (only_gives s _ Local given h) where
+        by : GivesNothing given ⊎ GivesNothing given → FitsHeap s (given_value given)
+        by (inl g) = nothing_given s given g
+        by (inr g) = nothing_given s given g
+
+      -- a number from outside, by the type that is asked for
+      type_fits : (type : Option IrType) (nothing integer : Bool) (given : Answer) → FitsAsked s (if nothing then Local else (if integer then Foreign (bits_of type) else Wrong)) given → FitsHeap s (given_value given)
+      type_fits type true integer given g = nothing_given s given g
+      type_fits type false true given g = g
+      type_fits type false false given g = nothing_given s given g
+
+      -- and by the number of the type
+      asked_fits : (returned : ℕ) (given : Answer) → FitsAsked s (asked_outside (slice_get p.of_module.types returned)) given ⊎ GivesNothing given → FitsHeap s (given_value given)
+      asked_fits returned given (inl g) = let type = slice_get p.of_module.types returned in type_fits type (is_void type) (is_integer type) given g
+      asked_fits returned given (inr g) = nothing_given s given g
+
+      -- what a call of a function outside gives
+      outside_fits : (returned : ℕ) (arguments : List Argument) (declare : Option Declare) (callee : Option Function) (given : Answer) → FitsAsked s (outside_action p.of_module f slots frame.registers returned arguments declare callee) given
+          → FitsHeap s (given_value given)
+      outside_fits returned arguments None callee given h = defined_fits returned arguments callee given h
+      outside_fits returned arguments (Some d) callee given h = asked_fits returned given (only_gives s _ (asked_outside (slice_get p.of_module.types returned)) given h)
+
+      -- and one of a function of floating point numbers
+      float_fits : (function : FloatFunction) (bits returned : ℕ) (arguments : List Argument) (given : Answer)
+          → FitsAsked s (float_action p.of_module f slots frame.registers function bits returned arguments) given ⊎ GivesNothing given → FitsHeap s (given_value given)
+      float_fits function bits returned arguments given (inl g) = asked_fits returned given (only_gives s _ (asked_outside (slice_get p.of_module.types returned)) given g)
+      float_fits function bits returned arguments given (inr g) = nothing_given s given g
+
+      -- the frame after a call that is of no defined function
       call_fits : (name : Option ℕ) (returned : ℕ) (arguments : List Argument) (declare : Option Declare) (callee : Option Function) (called : Option Runtime) (given : Answer)
           → FitsAsked s (call_action p f slots frame.registers returned arguments declare callee called) given → FrameFits s (after_call p f slots name arguments called given frame)
       call_fits name returned arguments declare callee (Some runtime.Alloc) given h =
@@ -155,18 +189,27 @@ module _ (s : Setup) where
       call_fits name returned arguments declare callee (Some runtime.Safepoint) given h = fits
       call_fits name returned arguments declare callee (Some (runtime.Integer function bits)) given h =
           register_fits name (integers_value p.of_module frame.registers function bits arguments) frame (function_value_below function bits _ _ _) fits
-      call_fits name returned arguments declare callee None given h = fits
+      call_fits name returned arguments declare callee (Some (runtime.Float function bits)) given h =
+          register_fits name (given_value given) frame
+          (float_fits function bits returned arguments given (only_gives s _ (float_action p.of_module f slots frame.registers function bits returned arguments) given h)) fits
+      call_fits name returned arguments declare callee None given h = register_fits name (given_value given) frame (outside_fits returned arguments declare callee given h) fits
 
       -- the value of an operand fits
       abbrev operand : (written : ℕ) (o : Operand) → FitsHeap s (value_of p.of_module frame.registers written o)
       operand written o = operand_fits s p heap f slots frame.registers fits.registers written o
 
-      -- what an operation on integers gives
-      number_fits : (x : NumberOp) → FitsHeap s (number_value p.of_module frame.registers x)
-      number_fits (number.Arithmetic k written first second) = computed_below k (bits_at p.of_module written) _ _
-      number_fits (number.Resize k written o to) = resized_below k (bits_at p.of_module written) (bits_at p.of_module to) _
-      number_fits (number.Compare k written first second) =
+      -- what an operation on numbers gives, where what it asks for is given, or nothing
+      computed_fits : (x : NumberOp) (given : Answer) → FitsAsked s (number_asked p.of_module x) given ⊎ GivesNothing given → FitsHeap s (number_value p.of_module frame.registers x given)
+      computed_fits (number.Arithmetic k written first second) given h = computed_below k (bits_at p.of_module written) _ _
+      computed_fits (number.Resize k written o to) given h = resized_below k (bits_at p.of_module written) (bits_at p.of_module to) _
+      computed_fits (number.Compare k written first second) given h =
           compared_fits s k (bits_at p.of_module written) (value_of p.of_module frame.registers written first) (value_of p.of_module frame.registers written second)
+      computed_fits (number.Float x) given (inl g) = g
+      computed_fits (number.Float x) given (inr g) = nothing_given s given g
+
+      -- so what it gives
+      number_fits : (x : NumberOp) (given : Answer) → FitsAsked s (number_action p.of_module f slots frame.registers x) given → FitsHeap s (number_value p.of_module frame.registers x given)
+      number_fits x given h = computed_fits x given (only_gives s (gives_number p.of_module f slots frame.registers x) (number_asked p.of_module x) given h)
 
       -- the frame after an operation on memory
       memory_fits : (name : Option ℕ) (x : MemoryOp) (given : Answer) → FitsAsked s (memory_action p f slots frame.registers x) given → FrameFits s (after_memory p f slots name x given frame)
@@ -181,7 +224,7 @@ module _ (s : Setup) where
 
       -- the frame after an instruction that calls no defined function
       op_fits : (name : Option ℕ) (x : Op) (given : Answer) → FitsAsked s (op_action p f slots frame.registers x) given → FrameFits s (after_op p f slots name x given frame)
-      op_fits name (op.Number x) given h = register_fits name (number_value p.of_module frame.registers x) frame (number_fits x) fits
+      op_fits name (op.Number x) given h = register_fits name (number_value p.of_module frame.registers x given) frame (number_fits x given h) fits
       op_fits name (op.Memory x) given h = memory_fits name x given h
       op_fits name (op.Element x) given h =
           register_fits name (element_address p frame.registers x) frame

@@ -18,7 +18,7 @@ thread_keeps_kinds s t fits = record {
   goes_on = λ answer by_kind. record {
     over = fits.over;
     heap = fits.heap;
-    frames = answer_fits s t.program fits.heap t.state (given_as t.heap (action t.program t.state) answer) fits.frames
-        (subst (λ h. FitsAsked s (action t.program t.state) (given_as h (action t.program t.state) answer)) (sym fits.over) (given_fits s (action t.program t.state) answer by_kind));
+    frames = answer_fits s t.program fits.heap t.state (given_as t.heap t.values (action t.program t.state) answer) fits.frames
+        (subst (λ h. FitsAsked s (action t.program t.state) (given_as h t.values (action t.program t.state) answer)) (sym fits.over) (given_fits s t.values (action t.program t.state) answer by_kind));
   };
 }

@@ -77,8 +77,8 @@ module _ (m : Module) where
 -- after an answer each root was there, or is one of the newest frames
 pub thread_adds_newest : (t : ProgramThread) (given : runs.Answer) → AddsNewest (names t) (names (goes_on t given)) (newest (goes_on t given))
 thread_adds_newest t given = by t.state.frames where
-  by : (frames : List Frame) → (let after = (after_answer t.program (record { frames = frames }) (given_as t.heap (action t.program t.state) given)).frames in
+  by : (frames : List Frame) → (let after = (after_answer t.program (record { frames = frames }) (given_as t.heap t.values (action t.program t.state) given)).frames in
       AddsNewest (names_of t.program.of_module frames) (names_of t.program.of_module after) (names_of t.program.of_module (take 2 after)))
   by [] = λ r is. absurd is
-  by (frame ∷ below) = by_step t.program frame below (given_as t.heap (action t.program t.state) given) (Adds t.program.of_module frame below) (one_above t.program.of_module frame below) (two_above t.program.of_module frame below) (returned_to t.program.of_module frame below)
+  by (frame ∷ below) = by_step t.program frame below (given_as t.heap t.values (action t.program t.state) given) (Adds t.program.of_module frame below) (one_above t.program.of_module frame below) (two_above t.program.of_module frame below) (returned_to t.program.of_module frame below)
       (slice_get t.program.of_module.functions frame.function) (λ ends r is. absurd is)

@@ -5,7 +5,7 @@ use Rattle.ir_ast.specs.declared.items_of_module.Global.{Global}
 use Rattle.ir_ast.specs.declared.items_of_module.StructType.{StructType}
 use Rattle.ir_ast.specs.declared.module.Module.{Module}
 use Rattle.ir_ast.specs.declared.operand.Constant.{Constant}
-use Rattle.ir_ast.specs.declared.operand.Constant.TheVariants.{Number, Null, Truth}
+use Rattle.ir_ast.specs.declared.operand.Constant.TheVariants.{Number, Float, Null, Truth}
 use Rattle.pools.specs.declared.word_kind.WordKind.{WordKind}
 use Rattle.pools.specs.declared.word_kind.WordKind.TheVariants.{Integer, Reference}
 use Rattle.pools.specs.Heap.{kind_of, IsStartOf, IsSetup}
@@ -21,6 +21,7 @@ use Rattle.trace_text.specs.declared.trace.Setup.{Setup}
 fits_kind : (kind : Option WordKind) (initial : Constant) → IsStartOf (Some (unwrap_or kind (Integer 64))) (value_at_start kind initial)
 fits_kind None initial = lit< tt
 fits_kind (Some (Integer bits)) (Number n) = wrapped_fits bits n
+fits_kind (Some (Integer bits)) (Float n) = wrapped_fits bits _
 fits_kind (Some (Integer bits)) Null = pow_pos bits
 fits_kind (Some (Integer bits)) (Truth b) = pow_pos bits
 fits_kind (Some (Reference layout)) initial = refl

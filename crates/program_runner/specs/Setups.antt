@@ -31,7 +31,7 @@ pub record IsSetupOf (p : LaidOut) (setup : Setup) : Type 0 where
 abbrev pub begun_at : LaidOut → Setup → Option Start → ProgramThread
 begun_at p setup None = ended p
 begun_at p setup (Some begun) =
-    record { heap = heap_of p setup; program = p; state = start p.of_module (slice_get p.of_module.functions begun.function) begun.function (argument_values begun.arguments) }
+    record { heap = heap_of p setup; program = p; state = start p.of_module (slice_get p.of_module.functions begun.function) begun.function (argument_values begun.arguments); values = begun.values }
 
 -- the threads as they begin
 abbrev pub starts_of : LaidOut → Setup → ℕ → ProgramThread

@@ -7,7 +7,7 @@ use Rattle.program_runner.specs.declared.program_thread.ProgramThread.TheInside.
 
 -- the thread, over the heap of its setup
 abbrev pub thread_seen : Inside → ProgramThread
-thread_seen i = record { heap = heap_of i.program.now i.setup.now; program = i.program.now; state = i.thread.state }
+thread_seen i = record { heap = heap_of i.program.now i.setup.now; program = i.program.now; state = i.thread.state; values = i.values.now }
 
 -- the thread is one of the program, and what is kept is what it asks for
 abbrev pub IsOfProgram : Inside → Type 0

@@ -1,7 +1,7 @@
 ghost use Rattle.std.specs.Prelude.{◌≡◌, ◌<◌, ◌^◌};
 ghost use Rattle.moves.specs.Calls.{action_of};
 ghost use Rattle.program_runner.specs.Given.{NamesCell};
-ghost use Rattle.program_safety.specs.Threads.{in_run, reference_in, stored, asked_as, null_or_cell, word_read};
+ghost use Rattle.program_safety.specs.Threads.{in_run, reference_in, stored, asked_as, null_or_cell, word_read, next_value, values_after};
 
 use machine::{Action, Answer as ThreadAnswer, Reference as ThreadReference, Value};
 use moves::{Call, NULL, WordValue};
@@ -45,7 +45,7 @@ pub(crate) fn asked_as(action: Action) -> Call
     ensures { action_of result ≡ asked_as action }
 {
     match action {
-        Action::Local => Call::Local,
+        Action::Local | Action::Foreign { .. } => Call::Local,
         Action::Read { at, word } => Call::Read {
             base: in_run(at),
             word,
@@ -90,5 +90,25 @@ pub(crate) fn word_read(kind: Option<WordKind>, found: WordValue) -> ThreadAnswe
         Some(WordKind::Integer(_)) => ThreadAnswer::Number(found.cell),
         Some(WordKind::Reference(_)) => null_or_cell(found),
         None => ThreadAnswer::Done,
+    }
+}
+
+/// The next number from outside; after the last one it is 0.
+pub(crate) fn next_value(values: &[u64]) -> u64
+    ensures { result ≡ next_value values.now }
+{
+    match values {
+        [next, ..] => *next,
+        [] => 0,
+    }
+}
+
+/// The numbers from outside that are left after an action.
+pub(crate) fn values_after<'a>(action: &Action, values: &'a [u64]) -> &'a [u64]
+    ensures { result.now ≡ values_after action.now values.now }
+{
+    match (*action, values) {
+        (Action::Foreign { .. }, [_, left @ ..]) => left,
+        _ => values,
     }
 }

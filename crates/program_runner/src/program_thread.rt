@@ -8,10 +8,10 @@ ghost use Rattle.program_safety.specs.Threads.{asks, given_as};
 ghost use Rattle.program_runner.specs.Kinds.{FitsThread};
 ghost use Rattle.program_runner.specs.Heaps.{heap_of};
 
-use crate::answers::{asked_as, null_or_cell, reference_in, word_read};
+use crate::answers::{asked_as, next_value, null_or_cell, reference_in, values_after, word_read};
 use crate::newest::{CHANGED, add_newest, compared, kept};
 use layout::Program;
-use machine::{Action, Answer as ThreadAnswer, Ending, Thread};
+use machine::{Action, Answer as ThreadAnswer, Ending, Thread, wrapped};
 use moves::{Answer, Call, RootsAfter, Runner, WordValue};
 use pools::WordKind;
 use runs::Machine;
@@ -26,6 +26,8 @@ pub struct ProgramThread<'a> {
     program: &'a Program,
     setup: &'a Setup,
     thread: Thread<'a>,
+    /// The numbers from outside that it did not get yet.
+    values: &'a [u64],
     /// What the thread asks for. Its instruction is looked at once, when the thread reaches it.
     asked: Action,
     /// What its newest frames' roots were before the last answer; here, so that an answer seldom takes memory for it.
@@ -55,10 +57,16 @@ impl<'a> Machine for ProgramThread<'a> {
 }
 
 impl<'a> ProgramThread<'a> {
-    /// A thread over the heap of a setup.
-    pub fn new(alloc: Global, program: &'a Program, setup: &'a Setup, thread: Thread<'a>) -> Self
+    /// A thread over the heap of a setup, with these numbers from outside.
+    pub fn new(
+        alloc: Global,
+        program: &'a Program,
+        setup: &'a Setup,
+        thread: Thread<'a>,
+        values: &'a [u64],
+    ) -> Self
         requires { thread.program ≡ program.now }
-        ensures { result ≡ record { heap = heap_of program.now setup.now; program = program.now; state = thread.entry.state } }
+        ensures { result ≡ record { heap = heap_of program.now setup.now; program = program.now; state = thread.entry.state; values = values.now } }
     {
         let asked = thread.next();
         ProgramThread {
@@ -66,6 +74,7 @@ impl<'a> ProgramThread<'a> {
             program,
             setup,
             thread,
+            values,
             asked,
             before: Vec::new(alloc),
         }
@@ -112,9 +121,12 @@ impl<'a> ProgramThread<'a> {
     /// An answer to what the thread asked for, as an answer to the thread.
     fn given_as(&self, answer: Answer) -> ThreadAnswer
         requires { (s : Heap) × MayAnswer s (FitsThread s) asks self.now (answer_in answer) }
-        ensures { result ≡ given_as self.now.heap (action self.now.program self.now.state) (answer_in answer) }
+        ensures { result ≡ given_as self.now.heap self.now.values (action self.now.program self.now.state) (answer_in answer) }
     {
         match (self.asked, answer) {
+            (Action::Foreign { bits }, _) => {
+                ThreadAnswer::Number(wrapped(bits, next_value(self.values)))
+            }
             (Action::Read { at, word }, Answer::Got(found)) => {
                 word_read(self.kind(at.cell, word), found)
             }
@@ -162,6 +174,7 @@ impl<'a> Runner for ProgramThread<'a> {
         self.before.clear();
         add_newest(&self.thread, self.thread.frames() - kept, &mut self.before)?;
         self.thread.resume(given)?;
+        self.values = values_after(&self.asked, self.values);
         self.asked = self.thread.next();
         Ok(compared(&self.thread, kept, self.before.as_slice()))
     }

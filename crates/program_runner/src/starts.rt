@@ -37,7 +37,7 @@ pub fn begun_thread<'a>(
     program: &'a Program,
     setup: &'a Setup,
     number: u32,
-    begun: &Start,
+    begun: &'a Start,
 ) -> Result<ProgramThread<'a>, SetupFault>
     requires { IsStartOf program.now begun.now }
     ensures ok { IfOk result (λ thread. thread ≡ begun_at program.now setup.now (Some begun.now)) }
@@ -45,7 +45,13 @@ pub fn begun_thread<'a>(
     ensures fault { IfErr result (λ e. e ≢ fault.Memory → IsFaultOf program.now number begun.now e) }
 {
     match Thread::start(alloc, program, begun.function, begun.arguments.as_slice()) {
-        Ok(thread) => Ok(ProgramThread::new(alloc, program, setup, thread)),
+        Ok(thread) => Ok(ProgramThread::new(
+            alloc,
+            program,
+            setup,
+            thread,
+            begun.values.as_slice(),
+        )),
         Err(refused) => Err(fault_of(number, &refused)),
     }
 }

@@ -10,12 +10,13 @@ use Rattle.pools.specs.Layouts.{is_reference_kind}
 use Rattle.colours.specs.Mutator.{MayFind}
 use Rattle.colours.specs.Mutator as mutator
 use Rattle.machine.specs.declared.action.Action.{Action}
-use Rattle.machine.specs.declared.action.Action.TheVariants.{Local, Read, StorePlain, Write, Alloc, Safepoint, End, Wrong}
+use Rattle.machine.specs.declared.action.Action.TheVariants.{Local, Foreign, Read, StorePlain, Write, Alloc, Safepoint, End, Wrong}
 use Rattle.machine.specs.declared.answer.Answer.{Answer}
 use Rattle.machine.specs.declared.answer.Answer.TheVariants as answer
 use Rattle.machine.specs.declared.value.Reference.{Reference as ThreadReference}
 use Rattle.machine.specs.declared.value.Value.{Value}
 use Rattle.machine.specs.declared.value.Value.TheVariants as value
+use Rattle.machine.specs.WrappedFits.{wrapped_fits}
 use Rattle.machine.specs.Log.{Log, Held, HoldsCell, IsFresh, RefersTo, RefersToCell, IsNullOrHeld, IsNullOrHeldOf, MayBeRead, MayBeStored, MayBeWritten, MayTouch, Keeps, Possible}
 use Rattle.runs.specs.Machine.{WordValue}
 use Rattle.runs.specs.Moves.{Move, Works, ReadsWord, StoresAfterBarrier, StoresPlain, Claims, ReadsPosted, StoresStage, steps_of, answer_of}
@@ -23,7 +24,7 @@ use Rattle.runs.specs.Discipline as discipline
 use Rattle.runs.specs.Discipline.{Holds, MayName, MayPut, MayCall, IsPossibleMove}
 use Rattle.runs.specs.Soundness.{EndsCall}
 use Rattle.runs.specs.Shares.{holds_held}
-use Rattle.program_safety.specs.Threads.{in_run, at_thread, reference_in, stored, asked_as, null_or_cell, word_read, given_as}
+use Rattle.program_safety.specs.Threads.{in_run, at_thread, reference_in, stored, asked_as, null_or_cell, word_read, next_value, given_as}
 use Rattle.program_safety.specs.Sound.{BearsOut}
 use Rattle.program_safety.proofs.Roots.{from_values, among_values}
 
@@ -74,6 +75,7 @@ put_after s share log (Some (kind.Reference layout)) v b h = (refl, put s share 
 -- a call that obeys the discipline of a log obeys that of the share
 pub may_call : (s : Setup) (share : List Move) (log : Log) (asked : Action) → BearsOut s share log → Keeps s log asked → MayCall s share (asked_as asked)
 may_call s share log Local b k = tt
+may_call s share log (Foreign bits) b k = tt
 may_call s share log (Read at word) b k = (touch s share log at b k.0, k.1)
 may_call s share log (StorePlain at word v) b k =
     let fits = put_plain s share log at.cell (kind_of s at.cell word) v b k.1 in
@@ -193,40 +195,44 @@ answered s share log roots stage b rooted = record {
 
 -- ---- every call
 
--- after the last move of a call that obeyed the discipline
-pub afterwards_call : (s : Setup) (share : List Move) (log : Log) (roots : List Value) (asked : Action) (move : Move) → BearsOut s share log → Keeps s log asked
+-- after the last move of a call that obeyed the discipline, by a thread that has these numbers from outside
+pub afterwards_call : (s : Setup) (values : List ℕ) (share : List Move) (log : Log) (roots : List Value) (asked : Action) (move : Move) → BearsOut s share log → Keeps s log asked
     → ((root : Value) → Contains roots root → IsNullOrHeld log root) → EndsCall s (map reference_in roots) (asked_as asked) move → IsPossibleMove s share move
-    → Left s share log asked (given_as s asked (answer_of (asked_as asked) move)) roots move
-afterwards_call s share log roots Local Works b k rooted e p = record {
+    → Left s share log asked (given_as s values asked (answer_of (asked_as asked) move)) roots move
+afterwards_call s values share log roots Local Works b k rooted e p = record {
   possible = tt;
   borne_out = record { held = λ r. none_more (b.held r); fresh = b.fresh };
 }
-afterwards_call s share log roots (Read at word) (ReadsWord base w v) b k rooted e p = rw (e.0, e.1) read
+afterwards_call s values share log roots (Foreign bits) Works b k rooted e p = record {
+  possible = wrapped_fits bits (next_value values);
+  borne_out = record { held = λ r. none_more (b.held r); fresh = b.fresh };
+}
+afterwards_call s values share log roots (Read at word) (ReadsWord base w v) b k rooted e p = rw (e.0, e.1) read
   where
     read : Left s share log (Read at word) (word_read (kind_of s at.cell word) v) roots (ReadsWord (in_run at) word v)
     read =
         let found = read_after s share log at word v roots (kind_of s at.cell word) refl b k.1 (subst (λ q. MayFind s (steps_of share) (kind_of s q.cell word) v.cell) e.0 (subst (λ i. MayFind s (steps_of share) (kind_of s base.cell i) v.cell) e.1 p)) in
         record { possible = found.0; borne_out = found.1 }
-afterwards_call s share log roots (StorePlain at word v) (StoresPlain base w u) b k rooted e p = rw (e.0, e.1, e.2) (record {
+afterwards_call s values share log roots (StorePlain at word v) (StoresPlain base w u) b k rooted e p = rw (e.0, e.1, e.2) (record {
   possible = tt;
   borne_out = record {
     held = λ r. none_more (b.held r);
     fresh = λ c f. ((b.fresh c f.1).0, inr (refl, plain_leaves s log at.cell (kind_of s at.cell word) v c k.1 (b.fresh c f.1).0 f.0, (b.fresh c f.1).1));
   };
 })
-afterwards_call s share log roots (Write at word v) (StoresAfterBarrier base w u) b k rooted e p = rw (e.0, e.1, e.2) (record {
+afterwards_call s values share log roots (Write at word v) (StoresAfterBarrier base w u) b k rooted e p = rw (e.0, e.1, e.2) (record {
   possible = tt;
   borne_out = record {
     held = λ r. none_more (b.held r);
     fresh = λ c f. ((b.fresh c f.1).0, inr (refl, write_leaves s log (kind_of s at.cell word) v c k.1 (b.fresh c f.1).0 f.0, (b.fresh c f.1).1));
   };
 })
-afterwards_call s share log roots (Alloc layout) Works b k rooted e p = record {
+afterwards_call s values share log roots (Alloc layout) Works b k rooted e p = record {
   possible = tt;
   borne_out = record { held = λ r. none_more (b.held r); fresh = λ c. none_fresh (b.fresh c) };
 }
-afterwards_call s share log roots (Alloc layout) (Claims r true) b k rooted e p = rw (cell_given s layout r e) (claimed s share log layout r roots b e p)
-afterwards_call s share log roots (Alloc layout) (Claims r false) b k rooted e p = record {
+afterwards_call s values share log roots (Alloc layout) (Claims r true) b k rooted e p = rw (cell_given s layout r e) (claimed s share log layout r roots b e p)
+afterwards_call s values share log roots (Alloc layout) (Claims r false) b k rooted e p = record {
   possible = tt;
   borne_out = record { held = λ q. none_more (b.held q); fresh = λ c f. lost c f };
 }
@@ -234,9 +240,9 @@ afterwards_call s share log roots (Alloc layout) (Claims r false) b k rooted e p
     lost : (c : ℕ) → ⊥ ⊎ IsFresh log c → (0 < c) × mutator.Fresh s (steps_of (Claims r false ∷ share)) c
     lost c (inl x) = absurd x
     lost c (inr f) = ((b.fresh c f).0, inr (refl, refl, (b.fresh c f).1))
-afterwards_call s share log roots Safepoint (ReadsPosted stage) b k rooted e p = record {
+afterwards_call s values share log roots Safepoint (ReadsPosted stage) b k rooted e p = record {
   possible = tt;
   borne_out = record { held = λ r. none_more (b.held r); fresh = λ c f. ((b.fresh c f).0, inr (refl, refl, (b.fresh c f).1)) };
 }
-afterwards_call s share log roots Safepoint (StoresStage to rs) b k rooted e p = rw e (answered s share log roots to b rooted)
-afterwards_call s share log roots asked move b k rooted e p = absurd e
+afterwards_call s values share log roots Safepoint (StoresStage to rs) b k rooted e p = rw e (answered s share log roots to b rooted)
+afterwards_call s values share log roots asked move b k rooted e p = absurd e

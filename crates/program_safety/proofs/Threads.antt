@@ -13,7 +13,7 @@ use Rattle.runs.specs.Machine.{WordValue}
 use Rattle.runs.specs.Moves.{Move, answer_of}
 use Rattle.runs.specs.Discipline.{MayName, MayCall, IsPossibleMove}
 use Rattle.runs.specs.Soundness.{EndsCall, Grows, IsSound, AreSound}
-use Rattle.program_safety.specs.Threads.{ProgramThread, asked_as, given_as, reference_in, asks, goes_on, names, program_machine}
+use Rattle.program_safety.specs.Threads.{ProgramThread, asked_as, values_after, given_as, reference_in, asks, goes_on, names, program_machine}
 use Rattle.program_safety.specs.Sound.{BearsOut, Sound}
 use Rattle.program_safety.specs.Safety.{IsBegun, AreBegun}
 use Rattle.program_safety.proofs.Steps.{Left, may_call, may_name, afterwards_call}
@@ -37,11 +37,11 @@ grows s share more t h g = record {
 }
 
 -- a thread over this very heap goes on
-goes_on_over : (s : Setup) (share : List Move) (program : LaidOut) (state : State) (log : Log) (move : Move) → BearsOut s share log → ((answers : List Answer) → Safe s program state log answers)
+goes_on_over : (s : Setup) (share : List Move) (program : LaidOut) (state : State) (values : List ℕ) (log : Log) (move : Move) → BearsOut s share log → ((answers : List Answer) → Safe s program state log answers)
     → EndsCall s (map reference_in (roots program.of_module state)) (asked_as (action program state)) move → IsPossibleMove s share move
     → Sound s (move ∷ share)
-    (record { heap = s; program = program; state = after_answer program state (given_as s (action program state) (answer_of (asked_as (action program state)) move)) })
-goes_on_over s share program state log move b safe e p = record {
+    (record { heap = s; program = program; state = after_answer program state (given_as s values (action program state) (answer_of (asked_as (action program state)) move)); values = values_after (action program state) values })
+goes_on_over s share program state values log move b safe e p = record {
   over = refl;
   log = record { asked = action program state; given = given; roots = roots program.of_module state } ∷ log;
   borne_out = left.borne_out;
@@ -49,18 +49,19 @@ goes_on_over s share program state log move b safe e p = record {
 }
   where
     given : Answer
-    given = given_as s (action program state) (answer_of (asked_as (action program state)) move)
+    given = given_as s values (action program state) (answer_of (asked_as (action program state)) move)
 
     left : Left s share log (action program state) given (roots program.of_module state) move
-    left = afterwards_call s share log (roots program.of_module state) (action program state) move b (safe []).keeps (safe []).rooted e p
+    left = afterwards_call s values share log (roots program.of_module state) (action program state) move b (safe []).keeps (safe []).rooted e p
 
 goes_on_sound : (s : Setup) (share : List Move) (t : ProgramThread) (move : Move) → Sound s share t → EndsCall s (names t) (asks t) move → IsPossibleMove s share move
     → Sound s (move ∷ share) (goes_on t (answer_of (asks t) move))
 goes_on_sound s share t move h e p =
     subst
-    (λ heap. Sound s (move ∷ share) (record { heap = heap; program = t.program; state = after_answer t.program t.state (given_as heap (action t.program t.state) (answer_of (asks t) move)) }))
+    (λ heap. Sound s (move ∷ share)
+    (record { heap = heap; program = t.program; state = after_answer t.program t.state (given_as heap t.values (action t.program t.state) (answer_of (asks t) move)); values = values_after (action t.program t.state) t.values }))
     (sym h.over)
-    (goes_on_over s share t.program t.state h.log move h.borne_out h.safe e p)
+    (goes_on_over s share t.program t.state t.values h.log move h.borne_out h.safe e p)
 
 -- the predicate is sound for the machine of programs
 pub sound : (s : Setup) → IsSound s program_machine (Sound s)

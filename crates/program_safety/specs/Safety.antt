@@ -11,14 +11,15 @@ pub use Rattle.soundness.specs.Discipline.{AreCertified, CertifiedIsNeverWrong, 
 use Rattle.runs.specs.Promises.{AreCareful, IsSafe}
 use Rattle.program_safety.specs.Threads.{ProgramThread, program_machine}
 
--- a thread is at the beginning of a function of the program, over this heap, with arguments that fit and meet what is promised of the parameters
+-- a thread is at the beginning of a function of the program, over this heap, with arguments that fit and meet what is promised of the parameters, and with any numbers from outside
 pub record IsBegun (heap : Setup) (program : LaidOut) (certs : List Section) (thread : ProgramThread) : Type 0 where
   pub func : ℕ
   pub function : Function
   pub arguments : List ℕ
+  pub values : List ℕ
   pub is : slice_get program.of_module.functions func ≡ Some function
   pub takes : IsStart program function (slice_get certs func) arguments
-  pub stands : thread ≡ record { heap = heap; program = program; state = start program.of_module (Some function) func (argument_values arguments) }
+  pub stands : thread ≡ record { heap = heap; program = program; state = start program.of_module (Some function) func (argument_values arguments); values = values }
 
 -- so does each thread of the heap; several may begin at one function
 abbrev pub AreBegun : Setup → LaidOut → List Section → (starts : ℕ → ProgramThread) → Type 0

@@ -46,7 +46,7 @@ use Rattle.soundness.proofs.KindLemmas.{pointer_same}
 use Rattle.soundness.specs.Goes.{Goes, HaveMembers}
 use Rattle.soundness.proofs.Callees.{two_parameters, three_parameters, read_types, read_declared, write_types, write_declared}
 use Rattle.soundness.proofs.WordReads.{read_goes}
-use Rattle.soundness.proofs.Steps.{no_pointer, none_of, usable}
+use Rattle.soundness.proofs.Steps.{no_pointer, integer_points, none_of, usable}
 use Rattle.soundness.proofs.RulesHold.{rules_hold}
 use Rattle.block_rules.specs.declared.rule.Rule.TheVariants.{K1, K2, K3, K4, K10, K19}
 use Rattle.soundness.proofs.WordStores.{IsStored, write_goes}
@@ -72,6 +72,7 @@ is_place m written e = pointer_same m written ∙ leads (is_opaque m written) (p
 -- a place of such a type that is not null is no constant
 no_constant : (m : Module) (f : Function) (written : ℕ) (x : Operand) → o.is_typed m f written x ≡ true → is_runtime_type m written types.PointerToPointer ≡ true → not (o.is_null x) ≡ true → o.is_constant x ≡ false
 no_constant m f written (operand.Constant (constant.Number n)) typed e some = absurd (no_pointer n (kind_of m written) typed (is_place m written e))
+no_constant m f written (operand.Constant (constant.Float n)) typed e some = absurd (integer_points (kind_of m written) typed (is_place m written e))
 no_constant m f written (operand.Constant (constant.Truth b)) typed e some = absurd cc
 no_constant m f written (operand.Constant constant.Null) typed e some = absurd cc
 no_constant m f written (operand.Local u) typed e some = refl

@@ -14,9 +14,9 @@ use Rattle.shadow_stack.specs.Slots.{SlotTable}
 use Rattle.certs.specs.declared.section.Section.{Section}
 use Rattle.facts.specs.Facts.{FactSet}
 use Rattle.block_rules.specs.declared.callee.Callee.{Callee}
-use Rattle.block_rules.specs.declared.callee.Callee.TheVariants.{OfRuntime, OfModule, NoFunction}
+use Rattle.block_rules.specs.declared.callee.Callee.TheVariants.{OfRuntime, OfModule, Foreign, NoFunction}
 use Rattle.block_rules.specs.declared.instr_context.InstrContext.{InstrContext}
-use Rattle.block_rules.specs.Calls.{call_conditions, refused_conditions, after_call}
+use Rattle.block_rules.specs.Calls.{call_conditions, refused_conditions, foreign_conditions, after_integer_call, after_call}
 use Rattle.block_rules.specs.FirstFailing.{first_failing}
 use Rattle.block_rules.specs.Signature.{callee_of}
 use Rattle.machine.specs.declared.action.Action.{Action}
@@ -28,8 +28,10 @@ use Rattle.machine.specs.Machine as mc
 use Rattle.soundness.specs.Meaning.{Cells, Guarded, Holds}
 use Rattle.soundness.specs.Goes.{Goes, HaveMembers}
 use Rattle.soundness.proofs.Accesses.{gcread_goes, gcwrite_goes}
-use Rattle.soundness.proofs.Callees.{IsCallee, callee_is, defined_is}
+use Rattle.soundness.proofs.Callees.{IsCallee, IsForeign, callee_is, defined_is, foreign_is}
 use Rattle.soundness.proofs.StepCalls.{alloc_goes, root_goes, safepoint_goes}
+use Rattle.soundness.proofs.ForeignCalls.{foreign_goes}
+use Rattle.soundness.proofs.FloatCalls.{float_goes}
 use Rattle.soundness.proofs.IntegerCalls.{integer_goes}
 use Rattle.soundness.proofs.RulesHold.{rules_hold}
 use Rattle.block_rules.specs.declared.rule.Rule.TheVariants.{K18}
@@ -75,6 +77,17 @@ module _ (heap : Setup) (p : LaidOut) (certs : List Section) (reaches : Bool) (f
       of_runtime callee arguments runtime.GcWrite _ c (gcwrite_goes heap p certs reaches f table guarded log guards fits here cells facts frame h members result returned (a.function_numbered p.of_module (a.number_called p.of_module callee)) c.0.declare arguments c.0.types c.0.arity e)
   runtime_goes callee arguments (runtime.Integer function bits) c e =
       of_runtime callee arguments (runtime.Integer function bits) _ c (integer_goes heap p certs reaches f table guarded log here cells facts frame h result returned (a.function_numbered p.of_module (a.number_called p.of_module callee)) function bits c.0.declare arguments c.0.types c.0.arity e)
+  runtime_goes callee arguments (runtime.Float function bits) c e =
+      of_runtime callee arguments (runtime.Float function bits) _ c (float_goes heap p certs reaches f table guarded log here cells facts frame h result returned (a.function_numbered p.of_module (a.number_called p.of_module callee)) function bits c.0.declare arguments c.0.types c.0.arity e)
+
+  -- a call of a function outside
+  outside_goes : (callee : ℕ) (arguments : List Argument) (number : ℕ) → IsForeign p.of_module callee (length arguments) number → first_failing (call_conditions p certs f table here facts returned arguments (Foreign number)) ≡ None
+      → Goes heap p table frame.slots reaches guarded log (after_integer_call p.of_module result returned facts) (asked arguments callee (a.declare_of p.of_module callee) (runtime_called p.of_module callee)) (afterwards arguments (runtime_called p.of_module callee))
+  outside_goes callee arguments number c e =
+      subst (λ x. Goes heap p table frame.slots reaches guarded log (after_integer_call p.of_module result returned facts) (asked arguments callee (a.declare_of p.of_module callee) x) (afterwards arguments x)) (sym c.no_runtime)
+      (subst (λ x. Goes heap p table frame.slots reaches guarded log (after_integer_call p.of_module result returned facts) (asked arguments callee x None) (afterwards arguments None)) (sym c.is_declared)
+      (foreign_goes heap p certs reaches f table guarded log here cells facts frame h result returned (a.function_numbered p.of_module (a.number_called p.of_module callee)) c.declare arguments c.trusted
+      (subst (λ x. first_failing (foreign_conditions p.of_module f table here facts returned arguments x) ≡ None) c.there e)))
 
   -- a call that the rules allow, and that is of no defined function
   pub call_goes : (callee : ℕ) (arguments : List Argument) → a.number_called p.of_module callee ≡ None → first_failing (call_conditions p certs f table here facts returned arguments (callee_of p.of_module callee (length arguments))) ≡ None
@@ -86,6 +99,9 @@ module _ (heap : Setup) (p : LaidOut) (certs : List Section) (reaches : Bool) (f
         (afterwards arguments (runtime_called p.of_module callee))
     by (NoFunction named) is e = absurd (never named arguments e)
     by (OfModule number) is e = absurd (let d = defined_is p.of_module callee (length arguments) number is in let x : Some number ≡ None = sym d.named ∙ inside in cc)
+    by (Foreign number) is e =
+        subst (λ x. Goes heap p table frame.slots reaches guarded log (after_call p certs table result returned arguments x facts) (asked arguments callee (a.declare_of p.of_module callee) (runtime_called p.of_module callee)) (afterwards arguments (runtime_called p.of_module callee))) (sym is)
+        (outside_goes callee arguments number (foreign_is p.of_module callee (length arguments) number is) e)
     by (OfRuntime called) is e =
         subst (λ x. Goes heap p table frame.slots reaches guarded log (after_call p certs table result returned arguments x facts) (asked arguments callee (a.declare_of p.of_module callee) (runtime_called p.of_module callee)) (afterwards arguments (runtime_called p.of_module callee))) (sym is)
         (runtime_goes callee arguments called (callee_is p.of_module callee (length arguments) called is) e)

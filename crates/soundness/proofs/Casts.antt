@@ -1,9 +1,10 @@
 -- Bitcasts.
 use Rattle.std.proofs.Common.{◌≡◌, ◌≢◌, ℕ, ◌<◌, ◌^◌, length, map, refl, sym, ap, ◌∙◌, subst, arith, true, false, Bool, Option, Some, None, slice_set, List}
-use Rattle.std.specs.Prelude.{◌==◌, ◌||◌, if◌then◌else◌}
+use Rattle.std.specs.Prelude.{◌==◌, ◌&&◌, ◌||◌, if◌then◌else◌, slice_get}
 use Rattle.lemmas.specs.Lists.{at_map}
-use Rattle.lemmas.specs.Numbers.{test_true, test_false}
-use Rattle.lemmas.specs.Bools.{and_parts, or_first}
+use Rattle.lemmas.specs.Numbers.{test_true, test_yes, test_false}
+use Rattle.lemmas.specs.Bools.{and_parts, and_true, or_first}
+use Rattle.ir_ast.specs.Floats.{float_word}
 use Rattle.ir_ast.specs.declared.function.Function.{Function}
 use Rattle.ir_ast.specs.declared.casts.Cast.{Cast}
 use Rattle.ir_ast.specs.declared.op.Op.TheVariants as op
@@ -29,10 +30,11 @@ use Rattle.block_rules.specs.declared.instr_context.InstrContext.{InstrContext}
 use Rattle.block_rules.specs.FirstFailing.{first_failing}
 use Rattle.block_rules.specs.declared.rule.Rule.TheVariants.{K1, K2, K19}
 use Rattle.block_rules.specs.Casts as c
+use Rattle.block_rules.specs.Integers.{define_number}
 use Rattle.block_rules.specs.Operands as o
 use Rattle.block_rules.specs.Places.{define_held, first_layout, cell_words, wanted_by_load, each_word}
 use Rattle.block_rules.specs.Rules.{cast_conditions, after_op}
-use Rattle.block_rules.specs.TypeKinds.{kind_of, kind_held, place_kind, fits_layout, may_be_reference}
+use Rattle.block_rules.specs.TypeKinds.{kind_of, kind_held, place_kind, is_bits, is_integer, fits_layout, may_be_reference}
 use Rattle.machine.specs.declared.value.Value.{Value}
 use Rattle.machine.specs.declared.value.Value.TheVariants as value
 use Rattle.machine.specs.declared.frame.Frame.{Frame}
@@ -44,7 +46,7 @@ use Rattle.machine.specs.Machine.{slot_value}
 use Rattle.machine.specs.Log.{Log}
 use Rattle.soundness.specs.Meaning.{Cells, Guarded, IsReferenceTo, IsOwn, IsAddressOf, IsGlobal, AreApart, Means, FitsSlot, Holds}
 use Rattle.soundness.proofs.Lists.{at_other}
-use Rattle.soundness.proofs.KindLemmas.{refers_same, leads_same, constant_passes, bits_are}
+use Rattle.soundness.proofs.KindLemmas.{integer_same, refers_same, leads_same, constant_passes, bits_are}
 use Rattle.soundness.proofs.Keep.{Beside, forget_cell, off_cell, without_same, means_without, known_within}
 use Rattle.soundness.proofs.Change.{apart_turned, define_keeps, define_plain, new_keeps}
 use Rattle.machine.specs.WrappedFits.{wrapped_fits}
@@ -56,7 +58,7 @@ use Rattle.soundness.proofs.Globals.{word_is, word_casts_to}
 use Rattle.soundness.proofs.SameKinds.{first_holds, part_refers, null_casts, layout_refers, held_casts, word_casts}
 use Rattle.soundness.proofs.RulesHold.{rules_hold}
 use Rattle.soundness.proofs.Touches.{typed_so, operand_means}
-use Rattle.soundness.proofs.Steps.{OpGoes, goes_local, chosen, below_itself, available, base_is, known_set}
+use Rattle.soundness.proofs.Steps.{OpGoes, goes_local, chosen, bits_are_so, below_itself, available, base_is, known_set}
 
 -- a bitcast of an operand
 abbrev bitcast : (from : ℕ) → Operand → (to : ℕ) → Cast
@@ -102,14 +104,40 @@ module _ (heap : Setup) (p : LaidOut) (certs : List Section) (reaches : Bool) (f
       by AddressKind is = plain
       by Other is = plain
 
+    float_keeps : (v n : ℕ) → from ≡ to → Holds heap p table guarded log cells (define_number v (kind_of p.of_module to) None facts) (slice_set frame.registers v (value.Number (wrapped (bits_at p.of_module from) (float_word (bits_at p.of_module from) n)))) frame.slots
+    float_keeps v n equals = by (kind_of p.of_module to) refl where
+      new : Value
+      new = value.Number (wrapped (bits_at p.of_module from) (float_word (bits_at p.of_module from) n))
+
+      plain : Holds heap p table guarded log cells (define v Nothing facts) (slice_set frame.registers v new) frame.slots
+      plain = define_plain heap p table guarded log cells facts frame.registers frame.slots h v Nothing new (λ d l s e. cc) tt
+
+      by : (x : TypeKind) → kind_of p.of_module to ≡ x → Holds heap p table guarded log cells (define_number v x None facts) (slice_set frame.registers v new) frame.slots
+      by (Bits bits) is =
+          let b : bits_at p.of_module from ≡ bits = bits_are p.of_module from bits (ap (kind_of p.of_module) equals ∙ is) in
+          define_plain heap p table guarded log cells facts frame.registers frame.slots h v (Number bits None) new (λ d l s e. cc)
+          (record {
+            number = wrapped (bits_at p.of_module from) (float_word (bits_at p.of_module from) n);
+            is = refl;
+            fits = subst (λ z. wrapped (bits_at p.of_module from) (float_word (bits_at p.of_module from) n) < 2 ^ z) b (wrapped_fits (bits_at p.of_module from) (float_word (bits_at p.of_module from) n));
+            under = tt;
+          })
+      by NoValue is = plain
+      by (Reference layout) is = plain
+      by AnyReference is = plain
+      by AddressKind is = plain
+      by Other is = plain
+
     constant_keeps : (v : ℕ) (x : Constant) → c.may_cast p table facts from to (operand.Constant x) ≡ true
         → (more : Cells) × Holds heap p table guarded log more (c.cast_constant p.of_module v from to x facts) (slice_set frame.registers v (constant_value p.of_module from x)) frame.slots
     constant_keeps v (constant.Number n) k19 = (cells, number_keeps v n (test_true from to (first_holds (from == to) k19)))
+    constant_keeps v (constant.Float n) k19 = (cells, float_keeps v n (test_true from to (first_holds (from == to) k19)))
     constant_keeps v (constant.Truth b) k19 = (cells, define_plain heap p table guarded log cells facts frame.registers frame.slots h v Nothing value.Unset (λ d l s e. cc) tt)
     constant_keeps v constant.Null k19 = null_keeps v (c.layout_of_null (kind_of p.of_module from) (kind_of p.of_module to))
 
     constant_casts : (x : Constant) → o.constant_fits x (kind_of p.of_module from) ≡ true → c.may_cast p table facts from to (operand.Constant x) ≡ true → a.may_cast p from to (constant_value p.of_module from x) ≡ true
     constant_casts (constant.Number n) k2 e = chosen (from == to) false _ e (λ bad. absurd cc)
+    constant_casts (constant.Float n) k2 e = chosen (from == to) false _ e (λ bad. absurd cc)
     constant_casts (constant.Truth b) k2 e = absurd cc
     constant_casts constant.Null k2 e = chosen (from == to) (c.casts_null p.of_module from to) _ e (null_casts p.of_module from to)
 
@@ -160,9 +188,21 @@ module _ (heap : Setup) (p : LaidOut) (certs : List Section) (reaches : Bool) (f
     global_casts symbol v global e =
         ap (a.may_cast_value p from to) global.2 ∙ ap (k.may_cast_word p.of_module to) (sym (word_is p.of_module symbol global.0 global.1)) ∙ word_casts_to p.of_module to (global_word p.of_module symbol) e
 
-    known_casts : (known : Known) (v : Value) → Means heap p guarded log cells (length facts.classes) frame.registers known v → o.is_known facts known ≡ true → c.casts_known p facts to known ≡ true → a.may_cast_value p from to v ≡ true
+    -- a number, to a type of as many bits
+    number_casts : (bits : ℕ) → (is_bits bits (kind_of p.of_module from) && is_bits bits (kind_of p.of_module to)) ≡ true
+        → (k.is_integer (slice_get p.of_module.types from) && (k.is_integer (slice_get p.of_module.types to) && (bits_at p.of_module from == bits_at p.of_module to))) ≡ true
+    number_casts bits e =
+        let m = p.of_module in
+        let b = and_parts (is_bits bits (kind_of m from)) (is_bits bits (kind_of m to)) e in
+        let one = bits_are_so bits (kind_of m from) b.0 in
+        let other = bits_are_so bits (kind_of m to) b.1 in
+        and_true (k.is_integer (slice_get m.types from)) (k.is_integer (slice_get m.types to) && (bits_at m from == bits_at m to)) (sym (integer_same m from) ∙ ap is_integer one)
+        (and_true (k.is_integer (slice_get m.types to)) (bits_at m from == bits_at m to) (sym (integer_same m to) ∙ ap is_integer other)
+        (test_yes (bits_at m from) (bits_at m to) (bits_are m from bits one ∙ sym (bits_are m to bits other))))
+
+    known_casts : (known : Known) (v : Value) → Means heap p guarded log cells (length facts.classes) frame.registers known v → o.is_known facts known ≡ true → c.casts_known p facts from to known ≡ true → a.may_cast_value p from to v ≡ true
     known_casts Nothing v means is e = absurd cc
-    known_casts (Number bits below) v means is e = absurd cc
+    known_casts (Number bits below) v means is e = ap (a.may_cast_value p from to) means.is ∙ number_casts bits e
     known_casts (Cell d l s) v means is e = reference_casts l v means.refers e
     known_casts Null v means is e = ap (a.may_cast_value p from to) means ∙ or_first (k.may_refer p.of_module to) _ (sym (refers_same p.of_module to) ∙ e)
     known_casts (Address base words) v means is e =
@@ -199,8 +239,8 @@ module _ (heap : Setup) (p : LaidOut) (certs : List Section) (reaches : Bool) (f
           set : k.is_set (register_at frame.registers u) ≡ true
           set = known_set heap p certs reaches f table guarded log cells facts frame h (known_at facts.values u) (register_at frame.registers u) (h.values u) known
 
-          casts : ((from == to) || c.casts_known p facts to (known_at facts.values u)) ≡ true → ((from == to) || a.may_cast_value p from to (register_at frame.registers u)) ≡ true
-          casts e = chosen (from == to) (c.casts_known p facts to (known_at facts.values u)) _ e (known_casts (known_at facts.values u) (register_at frame.registers u) (h.values u) known)
+          casts : ((from == to) || c.casts_known p facts from to (known_at facts.values u)) ≡ true → ((from == to) || a.may_cast_value p from to (register_at frame.registers u)) ≡ true
+          casts e = chosen (from == to) (c.casts_known p facts from to (known_at facts.values u)) _ e (known_casts (known_at facts.values u) (register_at frame.registers u) (h.values u) known)
 
           -- what is named as itself stays
           named_so : (v : ℕ) (b : Bool) → (u == v) ≡ b → Holds heap p table guarded log cells (if b then facts else define v (off_base v (known_at facts.values u)) facts) (slice_set frame.registers v (register_at frame.registers u)) frame.slots

@@ -41,7 +41,7 @@ use Rattle.soundness.proofs.Values.{of_value}
 
 module _ (heap : Setup) (p : LaidOut) (certs : List Section) (reaches : Bool) (f : Function) (table : SlotTable) (guarded : Guarded) (log : Log) (here : InstrContext) (cells : Cells) (facts : FactSet) (frame : Frame) (h : Holds heap p table guarded log cells facts frame.registers frame.slots) (result : Option ℕ) (returned : ℕ) where
   -- each argument may be used as a number
-  all_numbers : (taken : List ℕ) (arguments : List Argument) → length arguments ≡ length (map types.Bits taken) → list_all (is_argument_of p.of_module) (zip arguments (map types.Bits taken)) ≡ true → all_available table facts arguments ≡ true
+  pub all_numbers : (taken : List ℕ) (arguments : List Argument) → length arguments ≡ length (map types.Bits taken) → list_all (is_argument_of p.of_module) (zip arguments (map types.Bits taken)) ≡ true → all_available table facts arguments ≡ true
       → all_values p.of_module f table facts arguments ≡ true → no_slots table arguments ≡ true → a.are_integers p.of_module f table frame.registers arguments ≡ true
   all_numbers [] [] same written k1 k2 k10 = refl
   all_numbers [] (argument ∷ arguments) same written k1 k2 k10 = absurd (omega (arith, same))

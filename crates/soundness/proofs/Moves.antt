@@ -37,7 +37,7 @@ use Rattle.machine.specs.Machine.{slot_value}
 use Rattle.machine.specs.Log.{Log}
 use Rattle.soundness.specs.Meaning.{Cells, Guarded, IsReferenceTo, IsOwn, IsInteger, IsMember, AreApart, Means, GoesWithType, FitsHeld, FitsSlot, Holds}
 use Rattle.soundness.proofs.Lists.{turned, got_set, longer, at_end}
-use Rattle.soundness.proofs.KindLemmas.{integer_same, bytes_same, bits_are}
+use Rattle.soundness.proofs.KindLemmas.{integer_same, integer_bits, bytes_same, bits_are}
 use Rattle.soundness.proofs.SameKinds.{no_reference}
 use Rattle.soundness.proofs.Roots.{reference_no_integer}
 use Rattle.soundness.proofs.Keep.{forget_keeps, put_keeps}
@@ -202,17 +202,9 @@ module _ (heap : Setup) (p : LaidOut) (certs : List Section) (reaches : Bool) (f
   -- ---- stores
 
   -- what is stored in a slot of references is a reference of its layout
-  number_in : (stored held n layout : ℕ) → is_reference_held p.of_module (Some held) ≡ true → o.fits_bits n (kind_of p.of_module stored) ≡ true → r.moves_kind (stored == held) (kind_of p.of_module stored) (Reference layout) ≡ true → ⊥
-  number_in stored held n layout is fits moves = pick (stored == held) refl moves where
-    integers : (y : TypeKind) → o.fits_bits n y ≡ true → is_integer y ≡ true
-    integers NoValue e = absurd cc
-    integers (Bits bits) e = refl
-    integers (Reference l) e = absurd cc
-    integers AnyReference e = absurd cc
-    integers AddressKind e = absurd cc
-    integers Other e = absurd cc
-
-    by : (y : TypeKind) → o.fits_bits n y ≡ true → is_any_reference y ≡ true → ⊥
+  number_in : (stored held layout : ℕ) → is_reference_held p.of_module (Some held) ≡ true → is_integer (kind_of p.of_module stored) ≡ true → r.moves_kind (stored == held) (kind_of p.of_module stored) (Reference layout) ≡ true → ⊥
+  number_in stored held layout is number moves = pick (stored == held) refl moves where
+    by : (y : TypeKind) → is_integer y ≡ true → is_any_reference y ≡ true → ⊥
     by NoValue e z = absurd cc
     by (Bits bits) e z = absurd cc
     by (Reference l) e z = absurd cc
@@ -222,9 +214,9 @@ module _ (heap : Setup) (p : LaidOut) (certs : List Section) (reaches : Bool) (f
 
     pick : (b : Bool) → (stored == held) ≡ b → (b || is_any_reference (kind_of p.of_module stored)) ≡ true → ⊥
     pick true same e =
-        let whole : is_integer (kind_of p.of_module held) ≡ true = integers (kind_of p.of_module held) (subst (λ y. o.fits_bits n (kind_of p.of_module y) ≡ true) (test_true stored held same) fits) in
+        let whole : is_integer (kind_of p.of_module held) ≡ true = subst (λ y. is_integer (kind_of p.of_module y) ≡ true) (test_true stored held same) number in
         absurd (let y = sym whole ∙ integer_same p.of_module held ∙ reference_no_integer p.of_module held is in cc)
-    pick false same e = by (kind_of p.of_module stored) fits e
+    pick false same e = by (kind_of p.of_module stored) number e
 
   -- what is known as a current reference to a layout is one, and is own
   known_reference : (layout : ℕ) (known : Known) (v : Value) → Means heap p guarded log cells (length facts.classes) frame.registers known v → o.is_known facts known ≡ true → o.known_fits (Reference layout) known ≡ true → o.is_current facts known ≡ true
@@ -241,7 +233,8 @@ module _ (heap : Setup) (p : LaidOut) (certs : List Section) (reaches : Bool) (f
   reference_stored : (stored held layout : ℕ) (x : Operand) → is_reference_held p.of_module (Some held) ≡ true → o.is_available table facts x ≡ true → o.is_of_type p.of_module f facts stored x ≡ true → o.is_current facts (o.known_of facts x) ≡ true → o.slot_named table x ≡ None
       → r.moves_kind (stored == held) (kind_of p.of_module stored) (Reference layout) ≡ true → o.known_fits (Reference layout) (o.known_of facts x) ≡ true
       → IsReferenceTo heap layout (value_of p.of_module frame.registers stored x) × IsOwn log guarded (value_of p.of_module frame.registers stored x)
-  reference_stored stored held layout (operand.Constant (constant.Number n)) is k1 k2 k3 none moves fits = absurd (number_in stored held n layout is (and_parts (o.fits_bits n (kind_of p.of_module stored)) true k2).0 moves)
+  reference_stored stored held layout (operand.Constant (constant.Number n)) is k1 k2 k3 none moves fits = absurd (number_in stored held layout is (integer_bits p.of_module n (kind_of p.of_module stored) (and_parts (o.fits_bits n (kind_of p.of_module stored)) true k2).0) moves)
+  reference_stored stored held layout (operand.Constant (constant.Float n)) is k1 k2 k3 none moves fits = absurd (number_in stored held layout is (and_parts (is_integer (kind_of p.of_module stored)) true k2).0 moves)
   reference_stored stored held layout (operand.Constant (constant.Truth b)) is k1 k2 k3 none moves fits = absurd cc
   reference_stored stored held layout (operand.Constant constant.Null) is k1 k2 k3 none moves fits = (tt, tt)
   reference_stored stored held layout (operand.Local u) is k1 k2 k3 none moves fits = known_reference layout (known_at facts.values u) (register_at frame.registers u) (h.values u) (available heap p certs reaches f table guarded log cells facts frame h u none k1) fits k3
@@ -303,6 +296,7 @@ module _ (heap : Setup) (p : LaidOut) (certs : List Section) (reaches : Bool) (f
   stored_keeps : (stored s : ℕ) (x : Operand) → o.is_available table facts x ≡ true → o.is_of_type p.of_module f facts stored x ≡ true → o.is_current facts (o.known_of facts x) ≡ true → o.slot_named table x ≡ None
       → FitsSlot heap p.of_module guarded log (held_type table s) (slot_layout table s) (value_of p.of_module frame.registers stored x) → Holds heap p table guarded log cells (store_slot s (o.known_of facts x) facts) frame.registers (slice_set frame.slots s (value_of p.of_module frame.registers stored x))
   stored_keeps stored s (operand.Constant (constant.Number n)) k1 k2 k3 none fits = slot_keeps heap p table guarded log cells facts frame.registers frame.slots h s _ _ fits (apart_plain s _ (apart_number _ _ refl))
+  stored_keeps stored s (operand.Constant (constant.Float n)) k1 k2 k3 none fits = slot_keeps heap p table guarded log cells facts frame.registers frame.slots h s _ _ fits (apart_plain s _ (apart_number _ _ refl))
   stored_keeps stored s (operand.Constant (constant.Truth b)) k1 k2 k3 none fits = absurd cc
   stored_keeps stored s (operand.Constant constant.Null) k1 k2 k3 none fits = slot_keeps heap p table guarded log cells facts frame.registers frame.slots h s _ _ fits (apart_plain s _ (apart_null _ refl))
   stored_keeps stored s (operand.Global g) k1 k2 k3 none fits = absurd (no_value _ k2)

@@ -134,13 +134,14 @@ module _ (p : LaidOut) (f : Function) (table : SlotTable) (names : NamesRoots p.
   call_root (argument ∷ arguments) s e reference = place_root argument.written argument.operand s e reference
 
   call_place : (name : Option ℕ) (arguments : List Argument) (called : Option Runtime) (given : Answer) (frame : Frame) → SamePlace p.of_module table frame (mc.after_call p f table name arguments called given frame)
-  call_place name arguments None given frame = same_place frame
+  call_place name arguments None given frame = register_place name _ frame
   call_place name arguments (Some runtime.Alloc) given frame = register_place name _ frame
   call_place name arguments (Some runtime.Safepoint) given frame = same_place frame
   call_place name arguments (Some runtime.GcRoot) given frame = slot_place _ _ frame (call_root arguments)
   call_place name arguments (Some runtime.GcRead) given frame = register_place name _ frame
   call_place name arguments (Some runtime.GcWrite) given frame = same_place frame
   call_place name arguments (Some (runtime.Integer function bits)) given frame = register_place name _ frame
+  call_place name arguments (Some (runtime.Float function bits)) given frame = register_place name _ frame
 
   memory_place : (name : Option ℕ) (x : MemoryOp) (given : Answer) (frame : Frame) → SamePlace p.of_module table frame (mc.after_memory p f table name x given frame)
   memory_place name (memory.Alloca held) given frame = same_place frame

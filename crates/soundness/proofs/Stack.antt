@@ -17,7 +17,7 @@ use Rattle.block_rules.specs.Promises.{promised_in, own_mark}
 use Rattle.block_rules.specs.Calls.{receive_result}
 use Rattle.block_rules.specs.Certified.{Follows, EndPasses, phi_count, end_place, context_of}
 use Rattle.machine.specs.declared.action.Action.{Action}
-use Rattle.machine.specs.declared.action.Action.TheVariants.{Local, Read, StorePlain, Write, Alloc, Safepoint, End, Wrong}
+use Rattle.machine.specs.declared.action.Action.TheVariants.{Local, Foreign, Read, StorePlain, Write, Alloc, Safepoint, End, Wrong}
 use Rattle.machine.specs.declared.answer.Answer.{Answer}
 use Rattle.machine.specs.declared.answer.Answer.TheVariants as answer
 use Rattle.machine.specs.declared.frame.Frame.{Frame}
@@ -126,6 +126,7 @@ no_guarded guarded (value.Address at) cell spare g refers = refers
 pub log_after : (heap : Setup) (log : Log) (reaches : Bool) (guarded : Guarded) (roots : List Value) (asked : Action) (given : Answer) → Spares reaches guarded asked → Possible heap log asked given
     → Spared guarded log (record { asked = asked; given = given; roots = roots } ∷ log) ⊎ ((reaches ≡ true) × ((r : Reference) → IsReferredTo roots r → Held (record { asked = asked; given = given; roots = roots } ∷ log) r))
 log_after heap log reaches guarded roots Local given spares p = inl (record { held = λ r x. inr x; fresh = λ cell g x. x })
+log_after heap log reaches guarded roots (Foreign bits) given spares p = inl (record { held = λ r x. inr x; fresh = λ cell g x. x })
 log_after heap log reaches guarded roots (Read at word) given spares p = inl (record { held = λ r x. inr x; fresh = λ cell g x. x })
 log_after heap log reaches guarded roots (StorePlain at word v) given spares p = inl (record { held = λ r x. inr x; fresh = λ cell g x. (no_guarded guarded v cell spares g, x) })
 log_after heap log reaches guarded roots (Write at word v) given spares p = inl (record { held = λ r x. inr x; fresh = λ cell g x. (no_guarded guarded v cell spares g, x) })

@@ -139,4 +139,5 @@ module _ (heap : Setup) (p : LaidOut) (table : SlotTable) (guarded : Guarded) (l
         let q = subst (λ x. Decides x taken) (w.1 ∙ ap (λ y. compared t.kind (bits_at p.of_module w.0) y (constant_value p.of_module w.0 t.constant)) e ∙ ap (λ y. compared t.kind (bits_at p.of_module w.0) (value.Number a) (constant_value p.of_module w.0 y)) is) d in
         truth_is (compares t.kind (bits_at p.of_module w.0) a (wrapped (bits_at p.of_module w.0) n)) taken q)
     by constant.Null is = by_null t.kind taken (subst (λ x. Decides x taken) (w.1 ∙ ap (λ y. compared t.kind (bits_at p.of_module w.0) (register_at registers t.tested) (constant_value p.of_module w.0 y)) is) d)
+    by (constant.Float n) is = h
     by (constant.Truth b) is = h

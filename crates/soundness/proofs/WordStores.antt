@@ -32,7 +32,7 @@ use Rattle.block_rules.specs.Integers.{below_of}
 use Rattle.block_rules.specs.Operands as o
 use Rattle.block_rules.specs.Places as r
 use Rattle.block_rules.specs.Rules.{after_memory}
-use Rattle.block_rules.specs.TypeKinds.{kind_of, fits_layout, may_be_reference}
+use Rattle.block_rules.specs.TypeKinds.{kind_of, is_integer, fits_layout, may_be_reference}
 use Rattle.machine.specs.declared.action.Action.TheVariants.{Write, StorePlain, Wrong}
 use Rattle.machine.specs.declared.frame.Frame.{Frame}
 use Rattle.machine.specs.declared.value.Reference.{Reference as Ref}
@@ -51,7 +51,7 @@ use Rattle.soundness.proofs.PlaceFacts.{holds_as_asked}
 use Rattle.soundness.specs.Goes.{Goes, HaveMembers, IsSpare}
 use Rattle.soundness.proofs.SameKinds.{part_refers}
 use Rattle.soundness.proofs.WordReads.{bits_of_word}
-use Rattle.soundness.proofs.Steps.{available, integer_is, no_number, no_value, usable}
+use Rattle.soundness.proofs.Steps.{available, integer_is, no_number, integer_refers, no_value, usable}
 use Rattle.soundness.proofs.Stored.{class_stored}
 use Rattle.soundness.proofs.Touches.{Touches, IsPlace, place_value_of, place_at, no_slot_at, on_base, on_global, known_place, word_touches}
 
@@ -112,6 +112,7 @@ module _ (heap : Setup) (p : LaidOut) (certs : List Section) (reaches : Bool) (f
   reference_stored : (stored layout : ℕ) (x : Operand) → may_be_reference (kind_of p.of_module stored) ≡ true → IsStored p f table facts stored x → r.fits_word (Some (word.Reference layout)) (r.wanted_by_value (o.known_of facts x)) ≡ true
       → IsReferenceTo heap layout (value_of p.of_module frame.registers stored x) × IsOwn log guarded (value_of p.of_module frame.registers stored x)
   reference_stored stored layout (operand.Constant (constant.Number n)) refers i fit = absurd (no_number n (kind_of p.of_module stored) (and_parts (o.fits_bits n (kind_of p.of_module stored)) true i.typed).0 refers)
+  reference_stored stored layout (operand.Constant (constant.Float n)) refers i fit = absurd (integer_refers (kind_of p.of_module stored) (and_parts (is_integer (kind_of p.of_module stored)) true i.typed).0 refers)
   reference_stored stored layout (operand.Constant (constant.Truth b)) refers i fit = absurd (let t = i.typed in cc)
   reference_stored stored layout (operand.Constant constant.Null) refers i fit = (tt, tt)
   reference_stored stored layout (operand.Local u) refers i fit =
@@ -152,6 +153,7 @@ module _ (heap : Setup) (p : LaidOut) (certs : List Section) (reaches : Bool) (f
   stored_after : (stored : ℕ) (x : Operand) → IsStored p f table facts stored x → (later : Log) → ((r : Ref) → Held log r → Held later r) → ((cell : ℕ) → IsFresh log cell → (RefersToCell (value_of p.of_module frame.registers stored x) cell → ⊥) → IsFresh later cell)
       → (more : Cells) × Holds heap p table guarded later more (drop_fresh_of (o.known_of facts x) facts) frame.registers frame.slots
   stored_after stored (operand.Constant (constant.Number n)) i later held fresh = none_stored later held (λ cell y. fresh cell y (λ z. z))
+  stored_after stored (operand.Constant (constant.Float n)) i later held fresh = none_stored later held (λ cell y. fresh cell y (λ z. z))
   stored_after stored (operand.Constant (constant.Truth b)) i later held fresh = absurd (let t = i.typed in cc)
   stored_after stored (operand.Constant constant.Null) i later held fresh = none_stored later held (λ cell y. fresh cell y (λ z. z))
   stored_after stored (operand.Global symbol) i later held fresh = absurd (no_value _ i.typed)

@@ -1,0 +1,73 @@
+//! Calls of functions outside: what they ask for, what they take, and what they give.
+ghost use Rattle.std.specs.Prelude.{◌≡◌, ◌||◌, slice_get};
+ghost use Rattle.machine.specs.Asks.{asked_outside, is_null_argument, are_outside_arguments};
+ghost use Rattle.machine.specs.Kinds.{is_usable_number};
+ghost use Rattle.machine.specs.Machine.{given_value};
+
+use crate::action::Action;
+use crate::answer::Answer;
+use crate::frame_context::FrameContext;
+use crate::kinds::{bits_at, is_integer, is_pointer_type, is_void};
+use crate::operands::{is_null_operand, is_usable_number};
+use crate::value::Value;
+use ir_ast::{Argument, Module, TypeId};
+
+/// What a function outside gives, by its type: nothing, or a number.
+pub fn asked_outside(of_module: &Module, returned: TypeId) -> Action
+    ensures { result ≡ asked_outside (slice_get of_module.now.types returned) }
+{
+    if is_void(of_module, returned) {
+        Action::Local
+    } else if is_integer(of_module, returned) {
+        Action::Foreign {
+            bits: bits_at(of_module, returned),
+        }
+    } else {
+        Action::Wrong
+    }
+}
+
+/// Whether an argument is null, written at a pointer type.
+fn is_null_argument(of_module: &Module, argument: &Argument) -> bool
+    ensures { result ≡ is_null_argument of_module.now argument.now }
+{
+    is_null_operand(&argument.operand) && is_pointer_type(of_module, argument.written)
+}
+
+/// Whether a function outside takes an argument: a number of its type, or null.
+fn is_taken(context: &FrameContext<'_>, argument: &Argument) -> bool
+    ensures { let m = context.now.program.now.of_module in result ≡ (is_usable_number m context.now.function.now context.now.slots.now context.now.registers.now argument.now.written argument.now.operand || is_null_argument m argument.now) }
+{
+    is_usable_number(context, argument.written, &argument.operand)
+        || is_null_argument(context.of_module(), argument)
+}
+
+/// Whether there is one argument for each of these types, written with it, that a function outside takes.
+#[tactic(auto, using(crate::proofs::ForeignArguments::other_count))]
+pub fn are_outside_arguments(
+    context: &FrameContext<'_>,
+    types: &[TypeId],
+    arguments: &[Argument],
+) -> bool
+    ensures { result ≡ are_outside_arguments context.now.program.now.of_module context.now.function.now context.now.slots.now context.now.registers.now types.now arguments.now }
+{
+    if types.len() != arguments.len() {
+        return false;
+    }
+    for (written, argument) in types.iter().zip(arguments.iter()) {
+        if argument.written != *written || !is_taken(context, argument) {
+            return false;
+        }
+    }
+    true
+}
+
+/// A number from outside, as it is given.
+pub fn given_value(answer: Answer) -> Value
+    ensures { result ≡ given_value answer }
+{
+    match answer {
+        Answer::Number(number) => Value::Number(number),
+        _ => Value::Unset,
+    }
+}
