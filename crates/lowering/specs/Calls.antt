@@ -53,7 +53,7 @@ abbrev pub integers_text : (recorded : Bool) → Module → (locals : List Text)
 integers_text recorded m locals instr call Flagged (taken ∷ flag ∷ []) = flagged_line recorded m locals instr call taken
 integers_text recorded m locals instr call _ arguments = plain_line recorded m locals instr
 
--- a call, by the function of the runtime that it calls
+-- a call, by the function of the runtime that it calls; one of a function that is defined or only declared stands as it is
 abbrev pub call_by : (recorded : Bool) → Module → (locals : List Text) → Seat → Instr → Call → Option Runtime → Text
 call_by recorded m locals seat instr call None = plain_line recorded m locals instr
 call_by recorded m locals seat instr call (Some runtime.Alloc) = instruction_line m locals instr
@@ -62,6 +62,7 @@ call_by recorded m locals seat instr call (Some runtime.GcRoot) = plain_line rec
 call_by recorded m locals seat instr call (Some runtime.GcRead) = gcread_text recorded m locals seat instr call call.arguments
 call_by recorded m locals seat instr call (Some runtime.GcWrite) = gcwrite_text m locals instr call.arguments
 call_by recorded m locals seat instr call (Some (runtime.Integer function bits)) = integers_text recorded m locals instr call (taken_by function) call.arguments
+call_by recorded m locals seat instr call (Some (runtime.Float function bits)) = plain_line recorded m locals instr
 
 -- a call
 abbrev pub call_text : (recorded : Bool) → Module → (locals : List Text) → Seat → Instr → Call → Text

@@ -2,6 +2,7 @@
 use Rattle.std.specs.Prelude.{ℕ, Bool, true, false, if◌then◌else◌, List, [], ◌∷◌, ◌++◌, Option, Some, None, slice_get, codes}
 use Rattle.std.specs.List.{flat_map}
 use Rattle.std.specs.Fmt.{decimal}
+use Rattle.ir_ast.specs.Floats.{float_word}
 use Rattle.ir_ast.specs.declared.block.Block.{Block}
 use Rattle.ir_ast.specs.declared.function.Function.{Function}
 use Rattle.ir_ast.specs.declared.items_of_module.Declare.{Declare}
@@ -12,7 +13,7 @@ use Rattle.ir_ast.specs.declared.module.Module.{Module}
 use Rattle.ir_ast.specs.declared.operand.Constant.{Constant}
 use Rattle.ir_ast.specs.declared.operand.Constant.TheVariants as constant
 use Rattle.ir_ast.specs.declared.runtime.Runtime.{Runtime}
-use Rattle.ir_ast.specs.declared.runtime.Runtime.TheVariants.{Integer}
+use Rattle.ir_ast.specs.declared.runtime.Runtime.TheVariants.{Integer, Float}
 use Rattle.ir_tokens.specs.Bytes.{Text}
 use Rattle.ir_print.specs.Choices.{phi_line}
 use Rattle.ir_print.specs.Items.{collector_text, declare_line, parameter_text}
@@ -20,7 +21,7 @@ use Rattle.ir_print.specs.Names.{name_at, key_text, global_text, struct_text}
 use Rattle.ir_print.specs.Operands.{listed}
 use Rattle.ir_print.specs.Types.{type_text}
 use Rattle.shadow_stack.specs.Slots.{SlotTable, slots_of}
-use Rattle.types.specs.Elements.{is_integer}
+use Rattle.machine.specs.Kinds.{is_integer, bits_of, wrapped}
 use Rattle.lowering.specs.Ends.{end_text}
 use Rattle.lowering.specs.Instructions.{body_text}
 use Rattle.lowering.specs.Types.{words_text}
@@ -29,13 +30,14 @@ use Rattle.lowering.specs.Types.{words_text}
 abbrev pub struct_line : Module → StructType → Text
 struct_line m struct = struct_text m struct.name ++ codes " = type " ++ words_text m struct.body ++ 10 ∷ []
 
--- the number that a word begins with
-abbrev pub first_number : Constant → ℕ
-first_number (constant.Number number) = number
-first_number constant.Null = 0
-first_number (constant.Truth truth) = if truth then 1 else 0
+-- the number that a word begins with, where what it holds has this number of bits; of a floating point number its bits
+abbrev pub first_number : (bits : ℕ) → Constant → ℕ
+first_number bits (constant.Number number) = number
+first_number bits (constant.Float number) = wrapped bits (float_word bits number)
+first_number bits constant.Null = 0
+first_number bits (constant.Truth truth) = if truth then 1 else 0
 
--- what is before the number that an integer begins with
+-- what is before the number that a word begins with
 unfoldable pub integer_word : Text
 integer_word = codes " = global i64 "
 
@@ -47,23 +49,24 @@ null_word = codes " = global ptr null"
 unfoldable pub aligned_word : Text
 aligned_word = codes ", align 8\n"
 
--- what a global begins with: an integer as a word, or null
-abbrev pub word_by : (integer : Bool) → Constant → Text
-word_by true initial = integer_word ++ decimal (first_number initial)
-word_by false initial = null_word
+-- what a global begins with: a number of this number of bits as a word, or null
+abbrev pub word_by : (is_number : Bool) → (bits : ℕ) → Constant → Text
+word_by true bits initial = integer_word ++ decimal (first_number bits initial)
+word_by false bits initial = null_word
 
 -- the same, by the type of what it holds
 unfoldable pub word_text : Option IrType → Constant → Text
-word_text shown initial = word_by (is_integer shown) initial
+word_text shown initial = word_by (is_integer shown) (bits_of shown) initial
 
 -- the line of a global
 abbrev pub global_line : Module → Global → Text
 global_line m global = global_text m global.symbol ++ word_text (slice_get m.types global.held) global.initial ++ aligned_word
 
--- the line of a declared function that is none of the runtime; functions of integers are LLVM's
+-- the line of a declared function that is none of the runtime; functions of numbers are LLVM's
 abbrev pub foreign_line : Module → Declare → Option Runtime → Text
 foreign_line m declared None = declare_line m declared
 foreign_line m declared (Some (Integer function bits)) = declare_line m declared
+foreign_line m declared (Some (Float function bits)) = declare_line m declared
 foreign_line m declared (Some runtime) = []
 
 -- the same, by what the function is

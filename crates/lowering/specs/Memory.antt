@@ -2,6 +2,7 @@
 use Rattle.std.specs.Prelude.{ℕ, Bool, false, if◌then◌else◌, List, [], ◌∷◌, ◌++◌, Option, Some, None, is_some, slice_get, codes}
 use Rattle.ir_ast.specs.declared.instr.Instr.{Instr}
 use Rattle.ir_ast.specs.declared.ir_type.IrType.{IrType}
+use Rattle.ir_ast.specs.declared.ir_type.IrType.TheVariants.{Integer, Float, Double}
 use Rattle.ir_ast.specs.declared.memory.MemoryOp.{MemoryOp}
 use Rattle.ir_ast.specs.declared.memory.MemoryOp.TheVariants as memory
 use Rattle.ir_ast.specs.declared.module.Module.{Module}
@@ -13,7 +14,6 @@ use Rattle.ir_print.specs.Types.{type_text}
 use Rattle.ir_print.specs.Parts.{typed}
 use Rattle.ir_print.specs.Instructions.{instruction_line}
 use Rattle.shadow_stack.specs.Slots.{SlotTable, slot_of}
-use Rattle.types.specs.Elements.{is_integer}
 use Rattle.lowering.specs.declared.words.Loading.{Loading}
 use Rattle.lowering.specs.declared.words.Seat.{Seat}
 use Rattle.lowering.specs.declared.words.Storing.{Storing}
@@ -30,7 +30,10 @@ plain_line recorded m locals instr = local_line recorded ++ instruction_line m l
 
 -- how a value begins that a slot begins with, and what is before the slot's name
 abbrev pub first_value : Option IrType → Text
-first_value shown = if is_integer shown then codes " 0, ptr " else codes " null, ptr "
+first_value (Some (Integer bits)) = codes " 0, ptr "
+first_value (Some Float) = codes " 0.0, ptr "
+first_value (Some Double) = codes " 0.0, ptr "
+first_value _ = codes " null, ptr "
 
 -- the line that stores what a slot begins with; a slot without a name has none
 abbrev pub first_line : Module → (locals : List Text) → (held : ℕ) → (slot : Option ℕ) → Text

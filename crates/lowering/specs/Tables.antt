@@ -11,7 +11,7 @@ use Rattle.ir_print.specs.Names.{global_text}
 use Rattle.pools.specs.Layouts.{words_of}
 use Rattle.pools.specs.declared.word_kind.WordKind.{WordKind}
 use Rattle.pools.specs.declared.word_kind.WordKind.TheVariants as word
-use Rattle.types.specs.Elements.{is_integer}
+use Rattle.machine.specs.Kinds.{is_integer}
 use Rattle.lowering.specs.Rows.{before_row, numbered}
 use Rattle.lowering.specs.Strings.{name_string}
 

@@ -150,7 +150,7 @@ pub(crate) fn put_call(
     ensures { OnOk result (out.new.items ≡ out.old.items ++ spec.call_text scope.now.recorded scope.now.of_module.now scope.now.locals.now seat.now instr.now call.now) }
 {
     match runtime_called(scope.of_module, call.callee) {
-        None => put_plain(alloc, out, scope, instr),
+        None | Some(Runtime::Float { .. }) => put_plain(alloc, out, scope, instr),
         Some(Runtime::Alloc) | Some(Runtime::Safepoint) => {
             put_instruction(alloc, out, scope.of_module, scope.locals, instr)
         }

@@ -1,18 +1,19 @@
 //! How items are lowered.
-ghost use Rattle.std.specs.Prelude.{◌≡◌, ◌++◌, ◌∷◌, [], OnOk};
+ghost use Rattle.std.specs.Prelude.{◌≡◌, ◌++◌, ◌∷◌, [], OnOk, slice_get};
 ghost use Rattle.std.specs.List.{flat_map};
 ghost use Rattle.lowering.specs.Items as spec;
 
 use crate::ends::put_end;
 use crate::instructions::put_body;
 use crate::scope::Scope;
-use crate::word_types::{is_integer, put_words};
+use crate::word_types::{bits_of, is_number, put_words};
 use ir_ast::{
-    Block, Constant, Declare, Function, Global as Word, IrType, Module, Names, Runtime, StructType,
+    Block, Constant, Declare, Function, Global as Word, Module, Names, Runtime, StructType, TypeId,
 };
 use ir_print::{
     put_collector, put_declare, put_label, put_parameters, put_phis, put_struct_name, put_type,
 };
+use machine::float_number;
 use name_text::{Blank, put_global, put_number};
 use shadow_stack::slots_of;
 use std::alloc::{AllocError, Global};
@@ -47,18 +48,19 @@ pub(crate) fn put_structs(
     Ok(())
 }
 
-/// The number that a word begins with.
-fn first_number(constant: Constant) -> u64
-    ensures { result ≡ spec.first_number constant }
+/// The number that a word begins with, where what it holds has this number of bits.
+fn first_number(bits: u32, constant: Constant) -> u64
+    ensures { result ≡ spec.first_number bits constant }
 {
     match constant {
         Constant::Number(number) => number,
+        Constant::Float(number) => float_number(bits, number),
         Constant::Null => 0,
         Constant::Truth(truth) => { if truth { 1 } else { 0 } }
     }
 }
 
-/// What is before the number that an integer begins with.
+/// What is before the number that a word begins with.
 #[tactic(auto, unfolding(crate::specs::Items::integer_word))]
 fn integer_word() -> &'static [u8]
     ensures { result.now ≡ spec.integer_word }
@@ -82,34 +84,38 @@ fn aligned_word() -> &'static [u8]
     b", align 8\n"
 }
 
-/// What a global begins with: an integer as a word, or null.
+/// What a global begins with: a number of this number of bits as a word, or null.
 fn put_word_by(
     alloc: Global,
     out: &mut Vec<u8>,
-    integer: bool,
+    is_number: bool,
+    bits: u32,
     initial: Constant,
 ) -> Result<(), AllocError>
-    ensures { OnOk result (out.new.items ≡ out.old.items ++ spec.word_by integer initial) }
+    ensures { OnOk result (out.new.items ≡ out.old.items ++ spec.word_by is_number bits initial) }
 {
-    if integer {
+    if is_number {
         out.extend_from_slice(integer_word())?;
-        put_number(alloc, out, first_number(initial))
+        put_number(alloc, out, first_number(bits, initial))
     } else {
         out.extend_from_slice(null_word())
     }
 }
 
-/// What a global of this type begins with.
+/// What a global begins with that holds this type.
 #[tactic(auto, unfolding(crate::specs::Items::word_text))]
 fn put_word(
     alloc: Global,
     out: &mut Vec<u8>,
-    shown: Option<IrType>,
+    module: &Module,
+    held: TypeId,
     initial: Constant,
 ) -> Result<(), AllocError>
-    ensures { OnOk result (out.new.items ≡ out.old.items ++ spec.word_text shown initial) }
+    ensures { OnOk result (out.new.items ≡ out.old.items ++ spec.word_text (slice_get «module».now.types held) initial) }
 {
-    put_word_by(alloc, out, is_integer(shown), initial)
+    let numeric = is_number(module.types.get(held));
+    let bits = bits_of(module.types.get(held));
+    put_word_by(alloc, out, numeric, bits, initial)
 }
 
 fn put_global_line(
@@ -121,7 +127,7 @@ fn put_global_line(
     ensures { OnOk result (out.new.items ≡ out.old.items ++ spec.global_line «module».now global.now) }
 {
     put_global(out, module, global.symbol, Blank::Kept)?;
-    put_word(alloc, out, module.types.get(global.held), global.initial)?;
+    put_word(alloc, out, module, global.held, global.initial)?;
     out.extend_from_slice(aligned_word())
 }
 
@@ -150,7 +156,9 @@ fn put_foreign(
     ensures { OnOk result (out.new.items ≡ out.old.items ++ spec.declared_line «module».now declared.now) }
 {
     match declared.runtime {
-        None | Some(Runtime::Integer { .. }) => put_declare(alloc, out, module, declared),
+        None | Some(Runtime::Integer { .. } | Runtime::Float { .. }) => {
+            put_declare(alloc, out, module, declared)
+        }
         Some(_) => Ok(()),
     }
 }

@@ -3,7 +3,6 @@ ghost use Rattle.std.specs.Prelude.{◌≡◌, ◌++◌, ◌∷◌, [], OnOk, sl
 ghost use Rattle.lowering.specs.Memory as spec;
 
 use crate::scope::Scope;
-use crate::word_types::is_integer;
 use crate::words::{Loading, Seat, Storing, put_load, put_local_step, put_store};
 use ir_ast::{Argument, Instr, IrType, MemoryOp, Operand, TypeId, ValueId};
 use ir_print::{put_instruction, put_type, typed};
@@ -38,10 +37,10 @@ pub(crate) fn put_plain(
 fn first_value(shown: Option<IrType>) -> &'static [u8]
     ensures { result.now ≡ spec.first_value shown }
 {
-    if is_integer(shown) {
-        b" 0, ptr "
-    } else {
-        b" null, ptr "
+    match shown {
+        Some(IrType::Integer(_)) => b" 0, ptr ",
+        Some(IrType::Float | IrType::Double) => b" 0.0, ptr ",
+        _ => b" null, ptr ",
     }
 }
 

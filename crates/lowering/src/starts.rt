@@ -6,17 +6,17 @@ ghost use Rattle.lowering.specs.Starts as spec;
 use crate::rows::before_row;
 use crate::strings::put_name_string;
 use crate::tables::put_counted;
-use crate::word_types::is_integer;
-use crate::words::{from_word, to_word};
+use crate::word_types::is_number;
+use crate::words::{from_word, is_halved, to_word};
 use ir_ast::{Function, IrType, Module, Parameter, TypeId};
 use ir_print::put_type;
 use name_text::{Blank, put_global, put_number};
 use std::alloc::{AllocError, Global};
 
-fn is_integer_parameter(module: &Module, parameter: &Parameter) -> bool
-    ensures { result ≡ spec.is_integer_parameter «module».now parameter.now }
+fn is_number_parameter(module: &Module, parameter: &Parameter) -> bool
+    ensures { result ≡ spec.is_number_parameter «module».now parameter.now }
 {
-    is_integer(module.types.get(parameter.written))
+    is_number(module.types.get(parameter.written))
 }
 
 /// Whether a thread may begin at a function.
@@ -27,7 +27,7 @@ fn is_start(module: &Module, function: &Function) -> bool
         .parameters
         .as_slice()
         .iter()
-        .all(|parameter| is_integer_parameter(module, parameter))
+        .all(|parameter| is_number_parameter(module, parameter))
 }
 
 /// How many of these functions are starts.
@@ -74,7 +74,41 @@ fn put_argument_word(alloc: Global, out: &mut Vec<u8>, place: usize) -> Result<(
     Ok(())
 }
 
-/// The line that makes an argument of this type of that word.
+/// The line that makes the lower half of that word.
+fn put_argument_half(alloc: Global, out: &mut Vec<u8>, place: usize) -> Result<(), AllocError>
+    ensures { OnOk result (out.new.items ≡ out.old.items ++ spec.argument_half place) }
+{
+    out.extend_from_slice(b"  %h")?;
+    put_number(alloc, out, place as u64)?;
+    out.extend_from_slice(b" = trunc i64 %w")?;
+    put_number(alloc, out, place as u64)?;
+    out.extend_from_slice(b" to i32\n")
+}
+
+/// The same, where there is need of it.
+fn put_half_by(
+    alloc: Global,
+    out: &mut Vec<u8>,
+    halved: bool,
+    place: usize,
+) -> Result<(), AllocError>
+    ensures { OnOk result (out.new.items ≡ out.old.items ++ spec.half_by halved place) }
+{
+    if halved {
+        put_argument_half(alloc, out, place)
+    } else {
+        Ok(())
+    }
+}
+
+/// How the name of the word begins, or of its lower half.
+fn part_begin(halved: bool) -> &'static [u8]
+    ensures { result.now ≡ spec.part_begin halved }
+{
+    if halved { b"%h" } else { b"%w" }
+}
+
+/// The line that makes an argument of this type of that word, or of its lower half.
 #[tactic(auto, unfolding(crate::specs::Starts::argument_line))]
 fn put_argument_line(
     alloc: Global,
@@ -89,12 +123,29 @@ fn put_argument_line(
     put_number(alloc, out, place as u64)?;
     out.extend_from_slice(b" = ")?;
     out.extend_from_slice(from_word(module.types.get(written)))?;
-    out.extend_from_slice(b"%w")?;
+    let halved = is_halved(module.types.get(written));
+    out.extend_from_slice(part_begin(halved))?;
     put_number(alloc, out, place as u64)?;
     out.extend_from_slice(b" to ")?;
     put_type(alloc, out, module, written)?;
     out.push(b'\n')?;
     Ok(())
+}
+
+/// The lines that read the argument for the parameter at this place.
+fn put_argument_lines(
+    alloc: Global,
+    out: &mut Vec<u8>,
+    module: &Module,
+    place: usize,
+    parameter: &Parameter,
+) -> Result<(), AllocError>
+    ensures { OnOk result (out.new.items ≡ out.old.items ++ spec.argument_lines «module».now place parameter.now) }
+{
+    put_argument_word(alloc, out, place)?;
+    let halved = is_halved(module.types.get(parameter.written));
+    put_half_by(alloc, out, halved, place)?;
+    put_argument_line(alloc, out, module, place, parameter.written)
 }
 
 /// The lines that read the arguments.
@@ -108,8 +159,7 @@ fn put_arguments(
 {
     let mut place = 0;
     for parameter in parameters {
-        put_argument_word(alloc, out, place)?;
-        put_argument_line(alloc, out, module, place, parameter.written)?;
+        put_argument_lines(alloc, out, module, place, parameter)?;
         place += 1;
     }
     Ok(())
@@ -166,6 +216,24 @@ fn put_start_call(
     out.extend_from_slice(b")\n")
 }
 
+/// How the line begins that makes a word of the value of a call, or its lower half.
+fn word_begin(halved: bool) -> &'static [u8]
+    ensures { result.now ≡ spec.word_begin halved }
+{
+    if halved { b"  %h = " } else { b"  %w = " }
+}
+
+/// How it ends, and the lines after it.
+fn word_end(halved: bool) -> &'static [u8]
+    ensures { result.now ≡ spec.word_end halved }
+{
+    if halved {
+        b" %r to i32\n  %w = zext i32 %h to i64\n  ret i64 %w\n"
+    } else {
+        b" %r to i64\n  ret i64 %w\n"
+    }
+}
+
 /// The lines that return the value of a call as a word.
 #[tactic(auto, unfolding(crate::specs::Starts::word_lines))]
 fn put_word_lines(
@@ -176,10 +244,11 @@ fn put_word_lines(
 ) -> Result<(), AllocError>
     ensures { OnOk result (out.new.items ≡ out.old.items ++ spec.word_lines «module».now returned) }
 {
-    out.extend_from_slice(b"  %w = ")?;
+    let halved = is_halved(module.types.get(returned));
+    out.extend_from_slice(word_begin(halved))?;
     out.extend_from_slice(to_word(module.types.get(returned)))?;
     put_type(alloc, out, module, returned)?;
-    out.extend_from_slice(b" %r to i64\n  ret i64 %w\n")
+    out.extend_from_slice(word_end(halved))
 }
 
 /// The call of a start, and the word that is returned for it.
@@ -285,7 +354,7 @@ fn result_mark(shown: Option<IrType>) -> &'static [u8]
 {
     match &shown {
         Some(IrType::Void) => b", i64 0 }",
-        Some(IrType::Integer(_)) => b", i64 1 }",
+        Some(IrType::Integer(_) | IrType::Float | IrType::Double) => b", i64 1 }",
         _ => b", i64 2 }",
     }
 }

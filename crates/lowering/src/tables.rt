@@ -5,7 +5,7 @@ ghost use Rattle.lowering.specs.Tables as spec;
 
 use crate::rows::before_row;
 use crate::strings::put_name_string;
-use crate::word_types::is_integer;
+use crate::word_types::is_number;
 use ir_ast::{Global as Word, IrType, Module, StructType};
 use name_text::{Blank, put_global, put_number};
 use pools::{Layouts, WordKind};
@@ -96,7 +96,7 @@ fn put_layout_at(
 fn global_mark(shown: Option<IrType>) -> &'static [u8]
     ensures { result.now ≡ spec.global_mark shown }
 {
-    if is_integer(shown) {
+    if is_number(shown) {
         b", i64 0 }"
     } else {
         b", i64 1 }"

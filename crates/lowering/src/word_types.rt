@@ -2,7 +2,7 @@
 ghost use Rattle.std.specs.Prelude.{◌≡◌, ◌++◌, ◌∷◌, [], Some, OnOk, length, slice_get};
 ghost use Rattle.ir_print.specs.Types.{array_text, struct_type_text, fields_text};
 ghost use Rattle.lowering.specs.Types as spec;
-ghost use Rattle.types.specs.Elements as elements;
+ghost use Rattle.machine.specs.Kinds as kinds;
 
 use ir_ast::{IrType, Module, TypeId};
 use ir_print::put_struct_name;
@@ -47,6 +47,7 @@ fn put_shown(
     match &shown {
         IrType::Void => out.extend_from_slice(b"void"),
         IrType::Integer(_) => out.extend_from_slice(b"i64"),
+        IrType::Float | IrType::Double => out.extend_from_slice(b"i64"),
         IrType::Pointer(_) => out.extend_from_slice(b"ptr"),
         IrType::Opaque => out.extend_from_slice(b"ptr"),
         IrType::Array { length, part } => put_array(alloc, out, module, levels, *length, *part),
@@ -132,9 +133,24 @@ pub(crate) fn put_words(
     put_within(alloc, out, module, LEVELS, written)
 }
 
-/// Whether this is an integer type.
-pub(crate) fn is_integer(shown: Option<IrType>) -> bool
-    ensures { result ≡ elements.is_integer shown }
+/// Whether this is the type of a number.
+pub(crate) fn is_number(shown: Option<IrType>) -> bool
+    ensures { result ≡ kinds.is_integer shown }
 {
-    matches!(shown, Some(IrType::Integer(_)))
+    matches!(
+        shown,
+        Some(IrType::Integer(_) | IrType::Float | IrType::Double)
+    )
+}
+
+/// How many bits a number of this type has.
+pub(crate) fn bits_of(shown: Option<IrType>) -> u32
+    ensures { result ≡ kinds.bits_of shown }
+{
+    match shown {
+        Some(IrType::Integer(bits)) => bits,
+        Some(IrType::Float) => 32,
+        Some(IrType::Double) => 64,
+        _ => 0,
+    }
 }

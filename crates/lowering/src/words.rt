@@ -42,17 +42,25 @@ fn put_seat(alloc: Global, out: &mut Vec<u8>, seat: &Seat) -> Result<(), AllocEr
     put_number(alloc, out, seat.place as u64)
 }
 
-/// Whether a type is an integer of fewer bits than a word.
+/// Whether a type is that of a number of fewer bits than a word.
 fn is_narrow(shown: Option<IrType>) -> bool
     ensures { result ≡ spec.is_narrow shown }
 {
     match &shown {
         Some(IrType::Integer(bits)) => *bits < 64,
+        Some(IrType::Float) => true,
         _ => false,
     }
 }
 
-/// What makes a value of a type of a word.
+/// Whether a value of a type is made of a word through its lower half.
+pub(crate) fn is_halved(shown: Option<IrType>) -> bool
+    ensures { result ≡ spec.is_halved shown }
+{
+    matches!(shown, Some(IrType::Float))
+}
+
+/// What makes a value of a type of a word, or of its lower half.
 pub(crate) fn from_word(shown: Option<IrType>) -> &'static [u8]
     ensures { result.now ≡ spec.from_word shown }
 {
@@ -64,16 +72,19 @@ pub(crate) fn from_word(shown: Option<IrType>) -> &'static [u8]
                 b"bitcast i64 "
             }
         }
+        Some(IrType::Float) => b"bitcast i32 ",
+        Some(IrType::Double) => b"bitcast i64 ",
         _ => b"inttoptr i64 ",
     }
 }
 
-/// What makes a word of a value of a type.
+/// What makes a word of a value of a type, or its lower half.
 pub(crate) fn to_word(shown: Option<IrType>) -> &'static [u8]
     ensures { result.now ≡ spec.to_word shown }
 {
     match &shown {
         Some(IrType::Integer(bits)) => { if *bits < 64 { b"zext " } else { b"bitcast " } }
+        Some(IrType::Float | IrType::Double) => b"bitcast ",
         _ => b"ptrtoint ",
     }
 }
@@ -153,6 +164,44 @@ fn put_read(
     out.extend_from_slice(after_read(scope.recorded))
 }
 
+/// What comes after the new name of a word, where its lower half is named.
+fn half_mark(halved: bool) -> &'static [u8]
+    ensures { result.now ≡ spec.half_mark halved }
+{
+    if halved { b".h" } else { b"" }
+}
+
+/// The new name of the word, or of its lower half.
+#[tactic(auto, unfolding(crate::specs::Words::part_text))]
+fn put_part(alloc: Global, out: &mut Vec<u8>, halved: bool, seat: &Seat) -> Result<(), AllocError>
+    ensures { OnOk result (out.new.items ≡ out.old.items ++ spec.part_text halved seat.now) }
+{
+    put_seat(alloc, out, seat)?;
+    out.extend_from_slice(half_mark(halved))
+}
+
+/// The line that makes the lower half of the word.
+fn put_half_text(alloc: Global, out: &mut Vec<u8>, seat: &Seat) -> Result<(), AllocError>
+    ensures { OnOk result (out.new.items ≡ out.old.items ++ spec.half_text seat.now) }
+{
+    out.extend_from_slice(b"  ")?;
+    put_part(alloc, out, true, seat)?;
+    out.extend_from_slice(b" = trunc i64 ")?;
+    put_seat(alloc, out, seat)?;
+    out.extend_from_slice(b" to i32\n")
+}
+
+/// The same, where there is need of it.
+fn put_half(alloc: Global, out: &mut Vec<u8>, halved: bool, seat: &Seat) -> Result<(), AllocError>
+    ensures { OnOk result (out.new.items ≡ out.old.items ++ spec.half_line halved seat.now) }
+{
+    if halved {
+        put_half_text(alloc, out, seat)
+    } else {
+        Ok(())
+    }
+}
+
 /// The new name, and the type of the value that is made of it.
 #[tactic(auto, unfolding(crate::specs::Words::made_text))]
 fn put_made(
@@ -164,14 +213,14 @@ fn put_made(
 ) -> Result<(), AllocError>
     ensures { OnOk result (out.new.items ≡ out.old.items ++ spec.made_text «module».now seat.now loaded) }
 {
-    put_seat(alloc, out, seat)?;
+    put_part(alloc, out, is_halved(module.types.get(loaded)), seat)?;
     out.extend_from_slice(b" to ")?;
     put_type(alloc, out, module, loaded)?;
     out.push(b'\n')?;
     Ok(())
 }
 
-/// The line that makes the value of the word.
+/// The line that makes the value of the word, or of its lower half.
 fn put_value(
     alloc: Global,
     out: &mut Vec<u8>,
@@ -185,6 +234,21 @@ fn put_value(
     put_result(out, scope.locals, loading.result)?;
     out.extend_from_slice(from_word(scope.of_module.types.get(loading.loaded)))?;
     put_made(alloc, out, scope.of_module, seat, loading.loaded)
+}
+
+/// The lines that make the value of the word.
+fn put_values(
+    alloc: Global,
+    out: &mut Vec<u8>,
+    scope: &Scope,
+    seat: &Seat,
+    loading: &Loading,
+) -> Result<(), AllocError>
+    ensures { OnOk result (out.new.items ≡ out.old.items ++ spec.value_lines scope.now.of_module.now scope.now.locals.now seat.now loading.now) }
+{
+    let halved = is_halved(scope.of_module.types.get(loading.loaded));
+    put_half(alloc, out, halved, seat)?;
+    put_value(alloc, out, scope, seat, loading)
 }
 
 /// `T, ptr V`.
@@ -230,13 +294,49 @@ pub(crate) fn put_load(
 {
     if scope.recorded || is_narrow(scope.of_module.types.get(loading.loaded)) {
         put_read(alloc, out, scope, seat, &loading.place)?;
-        put_value(alloc, out, scope, seat, loading)
+        put_values(alloc, out, scope, seat, loading)
     } else {
         put_whole_load(alloc, out, scope, loading)
     }
 }
 
-/// The line that makes a word of a value, under the new name.
+/// How the line ends that makes a word of a value; where it makes its lower half, the line that makes the word comes after it.
+fn put_word_end(
+    alloc: Global,
+    out: &mut Vec<u8>,
+    halved: bool,
+    seat: &Seat,
+) -> Result<(), AllocError>
+    ensures { OnOk result (out.new.items ≡ out.old.items ++ spec.word_end halved seat.now) }
+{
+    if !halved {
+        return out.extend_from_slice(b" to i64\n");
+    }
+    out.extend_from_slice(b" to i32\n  ")?;
+    put_seat(alloc, out, seat)?;
+    out.extend_from_slice(b" = zext i32 ")?;
+    put_part(alloc, out, true, seat)?;
+    out.extend_from_slice(b" to i64\n")
+}
+
+/// What makes a word of a value of this type, or its lower half, under the new name.
+#[tactic(auto, unfolding(crate::specs::Words::word_begin))]
+fn put_word_begin(
+    alloc: Global,
+    out: &mut Vec<u8>,
+    module: &Module,
+    written: TypeId,
+    seat: &Seat,
+) -> Result<(), AllocError>
+    ensures { OnOk result (out.new.items ≡ out.old.items ++ spec.word_begin (slice_get «module».now.types written) seat.now) }
+{
+    out.extend_from_slice(b"  ")?;
+    put_part(alloc, out, is_halved(module.types.get(written)), seat)?;
+    out.extend_from_slice(b" = ")?;
+    out.extend_from_slice(to_word(module.types.get(written)))
+}
+
+/// The lines that make a word of a value, under the new name.
 fn put_word(
     alloc: Global,
     out: &mut Vec<u8>,
@@ -244,14 +344,12 @@ fn put_word(
     seat: &Seat,
     value: &Argument,
 ) -> Result<(), AllocError>
-    ensures { OnOk result (out.new.items ≡ out.old.items ++ spec.word_line scope.now.of_module.now scope.now.locals.now seat.now value.now) }
+    ensures { OnOk result (out.new.items ≡ out.old.items ++ spec.word_lines scope.now.of_module.now scope.now.locals.now seat.now value.now) }
 {
-    out.extend_from_slice(b"  ")?;
-    put_seat(alloc, out, seat)?;
-    out.extend_from_slice(b" = ")?;
-    out.extend_from_slice(to_word(scope.of_module.types.get(value.written)))?;
+    put_word_begin(alloc, out, scope.of_module, value.written, seat)?;
     put_argument(alloc, out, scope.of_module, scope.locals, value)?;
-    out.extend_from_slice(b" to i64\n")
+    let halved = is_halved(scope.of_module.types.get(value.written));
+    put_word_end(alloc, out, halved, seat)
 }
 
 /// The line that stores this word.

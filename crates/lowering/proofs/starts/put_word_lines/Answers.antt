@@ -1,4 +1,4 @@
-use Rattle.std.proofs.Common.{◌≡◌, ◌++◌, codes, append_assoc}
+use Rattle.std.proofs.Common.{◌≡◌, ◌++◌, append_assoc}
 use Rattle.std.proofs.lemmas.Result.{on_ok_weaker}
 use Rattle.lowering.specs.Starts.{word_lines}
 use Rattle.lowering.proofs.Pieces.{on_ok_items}
@@ -8,13 +8,17 @@ pub returns : goal.returns
 unfolding word_lines
 returns c =
     on_ok_weaker c.extend_from_slice-3.result (
-    λ (last : c.extend_from_slice-3.new.self.items ≡ c.put_type.new.out.items ++ codes " %r to i64\n  ret i64 %w\n").
+    λ (last : c.extend_from_slice-3.new.self.items ≡ c.put_type.new.out.items ++ c.word_end.result.now).
     rw (
       last,
+      c.word_end.ensures,
       c.in_ok-put_type.ensures,
       c.in_ok-extend_from_slice-2.ensures.items,
       c.to_word.ensures,
-      c.get.ensures,
+      c.get-2.ensures,
       c.in_ok-extend_from_slice.ensures.items,
+      c.word_begin.ensures,
+      c.is_halved-halved.ensures,
+      c.get.ensures,
     ) (simp append_assoc)
-    ) (on_ok_items c.extend_from_slice-3.result (c.put_type.new.out.items ++ codes " %r to i64\n  ret i64 %w\n") c.extend_from_slice-3.new.self.items c.put_type.new.out.items c.extend_from_slice-3.ensures.items)
+    ) (on_ok_items c.extend_from_slice-3.result (c.put_type.new.out.items ++ c.word_end.result.now) c.extend_from_slice-3.new.self.items c.put_type.new.out.items c.extend_from_slice-3.ensures.items)
