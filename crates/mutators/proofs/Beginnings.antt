@@ -29,8 +29,8 @@ use Rattle.mutators.specs.Jobs.{IsJobOf}
 
 -- what is known of threads that may begin
 abbrev pub BegunFits : Type 0
-BegunFits = (p : LaidOut) (setup : Setup) (function : ℕ) (arguments : List ℕ) → (StartsByReference p function → ⊥) → (StartsWrongly p function arguments → ⊥)
-    → FitsThread (heap_of p setup) (record { heap = heap_of p setup; program = p; state = start p.of_module (slice_get p.of_module.functions function) function (argument_values arguments) })
+BegunFits = (p : LaidOut) (setup : Setup) (function : ℕ) (arguments values : List ℕ) → (StartsByReference p function → ⊥) → (StartsWrongly p function arguments → ⊥)
+    → FitsThread (heap_of p setup) (record { heap = heap_of p setup; program = p; state = start p.of_module (slice_get p.of_module.functions function) function (argument_values arguments); values = values })
 
 -- the heap knows which threads are late
 late_at : (starts : List Start) (t : ℕ) (b : Start) → slice_get starts t ≡ Some b → slice_index_or (map (λ (begun : Start). is_late begun.arrival) starts) t false ≡ is_late b.arrival
@@ -53,7 +53,7 @@ may_be_served p setup certs heap t b token careful fits same at is may new =
     let within : token.thread < length setup.starts = subst (λ n. n < length setup.starts) (sym new.number) (slice_get_within setup.starts t b at) in
     record {
       starts = subst (λ (l : Bool). MatchBool l (MayBegin heap token) (MayCall heap token)) late new.start;
-      fits = subst (λ (q : HeapSetup). FitsThread q begun) (sym over) (fits p setup b.function b.arguments may.begins.takes_integers may.begins.takes_these);
+      fits = subst (λ (q : HeapSetup). FitsThread q begun) (sym over) (fits p setup b.function b.arguments b.values may.begins.takes_integers may.begins.takes_these);
       careful = subst (λ (q : HeapSetup). IsCareful q program_machine token.thread begun) (sym over)
           (careful s (λ u. begun) (is_heap_for p setup) (λ u below. begins p setup certs b is may.begins may.meets) token.thread within);
       begun = subst (λ (log : List Step). IsRealShare token.setup program_machine token.thread begun log begun) (sym new.log) (no_step token.setup token.thread begun);

@@ -57,7 +57,7 @@ fn new_job<'a>(
     heap: &Heap<'_>,
     me: Mutator,
     number: u32,
-    begun: &Start,
+    begun: &'a Start,
 ) -> Result<Job<ProgramThread<'a>>, SetupFault>
     requires begun { IsStartOf of_setup.now.accepted.now.program begun.now }
     requires at { slice_get of_setup.now.setup.now.starts number ≡ Some begun.now }

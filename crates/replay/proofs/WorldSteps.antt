@@ -138,8 +138,8 @@ stays_safe law i w actor (Err e) actors endings seen kept by certs before certif
 
 -- what is known of threads that may begin
 abbrev pub BegunFits : Type 0
-BegunFits = (p : LaidOut) (setup : Setup) (function : ℕ) (arguments : List ℕ) → (StartsByReference p function → ⊥) → (StartsWrongly p function arguments → ⊥)
-    → FitsThread (heap_of p setup) (record { heap = heap_of p setup; program = p; state = start p.of_module (slice_get p.of_module.functions function) function (argument_values arguments) })
+BegunFits = (p : LaidOut) (setup : Setup) (function : ℕ) (arguments values : List ℕ) → (StartsByReference p function → ⊥) → (StartsWrongly p function arguments → ⊥)
+    → FitsThread (heap_of p setup) (record { heap = heap_of p setup; program = p; state = start p.of_module (slice_get p.of_module.functions function) function (argument_values arguments); values = values })
 
 -- the threads of a setup are as they begin, and fit its heap
 pub each_begun : BegunFits → (p : LaidOut) (setup : Setup) (threads : List (NewThread ProgramThread)) → HasNoFault p setup → AreBegun p setup threads → (t : ℕ) (new : NewThread ProgramThread) → slice_get threads t ≡ Some new
@@ -148,7 +148,7 @@ each_begun law p setup threads none are t new at =
     let found = from_map (new_thread p setup) setup.starts t new (subst (λ (all : List (NewThread ProgramThread)). slice_get all t ≡ Some new) are at) in
     let may = each_may_begin p setup none t found.0 found.1 in
     let same : begun_at p setup (Some found.0) ≡ new.machine = ap (λ (x : NewThread ProgramThread). x.machine) found.2 in
-    (ap (begun_at p setup) found.1 ∙ same, subst (FitsThread (heap_of p setup)) same (law p setup found.0.function found.0.arguments may.takes_integers may.takes_these))
+    (ap (begun_at p setup) found.1 ∙ same, subst (FitsThread (heap_of p setup)) same (law p setup found.0.function found.0.arguments found.0.values may.takes_integers may.takes_these))
 
 -- so there is one for each start
 pub as_many : (p : LaidOut) (setup : Setup) (threads : List (NewThread ProgramThread)) → AreBegun p setup threads → length threads ≡ length setup.starts

@@ -1,6 +1,6 @@
 -- What is read is a trace of the program.
-use Rattle.std.proofs.Common.{◌≡◌, ℕ, ◌+◌, ◌<◌, ◌≤◌, ◌^◌, Bool, true, false, if◌then◌else◌, List, [], ◌∷◌, ◌++◌, length, map, Option, Some, None, refl, ap, sym, subst, ◌∙◌, arith, length-append}
-use Rattle.std.specs.Prelude.{slice_get, nat_le, nat_lt}
+use Rattle.std.proofs.Common.{◌≡◌, ℕ, ◌+◌, ◌<◌, ◌≤◌, ◌^◌, Bool, true, false, ◌&&◌, if◌then◌else◌, List, [], ◌∷◌, ◌++◌, length, map, Option, Some, None, refl, ap, sym, subst, ◌∙◌, arith, length-append}
+use Rattle.std.specs.Prelude.{codes, slice_get, nat_le, nat_lt}
 use Rattle.std.specs.List.{AllByRecursion}
 use Rattle.std.proofs.lemmas.Bool.Decides.{nat_tests}
 use Rattle.std.proofs.lemmas.List.FromFn.{length-map-range_with_len}
@@ -26,7 +26,7 @@ use Rattle.name_text.specs.Reader.{word, begins, line_ends, after, next_line}
 use Rattle.trace_text.specs.Forms.{function_name, new_layout, layout_named, layout_by, cell_count, argument, thread, thread_numbered, thread_by, put_pool, put_start, put_steps, step_count, steps_counted, steps_by}
 use Rattle.name_text.specs.Forms.{skip, taken, taken_as, expect, line_end}
 use Rattle.trace_text.specs.Arrivals.{arrival, arrival_of_word, past_starts, version, version_of_word}
-use Rattle.trace_text.specs.Text.{pool, past_pools, pools, arguments, start, starts, steps_of, steps_line, past_steps, all_steps, count_or_none, counts_of, trace_with, finished_by, finished, heading, setup, steps, file, IsTrace}
+use Rattle.trace_text.specs.Text.{pool, past_pools, pools, arguments, has_values, values_by, values, start, starts, steps_of, steps_line, past_steps, all_steps, count_or_none, counts_of, trace_with, finished_by, finished, heading, setup, steps, file, IsTrace}
 use Rattle.trace_text.specs.Text as form
 use Rattle.trace_text.specs.Traces.{IsStartOf, IsTraceOf, step_sum}
 use Rattle.name_text.specs.declared.naming.Sigil.TheVariants as sigil
@@ -114,6 +114,25 @@ arguments_keep (a ∷ given) i o h =
     let more = arguments_keep given h.1 o h.3 in
     ((number_by (is_number (word i)) (word i) a r.0, more.0), r.1 ∙ more.1)
 
+values_by_keep : (t : Bool) (given : List ℕ) (i o : Input) → (values_by t).says i given o → AllByRecursion (λ value. value < 2 ^ 64) given × (kept i ≡ kept o)
+unfolding arguments
+values_by_keep false given i o h = (subst (AllByRecursion (λ value. value < 2 ^ 64)) h.0 tt, ap kept h.1)
+values_by_keep true given i o h =
+    let e = h.3 in
+    let l = e.3 in
+    let listed = arguments_keep e.0 h.1 e.1 e.2 in (
+      subst (AllByRecursion (λ value. value < 2 ^ 64)) l.3.0 listed.0,
+      expect_keeps _ i h.1 h.0 h.2 ∙ listed.1 ∙ line_end_keeps e.1 l.1 l.0 l.2 ∙ ap kept l.3.1,
+    )
+
+-- in a text of core there are no numbers from outside
+none_in_core : (m : Module) (given : List ℕ) (i o : Input) → (values m).says i given o → m.wide ≡ false → given ≡ []
+unfolding values
+none_in_core m given i o h core =
+    let none : has_values m i ≡ false = ap (λ (wide : Bool). wide && begins (codes "values") i) core in
+    let said : (values_by false).says i given o = subst (λ (t : Bool). (values_by t).says i given o) none h in
+    sym said.0
+
 -- how the threads begin so far, where no step is made
 abbrev AreStarts : LaidOut → Input → Type 0
 AreStarts p i = AllByRecursion (IsStartOf p) i.read.starts × (length i.read.starts ≤ 64) × (i.read.steps ≡ []) × (i.read.made ≡ 0)
@@ -135,23 +154,25 @@ module _ (p : LaidOut) where
   named_by (Some name) function h = symbol_by (sort_at p.of_module (place_of name p.of_module.symbols)) function h
 
   start_kept : (v : Version) (i o : Input) (u : Unit {0}) → (start p.of_module v).says i u o → AreStarts p i → AreStarts p o
-  unfolding start function_name arguments put_start with_start
+  unfolding start function_name arguments values put_start with_start
   start_kept v i o u h so_far =
       let e = h.3 in
       let f = e.3 in
       let g = f.3 in
       let l = g.3 in
+      let x = l.3 in
       let named = taken_as_keeps (function_of_word p.of_module (word e.1)) f.0 e.1 f.1 f.2 in
       let given = arguments_keep g.0 f.1 g.1 g.2 in
-      let same : kept i ≡ kept l.1 = ap kept h.2.1 ∙ arrival_keeps v h.1 e.1 e.0 e.2 ∙ named.1 ∙ given.1 ∙ line_end_keeps g.1 l.1 l.0 l.2 in
+      let outside = values_by_keep (has_values p.of_module l.1) x.0 l.1 x.1 x.2 in
+      let same : kept i ≡ kept x.1 = ap kept h.2.1 ∙ arrival_keeps v h.1 e.1 e.0 e.2 ∙ named.1 ∙ given.1 ∙ line_end_keeps g.1 l.1 l.0 l.2 ∙ outside.1 in
       let room : length i.read.starts < 64 = (let has = h.2.0 in grind (arith, nat_tests)) in
-      let s : Start = record { arrival = e.0; function = f.0; arguments = g.0 } in
-      let begun : i.read.starts ++ s ∷ [] ≡ o.read.starts = ap (λ (j : Input). j.read.starts ++ s ∷ []) same ∙ ap (λ (j : Input). j.read.starts) l.3.1 in
-      let own : IsStartOf p s = (named_by (name_in sigil.Global (word e.1)) f.0 named.0, given.0) in (
+      let s : Start = record { arrival = e.0; function = f.0; arguments = g.0; values = x.0 } in
+      let begun : i.read.starts ++ s ∷ [] ≡ o.read.starts = ap (λ (j : Input). j.read.starts ++ s ∷ []) same ∙ ap (λ (j : Input). j.read.starts) x.3.1 in
+      let own : IsStartOf p s = (named_by (name_in sigil.Global (word e.1)) f.0 named.0, given.0, outside.0, none_in_core p.of_module x.0 l.1 x.1 x.2) in (
         subst (AllByRecursion (IsStartOf p)) begun (all_join (IsStartOf p) i.read.starts (s ∷ []) so_far.0 (own, tt)),
         (let long = sym (ap length begun) in omega (arith, long, room, length-append i.read.starts (s ∷ []))),
-        sym (ap (λ (j : Input). j.read.steps) l.3.1) ∙ sym (ap (λ (j : Input). j.read.steps) same) ∙ so_far.2,
-        sym (ap (λ (j : Input). j.read.made) l.3.1) ∙ sym (ap (λ (j : Input). j.read.made) same) ∙ so_far.3,
+        sym (ap (λ (j : Input). j.read.steps) x.3.1) ∙ sym (ap (λ (j : Input). j.read.steps) same) ∙ so_far.2,
+        sym (ap (λ (j : Input). j.read.made) x.3.1) ∙ sym (ap (λ (j : Input). j.read.made) same) ∙ so_far.3,
       )
 
   starts_kept : (v : Version) (units : List (Unit {0})) (i o : Input) → Listed (past_starts v) (start p.of_module v).says i units o → AreStarts p i → AreStarts p o

@@ -1,10 +1,12 @@
 -- Printed lines are read as what they are printed of.
-use Rattle.std.proofs.Common.{◌≡◌, ℕ, ◌+◌, ◌<◌, ◌≤◌, ◌^◌, true, false, List, [], ◌∷◌, ◌++◌, length, Option, Some, None, refl, ap, ◌∙◌, arith, append_assoc}
+use Rattle.std.proofs.Common.{◌≡◌, ℕ, ◌+◌, ◌<◌, ◌≤◌, ◌^◌, Bool, true, false, ◌&&◌, List, [], ◌∷◌, ◌++◌, length, Option, Some, None, refl, ap, sym, subst, ◌∙◌, arith, append_assoc}
 use Rattle.std.specs.Prelude.{codes, slice_get, nat_lt}
 use Rattle.std.specs.List.{AllByRecursion}
 use Rattle.std.specs.Fmt.{decimal}
 use Rattle.std.specs.Str.{bytes_eq}
 use Rattle.std.proofs.lemmas.Bool.Decides.{nat_tests}
+use Rattle.std.proofs.Math.Bool.{and-false}
+use Rattle.lemmas.specs.Bools.{and_true}
 use Rattle.ir_ast.specs.declared.function.Function.{Function}
 use Rattle.ir_ast.specs.declared.module.Module.{Module}
 use Rattle.ir_tokens.specs.Tokens.{lex_from, past_gap}
@@ -17,8 +19,8 @@ use Rattle.trace_text.specs.Arrivals.{arrival_of_word, start_word}
 use Rattle.trace_text.specs.Input.{Input, with_pool, with_start, with_steps}
 use Rattle.name_text.specs.Reader.{line_ends, word, begins}
 use Rattle.trace_text.specs.Forms.{argument, put_pool, put_start}
-use Rattle.trace_text.specs.Text.{pool, arguments, start, steps_of, steps_by, steps_line}
-use Rattle.trace_text.specs.Print.{name_text, name_at, struct_name, layout_text, name_of_function, function_text, arguments_text}
+use Rattle.trace_text.specs.Text.{pool, arguments, has_values, values_by, values, start, steps_of, steps_by, steps_line}
+use Rattle.trace_text.specs.Print.{name_text, name_at, struct_name, layout_text, name_of_function, function_text, arguments_text, values_text}
 use Rattle.moves.specs.declared.actor.Actor.{Actor}
 use Rattle.moves.specs.declared.actor.Actor.TheVariants as actor
 use Rattle.trace_text.specs.declared.trace.Arrival.{Arrival}
@@ -58,6 +60,16 @@ arguments_listed (a ∷ others) more i all = (
   argument_says a (arguments_text others ++ 10 ∷ more) (at_argument others more) all.0 (arguments_end others more) (arguments_stand others more all.1) i,
   arguments_listed others more i all.1,
 )
+
+-- ---- numbers from outside
+
+not_none : (value : ℕ) (given : List ℕ) → value ∷ given ≡ [] → ⊥
+not_none value given e = cc
+
+-- some numbers from outside are those of a text of the wide forms
+wide_by : (value : ℕ) (given : List ℕ) (wide : Bool) → (wide ≡ false → value ∷ given ≡ []) → wide ≡ true
+wide_by value given true core = refl
+wide_by value given false core = absurd (not_none value given (core refl))
 
 -- ---- threads
 
@@ -103,12 +115,45 @@ module _ (m : Module) (more : Text) (fresh : IsFresh more) (i : Input) where
   function_by None function e = absurd cc
   function_by (Some f) function e = (signed_word 64 (name_text (name_at m.symbols f.symbol)) refl refl (name_word (name_at m.symbols f.symbol)), λ rest. refl)
 
-  pub start_says : (v : Version) (s : Start) → Allows v s.arrival → function_of_word m (function_text m s.function) ≡ Some s.function → Arguments s.arguments → length i.read.starts < 64
-      → (start m v).says (at (start_word s.arrival ++ 32 ∷ (function_text m s.function ++ (arguments_text s.arguments ++ 10 ∷ more))) i) tt (at more (recorded (with_start s.arrival s.function s.arguments) i))
+  -- what is printed of numbers from outside stands at the beginning of a line
+  pub fresh_values : (given : List ℕ) → IsFresh (values_text given ++ more)
+  fresh_values [] = fresh
+  fresh_values (value ∷ given) = refl
+
+  values_seam : (value : ℕ) (given : List ℕ) → values_text (value ∷ given) ++ more ≡ codes "values" ++ (arguments_text (value ∷ given) ++ 10 ∷ more)
+  values_seam value given = ap (λ (text : Text). codes "values" ++ text) (append_assoc (arguments_text (value ∷ given)) (10 ∷ []) more)
+
+  -- the numbers that a thread gets from outside, before a text that is no line of them
+  values_say : (given : List ℕ) → Arguments given → (m.wide ≡ false → given ≡ []) → begins (codes "values") (at more i) ≡ false → (values m).says (at (values_text given ++ more) i) given (at more i)
+  unfolding values arguments
+  values_say [] all core other =
+      looked (has_values m) values_by (at more i) false [] (at more i) (ap (λ (b : Bool). m.wide && b) other ∙ and-false m.wide) (refl, refl)
+  values_say (value ∷ given) all core other =
+      let rest = arguments_text (value ∷ given) ++ 10 ∷ more in
+      let next = at_argument (value ∷ given) more in
+      let word = inner_word (codes "values") refl in
+      let ends = arguments_end (value ∷ given) more in
+      let stand = arguments_stand (value ∷ given) more all in
+      let here = begins_so (codes "values") rest next word ends stand i (codes "values") in
+      subst (λ (text : Text). (values m).says (at text i) (value ∷ given) (at more i)) (sym (values_seam value given))
+      (looked (has_values m) values_by (at (codes "values" ++ rest) i) true (value ∷ given) (at more i)
+      (and_true m.wide (begins (codes "values") (at (codes "values" ++ rest) i)) (wide_by value given m.wide core) here) (
+        tt,
+        at next i,
+        expected (codes "values") rest next word ends stand i,
+        (value ∷ given, at (10 ∷ more) i, arguments_listed (value ∷ given) more i all, (tt, at more i, line_ended more i fresh, (refl, refl))),
+      ))
+
+  -- a thread begins so, before a text that is no line of numbers from outside
+  pub start_says : (v : Version) (s : Start) → Allows v s.arrival → function_of_word m (function_text m s.function) ≡ Some s.function
+      → Arguments s.arguments × Arguments s.values × (m.wide ≡ false → s.values ≡ []) → begins (codes "values") (at more i) ≡ false → length i.read.starts < 64
+      → (start m v).says (at (start_word s.arrival ++ 32 ∷ (function_text m s.function ++ (arguments_text s.arguments ++ 10 ∷ (values_text s.values ++ more)))) i) tt
+      (at more (recorded (with_start s.arrival s.function s.arguments s.values) i))
   unfolding start put_start with_start arguments
-  start_says v s allowed named all room =
+  start_says v s allowed named all other room =
       let is_word = function_by (slice_get m.functions s.function) s.function named in
-      let afterwards = arguments_text s.arguments ++ 10 ∷ more in
+      let after_line = values_text s.values ++ more in
+      let afterwards = arguments_text s.arguments ++ 10 ∷ after_line in
       let name = function_text m s.function in
       let has : nat_lt (length i.read.starts) 64 ≡ true = grind (arith, nat_tests) in (
         tt,
@@ -120,13 +165,18 @@ module _ (m : Module) (more : Text) (fresh : IsFresh more) (i : Input) where
           arrival_says (start_word s.arrival) (32 ∷ (name ++ afterwards)) (name ++ afterwards) (start_is_word s.arrival) refl (is_word.1 afterwards) i v s.arrival allowed,
           (
             s.function,
-            at (at_argument s.arguments more) i,
-            function_says name afterwards (at_argument s.arguments more) is_word.0 (arguments_end s.arguments more) (arguments_stand s.arguments more all) i m s.function named,
+            at (at_argument s.arguments after_line) i,
+            function_says name afterwards (at_argument s.arguments after_line) is_word.0 (arguments_end s.arguments after_line) (arguments_stand s.arguments after_line all.0) i m s.function named,
             (
               s.arguments,
-              at (10 ∷ more) i,
-              arguments_listed s.arguments more i all,
-              (tt, at more i, line_ended more i fresh, (refl, refl)),
+              at (10 ∷ after_line) i,
+              arguments_listed s.arguments after_line i all.0,
+              (
+                tt,
+                at after_line i,
+                line_ended after_line i (fresh_values s.values),
+                (s.values, at more i, values_say s.values all.1 all.2 other, (refl, refl)),
+              ),
             ),
           ),
         ),

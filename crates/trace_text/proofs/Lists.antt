@@ -3,6 +3,7 @@ use Rattle.std.proofs.Common.{◌≡◌, ℕ, suc, ◌+◌, ◌<◌, ◌≤◌, 
 use Rattle.std.specs.Prelude.{codes, is_none, slice_get, slice_set, sum, unwrap_or, ◌==◌}
 use Rattle.std.specs.List.{AllByRecursion, flat_map, range_with_len}
 use Rattle.std.specs.Fmt.{decimal}
+use Rattle.std.specs.Str.{bytes_eq}
 use Rattle.std.proofs.Math.Seq.{set-append_seam}
 use Rattle.std.proofs.lemmas.List.{append-nil}
 use Rattle.std.proofs.lemmas.List.Sums.{sum_by-cons}
@@ -11,12 +12,12 @@ use Rattle.ir_ast.specs.declared.module.Module.{Module}
 use Rattle.grammar.specs.Many.{Listed}
 use Rattle.layout.specs.Layouts.{LaidOut}
 use Rattle.ir_tokens.specs.Bytes.{Text}
-use Rattle.name_text.specs.Reader.{recorded}
-use Rattle.trace_text.specs.Names.{layout_of_word}
+use Rattle.name_text.specs.Reader.{recorded, begins}
+use Rattle.trace_text.specs.Names.{function_of_word, layout_of_word}
 use Rattle.trace_text.specs.Input.{Input, with_pool, with_start, with_steps}
 use Rattle.trace_text.specs.Arrivals.{arrival_of_word, start_word, past_starts}
 use Rattle.trace_text.specs.Text.{pool, past_pools, start, steps_line, past_steps}
-use Rattle.trace_text.specs.Print.{pool_line, pool_text, layout_text, name_text, struct_name, function_text, arguments_text, start_text, actor_text}
+use Rattle.trace_text.specs.Print.{pool_line, pool_text, layout_text, struct_name, function_text, arguments_text, values_text, start_line, start_text, actor_text}
 use Rattle.trace_text.specs.Print as print
 use Rattle.trace_text.specs.Traces.{IsStartOf, step_sum}
 use Rattle.moves.specs.declared.actor.Actor.{Actor}
@@ -30,7 +31,7 @@ use Rattle.trace_text.proofs.Named.{AreRead}
 use Rattle.trace_text.proofs.Seams.{inner_word}
 use Rattle.trace_text.proofs.NameSeams.{name_stays}
 use Rattle.trace_text.proofs.Reading.{at, IsFresh, begins_so}
-use Rattle.trace_text.proofs.Lines.{Allows, pool_says, start_says, start_begins, thread_steps_say, thread_begins, collector_steps_say, collector_begins}
+use Rattle.trace_text.proofs.Lines.{Allows, pool_says, fresh_values, start_says, start_begins, thread_steps_say, thread_begins, collector_steps_say, collector_begins}
 
 -- ---- pools
 
@@ -139,25 +140,51 @@ pools_are m pools (count ∷ counts) layout same =
 abbrev pub with_starts : Text → List Start → Input → Input
 with_starts text starts i = at text (recorded (λ p. record p { starts = starts }) i)
 
-pub start_seam : (m : Module) (s : Start) (others tail : Text)
-    → (start_text m s ++ others) ++ tail ≡ start_word s.arrival ++ 32 ∷ (function_text m s.function ++ (arguments_text s.arguments ++ 10 ∷ (others ++ tail)))
+start_seam : (m : Module) (s : Start) (others tail : Text)
+    → (start_text m s ++ others) ++ tail ≡ start_word s.arrival ++ 32 ∷ (function_text m s.function ++ (arguments_text s.arguments ++ 10 ∷ (values_text s.values ++ (others ++ tail))))
 start_seam m s others tail =
     let name = function_text m s.function in
     let given = arguments_text s.arguments in
+    let after_line = values_text s.values ++ (others ++ tail) in
     append_assoc (start_text m s) others tail
-    ∙ append_assoc (start_word s.arrival ++ 32 ∷ name ++ given) (10 ∷ []) (others ++ tail)
-    ∙ append_assoc (start_word s.arrival ++ 32 ∷ name) given (10 ∷ (others ++ tail))
-    ∙ append_assoc (start_word s.arrival) (32 ∷ name) (given ++ 10 ∷ (others ++ tail))
+    ∙ append_assoc (start_line m s) (values_text s.values) (others ++ tail)
+    ∙ append_assoc (start_word s.arrival ++ 32 ∷ name ++ given) (10 ∷ []) after_line
+    ∙ append_assoc (start_word s.arrival ++ 32 ∷ name) given (10 ∷ after_line)
+    ∙ append_assoc (start_word s.arrival) (32 ∷ name) (given ++ 10 ∷ after_line)
 
 pub fresh_starts : (m : Module) (starts : List Start) (tail : Text) → IsFresh tail → IsFresh (flat_map (start_text m) starts ++ tail)
 fresh_starts m [] tail fresh = fresh
 fresh_starts m (s ∷ starts) tail fresh = by s.arrival
   where
-    by : (begun : Arrival) → IsFresh (((start_word begun ++ 32 ∷ function_text m s.function ++ arguments_text s.arguments ++ 10 ∷ []) ++ flat_map (start_text m) starts) ++ tail)
+    by : (begun : Arrival) → IsFresh ((((start_word begun ++ 32 ∷ function_text m s.function ++ arguments_text s.arguments ++ 10 ∷ []) ++ values_text s.values) ++ flat_map (start_text m) starts) ++ tail)
     by AtStart = refl
     by Late = refl
 
-module _ (p : LaidOut) (named : AreRead p) (v : Version) (tail : Text) (past : (i : Input) → past_starts v (at tail i) ≡ true) (fresh : IsFresh tail) (i : Input) where
+-- a thread's line begins with no other word
+pub start_words : (m : Module) (s : Start) (others tail : Text) → IsFresh (others ++ tail) → function_of_word m (function_text m s.function) ≡ Some s.function → (wanted : Text) (i : Input)
+    → begins wanted (at ((start_text m s ++ others) ++ tail) i) ≡ bytes_eq (start_word s.arrival) wanted
+start_words m s others tail fresh named wanted i =
+    let more = others ++ tail in
+    let here = start_begins m (values_text s.values ++ more) (fresh_values m more fresh i s.values) i s named in
+    ap (λ (text : Text). begins wanted (at text i)) (start_seam m s others tail) ∙ ap (λ (word : Text). bytes_eq word wanted) here
+
+-- a thread's line is none of numbers from outside
+no_values : (begun : Arrival) → bytes_eq (start_word begun) (codes "values") ≡ false
+no_values AtStart = refl
+no_values Late = refl
+
+-- a text that begins with no line of numbers from outside
+abbrev pub HasNoValues : Text → Type 0
+HasNoValues text = (i : Input) → begins (codes "values") (at text i) ≡ false
+
+-- no line of numbers from outside comes where threads begin, or after them
+past_all_values : (p : LaidOut) → AreRead p → (starts : List Start) → AllByRecursion (IsStartOf p) starts → (tail : Text) → IsFresh tail → HasNoValues tail → HasNoValues (flat_map (start_text p.of_module) starts ++ tail)
+past_all_values p named [] own tail fresh none i = none i
+past_all_values p named (s ∷ starts) own tail fresh none i =
+    let m = p.of_module in
+    start_words m s (flat_map (start_text m) starts) tail (fresh_starts m starts tail fresh) (named.functions s.function own.0.0) (codes "values") i ∙ no_values s.arrival
+
+module _ (p : LaidOut) (named : AreRead p) (v : Version) (tail : Text) (past : (i : Input) → past_starts v (at tail i) ≡ true) (none : HasNoValues tail) (fresh : IsFresh tail) (i : Input) where
   pub starts_listed : (starts done : List Start) → AllByRecursion (IsStartOf p) starts → AllByRecursion (λ (s : Start). Allows v s.arrival) starts → length done + length starts ≤ 64
       → (units : List (Unit {0})) × Listed (past_starts v) (start p.of_module v).says (with_starts (flat_map (start_text p.of_module) starts ++ tail) done i) units (with_starts tail (done ++ starts) i)
   unfolding with_start
@@ -166,10 +193,10 @@ module _ (p : LaidOut) (named : AreRead p) (v : Version) (tail : Text) (past : (
       let m = p.of_module in
       let others = flat_map (start_text m) starts ++ tail in
       let before = with_starts others done i in
-      let afterwards = function_text m s.function ++ (arguments_text s.arguments ++ 10 ∷ others) in
       let is_named = named.functions s.function all.0.0 in
-      let said = start_says m others (fresh_starts m starts tail fresh) before v s allowed.0 is_named all.0.1 (omega (arith, few)) in
-      let here = ap (arrival_of_word v) (start_begins m others (fresh_starts m starts tail fresh) before s is_named) ∙ allowed.0 in
+      let fresh_others = fresh_starts m starts tail fresh in
+      let said = start_says m others fresh_others before v s allowed.0 is_named (all.0.1, all.0.2, all.0.3) (past_all_values p named starts all.1 tail fresh none before) (omega (arith, few)) in
+      let here = ap (arrival_of_word v) (start_begins m (values_text s.values ++ others) (fresh_values m others fresh_others before s.values) before s is_named) ∙ allowed.0 in
       let r = starts_listed starts (done ++ s ∷ []) all.1 allowed.1 (omega (arith, few, length-append done (s ∷ []))) in (
         tt ∷ r.0,
         subst (λ (text : Text). Listed (past_starts v) (start m v).says (with_starts text done i) (tt ∷ r.0) (with_starts tail (done ++ s ∷ starts) i))

@@ -27,8 +27,8 @@ use Rattle.trace_text.specs.declared.versions.Version.TheVariants.{One, Two}
 use Rattle.trace_text.proofs.Named.{AreRead}
 use Rattle.trace_text.proofs.Seams.{inner_word}
 use Rattle.trace_text.proofs.Reading.{at, looked, IsFresh, word_is, expected, version_says, begins_so, line_ended}
-use Rattle.trace_text.proofs.Lines.{Allows, start_begins}
-use Rattle.trace_text.proofs.Lists.{start_seam, listed_count, no_counts, pools_from, fresh_pools, pools_listed, pools_are, fresh_starts, starts_listed, fresh_steps, steps_listed}
+use Rattle.trace_text.proofs.Lines.{Allows}
+use Rattle.trace_text.proofs.Lists.{start_words, HasNoValues, listed_count, no_counts, pools_from, fresh_pools, pools_listed, pools_are, fresh_starts, starts_listed, fresh_steps, steps_listed}
 
 -- ---- the pools that are listed
 
@@ -103,15 +103,17 @@ past_all_pools p named [] own afterwards fresh i = ap not (begins_so (codes "ste
 past_all_pools p named (s ∷ all) own afterwards fresh i =
     let m = p.of_module in
     let tail = codes "steps" ++ 10 ∷ afterwards in
-    let here = start_begins m (flat_map (start_text m) all ++ tail) (fresh_starts m all tail fresh) i s (named.functions s.function own.0.0) in
-    ap (λ (text : Text). past_pools (at text i)) (start_seam m s (flat_map (start_text m) all) tail)
-    ∙ ap (λ (word : Text). not (bytes_eq word (codes "pool"))) here
-    ∙ ap not (no_pool s.arrival)
+    let here = start_words m s (flat_map (start_text m) all) tail (fresh_starts m all tail fresh) (named.functions s.function own.0.0) (codes "pool") i in
+    ap not here ∙ ap not (no_pool s.arrival)
 
 -- no thread begins after the others
 past_all_starts : (v : Version) (afterwards : Text) (i : Input) → past_starts v (at (codes "steps" ++ 10 ∷ afterwards) i) ≡ true
 past_all_starts v afterwards i =
     ap (λ (word : Text). is_none (arrival_of_word v word)) (word_is (codes "steps") (10 ∷ afterwards) (10 ∷ afterwards) (inner_word (codes "steps") refl) refl refl i)
+
+-- nor does a line of numbers from outside come there
+no_more_values : (afterwards : Text) → HasNoValues (codes "steps" ++ 10 ∷ afterwards)
+no_more_values afterwards i = begins_so (codes "steps") (10 ∷ afterwards) (10 ∷ afterwards) (inner_word (codes "steps") refl) refl refl i (codes "values")
 
 -- the first line
 fresh_heading : (v : Version) (afterwards : Text) → IsFresh (heading_text v ++ afterwards)
@@ -194,7 +196,7 @@ module _ (p : LaidOut) (trace : Trace) (named : AreRead p) (own : IsTraceOf p tr
       let all_pools =
       pools_listed p.of_module (length p.layouts) named.layouts after_pools (past_all_pools p named trace.setup.starts own.starts of_steps refl) fresh_afterwards before trace.setup.pools 0 [] refl
       (omega (arith, own.one_each)) small in
-      let all_starts = starts_listed p named written_in after_starts (past_all_starts written_in of_steps) refl between trace.setup.starts [] own.starts (all_allowed trace.setup.starts) (omega (arith, own.threads)) in
+      let all_starts = starts_listed p named written_in after_starts (past_all_starts written_in of_steps) (no_more_values of_steps) refl between trace.setup.starts [] own.starts (all_allowed trace.setup.starts) (omega (arith, own.threads)) in
       (tt, between, (all_pools.0, between, all_pools.1, (refl, refl)), (all_starts.0, state after_starts counts_read trace.setup.starts [] 0, all_starts.1, (refl, refl)))
 
   steps_are_said : steps.says (state after_starts counts_read trace.setup.starts [] 0) tt (state [] counts_read trace.setup.starts trace.steps (0 + step_sum trace.steps))

@@ -62,8 +62,8 @@ unfoldable pub put_pool : (layout count : ℕ) → Form (Unit {0})
 put_pool layout count = update (with_pool layout count)
 
 -- a thread begins so, at this function
-unfoldable pub put_start : Arrival → (function : ℕ) → (arguments : List ℕ) → Form (Unit {0})
-put_start arrival function arguments = update (with_start arrival function arguments)
+unfoldable pub put_start : Arrival → (function : ℕ) → (arguments values : List ℕ) → Form (Unit {0})
+put_start arrival function arguments values = update (with_start arrival function arguments values)
 
 -- `count` more steps of this actor
 unfoldable pub put_steps : Actor → (count : ℕ) → Form (Unit {0})

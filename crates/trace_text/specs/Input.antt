@@ -31,8 +31,8 @@ unfoldable pub with_pool : (layout count : ℕ) → TraceProgress → TraceProgr
 with_pool layout count p = record p { counts = slice_set p.counts layout (Some count) }
 
 -- one more thread begins
-unfoldable pub with_start : Arrival → (function : ℕ) → (arguments : List ℕ) → TraceProgress → TraceProgress
-with_start arrival function arguments p = record p { starts = p.starts ++ record { arrival = arrival; function = function; arguments = arguments } ∷ [] }
+unfoldable pub with_start : Arrival → (function : ℕ) → (arguments values : List ℕ) → TraceProgress → TraceProgress
+with_start arrival function arguments values p = record p { starts = p.starts ++ record { arrival = arrival; function = function; arguments = arguments; values = values } ∷ [] }
 
 -- `count` more steps of this actor
 unfoldable pub with_steps : Actor → (count : ℕ) → TraceProgress → TraceProgress

@@ -57,8 +57,17 @@ abbrev pub arguments_text : List ℕ → Text
 arguments_text = flat_map (λ argument. 32 ∷ decimal argument)
 
 -- the line of a thread
+abbrev pub start_line : Module → Start → Text
+start_line m start = start_word start.arrival ++ 32 ∷ function_text m start.function ++ arguments_text start.arguments ++ 10 ∷ []
+
+-- the line of the numbers that it gets from outside, unless there is none
+abbrev pub values_text : List ℕ → Text
+values_text [] = []
+values_text (value ∷ values) = codes "values" ++ (arguments_text (value ∷ values) ++ 10 ∷ [])
+
+-- the lines of a thread
 abbrev pub start_text : Module → Start → Text
-start_text m start = start_word start.arrival ++ 32 ∷ function_text m start.function ++ arguments_text start.arguments ++ 10 ∷ []
+start_text m start = start_line m start ++ values_text start.values
 
 -- who makes steps
 abbrev pub actor_text : Actor → Text

@@ -1,5 +1,5 @@
 -- The lines of a trace, and a trace's text.
-use Rattle.std.specs.Prelude.{◌≡◌, ℕ, Bool, true, false, not, nat_le, nat_lt, if◌then◌else◌, List, length, map, Option, Some, None, slice_get, codes}
+use Rattle.std.specs.Prelude.{◌≡◌, ℕ, Bool, true, false, not, ◌&&◌, nat_le, nat_lt, if◌then◌else◌, List, [], length, map, Option, Some, None, slice_get, codes}
 use Rattle.std.specs.List.{range_with_len}
 use Rattle.std.proofs.Common.{lit<}
 use Rattle.ir_ast.specs.declared.module.Module.{Module}
@@ -62,6 +62,23 @@ pools m = many past_pools (pool m) (pool_takes m) >> pure tt
 unfoldable pub arguments : Form (List ℕ)
 arguments = many line_ends argument argument_takes
 
+-- a line of numbers from outside comes here, in a text of the wide forms
+abbrev pub has_values : Module → Input → Bool
+has_values m i = m.wide && begins (codes "values") i
+
+-- the line of the numbers that a thread gets from outside, if there is one
+abbrev pub values_by : Bool → Form (List ℕ)
+values_by false = pure []
+values_by true = do
+  expect (codes "values")
+  given ← arguments
+  line_end
+  pure given
+
+-- the numbers that a thread gets from outside, in the line after its own
+unfoldable pub values : Module → Form (List ℕ)
+values m = look (has_values m) values_by
+
 -- whether fewer than 64 threads begin so far
 abbrev pub has_room : Input → Bool
 has_room i = nat_lt (length i.read.starts) 64
@@ -72,7 +89,8 @@ start_after m begun = do
   function ← function_name m
   arguments ← arguments
   line_end
-  put_start begun function arguments
+  values ← values m
+  put_start begun function arguments values
 
 -- how a thread begins, if there are not 64 of them
 unfoldable pub start : Module → Version → Form (Unit {0})

@@ -1,5 +1,5 @@
 -- Traces of a program, and the programs whose names are read as they are printed.
-use Rattle.std.specs.Prelude.{◌≡◌, ℕ, ◌<◌, ◌≤◌, ◌^◌, List, length, map, sum, Option, Some, None, [], slice_get}
+use Rattle.std.specs.Prelude.{◌≡◌, false, ℕ, ◌<◌, ◌≤◌, ◌^◌, List, length, map, sum, Option, Some, None, [], slice_get}
 use Rattle.std.specs.List.{AllByRecursion}
 use Rattle.moves.specs.Runs.{IsActor}
 use Rattle.ir_ast.specs.Names.{name_at}
@@ -28,9 +28,13 @@ pub record AreNamed (p : LaidOut) : Type 0 where
   pub short_layout : (layout : ℕ) → layout < length p.layouts → IsShort blank.Kept (struct_name p.of_module (slice_get p.of_module.structs layout))
   pub layout : (layout : ℕ) → layout < length p.layouts → layout_named p.of_module (Some (struct_name p.of_module (slice_get p.of_module.structs layout))) ≡ Some layout
 
--- a thread begins at a function of the program, with arguments of 64 bits
+-- a thread begins at a function of the program, with arguments of 64 bits; numbers from outside, of 64 bits too, are for texts of the wide forms
 abbrev pub IsStartOf : LaidOut → Start → Type 0
-IsStartOf p start = (start.function < length p.of_module.functions) × AllByRecursion (λ argument. argument < 2 ^ 64) start.arguments
+IsStartOf p start =
+    (start.function < length p.of_module.functions)
+    × AllByRecursion (λ argument. argument < 2 ^ 64) start.arguments
+    × AllByRecursion (λ value. value < 2 ^ 64) start.values
+    × (p.of_module.wide ≡ false → start.values ≡ [])
 
 -- how many steps there are
 abbrev pub step_sum : List Steps → ℕ

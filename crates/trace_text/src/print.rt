@@ -74,6 +74,36 @@ fn put_arguments(alloc: Global, out: &mut Vec<u8>, arguments: &[u64]) -> Result<
 }
 
 /// The line of a thread.
+fn put_start_line(
+    alloc: Global,
+    out: &mut Vec<u8>,
+    module: &Module,
+    start: &Start,
+) -> Result<(), AllocError>
+    ensures { OnOk result (out.new.items ≡ out.old.items ++ spec.start_line «module».now start.now) }
+{
+    out.extend_from_slice(start_word(start.arrival))?;
+    out.push(b' ')?;
+    put_function(out, module, start.function)?;
+    put_arguments(alloc, out, start.arguments.as_slice())?;
+    out.extend_from_slice(b"\n")
+}
+
+/// The line of the numbers that a thread gets from outside, unless there is none.
+fn put_values(alloc: Global, out: &mut Vec<u8>, values: &[u64]) -> Result<(), AllocError>
+    ensures { OnOk result (out.new.items ≡ out.old.items ++ spec.values_text values.now) }
+{
+    match values {
+        [] => Ok(()),
+        [_, ..] => {
+            out.extend_from_slice(b"values")?;
+            put_arguments(alloc, out, values)?;
+            out.extend_from_slice(b"\n")
+        }
+    }
+}
+
+/// The lines of a thread.
 fn put_start(
     alloc: Global,
     out: &mut Vec<u8>,
@@ -82,11 +112,8 @@ fn put_start(
 ) -> Result<(), AllocError>
     ensures { OnOk result (out.new.items ≡ out.old.items ++ spec.start_text «module».now start.now) }
 {
-    out.extend_from_slice(start_word(start.arrival))?;
-    out.push(b' ')?;
-    put_function(out, module, start.function)?;
-    put_arguments(alloc, out, start.arguments.as_slice())?;
-    out.extend_from_slice(b"\n")
+    put_start_line(alloc, out, module, start)?;
+    put_values(alloc, out, start.values.as_slice())
 }
 
 fn put_starts(

@@ -74,13 +74,15 @@ impl TraceProgress {
         arrival: Arrival,
         function: FuncId,
         arguments: Items<u64>,
+        values: Items<u64>,
     ) -> Result<(), AllocError>
-        ensures { OnOk result (self.new ≡ spec.with_start arrival function arguments self.old) }
+        ensures { OnOk result (self.new ≡ spec.with_start arrival function arguments values self.old) }
     {
         self.starts.push(Start {
             arrival,
             function,
             arguments,
+            values,
         })?;
         Ok(())
     }

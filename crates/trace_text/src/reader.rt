@@ -77,6 +77,27 @@ fn arguments(alloc: Global, input: &mut Input<'_>) -> Result<Items<u64>, WordFau
     Ok(arguments)
 }
 
+/// Whether a line of numbers from outside comes here, in a text of the wide forms.
+fn has_values(input: &Input<'_>, module: &Module) -> bool
+    ensures { result ≡ text.has_values «module».now input.now }
+{
+    module.wide && input.begins(b"values")
+}
+
+/// The numbers that a thread gets from outside, in the line after its own; none where there is no such line.
+#[tactic(auto, unfolding(crate::specs::Text::values))]
+fn values(alloc: Global, input: &mut Input<'_>, module: &Module) -> Result<Items<u64>, WordFault>
+    ensures { Reads ((text.values «module».now).read input.old) result input.new }
+{
+    if !has_values(input, module) {
+        return Ok(Items::new(alloc));
+    }
+    input.expect(b"values")?;
+    let values = arguments(alloc, input)?;
+    input.line_end()?;
+    Ok(values)
+}
+
 /// How a thread begins.
 #[tactic(auto, unfolding(crate::specs::Text::start, crate::specs::Forms::put_start))]
 fn start(
@@ -94,7 +115,8 @@ fn start(
     let function = function_name(alloc, input, module)?;
     let arguments = arguments(alloc, input)?;
     input.line_end()?;
-    input.read.put_start(arrival, function, arguments)?;
+    let values = values(alloc, input, module)?;
+    input.read.put_start(arrival, function, arguments, values)?;
     Ok(())
 }
 

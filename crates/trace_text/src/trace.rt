@@ -31,6 +31,8 @@ pub struct Start {
     pub arrival: Arrival,
     pub function: FuncId,
     pub arguments: Items<u64>,
+    /// The numbers that it gets from outside of the program.
+    pub values: Items<u64>,
 }
 
 /// The pools of a program's layouts, and one start for each thread.
