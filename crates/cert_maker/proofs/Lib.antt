@@ -1,1 +1,2 @@
 mod Lacks
+mod GivenBack

@@ -72,12 +72,13 @@ pub record IsRefusedWith (m : Module) (refused : Refused) : Type 0 where
 abbrev pub IsPlainlyRefused : Module → Type 0
 IsPlainlyRefused m = (refusal : Refusal) × IsFirstRefusal m (plain m) refusal
 
--- what is made of a module with its shapes
-pub record IsMade (m : Module) (made : Result CertifiedProgram NotMade) : Type 0 where
-  -- certificates of the module, with its shapes, with which it is accepted
+-- what is made of a module with its shapes and with what it trusts, where this is the module that is given back
+pub record IsMadeOf (m own : Module) (made : Result CertifiedProgram NotMade) : Type 0 where
+  -- certificates of the module, with its shapes and with what it trusts, with which it is accepted
   pub kept : IfOk made (λ accepted. accepted.program.of_module ≡ m)
   pub fits : IfOk made (λ accepted. fits m accepted.certs.sections ≡ true)
   pub shapes : IfOk made (λ accepted. accepted.certs.shapes ≡ m.shapes)
+  pub foreign : IfOk made (λ accepted. accepted.certs.foreign ≡ m.trusted)
   pub certified : IfOk made (λ accepted. IsAccepted m accepted.certs.sections)
   -- there is no answer only where the module is not accepted with the plain certificates
   pub none : IfErr made (λ unmade. unmade.fault ≡ NoAnswer → IsAccepted m (plain m) → ⊥)
@@ -86,4 +87,8 @@ pub record IsMade (m : Module) (made : Result CertifiedProgram NotMade) : Type 0
   pub layout : IfErr made (λ unmade. IfLayout unmade.fault (IsLayoutFault m))
   pub only_so : (words : List (List WordKind)) → AreLayouts m words → IfErr made (λ unmade. IfLayout unmade.fault (λ _. ⊥))
   pub refused : IfErr made (λ unmade. IfSome unmade.refused (IsRefusedWith m))
-  pub given_back : IfErr made (λ unmade. unmade.of_module ≡ m)
+  pub given_back : IfErr made (λ unmade. unmade.of_module ≡ own)
+
+-- the module itself is given back
+abbrev pub IsMade : Module → Result CertifiedProgram NotMade → Type 0
+IsMade m made = IsMadeOf m m made

@@ -5,6 +5,7 @@ mod made;
 mod maker;
 mod plain;
 mod tried;
+mod trusting;
 
 pub use made::{MakeFault, NotMade, Refused};
-pub use maker::{make, make_seen, make_with};
+pub use trusting::{make, make_seen, make_with};

@@ -1,17 +1,15 @@
 ghost use Rattle.std.specs.Prelude.{◌≡◌, ◌⊎◌, Some, true, IfOk, IfErr, IfSome};
-ghost use Rattle.layout.specs.Functions.{with_shapes};
 ghost use Rattle.cert_maker.specs.Made.{AreGood, AreRefused, AreTried, IsMade};
 ghost use Rattle.certs.specs.Plain.{plain};
-ghost use Rattle.certs.specs.ShapesFit.{shapes_fit};
 ghost use Rattle.cert_maker.specs.declared.tried.MakeFailure.TheVariants.{NoAnswer};
 
 use crate::made::{MakeFault, NotMade, Refused};
 use crate::tried::{MakeFailure, Rejection, plain_certs, proposed};
 use certs::Certs;
-use copies::copy_shapes;
-use ir_ast::{Module, Shapes};
+use copies::{Certified, copy_certified};
+use ir_ast::Module;
 use layout::Program;
-use module_check::{Accepted, Unseen, Witness};
+use module_check::{Accepted, Witness};
 use proposals::Boldness;
 use std::alloc::Global;
 
@@ -24,14 +22,8 @@ struct NoCerts {
 }
 
 /// Certificates with which a module is accepted. Proposals are tried, the boldest first, and then the plain certificates;
-/// where none is accepted the module is given back. The certificates have the shapes of the module, which has none as it is read.
-pub fn make(alloc: Global, of_module: Module) -> Result<Accepted, NotMade>
-    ensures { IsMade of_module result }
-{
-    make_seen(alloc, of_module, &mut Unseen)
-}
-
-/// The same certificates. Where none is accepted, a witness sees the first refusal with the boldest, before the module is given back.
+/// where none is accepted a witness sees the first refusal with the boldest, and the module is given back. The certificates have the shapes of
+/// the module, and trust what it trusts.
 pub fn make_seen(
     alloc: Global,
     of_module: Module,
@@ -69,21 +61,11 @@ fn show(seen: &mut impl Witness, program: &Program, none: &NoCerts) {
     }
 }
 
-/// Certificates with which a module of these shapes is accepted. They have the shapes as they are given: where these fit
-/// the module, so do the certificates. Where none is accepted the module is given back with the shapes.
-pub fn make_with(alloc: Global, of_module: Module, shapes: Shapes) -> Result<Accepted, NotMade>
-    ensures made { IsMade (with_shapes of_module (Some shapes)) result }
-    ensures fit { shapes_fit of_module (Some shapes) ≡ true → IfOk result (λ accepted. shapes_fit of_module accepted.certs.shapes ≡ true) }
-{
-    let mut of_module = of_module;
-    of_module.shapes = Some(shapes);
-    make(alloc, of_module)
-}
-
-/// Certificates with which a program is accepted, with the shapes of its module.
+/// Certificates with which a program is accepted, with the shapes of its module and with what it trusts.
 fn shaped_certs_for(alloc: Global, program: &Program) -> Result<Certs, NoCerts>
     ensures good { IfOk result (AreGood program.now) }
     ensures shapes { IfOk result (λ certs. certs.shapes ≡ program.now.of_module.shapes) }
+    ensures foreign { IfOk result (λ certs. certs.foreign ≡ program.now.of_module.trusted) }
     ensures make_failure { IfErr result (λ none. none.make_failure ≡ NoAnswer → AreRefused program.now (plain program.now.of_module)) }
     ensures refused { IfErr result (λ none. IfSome none.refused (AreTried program.now)) }
 {
@@ -91,10 +73,11 @@ fn shaped_certs_for(alloc: Global, program: &Program) -> Result<Certs, NoCerts>
         Ok(certs) => certs,
         Err(none) => return Err(none),
     };
-    match copy_shapes(alloc, &program.module().shapes) {
-        Ok(shapes) => Ok(Certs {
+    match copy_certified(alloc, program.module()) {
+        Ok(Certified { shapes, trusted }) => Ok(Certs {
             sections: certs.sections,
             shapes,
+            foreign: trusted,
         }),
         Err(_) => Err(NoCerts {
             make_failure: MakeFailure::Memory,

@@ -17,6 +17,7 @@ pub fn plain(alloc: Global, of_module: &Module) -> Result<Certs, AllocError>
     Ok(Certs {
         sections,
         shapes: None,
+        foreign: Items::new(alloc),
     })
 }
 

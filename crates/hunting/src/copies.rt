@@ -10,10 +10,12 @@ fn start_copied(alloc: Global, start: &Start) -> Result<Start, AllocError>
     ensures { IfOk result (λ copy. copy ≡ start.now) }
 {
     let arguments = Items::from_slice(alloc, start.arguments.as_slice())?;
+    let values = Items::from_slice(alloc, start.values.as_slice())?;
     Ok(Start {
         arrival: start.arrival,
         function: start.function,
         arguments,
+        values,
     })
 }
 

@@ -13,10 +13,12 @@ fn any_number<R: Rng>(rng: &mut R) -> u64 {
     }
 }
 
-/// How many bits an integer parameter has. One of another type has none.
+/// How many bits a parameter has that is a number. One of another type has none.
 pub(crate) fn bits_of(of_module: &Module, parameter: Parameter) -> Option<u32> {
     match of_module.types.get(parameter.written) {
         Some(IrType::Integer(bits)) => Some(bits),
+        Some(IrType::Float) => Some(32),
+        Some(IrType::Double) => Some(64),
         _ => None,
     }
 }

@@ -96,6 +96,7 @@ fn add_start<R: Rng>(
         arrival: Arrival::AtStart,
         function,
         arguments,
+        values: Items::new(alloc),
     })?;
     Ok(())
 }

@@ -168,7 +168,7 @@ impl FlowFacts {
         match operand {
             Operand::Constant(Constant::Number(number)) => Shown::Number(below_next(*number)),
             Operand::Constant(Constant::Null) => Shown::Null,
-            Operand::Constant(Constant::Truth(_)) => Shown::Number(None),
+            Operand::Constant(Constant::Float(_) | Constant::Truth(_)) => Shown::Number(None),
             operand => self.shown_of(known_of(&self.here, operand), kind),
         }
     }
@@ -286,7 +286,15 @@ fn constant_comes_in(constant: Constant, kind: TypeKind) -> Known {
     match constant {
         Constant::Number(number) => number_comes_in(number, kind),
         Constant::Null => Known::Null,
+        Constant::Float(_) => float_comes_in(kind),
         Constant::Truth(_) => Known::Nothing,
+    }
+}
+
+fn float_comes_in(kind: TypeKind) -> Known {
+    match kind {
+        TypeKind::Bits(bits) => Known::Number { bits, below: None },
+        _ => Known::Nothing,
     }
 }
 

@@ -1,5 +1,5 @@
-//! What the maker knows of operations on integers.
-use ir_ast::{NumberOp, Operand};
+//! What the maker knows of operations on numbers.
+use ir_ast::{FloatOp, NumberOp, Operand};
 
 /// The operands that an operation reads: one, or two.
 pub fn operands_of(op: &NumberOp) -> (Operand, Option<Operand>) {
@@ -8,6 +8,16 @@ pub fn operands_of(op: &NumberOp) -> (Operand, Option<Operand>) {
             (*first, Some(*second))
         }
         NumberOp::Resize { operand, .. } => (*operand, None),
+        NumberOp::Float(op) => float_operands(op),
+    }
+}
+
+fn float_operands(op: &FloatOp) -> (Operand, Option<Operand>) {
+    match op {
+        FloatOp::Arithmetic { first, second, .. } | FloatOp::Compare { first, second, .. } => {
+            (*first, Some(*second))
+        }
+        FloatOp::Negate { operand, .. } | FloatOp::Convert { operand, .. } => (*operand, None),
     }
 }
 
@@ -15,6 +25,6 @@ pub fn operands_of(op: &NumberOp) -> (Operand, Option<Operand>) {
 pub fn bounded_operand(op: &NumberOp) -> Option<Operand> {
     match op {
         NumberOp::Resize { operand, .. } => Some(*operand),
-        NumberOp::Arithmetic { .. } | NumberOp::Compare { .. } => None,
+        NumberOp::Arithmetic { .. } | NumberOp::Compare { .. } | NumberOp::Float(_) => None,
     }
 }

@@ -96,6 +96,7 @@ fn walk_all(
     let none = Certs {
         sections: Items::new(alloc),
         shapes: None,
+        foreign: Items::new(alloc),
     };
     let context = ModuleContext {
         program,
@@ -213,6 +214,7 @@ fn certs_of(
     Ok(Certs {
         sections,
         shapes: None,
+        foreign: Items::new(alloc),
     })
 }
 
