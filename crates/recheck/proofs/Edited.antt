@@ -3,7 +3,6 @@ use Rattle.std.proofs.Common.{◌≡◌, ◌≢◌, ◌⊎◌, inl, inr, ℕ, tr
 use Rattle.std.specs.Prelude.{slice_set, IfOk, IfErr, OnOk, OnErr, IfSome}
 use Rattle.ir_ast.specs.declared.function.Function.{Function}
 use Rattle.ir_ast.specs.declared.module.Module.{Module}
-use Rattle.ir_ast.specs.declared.shapes.Shapes.{Shapes}
 use Rattle.ir_tokens.specs.Bytes.{Text}
 use Rattle.ir_text.specs.Read.{Gives}
 use Rattle.ir_text.specs.Replaced.{IsReplaced, IsReplaceFault, put_function}
@@ -312,75 +311,75 @@ code_kept p q certs others func code text before after (Err x) kept put are read
   ready = ready;
 }
 
-module _ (p : LaidOut) (shapes : Option Shapes) (certs : List Section) (func : ℕ) (e : Edit) where
+module _ (p : LaidOut) (own : Certs) (certs : List Section) (func : ℕ) (e : Edit) where
   -- ---- of a section
 
   module _ (name text : Text) (is : e ≡ edit.Cert name text) where
     pub section_edited : (before : KeptWork) → IsKept p certs before → (others : List Section) (r : Result ℕ EditFault) → IfOk r (λ count. IsTextPut p certs func text p others count)
-        → (n : ℕ) → IfOk r (λ count. IsEditedAt (state p shapes certs n) func e (state p shapes others count))
+        → (n : ℕ) → IfOk r (λ count. IsEditedAt (state p own certs n) func e (state p own others count))
     section_edited before kept others (Ok count) h n =
-        subst (λ (x : Edit). IsEditedAt (state p shapes certs n) func x (state p shapes others count)) (sym is)
-        (p.of_module, h.0, (refl, h.1), record { of_module = refl; shapes = refl; laid_out = kept.answered.laid_out; sized = kept.answered.sized; certs = h.2.certs_are; rechecked = h.2.rechecked })
+        subst (λ (x : Edit). IsEditedAt (state p own certs n) func x (state p own others count)) (sym is)
+        (p.of_module, h.0, (refl, h.1), record { of_module = refl; shapes = refl; foreign = refl; laid_out = kept.answered.laid_out; sized = kept.answered.sized; certs = h.2.certs_are; rechecked = h.2.rechecked })
     section_edited before kept others (Err x) h n = tt
 
-    pub section_fault_at : (r : Result ℕ EditFault) → IfErr r (λ f. f ≢ Memory → HasSectionFault p.of_module func text f) → (n : ℕ) → IfErr r (λ f. f ≢ Memory → IsFaultAt (state p shapes certs n) func e f)
+    pub section_fault_at : (r : Result ℕ EditFault) → IfErr r (λ f. f ≢ Memory → HasSectionFault p.of_module func text f) → (n : ℕ) → IfErr r (λ f. f ≢ Memory → IsFaultAt (state p own certs n) func e f)
     section_fault_at (Ok count) h n = tt
-    section_fault_at (Err f) h n = λ differs. subst (λ (x : Edit). IsFaultAt (state p shapes certs n) func x f) (sym is) (h differs)
+    section_fault_at (Err f) h n = λ differs. subst (λ (x : Edit). IsFaultAt (state p own certs n) func x f) (sym is) (h differs)
 
-    pub section_accepted_at : (r : Result ℕ EditFault) → ((section : Section) → IsShapedSection text p.of_module func section → IsEditAccepted r) → (n : ℕ) (m : Module) (section : Section) → IsReadAt (state p shapes certs n) func e m section → IsEditAccepted r
+    pub section_accepted_at : (r : Result ℕ EditFault) → ((section : Section) → IsShapedSection text p.of_module func section → IsEditAccepted r) → (n : ℕ) (m : Module) (section : Section) → IsReadAt (state p own certs n) func e m section → IsEditAccepted r
     section_accepted_at r only n m section h =
-        let at : (p.of_module ≡ m) × IsShapedSection text m func section = subst (λ (x : Edit). IsReadAt (state p shapes certs n) func x m section) is h in
+        let at : (p.of_module ≡ m) × IsShapedSection text m func section = subst (λ (x : Edit). IsReadAt (state p own certs n) func x m section) is h in
         only section (subst (λ (x : Module). IsShapedSection text x func section) (sym at.0) at.1)
 
-    pub section_refused_at : (r : Result ℕ EditFault) → ((f : EditFault) → HasSectionFault p.of_module func text f → IsRefusedBy r f) → (n : ℕ) (f : EditFault) → IsFaultAt (state p shapes certs n) func e f → IsRefusedBy r f
-    section_refused_at r only n f h = only f (subst (λ (x : Edit). IsFaultAt (state p shapes certs n) func x f) is h)
+    pub section_refused_at : (r : Result ℕ EditFault) → ((f : EditFault) → HasSectionFault p.of_module func text f → IsRefusedBy r f) → (n : ℕ) (f : EditFault) → IsFaultAt (state p own certs n) func e f → IsRefusedBy r f
+    section_refused_at r only n f h = only f (subst (λ (x : Edit). IsFaultAt (state p own certs n) func x f) is h)
 
   -- ---- of code
 
   module _ (code text : Text) (is : IsOfCode p certs func e code text) where
-    to_read : (n : ℕ) (m : Module) (section : Section) → IsReadAt (state p shapes certs n) func e m section → AreRead p.of_module func code text m section
+    to_read : (n : ℕ) (m : Module) (section : Section) → IsReadAt (state p own certs n) func e m section → AreRead p.of_module func code text m section
     to_read n m section h = elim is [
-      | inl x ↦ subst (λ (y : Text). AreRead p.of_module func code y m section) (sym x.2) (subst (λ (y : Edit). IsReadAt (state p shapes certs n) func y m section) x.1 h)
-      | inr x ↦ subst (λ (y : Edit). IsReadAt (state p shapes certs n) func y m section) x.1 h
+      | inl x ↦ subst (λ (y : Text). AreRead p.of_module func code y m section) (sym x.2) (subst (λ (y : Edit). IsReadAt (state p own certs n) func y m section) x.1 h)
+      | inr x ↦ subst (λ (y : Edit). IsReadAt (state p own certs n) func y m section) x.1 h
     ]
 
-    of_read : (n : ℕ) (m : Module) (section : Section) → AreRead p.of_module func code text m section → IsReadAt (state p shapes certs n) func e m section
+    of_read : (n : ℕ) (m : Module) (section : Section) → AreRead p.of_module func code text m section → IsReadAt (state p own certs n) func e m section
     of_read n m section h = elim is [
-      | inl x ↦ subst (λ (y : Edit). IsReadAt (state p shapes certs n) func y m section) (sym x.1) (subst (λ (y : Text). AreRead p.of_module func code y m section) x.2 h)
-      | inr x ↦ subst (λ (y : Edit). IsReadAt (state p shapes certs n) func y m section) (sym x.1) h
+      | inl x ↦ subst (λ (y : Edit). IsReadAt (state p own certs n) func y m section) (sym x.1) (subst (λ (y : Text). AreRead p.of_module func code y m section) x.2 h)
+      | inr x ↦ subst (λ (y : Edit). IsReadAt (state p own certs n) func y m section) (sym x.1) h
     ]
 
-    to_fault_put : (n : ℕ) (f : EditFault) → IsFaultAt (state p shapes certs n) func e f → HasCodeFault p.of_module func code text f
+    to_fault_put : (n : ℕ) (f : EditFault) → IsFaultAt (state p own certs n) func e f → HasCodeFault p.of_module func code text f
     to_fault_put n f h = elim is [
-      | inl x ↦ subst (λ (y : Text). HasCodeFault p.of_module func code y f) (sym x.2) (subst (λ (y : Edit). IsFaultAt (state p shapes certs n) func y f) x.1 h)
-      | inr x ↦ subst (λ (y : Edit). IsFaultAt (state p shapes certs n) func y f) x.1 h
+      | inl x ↦ subst (λ (y : Text). HasCodeFault p.of_module func code y f) (sym x.2) (subst (λ (y : Edit). IsFaultAt (state p own certs n) func y f) x.1 h)
+      | inr x ↦ subst (λ (y : Edit). IsFaultAt (state p own certs n) func y f) x.1 h
     ]
 
-    of_fault_put : (n : ℕ) (f : EditFault) → HasCodeFault p.of_module func code text f → IsFaultAt (state p shapes certs n) func e f
+    of_fault_put : (n : ℕ) (f : EditFault) → HasCodeFault p.of_module func code text f → IsFaultAt (state p own certs n) func e f
     of_fault_put n f h = elim is [
-      | inl x ↦ subst (λ (y : Edit). IsFaultAt (state p shapes certs n) func y f) (sym x.1) (subst (λ (y : Text). HasCodeFault p.of_module func code y f) x.2 h)
-      | inr x ↦ subst (λ (y : Edit). IsFaultAt (state p shapes certs n) func y f) (sym x.1) h
+      | inl x ↦ subst (λ (y : Edit). IsFaultAt (state p own certs n) func y f) (sym x.1) (subst (λ (y : Text). HasCodeFault p.of_module func code y f) x.2 h)
+      | inr x ↦ subst (λ (y : Edit). IsFaultAt (state p own certs n) func y f) (sym x.1) h
     ]
 
     pub code_edited : (q : LaidOut) (others : List Section) (r : Result ℕ EditFault) → IfOk r (λ count. IsBothPut p certs func code text q others count)
-        → (n : ℕ) → IfOk r (λ count. IsEditedAt (state p shapes certs n) func e (state q shapes others count))
+        → (n : ℕ) → IfOk r (λ count. IsEditedAt (state p own certs n) func e (state q own others count))
     code_edited q others (Ok count) h n = (
       q.of_module,
       h.of_text.0,
       of_read n q.of_module h.of_text.0 ((h.of_code, h.laid_out.1), h.of_text.1),
-      record { of_module = refl; shapes = refl; laid_out = h.laid_out; sized = h.sized; certs = h.of_text.2.certs_are; rechecked = h.of_text.2.rechecked },
+      record { of_module = refl; shapes = refl; foreign = refl; laid_out = h.laid_out; sized = h.sized; certs = h.of_text.2.certs_are; rechecked = h.of_text.2.rechecked },
     )
     code_edited q others (Err x) h n = tt
 
-    pub code_fault_at : (r : Result ℕ EditFault) → IfErr r (λ f. f ≢ Memory → HasCodeFault p.of_module func code text f) → (n : ℕ) → IfErr r (λ f. f ≢ Memory → IsFaultAt (state p shapes certs n) func e f)
+    pub code_fault_at : (r : Result ℕ EditFault) → IfErr r (λ f. f ≢ Memory → HasCodeFault p.of_module func code text f) → (n : ℕ) → IfErr r (λ f. f ≢ Memory → IsFaultAt (state p own certs n) func e f)
     code_fault_at (Ok count) h n = tt
     code_fault_at (Err f) h n = λ differs. of_fault_put n f (h differs)
 
     pub code_accepted_at : (r : Result ℕ EditFault) → ((m : Module) (section : Section) → AreRead p.of_module func code text m section → IsEditAccepted r)
-        → (n : ℕ) (m : Module) (section : Section) → IsReadAt (state p shapes certs n) func e m section → IsEditAccepted r
+        → (n : ℕ) (m : Module) (section : Section) → IsReadAt (state p own certs n) func e m section → IsEditAccepted r
     code_accepted_at r only n m section h = only m section (to_read n m section h)
 
-    pub code_refused_at : (r : Result ℕ EditFault) → ((f : EditFault) → HasCodeFault p.of_module func code text f → IsRefusedBy r f) → (n : ℕ) (f : EditFault) → IsFaultAt (state p shapes certs n) func e f → IsRefusedBy r f
+    pub code_refused_at : (r : Result ℕ EditFault) → ((f : EditFault) → HasCodeFault p.of_module func code text f → IsRefusedBy r f) → (n : ℕ) (f : EditFault) → IsFaultAt (state p own certs n) func e f → IsRefusedBy r f
     code_refused_at r only n f h = only f (to_fault_put n f h)
 
 -- ---- the function that is named
@@ -390,40 +389,40 @@ pub named_here : (m same_m : Module) → same_m ≡ m → (e : Edit) (name : Tex
 named_here m same_m same e name is found named number there =
     ap (λ (x : Module). function_named x (name_in e)) (sym same) ∙ ap (function_named same_m) (sym is) ∙ sym number ∙ there
 
-module _ (p : LaidOut) (shapes : Option Shapes) (certs : List Section) (func : ℕ) (e : Edit) (named : function_named p.of_module (name_in e) ≡ Some func) where
-  pub named_edited : (q : LaidOut) (others : List Section) (r : Result ℕ EditFault) → ((n : ℕ) → IfOk r (λ count. IsEditedAt (state p shapes certs n) func e (state q shapes others count)))
-      → (n : ℕ) → IfOk r (λ count. IsEdited (state p shapes certs n) e (state q shapes others count))
+module _ (p : LaidOut) (own : Certs) (certs : List Section) (func : ℕ) (e : Edit) (named : function_named p.of_module (name_in e) ≡ Some func) where
+  pub named_edited : (q : LaidOut) (others : List Section) (r : Result ℕ EditFault) → ((n : ℕ) → IfOk r (λ count. IsEditedAt (state p own certs n) func e (state q own others count)))
+      → (n : ℕ) → IfOk r (λ count. IsEdited (state p own certs n) e (state q own others count))
   named_edited q others (Ok count) h n = (func, named, h n)
   named_edited q others (Err x) h n = tt
 
-  pub named_fault : (r : Result ℕ EditFault) → ((n : ℕ) → IfErr r (λ f. f ≢ Memory → IsFaultAt (state p shapes certs n) func e f)) → (n : ℕ) → IfErr r (λ f. f ≢ Memory → IsEditFault (state p shapes certs n) e f)
+  pub named_fault : (r : Result ℕ EditFault) → ((n : ℕ) → IfErr r (λ f. f ≢ Memory → IsFaultAt (state p own certs n) func e f)) → (n : ℕ) → IfErr r (λ f. f ≢ Memory → IsEditFault (state p own certs n) e f)
   named_fault (Ok count) h n = tt
   named_fault (Err f) h n = λ differs. inr (func, named, h n differs)
 
   one_name : (other : ℕ) → function_named p.of_module (name_in e) ≡ Some other → other ≡ func
   one_name other is = let same : Some other ≡ Some func = sym is ∙ named in cc
 
-  pub named_accepted : (r : Result ℕ EditFault) → ((n : ℕ) (m : Module) (section : Section) → IsReadAt (state p shapes certs n) func e m section → IsEditAccepted r) → (n : ℕ) (m : Module) (section : Section) → IsRead (state p shapes certs n) e m section → IsEditAccepted r
-  named_accepted r only n m section h = only n m section (subst (λ (f : ℕ). IsReadAt (state p shapes certs n) f e m section) (one_name h.0 h.1) h.2)
+  pub named_accepted : (r : Result ℕ EditFault) → ((n : ℕ) (m : Module) (section : Section) → IsReadAt (state p own certs n) func e m section → IsEditAccepted r) → (n : ℕ) (m : Module) (section : Section) → IsRead (state p own certs n) e m section → IsEditAccepted r
+  named_accepted r only n m section h = only n m section (subst (λ (f : ℕ). IsReadAt (state p own certs n) f e m section) (one_name h.0 h.1) h.2)
 
-  pub named_refused : (r : Result ℕ EditFault) → ((n : ℕ) (f : EditFault) → IsFaultAt (state p shapes certs n) func e f → IsRefusedBy r f) → (n : ℕ) (f : EditFault) → IsEditFault (state p shapes certs n) e f → IsRefusedBy r f
+  pub named_refused : (r : Result ℕ EditFault) → ((n : ℕ) (f : EditFault) → IsFaultAt (state p own certs n) func e f → IsRefusedBy r f) → (n : ℕ) (f : EditFault) → IsEditFault (state p own certs n) e f → IsRefusedBy r f
   named_refused r only n f (inl h) = absurd (neither (sym h.0 ∙ named)) where
     neither : ◌≡◌ {A = Option ℕ} None (Some func) → ⊥
     neither h = absurd cc
-  named_refused r only n f (inr h) = only n f (subst (λ (g : ℕ). IsFaultAt (state p shapes certs n) g e f) (one_name h.0 h.1) h.2)
+  named_refused r only n f (inr h) = only n f (subst (λ (g : ℕ). IsFaultAt (state p own certs n) g e f) (one_name h.0 h.1) h.2)
 
 -- ---- where no function is named
 
-module _ (p : LaidOut) (shapes : Option Shapes) (certs : List Section) (e : Edit) (none : function_named p.of_module (name_in e) ≡ None) (f : EditFault) (is : f ≡ no_function e) where
-  pub none_fault : (n : ℕ) → f ≢ Memory → IsEditFault (state p shapes certs n) e f
+module _ (p : LaidOut) (own : Certs) (certs : List Section) (e : Edit) (none : function_named p.of_module (name_in e) ≡ None) (f : EditFault) (is : f ≡ no_function e) where
+  pub none_fault : (n : ℕ) → f ≢ Memory → IsEditFault (state p own certs n) e f
   none_fault n differs = inl (none, sym is)
 
   some_named : (func : ℕ) → function_named p.of_module (name_in e) ≡ Some func → ⊥
   some_named func h = absurd (let both : ◌≡◌ {A = Option ℕ} None (Some func) = sym none ∙ h in cc)
 
-  pub none_accepted : (n : ℕ) (m : Module) (section : Section) → IsRead (state p shapes certs n) e m section → f ≢ Memory → ⊥
+  pub none_accepted : (n : ℕ) (m : Module) (section : Section) → IsRead (state p own certs n) e m section → f ≢ Memory → ⊥
   none_accepted n m section h differs = some_named h.0 h.1
 
-  pub none_refused : (n : ℕ) (g : EditFault) → IsEditFault (state p shapes certs n) e g → f ≢ Memory → f ≡ g
+  pub none_refused : (n : ℕ) (g : EditFault) → IsEditFault (state p own certs n) e g → f ≢ Memory → f ≡ g
   none_refused n g (inl h) differs = is ∙ h.1
   none_refused n g (inr h) differs = absurd (some_named h.0 h.1)

@@ -10,6 +10,7 @@ use Rattle.ir_ast.specs.declared.module.Module.{Module}
 use Rattle.ir_ast.specs.declared.shapes.Shapes.{Shapes}
 use Rattle.ir_tokens.specs.Bytes.{Text}
 use Rattle.certs.specs.Fits.{fits, section_fits}
+use Rattle.certs.specs.ForeignFit.{foreign_fits, foreign_same}
 use Rattle.certs.specs.ShapesFit.{shapes_fit}
 use Rattle.certs.specs.Plain.{plain_section, plain_section_fits}
 use Rattle.certs.specs.declared.section.Section.{Section}
@@ -117,11 +118,19 @@ module _ (s t : State) (func : ℕ) (n : Module) (section : Section) (put : Puts
       subst (λ (x : Option Shapes). shapes_fit (module_in t) x ≡ true) (sym is.shapes)
       (subst (λ (x : Module). shapes_fit x s.certs.shapes ≡ true) (sym (is.of_module ∙ is_with)) (shapes_put alone (module_in s) func put.put s.certs.shapes are fit here))
 
+  foreign_fitting : foreign_fits (module_in s) s.certs.foreign ≡ true → foreign_fits (module_in t) t.certs.foreign ≡ true
+  foreign_fitting fit =
+      subst (λ (x : List ℕ). foreign_fits (module_in t) x ≡ true) (sym is.foreign)
+      (subst (λ (x : Module). foreign_fits x s.certs.foreign ≡ true) (sym same)
+      (foreign_same (module_in s) (with_functions (module_in s) (module_in t).functions) refl (λ d. refl) refl s.certs.foreign ∙ fit))
+
   fitting_with : StayFitting → FitAlone → RootsFitAlone → IsFitting s → IsFitting t
   fitting_with stay alone roots fit = record {
     sections = sections_fitting stay alone fit.sections;
     shapes = shapes_fitting roots fit.shapes fit.same;
     same = ap (λ (x : Module). x.shapes) same ∙ fit.same ∙ sym is.shapes;
+    foreign = foreign_fitting fit.foreign;
+    trusted = ap (λ (x : Module). x.trusted) same ∙ fit.trusted ∙ sym is.foreign;
   }
 
 pub fitting : StayFitting → FitAlone → RootsFitAlone → EditsKeepFitting

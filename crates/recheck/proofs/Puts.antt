@@ -77,11 +77,12 @@ program_back p q r func old f e at back =
 
 -- where the old section is put back, the certificates are as they were
 pub certs_back : (certs others again : Certs) (func : ℕ) (past section : Section) → others.sections ≡ slice_set certs.sections func section → slice_get certs.sections func ≡ Some past → again.sections ≡ slice_set others.sections func past
-    → others.shapes ≡ certs.shapes → again.shapes ≡ others.shapes → again ≡ certs
-certs_back certs others again func past section e at back kept kept_again =
-    let same : again.shapes ≡ certs.shapes = kept_again ∙ kept in
+    → again.shapes ≡ certs.shapes → again.foreign ≡ certs.foreign → again ≡ certs
+certs_back certs others again func past section e at back shapes foreign =
     let sections : again.sections ≡ certs.sections = (back ∙ ap (λ (l : List Section). slice_set l func past) e ∙ set_back certs.sections func past section at) in
-    ap (λ (l : List Section). record { sections = l; shapes = again.shapes }) sections ∙ ap (λ (x : Option Shapes). record { sections = certs.sections; shapes = x }) same
+    ap (λ (l : List Section). record { sections = l; shapes = again.shapes; foreign = again.foreign }) sections
+    ∙ ap (λ (x : Option Shapes). record { sections = certs.sections; shapes = x; foreign = again.foreign }) shapes
+    ∙ ap (λ (x : List ℕ). record { sections = certs.sections; shapes = certs.shapes; foreign = x }) foreign
 
 -- the section that was read stands in its place, with the count
 pub put_so : (p : LaidOut) (certs : List Section) (q : LaidOut) (others : List Section) (func : ℕ) (old : Function) (past section : Section) (text : Text) (count : ℕ)

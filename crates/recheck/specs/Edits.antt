@@ -46,13 +46,14 @@ kept_text s func = text_with (module_in s) (code_in s func) (section_in s func)
 
 -- ---- what is accepted
 
--- The session after an edit of one function. Its module is `m`, with the layouts and sizes of `m`. `section` is in the place of the function's section, and the shapes are as they were. Its count is the number of functions that were checked again.
+-- The session after an edit of one function. Its module is `m`, with the layouts and sizes of `m`. `section` is in the place of the function's section, and the shapes and the functions outside are as they were. Its count is the number of functions that were checked again.
 pub record IsPut (s : State) (func : ℕ) (m : Module) (section : Section) (t : State) : Type 0 where
   pub of_module : t.program.of_module ≡ m
   pub laid_out : AreLayouts t.program.of_module t.program.layouts
   pub sized : AreSizes t.program.of_module t.program.sizes
   pub certs : t.certs.sections ≡ slice_set s.certs.sections func section
   pub shapes : t.certs.shapes ≡ s.certs.shapes
+  pub foreign : t.certs.foreign ≡ s.certs.foreign
   pub rechecked : t.rechecked ≡ rechecked_by t.program.of_module t.certs.sections func (code_in s func) (section_in s func)
 
 -- a text of a function's code is read as this module, which wants no shapes

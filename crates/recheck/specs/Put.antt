@@ -2,11 +2,11 @@
 use Rattle.std.specs.Prelude.{◌≡◌, ◌≢◌, ℕ, List, slice_get, slice_set, Option, Some, None}
 use Rattle.ir_ast.specs.declared.function.Function.{Function}
 use Rattle.ir_ast.specs.declared.module.Module.{Module}
-use Rattle.ir_ast.specs.declared.shapes.Shapes.{Shapes}
 use Rattle.ir_tokens.specs.Bytes.{Text}
 use Rattle.copies.specs.Tables.{tables_of}
 use Rattle.ir_text.specs.Replaced.{IsReplaced}
 use Rattle.copies.specs.declared.tables.Tables.{Tables}
+use Rattle.certs.specs.declared.certs.Certs.{Certs}
 use Rattle.certs.specs.declared.section.Section.{Section}
 use Rattle.layout.specs.Functions.{with_functions, laid_with}
 use Rattle.layout.specs.Layouts.{LaidOut, AreLayouts, AreSizes}
@@ -16,9 +16,9 @@ use Rattle.recheck.specs.Session.{State, IsAnswered}
 use Rattle.recheck.specs.Interface.{rechecked_by}
 use Rattle.recheck.specs.declared.kept.KeptWork.{KeptWork}
 
--- a session of these parts
-abbrev pub state : LaidOut → Option Shapes → (sections : List Section) → (rechecked : ℕ) → State
-state program shapes sections rechecked = record { program = program; certs = record { sections = sections; shapes = shapes }; rechecked = rechecked }
+-- a session of these parts, whose certificates are other ones but for their sections
+abbrev pub state : LaidOut → (others : Certs) → (sections : List Section) → (rechecked : ℕ) → State
+state program others sections rechecked = record { program = program; certs = record others { sections = sections }; rechecked = rechecked }
 
 -- the module with this function in the place of the one with this number
 abbrev pub with_function : Module → (func : ℕ) → Function → Module

@@ -180,6 +180,7 @@ fn put_anew(
     requires function { text.now.func < length program.old.of_module.functions }
     requires section { text.now.func < length certs.old.sections }
     ensures shapes { certs.new.shapes ≡ certs.old.shapes }
+    ensures foreign { certs.new.foreign ≡ certs.old.foreign }
     ensures put { IfOk result (λ count. IsBothPut program.old certs.old.sections text.now.func code.now text.now.bytes.now program.new certs.new.sections count) }
     ensures answers { OnOk result (AreAnswers program.new certs.new.sections kept.new.functions.answers) }
     ensures rows { OnOk result (AreKept program.new certs.new.sections kept.new.functions.rows) }
@@ -227,6 +228,7 @@ pub fn put_code(
     requires section { text.now.func < length certs.old.sections }
     requires kept { IsKept program.old certs.old.sections kept.old }
     ensures shapes { certs.new.shapes ≡ certs.old.shapes }
+    ensures foreign { certs.new.foreign ≡ certs.old.foreign }
     ensures put { IfOk result (λ count. IsBothPut program.old certs.old.sections text.now.func code.now text.now.bytes.now program.new certs.new.sections count) }
     ensures answers { OnOk result (AreAnswers program.new certs.new.sections kept.new.functions.answers) }
     ensures rows { AreKept program.new certs.new.sections kept.new.functions.rows }

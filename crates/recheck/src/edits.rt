@@ -78,13 +78,14 @@ fn put_at(
 ) -> Result<u64, EditFault>
     requires function { func < length program.old.of_module.functions }
     requires kept { IsKept program.old certs.old.sections kept.old }
-    ensures put { (n : ℕ) → IfOk result (λ count. spec.IsEditedAt (state program.old certs.old.shapes certs.old.sections n) func edit.now (state program.new certs.old.shapes certs.new.sections count)) }
+    ensures put { (n : ℕ) → IfOk result (λ count. spec.IsEditedAt (state program.old certs.old certs.old.sections n) func edit.now (state program.new certs.old certs.new.sections count)) }
     ensures shapes { certs.new.shapes ≡ certs.old.shapes }
+    ensures foreign { certs.new.foreign ≡ certs.old.foreign }
     ensures kept_so { IsKept program.new certs.new.sections kept.new }
     ensures kept { OnErr result ((program.new ≡ program.old) × (certs.new ≡ certs.old)) }
-    ensures fault { (n : ℕ) → IfErr result (λ e. e ≢ Memory → spec.IsFaultAt (state program.old certs.old.shapes certs.old.sections n) func edit.now e) }
-    ensures only { (n : ℕ) (m : AModule) (section : ASection) → spec.IsReadAt (state program.old certs.old.shapes certs.old.sections n) func edit.now m section → IsEditAccepted result }
-    ensures only_fault { (n : ℕ) (e : AFault) → spec.IsFaultAt (state program.old certs.old.shapes certs.old.sections n) func edit.now e → IsRefusedBy result e }
+    ensures fault { (n : ℕ) → IfErr result (λ e. e ≢ Memory → spec.IsFaultAt (state program.old certs.old certs.old.sections n) func edit.now e) }
+    ensures only { (n : ℕ) (m : AModule) (section : ASection) → spec.IsReadAt (state program.old certs.old certs.old.sections n) func edit.now m section → IsEditAccepted result }
+    ensures only_fault { (n : ℕ) (e : AFault) → spec.IsFaultAt (state program.old certs.old certs.old.sections n) func edit.now e → IsRefusedBy result e }
 {
     match edit {
         Edit::Cert { section, .. } => put_section_of(
@@ -137,13 +138,14 @@ pub fn put_edit(
     edit: &Edit,
 ) -> Result<u64, EditFault>
     requires { IsKept program.old certs.old.sections kept.old }
-    ensures put { (n : ℕ) → IfOk result (λ count. IsEdited (state program.old certs.old.shapes certs.old.sections n) edit.now (state program.new certs.old.shapes certs.new.sections count)) }
+    ensures put { (n : ℕ) → IfOk result (λ count. IsEdited (state program.old certs.old certs.old.sections n) edit.now (state program.new certs.old certs.new.sections count)) }
     ensures shapes { certs.new.shapes ≡ certs.old.shapes }
+    ensures foreign { certs.new.foreign ≡ certs.old.foreign }
     ensures kept_so { IsKept program.new certs.new.sections kept.new }
     ensures kept { OnErr result ((program.new ≡ program.old) × (certs.new ≡ certs.old)) }
-    ensures fault { (n : ℕ) → IfErr result (λ e. e ≢ Memory → IsEditFault (state program.old certs.old.shapes certs.old.sections n) edit.now e) }
-    ensures only { (n : ℕ) (m : AModule) (section : ASection) → IsRead (state program.old certs.old.shapes certs.old.sections n) edit.now m section → IsEditAccepted result }
-    ensures only_fault { (n : ℕ) (e : AFault) → IsEditFault (state program.old certs.old.shapes certs.old.sections n) edit.now e → IsRefusedBy result e }
+    ensures fault { (n : ℕ) → IfErr result (λ e. e ≢ Memory → IsEditFault (state program.old certs.old certs.old.sections n) edit.now e) }
+    ensures only { (n : ℕ) (m : AModule) (section : ASection) → IsRead (state program.old certs.old certs.old.sections n) edit.now m section → IsEditAccepted result }
+    ensures only_fault { (n : ℕ) (e : AFault) → IsEditFault (state program.old certs.old certs.old.sections n) edit.now e → IsRefusedBy result e }
 {
     match function_named(program.module(), name_in(edit)) {
         Some(func) => put_at(alloc, program, certs, kept, func, edit),

@@ -162,6 +162,7 @@ pub fn put_section(
     requires answers { length kept.old.answers ≡ length program.now.of_module.functions }
     requires rows { AreOthersKept program.now certs.old.sections text.now.func kept.old.rows }
     ensures shapes { certs.new.shapes ≡ certs.old.shapes }
+    ensures foreign { certs.new.foreign ≡ certs.old.foreign }
     ensures put { (p : LaidOut) → IsWithCode p program.now text.now.func old.now → IfOk result (λ count. IsTextPut p certs.old.sections text.now.func text.now.bytes.now program.now certs.new.sections count) }
     ensures answers { (p : LaidOut) → AreAnswers p certs.old.sections kept.old.answers → IsWithCode p program.now text.now.func old.now → OnOk result (AreAnswers program.now certs.new.sections kept.new.answers) }
     ensures kept { OnErr result ((certs.new ≡ certs.old) × (kept.new.answers ≡ kept.old.answers)) }
@@ -206,6 +207,7 @@ pub fn put_in_place(
     requires rows { AreKept program.old certs.old.sections kept.old.rows }
     ensures program { OnOk result (program.new ≡ laid_with program.old (slice_set program.old.of_module.functions text.now.func function)) }
     ensures shapes { certs.new.shapes ≡ certs.old.shapes }
+    ensures foreign { certs.new.foreign ≡ certs.old.foreign }
     ensures put { IfOk result (λ count. IsTextPut program.old certs.old.sections text.now.func text.now.bytes.now program.new certs.new.sections count) }
     ensures answers { OnOk result (AreAnswers program.new certs.new.sections kept.new.answers) }
     ensures kept { OnErr result ((program.new ≡ program.old) × (certs.new ≡ certs.old) × (kept.new.answers ≡ kept.old.answers)) }
@@ -240,6 +242,7 @@ pub fn put_section_of(
     requires answers { AreAnswers program.now certs.old.sections kept.old.answers }
     requires rows { AreKept program.now certs.old.sections kept.old.rows }
     ensures shapes { certs.new.shapes ≡ certs.old.shapes }
+    ensures foreign { certs.new.foreign ≡ certs.old.foreign }
     ensures put { IfOk result (λ count. IsTextPut program.now certs.old.sections text.now.func text.now.bytes.now program.now certs.new.sections count) }
     ensures answers { OnOk result (AreAnswers program.now certs.new.sections kept.new.answers) }
     ensures kept { OnErr result ((certs.new ≡ certs.old) × (kept.new.answers ≡ kept.old.answers)) }

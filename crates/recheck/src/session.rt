@@ -45,8 +45,8 @@ impl Model for Session {
 }
 
 impl Session {
-    /// Checks a module with its certificates, whose shapes it has from then on. It is refused only where the module has no layouts, or for memory; both are given
-    /// back then.
+    /// Checks a module with its certificates, whose shapes it has from then on, and which it trusts as they say. It is refused only where the module
+    /// has no layouts, or for memory; both are given back then.
     pub fn new(alloc: Global, of_module: Module, certs: Certs) -> Result<Self, NotAccepted>
         requires { length certs.sections ≡ length of_module.functions }
         ensures of_module { IfOk result (λ session. session.program.of_module ≡ shaped of_module certs) }

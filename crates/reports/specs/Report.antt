@@ -1,5 +1,6 @@
 -- The lines that the check's verdicts and the faults of its texts are printed as, and the status that the program then ends with.
-use Rattle.std.specs.Prelude.{◌≡◌, ◌++◌, ℕ, List, [], ◌∷◌, Option, Some, None, slice_get, option_and_then, codes}
+use Rattle.std.specs.Prelude.{◌≡◌, ◌==◌, ◌++◌, if◌then◌else◌, ℕ, List, [], ◌∷◌, Option, Some, None, length, slice_get, option_and_then, codes}
+use Rattle.std.specs.List.{flat_map}
 use Rattle.std.specs.Fmt.{decimal}
 use Rattle.std.specs.Io.KnownBytes.{Appends}
 use Rattle.ir_ast.specs.declared.module.Module.{Module}
@@ -16,6 +17,7 @@ use Rattle.trace_text.specs.declared.fault.TraceFault.TheVariants as trace
 use Rattle.certs.specs.declared.section.Section.{Section}
 use Rattle.block_rules.specs.declared.block_fault.Detail.{Detail}
 use Rattle.block_rules.specs.declared.block_fault.Refusal.{Refusal}
+use Rattle.module_check.specs.Trusts.{to_trust}
 use Rattle.module_check.specs.declared.verdict.Reason.{Reason}
 use Rattle.module_check.specs.declared.verdict.Reason.TheVariants.{Layout}
 use Rattle.ir_print.specs.Names.{key_text}
@@ -135,9 +137,26 @@ of_trace_fault trace.Memory = no_memory
 
 -- ---- the check
 
--- a module is accepted that defines this number of functions
-abbrev pub yes : (functions : ℕ) → Answer
-yes functions = record { text = codes "yes " ++ decimal functions ++ 10 ∷ []; status = 0 }
+-- the name of a function outside with its sign, after a blank
+abbrev pub trusted_name : Module → (symbol : ℕ) → List ℕ
+trusted_name m symbol = codes " @" ++ found_name (slice_get m.symbols symbol)
+
+-- a line of the functions outside that are trusted, if there are some
+abbrev pub trusts_line : Module → (trusts : List ℕ) → List ℕ
+trusts_line m [] = []
+trusts_line m trusts = codes "trusts" ++ flat_map (trusted_name m) trusts ++ 10 ∷ []
+
+-- a module is accepted: how many functions it defines, and which functions outside are trusted
+abbrev pub yes : Module → (trusts : List ℕ) → Answer
+yes m trusts = record { text = codes "yes " ++ decimal (length m.functions) ++ 10 ∷ trusts_line m trusts; status = 0 }
+
+-- how many functions outside are trusted, if some are
+abbrev pub trusts_count : (trusts : ℕ) → List ℕ
+trusts_count trusts = if trusts == 0 then [] else codes " trusts " ++ decimal trusts
+
+-- the module of a session is accepted: the same in one line, with the number of those that are trusted
+abbrev pub yes_again : Module → Answer
+yes_again m = record { text = codes "yes " ++ decimal (length m.functions) ++ trusts_count (length (to_trust m)) ++ 10 ∷ []; status = 0 }
 
 -- the line of a certificate that a refusal names, if it names one
 abbrev pub line_of : List Section → Module → (func : ℕ) → Option Detail → List ℕ

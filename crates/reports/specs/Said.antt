@@ -7,7 +7,8 @@ use Rattle.layout.specs.declared.fault.LayoutFault.{LayoutFault}
 use Rattle.certs.specs.declared.certs.Certs.{Certs}
 use Rattle.block_rules.specs.declared.block_fault.Refusal.{Refusal}
 use Rattle.module_check.specs.Accepted.{IsFirstRefusal, shaped}
-use Rattle.reports.specs.Report.{Answer, IsTold, line_of, no, no_memory, of_layout_fault}
+use Rattle.module_check.specs.Trusts.{to_trust}
+use Rattle.reports.specs.Report.{Answer, IsTold, line_of, no, no_memory, of_layout_fault, yes}
 use Rattle.reports.specs.Files.{HasModule, HasCerts, IsUncertified, of_unread}
 use Rattle.reports.specs.declared.files.File.{File}
 use Rattle.reports.specs.declared.files.ModuleFile.{ModuleFile}
@@ -54,6 +55,11 @@ SaysAndTells told explained Meant old new status =
     (said : Outputs) × Says Meant old said status × GivesTextIf told said.out.items new.out.items × GivesTextIf explained said.err.items new.err.items
 
 -- ---- modules and certificates
+
+-- what is said of a module that is accepted; or that memory was refused
+pub data OfAccepted (m : Module) : Said → Type 0 where
+  accepted_told : OfAccepted m (OnOutput (yes m (to_trust m)))
+  accepted_not_told : OfAccepted m (OnError no_memory)
 
 -- what is said of a module and its certificates that are not accepted: with the shapes of the certificates the first refusal, or the
 -- fault of the layouts; or that memory was refused

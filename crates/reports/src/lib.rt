@@ -11,6 +11,7 @@ mod outcomes;
 mod outputs;
 mod run_report;
 mod status;
+mod trusts;
 mod unreadable;
 mod verdicts;
 
@@ -26,5 +27,6 @@ pub use run_report::ran;
 pub use status::{
     STATUS_MEMORY, STATUS_NO, STATUS_UNREADABLE, STATUS_USAGE, STATUS_YES, status_of,
 };
+pub use trusts::{accepted_again, report_accepted};
 pub use unreadable::unread;
-pub use verdicts::{accepted, line_of_refusal, not_laid_out, refused, report_verdict};
+pub use verdicts::{line_of_refusal, not_laid_out, refused, report_verdict};

@@ -10,7 +10,7 @@ ghost use Rattle.module_check.specs.Accepted.{IsFirstRefusal, IsVerdictOf, shape
 use crate::faults::{memory, no_layouts};
 use crate::found::{name_of_block, name_of_function, write_found_local, write_found_name};
 use crate::outputs::Outputs;
-use crate::status::{STATUS_NO, STATUS_YES};
+use crate::status::STATUS_NO;
 use block_rules::{Detail, Refusal, Rule};
 use certificate::print_line;
 use certs::Certs;
@@ -19,14 +19,6 @@ use module_check::{NotAccepted, Reason};
 use std::alloc::{AllocError, Global};
 use std::io;
 use std::io::Write;
-
-/// How many functions a module defines that is accepted: `yes 1`.
-pub fn accepted<W: Write>(out: &mut W, functions: usize) -> io::Result<u8>
-    ensures { IfOk result (λ status. IsTold (W.contents out.old) (W.contents out.new) status (spec.yes functions)) }
-{
-    writeln!(out, "yes {functions}")?;
-    Ok(STATUS_YES)
-}
 
 /// The target of an edge and the line of the claim that is not implied on it, if there are any, as they come after
 /// a rule: ` %loop %p ref Node nonnull`.

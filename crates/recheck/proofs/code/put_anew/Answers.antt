@@ -1,4 +1,4 @@
-use Rattle.std.proofs.Common.{◌≡◌, ◌<◌, ℕ, Some, slice_get, refl, ap, subst, sym}
+use Rattle.std.proofs.Common.{◌≡◌, ◌<◌, ◌∙◌, ℕ, Some, slice_get, refl, ap, subst, sym}
 use Rattle.ir_ast.specs.declared.module.Module.{Module}
 use Rattle.answers.specs.declared.kept_functions.KeptFunctions.{KeptFunctions}
 use Rattle.layout.specs.Layouts.{LaidOut}
@@ -22,6 +22,6 @@ replace-requires c =
 pub returns-in-Err-answer_all-clause-kept : goal.returns-in-Err-answer_all-clause-kept
 returns-in-Err-answer_all-clause-kept c = (
   refl,
-  certs_back c.args.certs.now c.replace-past.new.self c.replace.new.self c.args.text.now.func c.replace-past.result c.in-Ok.read.1 c.replace-past.ensures.new c.replace-past.ensures.given_back c.replace.ensures.new c.replace-past.ensures.shapes c.replace.ensures.shapes,
+  certs_back c.args.certs.now c.replace-past.new.self c.replace.new.self c.args.text.now.func c.replace-past.result c.in-Ok.read.1 c.replace-past.ensures.new c.replace-past.ensures.given_back c.replace.ensures.new (c.replace.ensures.shapes ∙ c.replace-past.ensures.shapes) (c.replace.ensures.foreign ∙ c.replace-past.ensures.foreign),
   ap (λ (functions : KeptFunctions). record c.args.kept.now { functions = functions }) c.in-Err-answer_all.ensures.kept,
 )

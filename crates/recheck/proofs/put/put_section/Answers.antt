@@ -1,4 +1,4 @@
-use Rattle.std.proofs.Common.{◌<◌, ℕ, subst, sym}
+use Rattle.std.proofs.Common.{◌<◌, ◌∙◌, ℕ, subst, sym}
 use Rattle.ir_ast.specs.declared.module.Module.{Module}
 use Rattle.recheck.specs.Edits.{HasSectionFault}
 use Rattle.recheck.proofs.Faults.{of_section, to_section}
@@ -36,7 +36,7 @@ returns-in-Err-clause-only_fault c = λ e h. c.in-Err.ensures.only_fault e (subs
 
 pub returns-in-Err-answer_anew-clause-kept : goal.returns-in-Err-answer_anew-clause-kept
 returns-in-Err-answer_anew-clause-kept c = (
-  certs_back c.args.certs.now c.replace-past.new.self c.replace.new.self c.args.text.now.func c.replace-past.result c.in-Ok.section c.replace-past.ensures.new c.replace-past.ensures.given_back c.replace.ensures.new c.replace-past.ensures.shapes c.replace.ensures.shapes,
+  certs_back c.args.certs.now c.replace-past.new.self c.replace.new.self c.args.text.now.func c.replace-past.result c.in-Ok.section c.replace-past.ensures.new c.replace-past.ensures.given_back c.replace.ensures.new (c.replace.ensures.shapes ∙ c.replace-past.ensures.shapes) (c.replace.ensures.foreign ∙ c.replace-past.ensures.foreign),
   c.in-Err-answer_anew.ensures.kept,
 )
 

@@ -1,5 +1,6 @@
-use Rattle.std.proofs.Common.{Option, subst, sym}
+use Rattle.std.proofs.Common.{◌≡◌, ◌∙◌, ℕ, List, Option, ap, subst, sym}
 use Rattle.ir_ast.specs.declared.shapes.Shapes.{Shapes}
+use Rattle.certs.specs.declared.certs.Certs.{Certs}
 use Rattle.recheck.specs.Edits.{IsRead, IsEdited, IsEditFault}
 use Rattle.recheck.specs.Put.{state}
 use Rattle.recheck.specs.Session.{State}
@@ -8,10 +9,11 @@ use Rattle.recheck.proofs.session.Session.apply.Goals as goal
 pub returns-clause-accepted : goal.returns-clause-accepted
 returns-clause-accepted c =
     let old = c.self.inside in
-    let put = subst
-    (λ (x : Option Shapes). IsEdited (state old.program old.certs.shapes old.certs.sections old.rechecked) c.args.edit.now (state c.put_edit.new.program x c.put_edit.new.certs.sections c.in-Ok.rechecked))
-    (sym c.put_edit.ensures.shapes) (c.in-Ok.ensures.put old.rechecked) in
-    subst (λ (s : State). IsEdited s c.args.edit.now (state c.put_edit.new.program c.put_edit.new.certs.shapes c.put_edit.new.certs.sections c.in-Ok.rechecked)) c.self.view_is put
+    let new = c.put_edit.new.certs in
+    let certs : ◌≡◌ {A = Certs} (record old.certs { sections = new.sections }) new =
+    ap (λ (x : Option Shapes). record { sections = new.sections; shapes = x; foreign = old.certs.foreign }) (sym c.put_edit.ensures.shapes) ∙ ap (λ (x : List ℕ). record { sections = new.sections; shapes = new.shapes; foreign = x }) (sym c.put_edit.ensures.foreign) in
+    let put = subst (λ (x : Certs). IsEdited (state old.program old.certs old.certs.sections old.rechecked) c.args.edit.now (record { program = c.put_edit.new.program; certs = x; rechecked = c.in-Ok.rechecked })) certs (c.in-Ok.ensures.put old.rechecked) in
+    subst (λ (s : State). IsEdited s c.args.edit.now (record { program = c.put_edit.new.program; certs = new; rechecked = c.in-Ok.rechecked })) c.self.view_is put
 
 pub returns-in-Err-clause-only : goal.returns-in-Err-clause-only
 returns-in-Err-clause-only c = λ m section h. c.in-Err.ensures.only c.self.inside.rechecked m section (subst (λ (s : State). IsRead s c.args.edit.now m section) (sym c.self.view_is) h)
