@@ -6,7 +6,8 @@ C1  A certificate has the form of docs/CERTIFICATES.md, and each fact fits the
 
 The place is the first word, or the end of the line, with which no form goes on.
 Words of a claim have an order: `nonnull` comes before `fresh` and `stale`. A
-tab parts no words. The one fault of a text of edits is C1 too.
+tab parts no words. Lines `foreign` stand directly after the first line, and
+only with `--forms wide`. The one fault of a text of edits is C1 too.
 
 Why: A claim is taken as it stands. One that is misread would be checked for
 what its author did not claim.
@@ -78,7 +79,9 @@ pub(crate) const C3: &str = "\
 C3  A certificate names what is in the module, in the function, or at the block.
 
 A `slot` is a root slot. A name after `same`, `holds` or `addr` is listed at the
-same block, or is a global. A section is of a function that the module defines.
+same block, or is a global. A section is of a function that the module defines,
+and a line `foreign` of one that it only declares, which is none of the runtime
+and no intrinsic.
 
 Why: A claim about nothing could not be checked. It is most often a name that
 was changed in the module alone.
@@ -110,7 +113,8 @@ See also: C5 (what the certificate lacks)
 pub(crate) const C4: &str = "\
 C4  Each function, block, value, slot and fact is listed once.
 
-The place is that of the second one.
+So is each function outside, on a line `foreign`. The place is that of the
+second one.
 
 Why: Two lists would not say which of them is meant.
 

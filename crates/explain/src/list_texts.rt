@@ -12,7 +12,7 @@ Rules of the check:
   K5   a word is outside the layout, or an index is not known to be small
   K6   a reference is stored without the barrier outside slots and fresh cells
   K7   gcread or gcwrite names another object than the address's
-  K8   an alloca holds no integer, and is no root
+  K8   an alloca holds no number, and is no root
   K9   a gcroot is past the head, a second one, on no slot, or has metadata
   K10  a slot is used as a value
   K11  an alloca is outside the entry block

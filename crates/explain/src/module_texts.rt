@@ -5,7 +5,7 @@ L1  Each byte of a module's text belongs to a token, or parts tokens.
 
 The place is the first byte of what is no token. A text in quotes that does not
 end is named at its beginning. In the example a comment begins with `#`. One of
-LLVM begins with `;`.
+LLVM begins with `;`. A `+` is such a byte without `--forms wide`.
 
 Why: What is checked is the module that the whole text says. Bytes that were
 passed over could mean something to another reader.
@@ -163,7 +163,9 @@ See also: L4 (two definitions), K18 (functions that are only declared)
 pub(crate) const L6: &str = "\
 L6  A number fits its type.
 
-One of `iN` is from -2^(N-1) to 2^N - 1, and N is from 1 to 64.
+One of `iN` is from -2^(N-1) to 2^N - 1, and N is from 1 to 64. With `--forms
+wide` one of `float` is a number that 32 bits hold, and one of `double` is
+finite where it is written in decimals.
 
 Why: The digits of a larger number would be read as another number.
 

@@ -40,11 +40,13 @@ See also: K15 (claims on edges), docs/CERTIFICATES.md
 pub(crate) const K2: &str = "\
 K2  Each operand has its written type, and fits.
 
-A number is one of its bits. A reference goes where its layout fits. A load or a
-store has the type of each word at which it may be; under `ptr` these words are
-references of one layout. An address is allowed only as the place of a load, a
-store, gcread or gcwrite, or as the operand of getelementptr or bitcast. A
-global is the address of its word, so its value has to be loaded.
+A number is one of its bits. With `--forms wide` a `float` is one of 32 bits and
+a `double` one of 64, and no index is of these types. A reference goes where its
+layout fits. A load or a store has the type of each word at which it may be;
+under `ptr` these words are references of one layout. An address is allowed only
+as the place of a load, a store, gcread or gcwrite, or as the operand of
+getelementptr or bitcast. A global is the address of its word, so its value has
+to be loaded. A function outside of the module takes numbers and null alone.
 
 Why: What the collector follows as a reference has to be one, and a cell's words
 have to be those of its layout. An address is no reference that could be kept:
@@ -320,7 +322,7 @@ See also: K6 (where a barrier is needed)
 ";
 
 pub(crate) const K8: &str = "\
-K8  An alloca holds an integer, or is a root slot.
+K8  An alloca holds a number, or is a root slot.
 
 With typed pointers slots of `i8*` are refused too: the text does not say the
 layout of what they hold. A slot is refused at its alloca, also where a load

@@ -286,12 +286,16 @@ K18  A call is of a function that the module defines, or of one of the runtime's
 
 The runtime's functions are dg_alloc, dg_safepoint and the intrinsics gcroot,
 gcread and gcwrite. Each has to be declared with its own types. With `--forms
-wide` LLVM's functions of integers, as llvm.smax.i32, are called so too. A call
-with another number of arguments is refused too. In such a call gcroot may still
-name a slot, and gcread and gcwrite an address, so that K18 is what is told.
+wide` LLVM's functions of integers and of floating point numbers, as
+llvm.smax.i32 and llvm.sqrt.f64, are called so too, and so is a function that is
+only declared and gives a number or nothing, if the certificate has `foreign @f
+none`. A call with another number of arguments is refused too. In such a call
+gcroot may still name a slot, and gcread and gcwrite an address, so that K18 is
+what is told.
 
 Why: Of any other function nothing is known: it could reach a safepoint, keep a
-reference, or store one without a barrier.
+reference, or store one without a barrier. A line `foreign` promises that it
+does not; nothing checks that, and `check` names the functions that are trusted.
 
 Refused: `dgc check` prints `no @ask %entry 0 K18`.
 
@@ -324,7 +328,8 @@ Accepted: `dgc check` prints `yes 2`.
     function @ask none
     end
 
-See also: docs/FRONT_ENDS.md (the five declarations)
+See also: docs/FRONT_ENDS.md (the five declarations), docs/CERTIFICATES.md
+(`foreign`)
 ";
 
 pub(crate) const K19: &str = "\
@@ -333,7 +338,9 @@ K19  A bitcast leads to the same type, or to one of the same layout.
 A bitcast of `ptr` to `ptr` is the same value under another name. With typed
 pointers `%L*` and `i8*` are references to a cell of L, and `%L**` and `i8**`
 are places of such references. The same holds of a global that is used under
-another type, `bitcast (%Node** @g to i8**)`.
+another type, `bitcast (%Node** @g to i8**)`. With `--forms wide` a number may
+become one of another type of as many bits, as a `double` becomes an `i64`, but
+a constant may not.
 
 Why: By another type a word would be taken for what it is not, and the collector
 would follow a number, or miss a reference.

@@ -4,8 +4,10 @@ pub(crate) const P1: &str = "\
 P1  A trace has the form of docs/TRACES.md, and names what is in the module.
 
 It is P1 at another version, an unknown name, a pool that is listed twice, a
-number that is none, the line of the 65th thread, `late` in `trace 1`, and
-anything after `end`. The place is that of the word, or of the end of the line.
+number that is none, the line of the 65th thread, `late` in `trace 1`, `values`
+that is not directly after the line of a thread, or in a module that is not read
+with `--forms wide`, and anything after `end`. The place is that of the word, or
+of the end of the line.
 
 Why: A trace says how a run begins and who makes its steps. One that is misread
 would be another run.

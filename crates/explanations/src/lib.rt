@@ -11,6 +11,7 @@ mod missing_blocks;
 mod notes;
 mod null_tests;
 mod nulls;
+mod outside;
 mod phis;
 mod promised;
 mod refusals;

@@ -4,6 +4,7 @@ use crate::edges::{learned, put_edge};
 use crate::mismatches::{mismatch_of, put_mismatch};
 use crate::notes::{MARGIN, put_cert_note, put_line, put_mend, put_mend_word, put_or};
 use crate::nulls::{UNCOMPARED, put_base_note, put_place_line, put_shown};
+use crate::outside::{handed_outside, page_of_outside, put_handed};
 use crate::phis::Entries;
 use crate::promised::{
     Broken, Unkept, broken_promise, put_kept, put_mark, put_promise, returned, unkept_result,
@@ -104,18 +105,22 @@ fn put_unavailable(out: &mut Message, told: &Told) {
 
 /// K2.
 fn put_mistyped(out: &mut Message, told: &Told, operands: &[Operand]) {
+    let handed = handed_outside(told.scene, operands);
+    if handed.is_some() {
+        return put_handed(out, &told.with_it(handed), operands);
+    }
     let mistyped = mistyped_in(told.scene, operands, told.place);
     let told = told.with_it(operand_of(&mistyped));
     put_mistyped_as(out, &told, operands, &mistyped);
     put_own_types(out, told.scene)
 }
 
-/// The types of the function of integers that is called, as a further line of what mends.
+/// The types of the function of numbers that is called, as a further line of what mends.
 fn put_own_types(out: &mut Message, scene: &Scene) {
     let Some(runtime) = runtime_named(scene) else {
         return;
     };
-    if matches!(runtime, Runtime::Integer { .. }) {
+    if matches!(runtime, Runtime::Integer { .. } | Runtime::Float { .. }) {
         out.put(MARGIN);
         out.put("and call it with these types: ");
         put_declare_of(out, &runtime, Pointers::of_module(scene.context.module()));
@@ -268,7 +273,11 @@ fn put_declared(out: &mut Message, scene: &Scene, runtime: &Runtime) {
 /// K18.
 fn put_unknown_callee(out: &mut Message, told: &Told) {
     let Some(runtime) = runtime_named(told.scene) else {
-        return put_by_page(out, told, page_of(Rule::K18));
+        let page = match page_of_outside(told.scene) {
+            Some(page) => page,
+            None => page_of(Rule::K18),
+        };
+        return put_by_page(out, told, page);
     };
     put_sentence(out, told);
     put_line(out, told, told.it, "");

@@ -144,9 +144,11 @@ fn place_of(fault: &ReadFault) -> Option<(Position, Code)> {
     }
 }
 
-/// What is said besides, by the code.
-fn advice_of(code: Code) -> &'static str {
+/// What is said besides, by the code, of a text in which the wide forms may stand or not.
+fn advice_of(code: Code, wide: bool) -> &'static str {
     match code {
+        Code::L6 if wide =>
+            "a number of iN is from -2^(N-1) to 2^N - 1; one of float is one that 32 bits hold, and 0x and 16 digits are the bits of it as a double",
         Code::L10 =>
             "write all pointers as `ptr`, or none; `dgc migrate` turns typed pointers into `ptr`",
         Code::L9 =>
@@ -248,8 +250,15 @@ fn put_not_defined(pen: Pen, out: &mut Message, named: NamedText, name: &[u8]) {
     }
 }
 
-/// What was expected, or how to go on.
-fn put_expected(pen: Pen, out: &mut Message, named: NamedText, position: Position, code: Code) {
+/// What was expected, or how to go on, in a text in which the wide forms may stand or not.
+fn put_expected(
+    pen: Pen,
+    out: &mut Message,
+    named: NamedText,
+    wide: bool,
+    position: Position,
+    code: Code,
+) {
     match code {
         Code::L1 | Code::L3 if !other_text(named.text).is_empty() => {
             put_told(out, pen, Ink::Mend, "  mend:  ", other_text(named.text))
@@ -259,13 +268,14 @@ fn put_expected(pen: Pen, out: &mut Message, named: NamedText, position: Positio
             put_told(out, pen, Ink::Mend, "  mend:  ", advice)
         }
         Code::L3 => {
-            let Ok(form) = form_before(pen.alloc, named, offset_of(named.text, position)) else {
+            let Ok(form) = form_before(pen.alloc, named, wide, offset_of(named.text, position))
+            else {
                 return out.refuse();
             };
             put_told(out, pen, Ink::Mend, "  form:  ", form)
         }
         Code::L5 => put_not_defined(pen, out, named, name_at(named.text, position)),
-        code => put_told(out, pen, Ink::Mend, "  mend:  ", advice_of(code)),
+        code => put_told(out, pen, Ink::Mend, "  mend:  ", advice_of(code, wide)),
     }
 }
 
@@ -283,7 +293,7 @@ pub fn put_read_fault(
     match place_of(fault) {
         Some((position, code)) => {
             put_fault_at(pen, out, named, position, code);
-            put_expected(pen, out, named, position, code)
+            put_expected(pen, out, named, wide, position, code)
         }
         None => out.refuse(),
     }
@@ -340,11 +350,13 @@ pub(crate) fn word_after(line: &[u8]) -> &[u8] {
     word(past_blanks(past_word(past_blanks(line))))
 }
 
-/// What is said of a name on a line of slots that is none of a slot.
+/// What is said of a name on a line of slots that is none of a slot, and on one of functions outside.
 fn advice_on_line(text: &[u8], position: Position) -> &'static str {
     let line = line_numbered(text, position.line.saturating_sub(1));
     match word(past_blanks(line)) {
         b"root" | b"slot" => "a root slot is an alloca of the function that llvm.gcroot names",
+        b"foreign" =>
+            "a function outside is one that the module only declares, none of the runtime and no intrinsic",
         _ => "",
     }
 }

@@ -1,4 +1,5 @@
 //! What was expected where a text goes on with no form: the form that its line begins.
+use crate::near::spelled;
 use ir_tokens::{Kind, Lexed, TEXT_LIMIT, Token, read_tokens};
 use messages::{NamedText, Pointers};
 use std::alloc::{AllocError, Global};
@@ -72,18 +73,53 @@ fn item_before(first: Kind, word: Kind) -> &'static str {
     item_of(first)
 }
 
-/// The form that is begun by these tokens of a line.
-fn form_of_line(tokens: &[Token], pointers: Pointers) -> &'static str {
-    let [first, rest @ ..] = tokens else {
+/// The form of an instruction on floating point numbers, by its word.
+fn float_form_of(word: &[u8]) -> &'static str {
+    match word {
+        b"fadd" | b"fsub" | b"fmul" | b"fdiv" | b"frem" => {
+            "%v = fadd T V, W, and so fsub, fmul, fdiv, frem, where T is float or double"
+        }
+        b"fneg" => "%v = fneg T V, where T is float or double",
+        b"fcmp" => {
+            "%v = fcmp oeq T V, W, and so ogt, oge, olt, ole, one, ord, ueq, ugt, uge, ult, ule, une, uno, true, false, where T is float or double"
+        }
+        b"fpext" | b"fptrunc" => "%v = fpext float V to double, or %v = fptrunc double V to float",
+        b"fptosi" | b"fptoui" => "%v = fptosi T V to iN, and so fptoui, where T is float or double",
+        b"sitofp" | b"uitofp" => "%v = sitofp iN V to T, and so uitofp, where T is float or double",
+        _ => "",
+    }
+}
+
+/// A line of a text in which the wide forms may stand or not: its tokens, and the kind of pointers of the text.
+#[derive(Clone, Copy)]
+struct Line<'a> {
+    text: &'a [u8],
+    wide: bool,
+    tokens: &'a [Token],
+    pointers: Pointers,
+}
+
+/// The form of an instruction that begins with this token.
+fn form_at(line: Line, token: &Token) -> &'static str {
+    let form = form_of(token.kind, line.pointers);
+    if form.is_empty() && line.wide {
+        return float_form_of(spelled(line.text, token));
+    }
+    form
+}
+
+/// The form that is begun by the tokens of a line.
+fn form_of_line(line: Line) -> &'static str {
+    let [first, rest @ ..] = line.tokens else {
         return "";
     };
-    let of_first = form_of(first.kind, pointers);
+    let of_first = form_at(line, first);
     if !of_first.is_empty() {
         return of_first;
     }
     match rest {
         [_, word, ..] => {
-            let of_word = form_of(word.kind, pointers);
+            let of_word = form_at(line, word);
             if of_word.is_empty() {
                 item_before(first.kind, word.kind)
             } else {
@@ -116,10 +152,11 @@ pub fn lexed_of(alloc: Global, named: NamedText) -> Result<Option<Lexed>, AllocE
     Ok(Some(read_tokens(alloc, named.text)?))
 }
 
-/// The form that was begun before a place of the text.
+/// The form that was begun before a place of the text, in which the wide forms may stand or not.
 pub fn form_before(
     alloc: Global,
     named: NamedText,
+    wide: bool,
     place: usize,
 ) -> Result<&'static str, AllocError> {
     let Ok(place) = u32::try_from(place) else {
@@ -128,7 +165,12 @@ pub fn form_before(
     match lexed_of(alloc, named)? {
         Some(lexed) => {
             let tokens = lexed.tokens.as_slice();
-            Ok(form_of_line(from_line(tokens, place), Pointers::of_tokens(tokens)))
+            Ok(form_of_line(Line {
+                text: named.text,
+                wide,
+                tokens: from_line(tokens, place),
+                pointers: Pointers::of_tokens(tokens),
+            }))
         }
         None => Ok(""),
     }
@@ -141,6 +183,8 @@ pub fn trace_form_of(word: &[u8]) -> &'static str {
         b"pool" => "pool L N, for each layout at most once",
         b"start" => "start @f N .., where N are its integer arguments",
         b"late" => "late @f N .., in a text that begins with `trace 2`",
+        b"values" =>
+            "values N .., the numbers from outside of the thread before it, where the module is read with `--forms wide`",
         b"steps" => "steps, after the lines of pools and threads",
         b"t" => "t I N, where thread I makes the next N steps",
         b"c" => "c N, where the collector makes the next N steps",
@@ -155,6 +199,8 @@ pub fn trace_form_of(word: &[u8]) -> &'static str {
 pub fn cert_form_of(word: &[u8]) -> &'static str {
     match word {
         b"cert" => "cert 2 for a text with `ptr`, cert 1 for one with typed pointers",
+        b"foreign" =>
+            "foreign @f none, after the first line, where the module is read with `--forms wide`",
         b"layout" => "layout L WORD ref M",
         b"global" => "global @g ref M",
         b"root" => "root @f %s ref M",

@@ -7,6 +7,8 @@ const VECTORS: &str = "leave vectors out: clang -fno-vectorize -fno-slp-vectoriz
 
 const FLOATS: &str = "no floating point is read: keep it out of the functions that are checked";
 
+const OTHER_FLOATS: &str = "of the types of floating point, float and double are read";
+
 const DIVISION: &str =
     "no division and no shift is read: add, sub, mul, and, or, xor, zext, sext and trunc are";
 
@@ -112,20 +114,56 @@ fn of_word(word: &str) -> &'static str {
     }
 }
 
-/// Whether an instruction of the wide forms begins with this word.
-fn is_wide(word: &str) -> bool {
+/// Whether an instruction on integers that is one of the wide forms begins with this word.
+fn is_wide_integer(word: &str) -> bool {
     matches!(
         word,
         "sdiv" | "udiv" | "srem" | "urem" | "shl" | "lshr" | "ashr" | "freeze"
     )
 }
 
+/// Whether an instruction on floating point numbers begins with this word.
+fn is_float(word: &str) -> bool {
+    matches!(
+        word,
+        "fadd" | "fsub" | "fmul" | "fdiv" | "frem" | "fneg" | "fcmp"
+    )
+}
+
+/// Whether an instruction that changes a number from or to a floating point one begins with this word.
+fn is_conversion(word: &str) -> bool {
+    matches!(
+        word,
+        "fpext" | "fptrunc" | "fptosi" | "fptoui" | "sitofp" | "uitofp"
+    )
+}
+
+/// What is said of a form that is left out where the wide forms may stand, if it is another thing than where they may not.
+fn of_wide(word: &str) -> Option<&'static str> {
+    match word {
+        "half" | "bfloat" | "x86_fp80" | "fp128" | "ppc_fp128" => Some(OTHER_FLOATS),
+        "float" | "double" => Some(""),
+        _ if is_wide_integer(word) || is_float(word) || is_conversion(word) => Some(CONSTANTS),
+        _ => None,
+    }
+}
+
+/// What is said of a form that begins with this word.
+fn advice_of(word: &str, wide: bool) -> &'static str {
+    if !wide {
+        return of_word(word);
+    }
+    match of_wide(word) {
+        Some(advice) => advice,
+        None => of_word(word),
+    }
+}
+
 /// How a form that begins with this token is left out of a text in which the wide forms may stand or not; nothing where no option does
 /// that.
 pub fn advice_on(word: &[u8], wide: bool) -> &'static str {
     match str::from_utf8(word) {
-        Ok(word) if wide && is_wide(word) => CONSTANTS,
-        Ok(word) => of_word(word),
+        Ok(word) => advice_of(word, wide),
         Err(_) => "",
     }
 }

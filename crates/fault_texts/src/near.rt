@@ -31,7 +31,8 @@ fn is_near(one: &[u8], other: &[u8]) -> bool {
     one != other && alike.saturating_add(2) >= longer && alike > longer / 2
 }
 
-fn spelled<'a>(text: &'a [u8], token: &Token) -> &'a [u8] {
+/// The bytes of a token.
+pub(crate) fn spelled<'a>(text: &'a [u8], token: &Token) -> &'a [u8] {
     let start = token.start as usize;
     text.get(start..start.saturating_add(token.length as usize))
         .unwrap_or(&[])

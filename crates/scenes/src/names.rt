@@ -1,6 +1,7 @@
 //! The names of values, blocks and functions, and places.
 use crate::scene::{Scene, Spot};
 use ir_ast::{BlockId, Constant, Operand, SymbolId, ValueId};
+use ir_print::put_bits;
 use ir_tokens::Position;
 use messages::{Message, put_path_at};
 use name_text::Blank;
@@ -25,9 +26,19 @@ pub fn put_block(out: &mut Message, scene: &Scene, block: BlockId) {
     }
 }
 
+/// A floating point number, by its bits.
+fn put_float(out: &mut Message, scene: &Scene, number: u64) {
+    let mut text = Vec::new(scene.pen.alloc);
+    match put_bits(&mut text, number) {
+        Ok(()) => out.put_bytes(text.as_slice()),
+        Err(_) => out.refuse(),
+    }
+}
+
 fn put_constant(out: &mut Message, scene: &Scene, constant: Constant) {
     match constant {
         Constant::Number(number) => out.put_number(number),
+        Constant::Float(number) => put_float(out, scene, number),
         Constant::Null => out.put("null"),
         Constant::Truth(true) => out.put("true"),
         Constant::Truth(false) => out.put("false"),

@@ -1,7 +1,9 @@
 //! The operands of an instruction, and what is known of them.
 use crate::scene::{Scene, There};
 use facts::{Facts, Known};
-use ir_ast::{Argument, Call, Element, End, Incoming, MemoryOp, NumberOp, Op, Operand, ValueId};
+use ir_ast::{
+    Argument, Call, Element, End, FloatOp, Incoming, MemoryOp, NumberOp, Op, Operand, ValueId,
+};
 use std::alloc::{AllocError, Global};
 
 fn of_incoming(alloc: Global, incoming: &[Incoming]) -> Result<Vec<Operand>, AllocError> {
@@ -20,12 +22,25 @@ fn of_arguments(alloc: Global, arguments: &[Argument]) -> Result<Vec<Operand>, A
     Ok(operands)
 }
 
+/// What an operation on floating point numbers reads.
+fn of_float(alloc: Global, op: &FloatOp) -> Result<Vec<Operand>, AllocError> {
+    match op {
+        FloatOp::Arithmetic { first, second, .. } | FloatOp::Compare { first, second, .. } => {
+            Ok(vec![in alloc; *first, *second]?)
+        }
+        FloatOp::Negate { operand, .. } | FloatOp::Convert { operand, .. } => {
+            Ok(vec![in alloc; *operand]?)
+        }
+    }
+}
+
 fn of_number(alloc: Global, op: &NumberOp) -> Result<Vec<Operand>, AllocError> {
     match op {
         NumberOp::Arithmetic { first, second, .. } | NumberOp::Compare { first, second, .. } => {
             Ok(vec![in alloc; *first, *second]?)
         }
         NumberOp::Resize { operand, .. } => Ok(vec![in alloc; *operand]?),
+        NumberOp::Float(op) => of_float(alloc, op),
     }
 }
 

@@ -74,12 +74,12 @@ fn index_of(operands: &[Operand]) -> Option<Operand> {
     }
 }
 
-/// Whether the refused instruction is a call of a function of the runtime. A function of integers is none.
+/// Whether the refused instruction is a call of a function of the runtime. A function of integers or of floating point numbers is none.
 pub fn is_runtime_call(scene: &Scene) -> bool {
     match scene.there() {
         There::Body(instr) => match &instr.op {
             Op::Call(call) => match runtime_called(scene.context.module(), call.callee) {
-                None | Some(Runtime::Integer { .. }) => false,
+                None | Some(Runtime::Integer { .. } | Runtime::Float { .. }) => false,
                 Some(_) => true,
             },
             _ => false,
