@@ -66,7 +66,7 @@ uint32_t dgc_interface(void);
 /* The version, as `dgc 0.1.0, proved`. That of an archive that was not proved says so. Returns its length. */
 size_t dgc_version(uint8_t *room, size_t room_length);
 
-/* Checks a module against a certificate. The text is the line that `dgc check` prints, on either output. Returns answer->status, which is
+/* Checks a module against a certificate. The text is what `dgc check` prints, on either output. Returns answer->status, which is
    DGC_YES only where the module is accepted. */
 uint32_t dgc_check(bool wide, const uint8_t *module, size_t module_length, const uint8_t *certificate, size_t certificate_length,
                    uint8_t *room, size_t room_length, dgc_answer *answer);
@@ -85,7 +85,7 @@ size_t dgc_explain_make(bool wide, const uint8_t *module, size_t module_length, 
                         uint8_t *room, size_t room_length);
 
 /* Begins a session, in which functions of a module are replaced one at a time, and only what an edit concerns is checked again. The text is
-   the verdict, as `dgc check` prints it. Where the status is DGC_YES or DGC_NO, the session is written to *session, and dgc_close has to end
+   the verdict, as `dgc recheck` prints it. Where the status is DGC_YES or DGC_NO, the session is written to *session, and dgc_close has to end
    it. Else *session stays as it is. */
 uint32_t dgc_open(bool wide, const uint8_t *module, size_t module_length, const uint8_t *certificate, size_t certificate_length,
                   uint8_t *room, size_t room_length, dgc_answer *answer, dgc_session *session);

@@ -10,8 +10,10 @@ use Rattle.certs.specs.declared.certs.Certs.{Certs}
 use Rattle.certs.specs.declared.section.Section.{Section}
 use Rattle.certificate.specs.Print.{cert_text}
 use Rattle.cert_maker.specs.Made.{IsPlainlyRefused}
+use Rattle.cert_maker.specs.Trusting.{trusting}
 use Rattle.block_rules.specs.declared.block_fault.Refusal.{Refusal}
 use Rattle.module_check.specs.Accepted.{IsAccepted, IsFirstRefusal, shaped}
+use Rattle.module_check.specs.Trusts.{to_trust}
 use Rattle.command_line.specs.declared.options.Refusals.{Refusals}
 use Rattle.command_line.specs.declared.options.Refusals.TheVariants.{First, OfBlocks}
 use Rattle.command_line.specs.declared.options.Why.{Why}
@@ -66,21 +68,23 @@ abbrev pub OfUnaccepted : Refusals → Module → Certs → Said → Type 0
 OfUnaccepted First m certs said = OfVerdict m certs said
 OfUnaccepted (OfBlocks limit) m certs said = OfAll limit m certs said
 
--- what is said of a module and its certificates: that it is accepted with their shapes, or why not
+-- what is said of a module and its certificates: that it is accepted with their shapes and which functions outside are trusted, or why not
 pub data OfCerts (refusals : Refusals) (m : Module) (certs : Certs) : Said → Type 0 where
-  accepted : IsAccepted (shaped m certs) certs.sections → OfCerts refusals m certs (OnOutput (yes (length m.functions)))
+  accepted : IsAccepted (shaped m certs) certs.sections → OfCerts refusals m certs (OnOutput (yes (shaped m certs) (to_trust (shaped m certs))))
   not_accepted : (said : Said) → OfUnaccepted refusals m certs said → OfCerts refusals m certs said
 
 -- ---- make
 
--- what is said of a module for which certificates are made: some that fit it, have its shapes and with which it is accepted; that there are none, as the
--- plain ones are refused, and if asked for the first refusal with some that fit it; the fault of the layouts; or that memory was refused
+-- what is said of a module for which certificates are made, while it trusts the functions outside that it calls: some that fit it, have its
+-- shapes, trust what it trusts and with which it is accepted; that there are none, as the plain ones are refused, and if asked for the first
+-- refusal with some that fit it; the fault of the layouts; or that memory was refused
 pub data OfMade (why : Why) (m : Module) : Said → Type 0 where
-  made : (certs : Certs) → fits m certs.sections ≡ true → certs.shapes ≡ m.shapes → IsAccepted m certs.sections → OfMade why m (OnOutput (made_text (cert_text certs m)))
-  none_made : IsPlainlyRefused m → OfMade why m (OnOutput no_answer)
-  none_made_why : (certs : List Section) (refusal : Refusal) → why ≡ Wanted → IsPlainlyRefused m → fits m certs ≡ true → IsFirstRefusal m certs refusal
+  made : (certs : Certs) → fits (trusting m) certs.sections ≡ true → certs.shapes ≡ m.shapes → certs.foreign ≡ to_trust m → IsAccepted (trusting m) certs.sections
+      → OfMade why m (OnOutput (made_text (cert_text certs (trusting m))))
+  none_made : IsPlainlyRefused (trusting m) → OfMade why m (OnOutput no_answer)
+  none_made_why : (certs : List Section) (refusal : Refusal) → why ≡ Wanted → IsPlainlyRefused (trusting m) → fits (trusting m) certs ≡ true → IsFirstRefusal (trusting m) certs refusal
       → OfMade why m (OnBoth no_answer (no m (line_of certs m refusal.func refusal.detail) refusal).text)
-  without_layouts : (fault : LayoutFault) → IsLayoutFault m fault → OfMade why m (OnError (of_layout_fault m fault))
+  without_layouts : (fault : LayoutFault) → IsLayoutFault (trusting m) fault → OfMade why m (OnError (of_layout_fault m fault))
   not_made : OfMade why m (OnError no_memory)
 
 -- what is said of the files of a module and its shapes

@@ -4,3 +4,4 @@ pub mod Lowering
 pub mod Migrating
 pub mod Rechecks
 pub mod EditedFiles
+pub mod Accepted

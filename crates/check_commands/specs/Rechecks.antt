@@ -1,5 +1,5 @@
 -- The lines that a session is printed as while it is edited.
-use Rattle.std.specs.Prelude.{◌≡◌, ◌≢◌, ◌+◌, ◌++◌, ℕ, List, [], ◌∷◌, length, codes}
+use Rattle.std.specs.Prelude.{◌≡◌, ◌≢◌, ◌+◌, ◌++◌, ℕ, List, [], ◌∷◌, codes}
 use Rattle.std.specs.Fmt.{decimal}
 use Rattle.ir_ast.specs.declared.module.Module.{Module}
 use Rattle.ir_text.specs.declared.read_fault.ReadFault.{ReadFault}
@@ -14,7 +14,7 @@ use Rattle.recheck.specs.Edits.{IsEdited, IsEditFault, module_in}
 use Rattle.recheck.specs.Session.{State}
 use Rattle.recheck.specs.declared.edit_fault.EditFault.{EditFault}
 use Rattle.recheck.specs.declared.edit_fault.EditFault.TheVariants as edit
-use Rattle.reports.specs.Report.{Answer, line_of, no, no_memory, yes}
+use Rattle.reports.specs.Report.{Answer, line_of, no, no_memory, yes_again}
 
 -- ---- faults by their codes
 
@@ -66,15 +66,15 @@ refused_text number fault = decimal number ++ codes " refused " ++ edit_code fau
 
 -- ---- sessions
 
--- a session begins with this module, which has the shapes of the certificates, and with these
+-- a session begins with this module, which has the shapes of the certificates and trusts what they trust, and with these
 pub record IsBegun (m : Module) (certs : Certs) (s : State) : Type 0 where
   pub of_module : module_in s ≡ shaped m certs
   pub of_certs : s.certs ≡ certs
   pub none_checked : s.rechecked ≡ 0
 
--- what is printed of the verdict on a session: that its module is accepted, or its first refusal
+-- what is printed of the verdict on a session: that its module is accepted, with how many functions outside are trusted, or its first refusal
 pub data OfSession (s : State) : Answer → Type 0 where
-  session_accepted : IsAccepted (module_in s) s.certs.sections → OfSession s (yes (length (module_in s).functions))
+  session_accepted : IsAccepted (module_in s) s.certs.sections → OfSession s (yes_again (module_in s))
   session_refused : (refusal : Refusal) → IsFirstRefusal (module_in s) s.certs.sections refusal
       → OfSession s (no (module_in s) (line_of s.certs.sections (module_in s) refusal.func refusal.detail) refusal)
 

@@ -1,8 +1,7 @@
 //! The command `check`.
-ghost use Rattle.std.specs.Prelude.{◌≡◌, ◌≤◌, length, IfOk};
+ghost use Rattle.std.specs.Prelude.{◌≤◌, IfOk};
 ghost use Rattle.command_line.specs.declared.options.Refusals.TheVariants.{First, OfBlocks};
-ghost use Rattle.reports.specs.Report.{yes};
-ghost use Rattle.reports.specs.Said.{OfCertified, OnOutput, Says};
+ghost use Rattle.reports.specs.Said.{OfAccepted, OfCertified, Says};
 ghost use Rattle.check_commands.specs.Checks.{OfCerts};
 
 use crate::refusing::print_rejected;
@@ -10,8 +9,8 @@ use command_line::{CheckOptions, Refusals};
 use module_check::{Accepted, UnderCheck};
 use parallel_check::{check_all, check_seen};
 use reports::{
-    Certified, Files, Findings, Outputs, not_laid_out, read_certified, report_verdict,
-    show_layouts, unread,
+    Certified, Files, Findings, Outputs, not_laid_out, read_certified, report_accepted,
+    report_verdict, show_layouts, unread,
 };
 use std::alloc::Global;
 use std::io;
@@ -26,12 +25,12 @@ struct AllBlocks {
 }
 
 /// Prints that a module is accepted.
-fn print_accepted(accepted: Accepted, outputs: &mut Outputs) -> io::Result<u8>
-    ensures { IfOk result (Says (λ said. said ≡ OnOutput (yes (length accepted.program.of_module.functions))) outputs.old outputs.new) }
+fn print_accepted(alloc: Global, accepted: Accepted, outputs: &mut Outputs) -> io::Result<u8>
+    ensures { IfOk result (Says (OfAccepted accepted.program.of_module) outputs.old outputs.new) }
 {
-    let count = accepted.program().module().functions.len();
+    let status = report_accepted(alloc, accepted.program().module(), outputs);
     drop(accepted);
-    reports::accepted(&mut outputs.out, count)
+    status
 }
 
 /// Checks a module and its certificates up to the first refusal.
@@ -49,7 +48,7 @@ fn check_first(
 {
     let Certified { of_module, certs } = certified;
     match check_seen(rt, alloc, workers, of_module, certs, seen) {
-        Ok(accepted) => print_accepted(accepted, outputs),
+        Ok(accepted) => print_accepted(alloc, accepted, outputs),
         Err(answer) => {
             show_layouts(seen, answer.verdict);
             let status = report_verdict(alloc, &answer, outputs);
@@ -82,7 +81,7 @@ fn check_blocks(
         }
     };
     match check_all(rt, alloc, blocks.workers, under) {
-        Ok(accepted) => print_accepted(accepted, outputs),
+        Ok(accepted) => print_accepted(alloc, accepted, outputs),
         Err(rejected) => print_rejected(alloc, rejected, blocks.limit, outputs, seen),
     }
 }

@@ -2,8 +2,10 @@
 ghost use Rattle.std.specs.Prelude.{◌≡◌, IfOk, IfSome, true};
 ghost use Rattle.certs.specs.Fits.{fits};
 ghost use Rattle.module_check.specs.Accepted.{IsAccepted};
+ghost use Rattle.ir_ast.specs.declared.module.Module.{Module as AModule};
 ghost use Rattle.layout.specs.Layouts.{IsLayoutFault};
 ghost use Rattle.cert_maker.specs.Made.{IfLayout, IsPlainlyRefused, IsRefusedWith};
+ghost use Rattle.cert_maker.specs.Trusting.{trusting};
 ghost use Rattle.cert_maker.specs.declared.made.MakeFault.TheVariants as fault;
 ghost use Rattle.check_commands.specs.Checks.{OfMade, OfMake};
 ghost use Rattle.reports.specs.Said.{Says};
@@ -32,8 +34,9 @@ pub fn print_made(
 ) -> io::Result<u8>
     requires fits { fits accepted.now.program.of_module accepted.now.certs.sections ≡ true }
     requires shapes { accepted.now.certs.shapes ≡ accepted.now.program.of_module.shapes }
+    requires foreign { accepted.now.certs.foreign ≡ accepted.now.program.of_module.trusted }
     requires certified { IsAccepted accepted.now.program.of_module accepted.now.certs.sections }
-    ensures { IfOk result (Says (OfMade why accepted.now.program.of_module) outputs.old outputs.new) }
+    ensures { (m : AModule) → accepted.now.program.of_module ≡ trusting m → IfOk result (Says (OfMade why m) outputs.old outputs.new) }
 {
     match print_cert(alloc, accepted.certs(), accepted.program().module()) {
         Ok(text) => print_text(&mut outputs.out, text.as_slice()),
@@ -64,8 +67,8 @@ fn print_refused(
     tried: &Refused,
     outputs: &mut Outputs,
 ) -> io::Result<u8>
-    requires plain { IsPlainlyRefused of_module.now }
-    requires refused { IsRefusedWith of_module.now tried.now }
+    requires plain { IsPlainlyRefused (trusting of_module.now) }
+    requires refused { IsRefusedWith (trusting of_module.now) tried.now }
     ensures { IfOk result (Says (OfMade Wanted of_module.now) outputs.old outputs.new) }
 {
     match line_of_refusal(alloc, of_module, &tried.certs, &tried.refusal) {
@@ -86,8 +89,8 @@ fn print_tried(
     why: Why,
     outputs: &mut Outputs,
 ) -> io::Result<u8>
-    requires plain { IsPlainlyRefused of_module.now }
-    requires refused { IsRefusedWith of_module.now tried.now }
+    requires plain { IsPlainlyRefused (trusting of_module.now) }
+    requires refused { IsRefusedWith (trusting of_module.now) tried.now }
     ensures { IfOk result (Says (OfMade why of_module.now) outputs.old outputs.new) }
 {
     match why {
@@ -103,9 +106,9 @@ pub fn print_unmade(
     why: Why,
     outputs: &mut Outputs,
 ) -> io::Result<u8>
-    requires plain { unmade.now.fault ≡ fault.NoAnswer → IsPlainlyRefused unmade.now.of_module }
-    requires layout { IfLayout unmade.now.fault (IsLayoutFault unmade.now.of_module) }
-    requires refused { IfSome unmade.now.refused (IsRefusedWith unmade.now.of_module) }
+    requires plain { unmade.now.fault ≡ fault.NoAnswer → IsPlainlyRefused (trusting unmade.now.of_module) }
+    requires layout { IfLayout unmade.now.fault (IsLayoutFault (trusting unmade.now.of_module)) }
+    requires refused { IfSome unmade.now.refused (IsRefusedWith (trusting unmade.now.of_module)) }
     ensures { IfOk result (Says (OfMade why unmade.now.of_module) outputs.old outputs.new) }
 {
     match (unmade.fault, &unmade.refused) {

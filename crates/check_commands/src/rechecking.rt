@@ -12,20 +12,21 @@ ghost use Rattle.recheck.specs.declared.edit_fault.EditFault.TheVariants as edit
 use crate::codes::code_of_edit;
 use recheck::{Edit, EditFault, Session};
 use reports::{
-    Certified, Files, Findings, Outputs, STATUS_NO, STATUS_YES, accepted, edits_in,
+    Certified, Files, Findings, Outputs, STATUS_NO, STATUS_YES, accepted_again, edits_in,
     line_of_refusal, memory, not_laid_out, read_certified, refused, show_layouts, unread,
 };
 use std::alloc::{AllocError, Global};
 use std::io;
 use std::io::Write;
 
-/// Writes the verdict on a session, as `check` prints it. Returns the status that goes with it.
+/// Writes the verdict on a session in one line, as `check` prints it; where it is accepted, with how many functions outside are trusted, if
+/// some are. Returns the status that goes with it.
 pub fn write_verdict<W: Write>(alloc: Global, session: &Session, lines: &mut W) -> io::Result<u8>
     ensures { IfOk result (λ status. (verdict : Answer) × OfSession session.now verdict × IsTold (W.contents lines.old) (W.contents lines.new) status verdict) }
 {
     let of_module = session.program().module();
     match session.verdict() {
-        None => accepted(lines, of_module.functions.len()),
+        None => accepted_again(alloc, lines, of_module),
         Some(refusal) => {
             let line = line_of_refusal(alloc, of_module, session.certs(), &refusal)?;
             refused(lines, of_module, &refusal, line.as_slice())

@@ -148,8 +148,13 @@ type Fitting = (bool, bool);
 fn fitting(alloc: Global, module: Module, certs: Certs) -> Fitting {
     let mut module = module;
     let fit = certs.fits(&module);
-    let Certs { sections, shapes } = certs;
+    let Certs {
+        sections,
+        shapes,
+        foreign,
+    } = certs;
     drop(sections);
+    drop(foreign);
     module.shapes = shapes;
     let laid_out = layouts(alloc, &module).is_ok();
     drop(module);
@@ -270,13 +275,18 @@ fn is_whole_where_exactly_the_shapes_are_there(rt: HostRuntime) {
 /// `OPAQUE` and its certificates without any shapes.
 fn opaque_without_shapes(alloc: Global) -> Option<(Module, Certs)> {
     let (module, certs) = opaque_and_certs(alloc)?;
-    let Certs { sections, shapes } = certs;
+    let Certs {
+        sections,
+        shapes,
+        foreign,
+    } = certs;
     drop(shapes);
     Some((
         module,
         Certs {
             sections,
             shapes: None,
+            foreign,
         },
     ))
 }

@@ -1,9 +1,8 @@
 //! The check of a module.
-ghost use Rattle.std.specs.Prelude.{◌≡◌, ◌<◌, IfOk, length};
+ghost use Rattle.std.specs.Prelude.{◌≡◌, ◌<◌, IfOk};
 ghost use Rattle.module_check.specs.Accepted.{IsAccepted, IsVerdictOf, shaped};
 ghost use Rattle.reports.specs.Files.{of_unread};
-ghost use Rattle.reports.specs.Report.{yes};
-ghost use Rattle.reports.specs.Said.{OfCertified, OfVerdict, OnError, OnOutput};
+ghost use Rattle.reports.specs.Said.{OfAccepted, OfCertified, OfVerdict, OnError};
 ghost use Rattle.check_commands.specs.Checks.{OfCerts};
 ghost use Rattle.command_line.specs.declared.options.Refusals.TheVariants.{First};
 ghost use Rattle.library_answers.specs.Checked.{AreAcceptedTexts, IsCheckOf};
@@ -15,7 +14,8 @@ use crate::place::{Place, place_of_refusal};
 use crate::texts::texts_of_check;
 use module_check::{Accepted, NotAccepted, Reason, check};
 use reports::{
-    Certified, Files, Unread, accepted, bytes_of, file_of, read_certified, report_verdict, unread,
+    Certified, Files, Unread, bytes_of, file_of, read_certified, report_accepted, report_verdict,
+    unread,
 };
 use std::alloc::{AllocError, Global};
 
@@ -33,11 +33,11 @@ pub(crate) fn not_read(alloc: Global, fault: Unread<'_>, room: &mut [u8]) -> Ans
 
 /// The answer where a module is accepted.
 fn is_accepted(alloc: Global, taken: &Accepted, room: &mut [u8]) -> Answer
-    ensures said { IsAnswered (λ said. said ≡ OnOutput (yes (length taken.now.program.of_module.functions))) room.old room.new result }
+    ensures said { IsAnswered (OfAccepted taken.now.program.of_module) room.old room.new result }
     ensures place { IsNoInstruction result.place }
 {
     let mut outputs = nothing(alloc);
-    let printed = accepted(&mut outputs.out, taken.program().module().functions.len());
+    let printed = report_accepted(alloc, taken.program().module(), &mut outputs);
     answer_of(outputs, printed, Place::nowhere(), room)
 }
 

@@ -2,8 +2,10 @@
 ghost use Rattle.std.specs.Prelude.{◌≡◌, IfSome, true};
 ghost use Rattle.certs.specs.Fits.{fits};
 ghost use Rattle.module_check.specs.Accepted.{IsAccepted};
+ghost use Rattle.ir_ast.specs.declared.module.Module.{Module as AModule};
 ghost use Rattle.layout.specs.Layouts.{IsLayoutFault};
 ghost use Rattle.cert_maker.specs.Made.{IfLayout, IsPlainlyRefused, IsRefusedWith};
+ghost use Rattle.cert_maker.specs.Trusting.{trusting};
 ghost use Rattle.cert_maker.specs.declared.made.MakeFault.TheVariants as fault;
 ghost use Rattle.command_line.specs.declared.options.Why.TheVariants.{NotWanted};
 ghost use Rattle.check_commands.specs.Checks.{OfMade, OfMake};
@@ -27,8 +29,9 @@ use std::alloc::{AllocError, Global};
 fn is_made(alloc: Global, accepted: &Accepted, room: &mut [u8]) -> Answer
     requires fits { fits accepted.now.program.of_module accepted.now.certs.sections ≡ true }
     requires shapes { accepted.now.certs.shapes ≡ accepted.now.program.of_module.shapes }
+    requires foreign { accepted.now.certs.foreign ≡ accepted.now.program.of_module.trusted }
     requires certified { IsAccepted accepted.now.program.of_module accepted.now.certs.sections }
-    ensures { IsAnswered (OfMade NotWanted accepted.now.program.of_module) room.old room.new result }
+    ensures { (m : AModule) → accepted.now.program.of_module ≡ trusting m → IsAnswered (OfMade NotWanted m) room.old room.new result }
 {
     let mut outputs = nothing(alloc);
     let printed = print_made(alloc, accepted, Why::NotWanted, &mut outputs);
@@ -48,9 +51,9 @@ fn place_of_unmade(alloc: Global, unmade: &NotMade, text: &[u8]) -> Result<Place
 
 /// The answer where no certificates are made of a module, which has this text.
 fn is_unmade(alloc: Global, unmade: &NotMade, text: &[u8], room: &mut [u8]) -> Answer
-    requires plain { unmade.now.fault ≡ fault.NoAnswer → IsPlainlyRefused unmade.now.of_module }
-    requires layout { IfLayout unmade.now.fault (IsLayoutFault unmade.now.of_module) }
-    requires refused { IfSome unmade.now.refused (IsRefusedWith unmade.now.of_module) }
+    requires plain { unmade.now.fault ≡ fault.NoAnswer → IsPlainlyRefused (trusting unmade.now.of_module) }
+    requires layout { IfLayout unmade.now.fault (IsLayoutFault (trusting unmade.now.of_module)) }
+    requires refused { IfSome unmade.now.refused (IsRefusedWith (trusting unmade.now.of_module)) }
     ensures { IsAnswered (OfMade NotWanted unmade.now.of_module) room.old room.new result }
 {
     match place_of_unmade(alloc, unmade, text) {

@@ -1,4 +1,4 @@
-use Rattle.std.proofs.Common.{◌≡◌, ◌∙◌, IfSome, ap, length, refl, subst, sym}
+use Rattle.std.proofs.Common.{◌∙◌, IfSome, ap, length, refl, subst, sym}
 use Rattle.std.proofs.lemmas.Result.{IfOk-weaker}
 use Rattle.certs.specs.declared.certs.Certs.{Certs}
 use Rattle.ir_ast.specs.declared.module.Module.{Module}
@@ -7,9 +7,10 @@ use Rattle.command_line.specs.declared.options.Refusals.TheVariants.{OfBlocks}
 use Rattle.module_check.specs.Accepted.{IsModuleCertified, accepted_program, shaped}
 use Rattle.module_check.specs.Refusals.{AreOfFunctions}
 use Rattle.module_check.specs.declared.under_check.UnderCheck.{UnderCheck}
-use Rattle.reports.specs.Report.{of_layout_reason, yes}
-use Rattle.reports.specs.Said.{OnError, OnOutput}
-use Rattle.check_commands.specs.Checks.{OfCerts, OfRejected, accepted, not_accepted}
+use Rattle.reports.specs.Report.{of_layout_reason}
+use Rattle.reports.specs.Said.{OfAccepted, OnError}
+use Rattle.check_commands.specs.Accepted.{of_accepted}
+use Rattle.check_commands.specs.Checks.{OfCerts, OfRejected, not_accepted}
 use Rattle.check_commands.proofs.Rejected.{rejected, unlaid}
 use Rattle.check_commands.proofs.checking.check_blocks.Goals as goal
 
@@ -33,14 +34,13 @@ returns-in-Ok-check_all g c =
     let certs = c.args.certified.certs in
     let program = c.in-Ok.under.program in
     let found = c.in-Ok.ensures in
-    let made = c.in-Ok-check_all.accepted in
     let answer = c.in-Ok-check_all.ensures in
     let all = subst (λ (k : Certs). IsModuleCertified program k.sections (length program.of_module.functions)) found.certs answer.certified in
     let is = accepted_program program (shaped m certs) certs.sections found.of_module found.laid_out.0 found.laid_out.1 all in
-    let count : length m.functions ≡ length made.program.of_module.functions =
-    sym (ap (λ (p : LaidOut). length p.of_module.functions) answer.kept.0 ∙ ap (λ (m : Module). length m.functions) found.of_module) in
-    let said = subst (λ n. OfCerts (OfBlocks c.args.blocks.limit) m certs (OnOutput (yes n))) count (accepted is) in
-    IfOk-weaker c.print_accepted.result _ _ (λ status told. (told.0, subst (OfCerts (OfBlocks c.args.blocks.limit) m certs) (sym told.1) said, told.2)) c.print_accepted.ensures
+    let same = ap (λ (p : LaidOut). p.of_module) answer.kept.0 ∙ found.of_module in
+    IfOk-weaker c.print_accepted.result _ _
+    (λ status told. (told.0, of_accepted (OfBlocks c.args.blocks.limit) m certs told.0 is (subst (λ (x : Module). OfAccepted x told.0) same told.1), told.2))
+    c.print_accepted.ensures
 
 -- ---- it is not
 

@@ -1,21 +1,20 @@
-use Rattle.std.proofs.Common.{◌≡◌, ap, length, subst, sym}
+use Rattle.std.proofs.Common.{subst}
 use Rattle.std.proofs.lemmas.Result.{IfOk-weaker}
 use Rattle.certs.specs.declared.certs.Certs.{Certs}
 use Rattle.ir_ast.specs.declared.module.Module.{Module}
 use Rattle.command_line.specs.declared.options.Refusals.TheVariants.{First}
-use Rattle.reports.specs.Report.{yes}
-use Rattle.reports.specs.Said.{OfVerdict, OnOutput}
-use Rattle.check_commands.specs.Checks.{OfCerts, accepted, not_accepted}
+use Rattle.reports.specs.Said.{OfAccepted, OfVerdict}
+use Rattle.check_commands.specs.Accepted.{of_accepted}
+use Rattle.check_commands.specs.Checks.{not_accepted}
 use Rattle.check_commands.proofs.checking.check_first.Goals as goal
 
 pub returns-in-Ok : goal.returns-in-Ok
 returns-in-Ok g c =
     let m = c.args.certified.of_module in
     let certs = c.args.certified.certs in
-    let made = c.in-Ok.accepted in
-    let count : length m.functions ≡ length made.program.of_module.functions = sym (ap (λ (m : Module). length m.functions) c.in-Ok.ensures.kept.0) in
-    let said = subst (λ n. OfCerts First m certs (OnOutput (yes n))) count (accepted c.in-Ok.ensures.accepted) in
-    IfOk-weaker c.print_accepted.result _ _ (λ status told. (told.0, subst (OfCerts First m certs) (sym told.1) said, told.2)) c.print_accepted.ensures
+    IfOk-weaker c.print_accepted.result _ _
+    (λ status told. (told.0, of_accepted First m certs told.0 c.in-Ok.ensures.accepted (subst (λ (x : Module). OfAccepted x told.0) c.in-Ok.ensures.kept.0 told.1), told.2))
+    c.print_accepted.ensures
 
 pub returns-in-Err : goal.returns-in-Err
 returns-in-Err g c =

@@ -1,19 +1,20 @@
-use Rattle.std.proofs.Common.{◌≡◌, ◌∙◌, length, ap, ap₂, subst, rules}
+use Rattle.std.proofs.Common.{◌∙◌, ap, ap₂, subst}
 use Rattle.std.proofs.lemmas.Result.{IfOk-weaker}
 use Rattle.certs.specs.declared.certs.Certs.{Certs}
+use Rattle.ir_ast.specs.declared.module.Module.{Module}
 use Rattle.layout.specs.Layouts.{LaidOut}
-use Rattle.reports.specs.Report.{IsTold, line_of, no, yes}
+use Rattle.reports.specs.Report.{IsTold, line_of, no, yes_again}
 use Rattle.check_commands.specs.Rechecks.{session_accepted, session_refused}
 use Rattle.check_commands.proofs.rechecking.write_verdict.Goals as goal
 
 pub returns-in-None : goal.returns-in-None
 returns-in-None g c =
     let old = g.W.Write.contents c.args.lines.now in
-    let new = g.W.Write.contents c.accepted.new.out in
-    let count : c.len.result ≡ length c.args.session.now.program.of_module.functions = search rules in
-    IfOk-weaker c.accepted.result _ _
-    (λ status told. (_, session_accepted c.in-None.ensures, subst (λ n. IsTold old new status (yes n)) count told))
-    c.accepted.ensures
+    let new = g.W.Write.contents c.accepted_again.new.out in
+    let of_module = c.module-of_module.ensures.of_module ∙ ap (λ (p : LaidOut). p.of_module) c.program.ensures in
+    IfOk-weaker c.accepted_again.result _ _
+    (λ status told. (_, session_accepted c.in-None.ensures, subst (λ (m : Module). IsTold old new status (yes_again m)) of_module told))
+    c.accepted_again.ensures
 
 pub returns-in_ok-line-in-Some : goal.returns-in_ok-line-in-Some
 returns-in_ok-line-in-Some g c =

@@ -1,9 +1,9 @@
-use Rattle.std.proofs.Common.{◌≡◌, ◌∙◌, ap, arith, length, subst, sym}
+use Rattle.std.proofs.Common.{arith, subst}
 use Rattle.ir_ast.specs.declared.module.Module.{Module}
 use Rattle.certs.specs.declared.certs.Certs.{Certs}
-use Rattle.reports.specs.Report.{yes}
-use Rattle.reports.specs.Said.{OnOutput, OfVerdict}
-use Rattle.check_commands.specs.Checks.{OfCerts, accepted, not_accepted}
+use Rattle.reports.specs.Said.{OfAccepted, OfVerdict}
+use Rattle.check_commands.specs.Accepted.{of_accepted}
+use Rattle.check_commands.specs.Checks.{OfCerts, not_accepted}
 use Rattle.command_line.specs.declared.options.Refusals.TheVariants.{First}
 use Rattle.library_answers.proofs.Answered.{answered_as}
 use Rattle.library_answers.specs.Told.{IsRefusedAt}
@@ -13,10 +13,8 @@ pub returns-in-Ok-clause-said : goal.returns-in-Ok-clause-said
 returns-in-Ok-clause-said c =
     let m = c.args.certified.of_module in
     let certs = c.args.certified.certs in
-    let taken = c.in-Ok.taken in
-    let same = c.in-Ok.ensures.kept.0 in
-    answered_as (λ said. said ≡ OnOutput (yes (length taken.program.of_module.functions))) (OfCerts First m certs) _ _ c.is_accepted-answer.result
-    (λ said is. subst (OfCerts First m certs) (sym (is ∙ ap (λ (x : Module). OnOutput (yes (length x.functions))) same)) (accepted c.in-Ok.ensures.accepted))
+    answered_as (OfAccepted c.in-Ok.taken.program.of_module) (OfCerts First m certs) _ _ c.is_accepted-answer.result
+    (λ said is. of_accepted First m certs said c.in-Ok.ensures.accepted (subst (λ (x : Module). OfAccepted x said) c.in-Ok.ensures.kept.0 is))
     c.is_accepted-answer.ensures.said
 
 pub returns-in-Ok-clause-place : goal.returns-in-Ok-clause-place

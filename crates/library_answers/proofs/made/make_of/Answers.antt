@@ -6,10 +6,7 @@ use Rattle.library_answers.proofs.Answered.{answered_as}
 use Rattle.library_answers.proofs.made.make_of.Goals as goal
 
 pub returns-in-Ok : goal.returns-in-Ok
-returns-in-Ok c =
-    answered_as (OfMade NotWanted c.in-Ok.accepted.program.of_module) (OfMade NotWanted c.args.of_module) _ _ c.is_made-answer.result
-    (λ said is. subst (λ (m : Module). OfMade NotWanted m said) c.in-Ok.ensures.kept is)
-    c.is_made-answer.ensures
+returns-in-Ok c = c.is_made-answer.ensures c.args.of_module c.in-Ok.ensures.kept
 
 pub returns-in-Err : goal.returns-in-Err
 returns-in-Err c =
