@@ -85,7 +85,8 @@ pub fn checked_by_three(
     done(rt, row.folder, &command)
 }
 
-/// A text of the shapes of a certificate, if it has some: its lines between the first one and the first section.
+/// A text of the shapes of a certificate, if it has some: its lines between the first one and the first section, but for those of functions
+/// outside of the module.
 fn shapes_in(alloc: Global, certificate: &str) -> Result<Option<Vec<u8>>, AllocError> {
     if !certificate.starts_with("cert 2") {
         return Ok(None);
@@ -95,8 +96,10 @@ fn shapes_in(alloc: Global, certificate: &str) -> Result<Option<Vec<u8>>, AllocE
         if line.starts_with("function") {
             break;
         }
-        shapes.extend_from_slice(line.as_bytes())?;
-        shapes.push(b'\n')?;
+        if !line.starts_with("foreign") {
+            shapes.extend_from_slice(line.as_bytes())?;
+            shapes.push(b'\n')?;
+        }
     }
     Ok(Some(shapes))
 }

@@ -1,1 +1,6 @@
 declare i32 @llvm.smax.i32.x(i32, i32)
+define void @f() {
+entry:
+  %v = call i32 @llvm.smax.i32.x(i32 1, i32 1)
+  ret void
+}

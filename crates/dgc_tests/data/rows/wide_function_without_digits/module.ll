@@ -1,1 +1,6 @@
 declare i64 @llvm.smax.i(i64, i64)
+define void @f() {
+entry:
+  %v = call i64 @llvm.smax.i(i64 1, i64 1)
+  ret void
+}

@@ -1,0 +1,8 @@
+declare void @llvm.assume(i1)
+define void @f() {
+entry:
+  call void @llvm.assume(i1 true)
+  %v = add i64 1, 2
+  call void @llvm.assume(i1 true)
+  ret void
+}

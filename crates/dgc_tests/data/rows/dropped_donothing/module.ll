@@ -1,0 +1,6 @@
+declare void @llvm.donothing()
+define void @f() {
+entry:
+  call void @llvm.donothing()
+  ret void
+}

@@ -1,0 +1,7 @@
+declare void @llvm.assume(i1)
+define void @f() {
+entry:
+  call void @llvm.assume(i1 true)
+  call void @llvm.donothing()
+  ret void
+}

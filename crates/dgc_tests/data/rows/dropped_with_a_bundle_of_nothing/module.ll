@@ -1,0 +1,6 @@
+declare void @llvm.assume(i1)
+define void @f() {
+entry:
+  call void @llvm.assume(i1 true) [ "cold"() ]
+  ret void
+}

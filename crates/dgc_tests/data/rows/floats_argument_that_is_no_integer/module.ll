@@ -1,0 +1,5 @@
+define void @f(i64 %a) {
+entry:
+  call void @f(i64 1.0)
+  ret void
+}

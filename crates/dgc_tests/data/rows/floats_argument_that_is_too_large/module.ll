@@ -1,0 +1,4 @@
+define float @f(float %a) {
+entry:
+  ret float %a
+}

@@ -1,0 +1,6 @@
+define double @f(double %a) {
+entry:
+  br label %next
+next:
+  ret double %a
+}

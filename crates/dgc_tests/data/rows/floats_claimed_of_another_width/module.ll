@@ -1,0 +1,6 @@
+define float @f(float %a) {
+entry:
+  br label %next
+next:
+  ret float %a
+}

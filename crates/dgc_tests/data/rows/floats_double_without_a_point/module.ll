@@ -1,0 +1,4 @@
+define double @f() {
+entry:
+  ret double 1
+}

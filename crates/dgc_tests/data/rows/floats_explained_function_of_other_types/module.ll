@@ -1,0 +1,6 @@
+declare double @llvm.fma.f64(double, double)
+define double @f(double %a) {
+entry:
+  %v = call double @llvm.fma.f64(double %a, double %a)
+  ret double %v
+}

@@ -1,0 +1,7 @@
+define i1 @f(double %a, double %b, float %x) {
+entry:
+  %c = fcmp oeq double %a, %b
+  %d = fcmp oeq float %x, 5.0e-01
+  %e = and i1 %c, %d
+  ret i1 %e
+}

@@ -1,0 +1,5 @@
+%T = type { i64, double }
+define void @f() {
+entry:
+  ret void
+}

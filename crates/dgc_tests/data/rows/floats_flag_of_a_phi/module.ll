@@ -1,0 +1,7 @@
+define double @f(double %a) {
+entry:
+  br label %next
+next:
+  %v = phi nnan double [ %a, %entry ]
+  ret double %v
+}

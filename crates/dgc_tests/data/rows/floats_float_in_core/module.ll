@@ -1,0 +1,5 @@
+define void @f() {
+entry:
+  %s = alloca float
+  ret void
+}

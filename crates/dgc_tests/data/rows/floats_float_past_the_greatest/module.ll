@@ -1,0 +1,4 @@
+define float @f() {
+entry:
+  ret float 0x47EFFFFFF0000000
+}

@@ -1,0 +1,4 @@
+define float @f() {
+entry:
+  ret float 1.0e+300
+}

@@ -1,0 +1,5 @@
+declare double @llvm.fabs.f64(double)
+define void @f() {
+entry:
+  ret void
+}

@@ -1,0 +1,5 @@
+declare half @llvm.fabs.f16(half)
+define void @f() {
+entry:
+  ret void
+}

@@ -1,0 +1,10 @@
+declare double @llvm.trunc.f64(double)
+declare float @llvm.trunc.f32(float)
+define double @f(double %a, float %b) {
+entry:
+  %v = call double @llvm.trunc.f64(double %a)
+  %w = call float @llvm.trunc.f32(float %b)
+  %x = fpext float %w to double
+  %y = fadd double %v, %x
+  ret double %y
+}

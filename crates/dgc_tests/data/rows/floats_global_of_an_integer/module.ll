@@ -1,0 +1,5 @@
+@g = global double 1
+define void @f() {
+entry:
+  ret void
+}

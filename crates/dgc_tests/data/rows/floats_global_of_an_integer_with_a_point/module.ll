@@ -1,0 +1,5 @@
+@g = global i64 1.0
+define void @f() {
+entry:
+  ret void
+}

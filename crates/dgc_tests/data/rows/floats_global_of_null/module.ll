@@ -1,0 +1,5 @@
+@g = global double null
+define void @f() {
+entry:
+  ret void
+}

@@ -1,0 +1,1 @@
+declare void @f([1.0 x i64])

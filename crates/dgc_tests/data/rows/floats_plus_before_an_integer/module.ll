@@ -1,0 +1,4 @@
+define i64 @f() {
+entry:
+  ret i64 +1
+}

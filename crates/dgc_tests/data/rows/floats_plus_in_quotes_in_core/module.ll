@@ -1,0 +1,4 @@
+define void @f() section "a+b" {
+entry:
+  ret void
+}

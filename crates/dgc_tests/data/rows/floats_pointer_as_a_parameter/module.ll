@@ -1,0 +1,4 @@
+define void @f(double* %a) {
+entry:
+  ret void
+}

@@ -1,0 +1,5 @@
+define float @f(double %a) {
+entry:
+  %v = fmul double %a, %a
+  ret float %v
+}

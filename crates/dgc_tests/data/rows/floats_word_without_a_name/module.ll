@@ -1,0 +1,5 @@
+define void @f(double %a) {
+entry:
+  fadd double %a, %a
+  ret void
+}

@@ -1,0 +1,7 @@
+%Node = type { i64, ptr }
+declare i32 @putchar(i32)
+define void @f() {
+entry:
+  %r = call i32 @putchar(i32 65)
+  ret void
+}

@@ -1,0 +1,8 @@
+%Node = type { i64, ptr }
+@g = global ptr null
+declare i32 @putchar(i32)
+define i32 @f(i32 %c) {
+entry:
+  %r = call i32 @putchar(i32 %c)
+  ret i32 %r
+}

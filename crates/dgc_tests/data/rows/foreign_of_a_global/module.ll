@@ -1,0 +1,5 @@
+@g = global i64 0
+define void @f() {
+entry:
+  ret void
+}

@@ -1,0 +1,6 @@
+declare void @"a b"()
+define void @f() {
+entry:
+  call void @"a b"()
+  ret void
+}

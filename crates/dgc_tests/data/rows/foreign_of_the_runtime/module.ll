@@ -1,0 +1,5 @@
+declare void @dg_safepoint()
+define void @f() {
+entry:
+  ret void
+}

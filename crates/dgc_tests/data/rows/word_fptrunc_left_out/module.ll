@@ -1,0 +1,5 @@
+define i64 @f(i64 %n) {
+entry:
+  %v = fptrunc i64 %n, 1
+  ret i64 %n
+}
