@@ -4,14 +4,17 @@
     agree_wide.py DGC [--draws N] [--seed S] [--only WORD ..] [--keep FOLDER]
 
 For each of shl, lshr, ashr, udiv, sdiv, urem, srem and freeze, and of llvm.smax, smin, umax, umin, abs, ctpop, ctlz, cttz, bswap,
-bitreverse, fshl and fshr, one function for each of many widths draws operands, computes and mixes what it gets into what it returns:
-N draws for each word, with 0, 1, -1 and the least number among them. No draw is a case that LLVM leaves open: a shift is by less
+bitreverse, fshl and fshr, and for a call of a function outside of the module, one function for each of many widths draws operands, computes and mixes what it gets into what it returns:
+N draws for each word, with 0, 1, -1 and the least number among them. The word `outside` is a call of a function outside of the module: `replay` takes what it
+gives from the lines `values` of the trace, and LLVM's code from a text that gives the same numbers, and then 0. No draw is a case that LLVM leaves open: a shift is by less
 than the width, no divisor is 0, and the least number is not divided by -1. The flag of abs, ctlz and cttz is false; with the words
 abs-true, ctlz-true and cttz-true it is true, and neither the least number nor 0 is drawn where LLVM excludes it. `clang -O0` builds the
-text. Prints the first draw that differs, and ends with 1 then. For use by hand.
+text. Operations on floating point numbers are none of these words: each gives any number. Prints the first draw that differs, and ends
+with 1 then. For use by hand.
 """
 import argparse
 import os
+import random
 import subprocess
 import sys
 import tempfile
@@ -21,7 +24,8 @@ OPERATIONS = ["shl", "lshr", "ashr", "udiv", "sdiv", "urem", "srem", "freeze"]
 FUNCTIONS = {"smax": 2, "smin": 2, "umax": 2, "umin": 2, "abs": 1, "abs-true": 1, "ctpop": 1, "ctlz": 1, "ctlz-true": 1, "cttz": 1,
              "cttz-true": 1, "bswap": 1, "bitreverse": 1, "fshl": 3, "fshr": 3}
 FLAGGED = ["abs", "ctlz", "cttz"]
-WORDS = OPERATIONS + list(FUNCTIONS)
+OUTSIDE = "outside"
+WORDS = OPERATIONS + list(FUNCTIONS) + [OUTSIDE]
 SHIFTS, SIGNED = ["shl", "lshr", "ashr"], ["sdiv", "srem"]
 WIDTHS = [1, 2, 3, 7, 8, 13, 16, 24, 31, 32, 33, 48, 63, 64]
 FACTOR, ADDEND = 6364136223846793005, 1442695040888963407
@@ -76,6 +80,8 @@ def named(word, bits):
 
 def declared(word, bits):
     """The line that declares what a word calls, if it calls something."""
+    if word == OUTSIDE:
+        return f"declare i{bits} @given{bits}(i{bits})\n"
     if word not in FUNCTIONS:
         return ""
     types = [f"i{bits}"] * FUNCTIONS[word] + (["i1"] if word.split("-")[0] in FLAGGED else [])
@@ -105,6 +111,8 @@ def computed(word, bits, operands):
     if word in FUNCTIONS:
         return called(word, bits, operands)
     one, two, _ = operands
+    if word == OUTSIDE:
+        return [], f"call i{bits} @given{bits}(i{bits} {one})"
     guard, other = guarded(word, bits, one, two)
     return guard, f"freeze i{bits} {one}" if word == "freeze" else f"{word} i{bits} {one}, {other}"
 
@@ -124,20 +132,47 @@ def function(word, bits):
     return declared(word, bits) + "\n".join(lines) + "\n"
 
 
+def numbers(seed, bits, turns):
+    """What a function outside gives: as many numbers as half of the calls take."""
+    drawn_by = random.Random(seed * 100 + bits)
+    return [drawn_by.choice([0, 1, (1 << 64) - 1, drawn_by.getrandbits(64), drawn_by.getrandbits(64)]) for _ in range(max(1, turns // 2))]
+
+
+def giving(bits):
+    """The text of a function that gives the next one of them, as a number of this width."""
+    cut = f"  %r = trunc i64 %v to i{bits}" if bits < 64 else "  %r = add i64 %v, 0"
+    return (f"declare i64 @next{bits}()\ndefine i{bits} @given{bits}(i{bits} %ignored) {{\nentry:\n"
+            f"  %v = call i64 @next{bits}()\n{cut}\n  ret i{bits} %r\n}}\n")
+
+
+def listed(bits, values):
+    """What gives these numbers, and then 0, in C."""
+    return (f"static const uint64_t values{bits}[] = {{{', '.join(f'{value}u' for value in values)}}};\nuint64_t next{bits}(void) {{\n"
+            f"  static unsigned at;\n  return at < {len(values)} ? values{bits}[at++] : 0;\n}}\n")
+
+
 def returned(dgc, base, word, seed, turns):
     """What each width returns after so many draws, by `dgc replay` and by LLVM's code."""
     widths = widths_of(word)
     with open(base + ".ll", "w") as out:
         out.write("".join(function(word, bits) for bits in widths))
     with open(base + ".trace", "w") as out:
-        out.write("trace 1\n" + "".join(f"start @f{bits} {seed} {turns}\n" for bits in widths) + "steps\n")
+        out.write("trace 1\n")
+        for bits in widths:
+            out.write(f"start @f{bits} {seed} {turns}\n")
+            if word == OUTSIDE:
+                out.write("values " + " ".join(map(str, numbers(seed, bits, turns))) + "\n")
+        out.write("steps\n")
         out.write("".join(f"t {n} {STEPS * turns + 10}\n" for n in range(len(widths))) + "end\n")
     with open(base + ".c", "w") as out:
         out.write("#include <inttypes.h>\n#include <stdio.h>\n")
+        out.write("".join(listed(bits, numbers(seed, bits, turns)) for bits in widths if word == OUTSIDE))
         out.write("".join(f"uint64_t f{bits}(uint64_t, uint64_t);\n" for bits in widths) + "int main(void) {\n")
         out.write("".join(f'  printf("t {n} returned %" PRIu64 "\\n", f{bits}({seed}u, {turns}u));\n'
                           for n, bits in enumerate(widths)) + "  return 0;\n}\n")
-    subprocess.run(["clang", "-w", "-O0", "-o", base + ".out", base + ".ll", base + ".c"], check=True)
+    with open(base + ".given.ll", "w") as out:
+        out.write("".join(giving(bits) for bits in widths if word == OUTSIDE))
+    subprocess.run(["clang", "-w", "-O0", "-o", base + ".out", base + ".ll", base + ".given.ll", base + ".c"], check=True)
     replay = [dgc, "replay", base + ".ll", base + ".trace", "--forms", "wide"]
     said = subprocess.run(replay, capture_output=True, text=True)
     made = subprocess.run([base + ".out"], capture_output=True, text=True, check=True)

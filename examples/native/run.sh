@@ -2,10 +2,11 @@
 # From C to native programs: four threads beside the collector of runtime/, for each a record, and what `dgc conform` says of it.
 # docs/NATIVE.md tells of the runtime.
 #
-#     DGC=path examples/native/run.sh [lists] [trees] [queues] [swap]
+#     DGC=path examples/native/run.sh [lists] [trees] [queues] [digits] [swap]
 #
-# Without arguments it takes all four. lists, trees and queues are C, and go through examples/pipeline/run.sh. swap is the module of
-# examples/swap; without its barrier (plain.ll) it is refused, lowered all the same, and its record has to be refused too.
+# Without arguments it takes all five. lists, trees, queues and digits are C, and go through examples/pipeline/run.sh. digits divides, and
+# prints by a function outside of its module, that of show.c. swap is the module of examples/swap; without its barrier (plain.ll) it is
+# refused, lowered all the same, and its record has to be refused too.
 # LLVM is the version of clang, opt and llc: 22 where it is not set; 19, 16 and 14 do too. DGC is crates/dgc/out/dgc where it is not set.
 # OUT names a folder to keep what is made. Ends with 0 where each step succeeds, and otherwise with 1.
 
@@ -13,7 +14,9 @@ here=$(cd "$(dirname "$0")" && pwd)
 top=$(cd "$here/../.." && pwd)
 dgc=${DGC:-$top/crates/dgc/out/dgc}
 llvm=${LLVM:-22}
-[ $# -gt 0 ] || set -- lists trees queues swap
+[ $# -gt 0 ] || set -- lists trees queues digits swap
+forms=core
+outside=
 
 fail() {
     echo "run.sh: $1" >&2
@@ -36,7 +39,7 @@ fi
 build() {
     program=$1
     shift
-    "$dgc" lower "$@" >"$program.ll" 2>"$program.txt" || fail "$(cat "$program.ll" "$program.txt")"
+    "$dgc" lower "$@" --forms "$forms" >"$program.ll" 2>"$program.txt" || fail "$(cat "$program.ll" "$program.txt")"
     if [ "$llvm" -ge 20 ]; then
         "opt-$llvm" '-passes=shadow-stack-gc-lowering,default<O2>' -o "$program.bc" "$program.ll" || fail "opt failed"
     else
@@ -47,18 +50,18 @@ build() {
     "llc-$llvm" $opaque -O2 -relocation-model=pic -filetype=obj -o "$program.o" "$program.bc" || fail "llc failed"
     flags=
     [ "$1" != --record ] || flags=-DRECORD
-    "clang-$llvm" -std=c11 -O2 -pthread $flags -I"$top/runtime" -I"$top/examples/records" -o "$program" "$program.o" "$top/runtime/dgrt.c" "$top/runtime/dgmain.c" || fail "the program is not linked"
+    "clang-$llvm" -std=c11 -O2 -pthread $flags -I"$top/runtime" -I"$top/examples/records" -o "$program" "$program.o" $outside "$top/runtime/dgrt.c" "$top/runtime/dgmain.c" || fail "the program is not linked"
 }
 
 # conforms MODULE TRACE RECORD [SHAPES]: what dgc says of a record.
 conforms() {
-    if [ -n "$4" ]; then "$dgc" conform "$1" "$2" "$3" --shapes "$4"; else "$dgc" conform "$1" "$2" "$3"; fi || true
+    "$dgc" conform "$1" "$2" "$3" --forms "$forms" ${4:+--shapes "$4"} || true
 }
 
 of_c() {
     echo "$1: C to a module, its certificate and the check (examples/pipeline/run.sh)"
-    OUT="$out/$1" DGC="$dgc" LLVM="$llvm" sh "$top/examples/pipeline/run.sh" "$here/$1.c" >"$out/$1.txt" || fail "see $out/$1.txt"
-    sed -n '/^5/{n;s/^ */    dgc check: /p}' "$out/$1.txt"
+    OUT="$out/$1" DGC="$dgc" LLVM="$llvm" FORMS="$forms" sh "$top/examples/pipeline/run.sh" "$here/$1.c" >"$out/$1.txt" || fail "see $out/$1.txt"
+    sed -n '/^5/,/^8/{s/^ \{4\}/    dgc check: /p}' "$out/$1.txt"
     build "$out/$1/native" "$out/$1/3.ll" "$out/$1/3.cert"
     echo "    four threads beside the collector:"
     "$out/$1/native" "$here/$1.trace" 2>"$out/$1/times.txt" >"$out/$1/ends.txt" || fail "the native program fails"
@@ -97,9 +100,22 @@ of_swap() {
     case $said in no*) ;; *) fail "the record of plain.ll conforms" ;; esac
 }
 
+# of_digits: a program that divides and prints, and what it has to print: 2 to the 64 and 2 to the 100, six times each.
+of_digits() {
+    forms=wide
+    outside=$here/show.c
+    of_c digits
+    forms=core
+    outside=
+    for number in 18446744073709551616 1267650600228229401496703205376; do
+        [ "$(grep -cx "$number" "$out/digits/ends.txt")" -eq 6 ] || fail "$number is not printed six times"
+    done
+}
+
 for name in "$@"; do
     case $name in
     lists | trees | queues) of_c "$name" ;;
+    digits) of_digits ;;
     swap) of_swap ;;
     *) fail "no program $name" ;;
     esac

@@ -129,8 +129,8 @@ def place_of(kind):
 class Lowering:
     """The gcroot code of one function."""
 
-    def __init__(self, function, layouts, may):
-        self.f, self.layouts, self.may = function, layouts, may
+    def __init__(self, function, layouts, may, outside):
+        self.f, self.layouts, self.may, self.outside = function, layouts, may, outside
         self.slots, self.stores = [], {}
 
     def is_safepoint(self, line):
@@ -162,7 +162,7 @@ class Lowering:
                     name, kind, layout = claim.groups()
                     lines += self.claim(name, kind, self.layouts.index(layout))
                     continue
-                if called and not called[1].startswith("llvm."):
+                if called and not called[1].startswith("llvm.") and called[1] not in self.outside:
                     lines.append(SAFEPOINT)
                 lines.append(line)
             block[:] = lines
@@ -385,9 +385,23 @@ def module_of(text, names=None):
     may = {it for it in names if functions[it].loop_heads() or functions[it].calls() & set(functions)}
     for _ in names:
         may |= {it for it in names if functions[it].calls() & may}
-    bodies = [Lowering(functions[it], layouts, may).text() for it in names]
+    outside = outside_of(text)
+    bodies = [Lowering(functions[it], layouts, may, outside).text() for it in names]
     runtime = OPAQUE_RUNTIME if is_opaque(text) else RUNTIME
-    return "\n".join(types + globals_of) + "\n" + runtime + "\n".join(bodies) + "\n"
+    called = set().union(*(functions[it].calls() for it in names))
+    declares = "".join(line + "\n" for name, line in outside.items() if name in called)
+    return "\n".join(types + globals_of) + "\n" + runtime + declares + "\n".join(bodies) + "\n"
+
+
+def outside_of(text):
+    """The lines that declare functions outside of the program which take and give numbers, by their names."""
+    declared = re.findall(r"^declare [^\n]*?\b(void|i\d+) @([\w.$]+)\(([^()\n]*)\)", text, re.M)
+    outside = {}
+    for result, name, parameters in declared:
+        types = [it.split()[0] for it in parameters.split(",") if it.strip()]
+        if not name.startswith("llvm.") and all(re.fullmatch(r"i\d+", it) for it in types):
+            outside[name] = f"declare {result} @{name}({', '.join(types)})"
+    return outside
 
 
 def fault(text):
@@ -399,12 +413,13 @@ def fault(text):
     if not functions:
         return "it defines no function"
     structs = re.findall(r"^%struct\.(\w+) = type \{", text, re.M)
+    outside = outside_of(text)
     for function in functions.values():
         for called in sorted(function.calls() - set(functions)):
             if called.startswith("new_") and called[4:] not in structs:
                 return f"@{function.name} calls @{called}, and there is no struct {called[4:]}"
-            if not called.startswith(("new_", "llvm.")):
-                return f"@{function.name} calls @{called}, which the program does not define"
+            if not called.startswith(("new_", "llvm.")) and called not in outside:
+                return f"@{function.name} calls @{called}, which the program does not define, and which is not declared to take and give numbers alone"
     return None
 
 

@@ -6,6 +6,7 @@
 # Without arguments it takes trees.c, replay.trace and run.trace. Without a trace, replay and run are left out.
 # LLVM is the version of clang, opt and llc: 14 where it is not set. Version 14 prints typed pointers, and later ones opaque pointers.
 # LEVEL, such as -O2, takes what clang makes at that level in place of the text after mem2reg and jump-threading.
+# FORMS, such as wide, says which forms dgc reads (docs/TEXT.md): core where it is not set.
 # ABSTRACT, where it is set, puts abstract.py before gcroot.py, for programs with forms that dgc does not read; then nothing is compiled.
 # DGC, CLANG, OPT, LLC and OBJDUMP name the programs. They are crates/dgc/out/dgc, clang-LLVM, opt-LLVM, llc-LLVM and llvm-objdump-LLVM
 # where they are not set.
@@ -14,6 +15,7 @@
 here=$(cd "$(dirname "$0")" && pwd)
 top=$(cd "$here/../.." && pwd)
 dgc=${DGC:-$top/crates/dgc/out/dgc}
+forms=${FORMS:-core}
 llvm=${LLVM:-14}
 clang=${CLANG:-clang-$llvm}
 opt=${OPT:-opt-$llvm}
@@ -114,22 +116,22 @@ if grep -qw ptr "$out/3.ll"; then
 fi
 
 echo "4. dgc make: a certificate"
-"$dgc" make "$out/3.ll" "$@" --why >"$out/3.cert" 2>"$out/4.txt" || refused make "$(cat "$out/3.cert" "$out/4.txt")"
+"$dgc" make "$out/3.ll" "$@" --forms "$forms" --why >"$out/3.cert" 2>"$out/4.txt" || refused make "$(cat "$out/3.cert" "$out/4.txt")"
 echo "    $(wc -l <"$out/3.cert") lines"
 
 echo "5. dgc check: is the module safe in every schedule?"
-"$dgc" check "$out/3.ll" "$out/3.cert" >"$out/5.txt" 2>&1 || refused check "$(cat "$out/5.txt")"
+"$dgc" check "$out/3.ll" "$out/3.cert" --forms "$forms" >"$out/5.txt" 2>&1 || refused check "$(cat "$out/5.txt")"
 show "$out/5.txt"
 
 if [ -n "$replay" ]; then
     echo "6. dgc replay: the schedule of $(basename "$replay")"
-    "$dgc" replay "$out/3.ll" "$replay" "$@" >"$out/6.txt" 2>&1 || refused replay "$(cat "$out/6.txt")"
+    "$dgc" replay "$out/3.ll" "$replay" "$@" --forms "$forms" >"$out/6.txt" 2>&1 || refused replay "$(cat "$out/6.txt")"
     show "$out/6.txt"
 fi
 
 if [ -n "$run" ]; then
     echo "7. dgc run: real threads, as in $(basename "$run")"
-    "$dgc" run "$out/3.ll" "$out/3.cert" "$run" --steps 4294967295 --turns 4294967295 >"$out/7.txt" 2>&1 || refused run "$(cat "$out/7.txt")"
+    "$dgc" run "$out/3.ll" "$out/3.cert" "$run" --forms "$forms" --steps 4294967295 --turns 4294967295 >"$out/7.txt" 2>&1 || refused run "$(cat "$out/7.txt")"
     show "$out/7.txt"
 fi
 
@@ -139,7 +141,7 @@ if [ -n "$ABSTRACT" ]; then
 fi
 
 echo "8. dgc lower: what LLVM compiles"
-"$dgc" lower "$out/3.ll" "$out/3.cert" >"$out/8.ll" 2>"$out/8.txt" || refused lower "$(cat "$out/8.ll" "$out/8.txt")"
+"$dgc" lower "$out/3.ll" "$out/3.cert" --forms "$forms" >"$out/8.ll" 2>"$out/8.txt" || refused lower "$(cat "$out/8.ll" "$out/8.txt")"
 opaque=
 [ "$(version_of "$opt")" -gt 14 ] || opaque=-opaque-pointers
 "$opt" $opaque -passes=verify -disable-output "$out/8.ll" || fail "opt refuses what dgc lower prints"
