@@ -6,11 +6,11 @@ use Rattle.hunting.specs.Shorter.{IsBreaking}
 use Rattle.hunting.specs.declared.biased_searching.BiasedOutcome.{BiasedOutcome}
 use Rattle.hunting.specs.declared.biased_searching.BiasedOutcome.TheVariants.{Broken, Sound}
 
--- of the seeds from the first one to one past the last: a trace of one of them, from this setup, whose last step is the first that breaks its run. Where none is found, nothing is said
-abbrev pub IsBiasedOutcome : LaidOut → Setup → (first past : ℕ) → BiasedOutcome → Type 0
-IsBiasedOutcome p setup first past (Broken b) =
-    (first ≤ b.seed) × (b.seed < past) × IsBreaking p b.found.trace b.found.broken × (b.found.trace.setup ≡ setup)
-IsBiasedOutcome p setup first past Sound = Unit {0}
+-- of the seeds from the first one to one past the last: a trace of one of them, from the setup with which its run begins, whose last step is the first that breaks its run. Where none is found, nothing is said
+abbrev pub IsBiasedOutcome : LaidOut → (begins : ℕ → Setup) → (first past : ℕ) → BiasedOutcome → Type 0
+IsBiasedOutcome p begins first past (Broken b) =
+    (first ≤ b.seed) × (b.seed < past) × IsBreaking p b.found.trace b.found.broken × (b.found.trace.setup ≡ begins b.seed)
+IsBiasedOutcome p begins first past Sound = Unit {0}
 
 -- none was found
 abbrev pub IsSoundOutcome : BiasedOutcome → Type 0

@@ -38,14 +38,14 @@ with_report h r = record {
   ends = h.ends + ends_in r;
 }
 
--- where the actors are after this number of steps that a seed draws
-abbrev pub IsReportOfSeed : LaidOut → Setup → (steps seed : ℕ) → Report → Type 0
-IsReportOfSeed p setup steps seed r = Reports p setup (reverse (actors_drawn (length setup.starts) seed steps)) r
+-- where the actors are after this number of steps that a seed draws, from the setup with which its run begins
+abbrev pub IsReportOfSeed : LaidOut → (begins : ℕ → Setup) → (steps seed : ℕ) → Report → Type 0
+IsReportOfSeed p begins steps seed r = Reports p (begins seed) (reverse (actors_drawn (length (begins seed).starts) seed steps)) r
 
 -- the counts of the runs of some seeds, one after the other from the first one on
-pub data IsCounted (p : LaidOut) (setup : Setup) (steps first : ℕ) : Happened → Type 0 where
-  NoSeed : IsCounted p setup steps first nothing
+pub data IsCounted (p : LaidOut) (begins : ℕ → Setup) (steps first : ℕ) : Happened → Type 0 where
+  NoSeed : IsCounted p begins steps first nothing
   Further :
-      (h : Happened) (r : Report) → IsCounted p setup steps first h
-      → IsReportOfSeed p setup steps (first + h.seeds) r
-      → IsCounted p setup steps first (with_report h r)
+      (h : Happened) (r : Report) → IsCounted p begins steps first h
+      → IsReportOfSeed p begins steps (first + h.seeds) r
+      → IsCounted p begins steps first (with_report h r)

@@ -4,6 +4,7 @@ ghost use Rattle.certs.specs.declared.section.Section.{Section};
 ghost use Rattle.trace_text.specs.Traces.{IsTraceOf, step_sum};
 ghost use Rattle.program_runner.specs.Setups.{IsSetupFault, HasNoFault, IsCertifiedSetup};
 ghost use Rattle.program_runner.specs.declared.setup_fault.SetupFault.TheVariants as fault;
+ghost use Rattle.replay.specs.DrawnValues.{setup_of_seed};
 ghost use Rattle.hunting.specs.Shorter.{IsBreaking};
 ghost use Rattle.hunting.specs.Biased.{IsBiasedOutcome, IsSoundOutcome};
 
@@ -14,7 +15,7 @@ use crate::steps::with_steps;
 use items::Items;
 use layout::Program;
 use program_runner::SetupFault;
-use replay::{Schedules, replay};
+use replay::{Schedules, draws_values, replay, start_of_seed};
 use std::alloc::Global;
 use trace_text::{STEP_LIMIT, Trace};
 
@@ -57,6 +58,30 @@ fn broken_by_seed(
     Ok(found)
 }
 
+/// The same from the start of the seed: with the numbers that it draws too, where it draws some.
+fn broken_of_seed(
+    alloc: Global,
+    program: &Program,
+    start: &Trace,
+    seed: u32,
+    schedules: Schedules,
+) -> Result<Option<BrokenTrace>, SetupFault>
+    requires { IsTraceOf program.now start.now }
+    ensures breaking { IfOk result (λ found. IfSome found (λ f. IsBreaking program.now f.trace f.broken)) }
+    ensures setup { IfOk result (λ found. IfSome found (λ f. f.trace.setup ≡ setup_of_seed schedules.drawn_values program.now start.now.setup seed)) }
+    ensures safe { (certs : List Section) → IsCertifiedSetup program.now start.now.setup certs → IfOk result (λ found. found ≡ None) }
+    ensures fault { IfErr result (λ e. e ≢ fault.Memory → IsSetupFault program.now start.now.setup e) }
+{
+    if !draws_values(program, schedules.drawn_values) {
+        return broken_by_seed(alloc, program, start, seed, schedules.steps);
+    }
+    let before = with_steps(alloc, program, start, Items::new(alloc))?;
+    let begun = start_of_seed(alloc, program, before, seed, schedules.drawn_values)?;
+    let found = broken_by_seed(alloc, program, &begun, seed, schedules.steps);
+    drop(begun);
+    found
+}
+
 /// A trace with the steps that a seed draws, as many as these at most, from the start of a trace. Steps past a trace's limit are left out.
 pub fn biased_trace(
     alloc: Global,
@@ -97,7 +122,7 @@ pub fn first_broken(
     schedules: Schedules,
 ) -> Result<BiasedOutcome, SetupFault>
     requires { IsTraceOf program.now start.now }
-    ensures outcome { IfOk result (IsBiasedOutcome program.now start.now.setup schedules.first schedules.past) }
+    ensures outcome { IfOk result (IsBiasedOutcome program.now (setup_of_seed schedules.drawn_values program.now start.now.setup) schedules.first schedules.past) }
     ensures no_fault { IfOk result (λ _. HasNoFault program.now start.now.setup) }
     ensures fault { IfErr result (λ e. e ≢ fault.Memory → IsSetupFault program.now start.now.setup e) }
     // Where the program is certified, and the threads begin with what its certificates promise, there is none.
@@ -105,7 +130,7 @@ pub fn first_broken(
 {
     may_begin(alloc, program, start)?;
     for seed in schedules.first..schedules.past {
-        match broken_by_seed(alloc, program, start, seed, schedules.steps) {
+        match broken_of_seed(alloc, program, start, seed, schedules) {
             Ok(Some(found)) => return Ok(BiasedOutcome::Broken(BrokenSeed { seed, found })),
             Ok(None) => {}
             Err(fault) => return Err(fault),

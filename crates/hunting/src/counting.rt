@@ -4,6 +4,7 @@ ghost use Rattle.trace_text.specs.Traces.{IsTraceOf};
 ghost use Rattle.program_runner.specs.Setups.{IsSetupFault};
 ghost use Rattle.program_runner.specs.declared.setup_fault.SetupFault.TheVariants as fault;
 ghost use Rattle.replay.specs.Lists.{actors_of};
+ghost use Rattle.replay.specs.DrawnValues.{setup_of_seed};
 ghost use Rattle.replay.specs.Soaks.{actors_drawn};
 ghost use Rattle.hunting.specs.Happened.{IsCounted, IsReportOfSeed, is_ended, ends_in, cycles_in, nothing, with_report};
 
@@ -12,7 +13,7 @@ use crate::steps::with_steps;
 use items::Items;
 use layout::Program;
 use program_runner::SetupFault;
-use replay::{Outcome, Report, Schedules, ThreadOutcome, drawn_trace, replay};
+use replay::{Outcome, Report, Schedules, ThreadOutcome, drawn_trace, replay, start_of_seed};
 use std::alloc::Global;
 use trace_text::{STEP_LIMIT, Trace};
 
@@ -97,27 +98,50 @@ impl Happened {
     }
 }
 
-/// A trace with the steps that a seed draws, uniformly or with few switches, from the start of a trace.
+impl Sample {
+    /// The same runs, without the steps past a trace's limit.
+    fn within_limit(self) -> Sample
+        ensures { result ≡ record self { schedules = record self.schedules { steps = min self.schedules.steps 10000000 } } }
+    {
+        let steps = self.schedules.steps.min(STEP_LIMIT as u32);
+        Sample {
+            schedules: Schedules {
+                steps,
+                ..self.schedules
+            },
+            ..self
+        }
+    }
+}
+
+/// A trace with the steps that a seed draws, uniformly or with few switches, from the start of the seed.
 fn trace_of_seed(
     alloc: Global,
     program: &Program,
     start: &Trace,
     seed: u32,
-    steps: u32,
-    biased: bool,
+    sample: Sample,
 ) -> Result<Trace, SetupFault>
     requires is_trace { IsTraceOf program.now start.now }
-    requires few { steps ≤ 10000000 }
+    requires few { sample.schedules.steps ≤ 10000000 }
     ensures is_trace { IfOk result (IsTraceOf program.now) }
-    ensures setup { IfOk result (λ made. made.setup ≡ start.now.setup) }
-    ensures steps { biased ≡ false → IfOk result (λ made. actors_of made.steps ≡ actors_drawn (length start.now.setup.starts) seed steps) }
+    ensures setup { IfOk result (λ made. made.setup ≡ setup_of_seed sample.schedules.drawn_values program.now start.now.setup seed) }
+    ensures steps { sample.biased ≡ false → IfOk result (λ made. actors_of made.steps ≡ actors_drawn (length made.setup.starts) seed sample.schedules.steps) }
     ensures fault { IfErr result (λ e. e ≢ fault.Memory → IsSetupFault program.now start.now.setup e) }
 {
-    if biased {
-        return biased_trace(alloc, program, start, seed, steps);
-    }
+    let Schedules {
+        steps,
+        drawn_values,
+        ..
+    } = sample.schedules;
     let before = with_steps(alloc, program, start, Items::new(alloc))?;
-    let trace = drawn_trace(alloc, before, seed, steps)?;
+    let begun = start_of_seed(alloc, program, before, seed, drawn_values)?;
+    if sample.biased {
+        let trace = biased_trace(alloc, program, &begun, seed, steps);
+        drop(begun);
+        return trace;
+    }
+    let trace = drawn_trace(alloc, begun, seed, steps)?;
     Ok(trace)
 }
 
@@ -127,15 +151,14 @@ fn report_of_seed(
     program: &Program,
     start: &Trace,
     seed: u32,
-    steps: u32,
-    biased: bool,
+    sample: Sample,
 ) -> Result<Option<Report>, SetupFault>
     requires is_trace { IsTraceOf program.now start.now }
-    requires few { steps ≤ 10000000 }
-    ensures report { biased ≡ false → IfOk result (λ report. IfSome report (IsReportOfSeed program.now start.now.setup steps seed)) }
+    requires few { sample.schedules.steps ≤ 10000000 }
+    ensures report { sample.biased ≡ false → IfOk result (λ report. IfSome report (IsReportOfSeed program.now (setup_of_seed sample.schedules.drawn_values program.now start.now.setup) sample.schedules.steps seed)) }
     ensures fault { IfErr result (λ e. e ≢ fault.Memory → IsSetupFault program.now start.now.setup e) }
 {
-    let trace = trace_of_seed(alloc, program, start, seed, steps, biased)?;
+    let trace = trace_of_seed(alloc, program, start, seed, sample)?;
     match replay(alloc, program, &trace)? {
         Outcome::Sound(report) => Ok(Some(report)),
         Outcome::Broken(_) => Ok(None),
@@ -151,25 +174,24 @@ pub fn counted(
     sample: Sample,
 ) -> Result<Happened, SetupFault>
     requires { IsTraceOf program.now start.now }
-    ensures counted { sample.biased ≡ false → IfOk result (IsCounted program.now start.now.setup (min sample.schedules.steps 10000000) sample.schedules.first) }
+    ensures counted { sample.biased ≡ false → IfOk result (IsCounted program.now (setup_of_seed sample.schedules.drawn_values program.now start.now.setup) (min sample.schedules.steps 10000000) sample.schedules.first) }
     ensures fault { IfErr result (λ e. e ≢ fault.Memory → IsSetupFault program.now start.now.setup e) }
 {
-    let Schedules { first, past, steps } = sample.schedules;
-    let steps = steps.min(STEP_LIMIT as u32);
+    let few = sample.within_limit();
     let mut happened = Happened::nothing();
     let mut spent: u64 = 0;
-    for seed in first..past {
+    for seed in sample.schedules.first..sample.schedules.past {
         if spent >= sample.budget {
             return Ok(happened);
         }
-        let Some(report) = report_of_seed(alloc, program, start, seed, steps, sample.biased)? else {
+        let Some(report) = report_of_seed(alloc, program, start, seed, few)? else {
             return Ok(happened);
         };
         let Some(more) = happened.with(&report) else {
             return Ok(happened);
         };
         happened = more;
-        spent = spent.saturating_add(u64::from(steps));
+        spent = spent.saturating_add(u64::from(few.schedules.steps));
     }
     Ok(happened)
 }

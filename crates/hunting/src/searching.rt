@@ -68,7 +68,7 @@ pub fn hunt(
     requires { schedules.first ≤ schedules.past }
     ensures { IfOk result (IsHunted program.now schedules.first schedules.past) }
 {
-    let Schedules { first, past, steps } = schedules;
+    let Schedules { first, past, .. } = schedules;
     let mut next = first;
     while next < past {
         let end = end_of_alike(next, past);
@@ -78,7 +78,7 @@ pub fn hunt(
         let alike = Schedules {
             first: next,
             past: end,
-            steps,
+            ..schedules
         };
         let found = broken_from(alloc, program, &start, alike);
         drop(start);

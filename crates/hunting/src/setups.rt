@@ -5,49 +5,13 @@ ghost use Rattle.pools.specs.Heap.{cells_in};
 ghost use Rattle.trace_text.specs.Traces.{IsTraceOf, step_sum};
 ghost use Rattle.hunting.specs.Parts.{AreOfActors};
 
-use crate::copies::add_starts;
 use crate::lines::add_line;
-use crate::pool_counts::{counts_in, pools_with};
 use items::Items;
 use layout::{Pools, Program};
 use moves::Actor;
+use replay::{add_starts, counts_in, pools_copied, pools_with, starts_copied};
 use std::alloc::{AllocError, Global};
 use trace_text::{Setup, Start, Steps, Trace};
-
-/// The same pools.
-fn pools_copied(alloc: Global, program: &Program, pools: &Pools) -> Result<Pools, AllocError>
-    requires { length pools.now ≡ length program.now.layouts }
-    ensures { IfOk result (λ copy. copy ≡ pools.now) }
-{
-    let Ok(layouts) = u32::try_from(program.layouts().count()) else {
-        return Err(AllocError);
-    };
-    let counts = counts_in(alloc, pools, layouts)?;
-    pools_with(alloc, program, counts.as_slice())
-}
-
-/// The same starts.
-fn starts_copied(alloc: Global, starts: &[Start]) -> Result<Items<Start>, AllocError>
-    ensures { IfOk result (λ copy. copy ≡ starts.now) }
-{
-    let mut copy = Items::new(alloc);
-    add_starts(alloc, &mut copy, starts)?;
-    Ok(copy)
-}
-
-/// The same setup.
-pub(crate) fn setup_copied(
-    alloc: Global,
-    program: &Program,
-    setup: &Setup,
-) -> Result<Setup, AllocError>
-    requires { length setup.now.pools ≡ length program.now.layouts }
-    ensures { IfOk result (λ copy. copy ≡ setup.now) }
-{
-    let pools = pools_copied(alloc, program, &setup.pools)?;
-    let starts = starts_copied(alloc, setup.starts.as_slice())?;
-    Ok(Setup { pools, starts })
-}
 
 /// The starts without that at a place.
 fn starts_without(alloc: Global, starts: &[Start], place: usize) -> Result<Items<Start>, AllocError>

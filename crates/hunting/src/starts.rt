@@ -5,13 +5,13 @@ ghost use Rattle.trace_text.specs.Traces.{IsTraceOf, IsStartOf};
 
 use crate::drawing::{bits_of, integer};
 use crate::numbers::below;
-use crate::pool_counts::pools_with;
 use certs::Section;
 use ir_ast::{FuncId, Function, Module};
 use items::Items;
 use layout::Program;
 use rand_core::{Rng, SeedableRng};
 use rand_pcg::Pcg32;
+use replay::pools_with;
 use std::alloc::{AllocError, Global};
 use trace_text::{Arrival, Setup, Start, Trace};
 

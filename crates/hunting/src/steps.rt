@@ -5,9 +5,9 @@ ghost use Rattle.trace_text.specs.declared.trace.Steps.{Steps as SomeSteps};
 ghost use Rattle.hunting.specs.Parts.{AreOfActors, between, with_at_most};
 
 use crate::lines::{back, front, joined};
-use crate::setups::setup_copied;
 use items::Items;
 use layout::Program;
+use replay::setup_copied;
 use std::alloc::{AllocError, Global};
 use trace_text::{Steps, Trace};
 

@@ -15,18 +15,18 @@ pub chunk_ends : (past next chunk size : ℕ) → next ≤ past → size ≡ min
 chunk_ends past next chunk size within is = grind (arith, within, is)
 
 -- the seeds before a chunk and those of the chunk
-pub sound_on : (p : LaidOut) (setup : Setup) (steps first next end : ℕ) → AreSoundFrom p setup steps first next → AreSoundFrom p setup steps next end → AreSoundFrom p setup steps first end
-sound_on p setup steps first next end sound more seed low high = go (before_or_after seed next)
+pub sound_on : (p : LaidOut) (begins : ℕ → Setup) (steps first next end : ℕ) → AreSoundFrom p begins steps first next → AreSoundFrom p begins steps next end → AreSoundFrom p begins steps first end
+sound_on p begins steps first next end sound more seed low high = go (before_or_after seed next)
   where
-    go : (seed < next) ⊎ (next ≤ seed) → IsSoundSeed p setup steps seed
+    go : (seed < next) ⊎ (next ≤ seed) → IsSoundSeed p begins steps seed
     go (inl early) = sound seed low early
     go (inr late) = more seed late high
 
 -- the least seed of a chunk that ends within the seeds
-pub least_of_all : (p : LaidOut) (setup : Setup) (first past steps next end : ℕ) (b : SeedBreak) → first ≤ next → AreSoundFrom p setup steps first next → end ≤ past
-    → IsLeastFrom p setup steps next end (Some b) → IsLeastBreak p setup first past steps b
-least_of_all p setup first past steps next end b low sound within least = record {
+pub least_of_all : (p : LaidOut) (begins : ℕ → Setup) (first past steps next end : ℕ) (b : SeedBreak) → first ≤ next → AreSoundFrom p begins steps first next → end ≤ past
+    → IsLeastFrom p begins steps next end (Some b) → IsLeastBreak p begins first past steps b
+least_of_all p begins first past steps next end b low sound within least = record {
   is_seed = let after = least.0 in let high = least.1 in (omega (arith, low, after), omega (arith, high, within));
-  before = sound_on p setup steps first next b.seed sound least.2;
+  before = sound_on p begins steps first next b.seed sound least.2;
   breaks = least.3;
 }

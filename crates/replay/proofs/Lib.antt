@@ -9,6 +9,8 @@ pub mod StepsTaken
 pub mod StartsLemmas
 pub mod Watching
 pub mod Drawings
+pub mod DrawnNumbers
+pub mod DrawnSetups
 pub mod Firsts
 pub mod SeedsLemmas
 pub mod Chunks

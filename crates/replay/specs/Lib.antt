@@ -1,4 +1,5 @@
 pub mod Draws
+pub mod DrawnValues
 pub mod Runs
 pub mod Worlds
 pub mod ThreadEnds

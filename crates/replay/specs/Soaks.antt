@@ -1,6 +1,7 @@
 -- The outcome of many seeded schedules of a setup.
 use Rattle.std.specs.Prelude.{ℕ, ◌≢◌, ◌<◌, ◌≤◌, ◌==◌, Bool, true, false, Option, Some, None, Result, Ok, Err, List, length, map, if◌then◌else◌}
 use Rattle.replay.specs.Draws.{drawn}
+use Rattle.replay.specs.DrawnValues.{setup_of_seed}
 use Rattle.layout.specs.Layouts.{LaidOut}
 use Rattle.trace_text.specs.declared.trace.Setup.{Setup}
 use Rattle.moves.specs.declared.actor.Actor.{Actor}
@@ -22,24 +23,28 @@ actor_drawn threads draw = if draw == threads then Collector else Thread draw
 abbrev pub actors_drawn : (threads seed steps : ℕ) → List Actor
 actors_drawn threads seed steps = map (actor_drawn threads) (drawn threads seed steps)
 
--- the list that a seed draws is sound
-abbrev pub IsSoundSeed : LaidOut → Setup → (steps seed : ℕ) → Type 0
-IsSoundSeed p setup steps seed = IsSoundList p setup (actors_drawn (length setup.starts) seed steps)
+-- the list that a seed draws is sound, where the run of each seed begins with a setup of its own
+abbrev pub IsSoundSeed : LaidOut → (begins : ℕ → Setup) → (steps seed : ℕ) → Type 0
+IsSoundSeed p begins steps seed = IsSoundList p (begins seed) (actors_drawn (length (begins seed).starts) seed steps)
 
 -- so is that of each seed from the first one to one past the last
-abbrev pub AreSoundFrom : LaidOut → Setup → (steps first past : ℕ) → Type 0
-AreSoundFrom p setup steps first past = (seed : ℕ) → first ≤ seed → seed < past → IsSoundSeed p setup steps seed
+abbrev pub AreSoundFrom : LaidOut → (begins : ℕ → Setup) → (steps first past : ℕ) → Type 0
+AreSoundFrom p begins steps first past = (seed : ℕ) → first ≤ seed → seed < past → IsSoundSeed p begins steps seed
+
+-- the list that a seed draws breaks its run so
+abbrev pub IsBreakOfSeed : LaidOut → (begins : ℕ → Setup) → (steps seed : ℕ) → Break → Type 0
+IsBreakOfSeed p begins steps seed b = IsFirstBreak p (begins seed) (actors_drawn (length (begins seed).starts) seed steps) b
 
 -- the least seed from the first one on whose list breaks its run, with the break
-pub record IsLeastBreak (p : LaidOut) (setup : Setup) (first past steps : ℕ) (b : SeedBreak) : Type 0 where
+pub record IsLeastBreak (p : LaidOut) (begins : ℕ → Setup) (first past steps : ℕ) (b : SeedBreak) : Type 0 where
   pub is_seed : (first ≤ b.seed) × (b.seed < past)
-  pub before : AreSoundFrom p setup steps first b.seed
-  pub breaks : IsFirstBreak p setup (actors_drawn (length setup.starts) b.seed steps) b.broken
+  pub before : AreSoundFrom p begins steps first b.seed
+  pub breaks : IsBreakOfSeed p begins steps b.seed b.broken
 
 -- of the seeds from the first one to one past the last: the least one whose list breaks its run, or that there is none
-abbrev pub IsSoakOutcome : LaidOut → Setup → (first past steps : ℕ) → SoakOutcome → Type 0
-IsSoakOutcome p setup first past steps (Broken b) = IsLeastBreak p setup first past steps b
-IsSoakOutcome p setup first past steps Sound = AreSoundFrom p setup steps first past
+abbrev pub IsSoakOutcome : LaidOut → (begins : ℕ → Setup) → (first past steps : ℕ) → SoakOutcome → Type 0
+IsSoakOutcome p begins first past steps (Broken b) = IsLeastBreak p begins first past steps b
+IsSoakOutcome p begins first past steps Sound = AreSoundFrom p begins steps first past
 
 -- no seed's list breaks its run
 abbrev pub IsSoundSoak : SoakOutcome → Type 0
@@ -47,14 +52,14 @@ IsSoundSoak Sound = Unit {0}
 IsSoundSoak (Broken b) = ⊥
 
 -- the outcome of one seed: where its list first breaks its run, or that it is sound
-abbrev pub IsEndOfSeed : LaidOut → Setup → (steps seed : ℕ) → Option Break → Type 0
-IsEndOfSeed p setup steps seed None = IsSoundSeed p setup steps seed
-IsEndOfSeed p setup steps seed (Some b) = IsFirstBreak p setup (actors_drawn (length setup.starts) seed steps) b
+abbrev pub IsEndOfSeed : LaidOut → (begins : ℕ → Setup) → (steps seed : ℕ) → Option Break → Type 0
+IsEndOfSeed p begins steps seed None = IsSoundSeed p begins steps seed
+IsEndOfSeed p begins steps seed (Some b) = IsBreakOfSeed p begins steps seed b
 
--- what was told of a seed is its outcome, or a fault
-abbrev pub IsTold : LaidOut → Setup → (steps seed : ℕ) → Result (Option Break) SetupFault → Type 0
-IsTold p setup steps seed (Ok end) = IsEndOfSeed p setup steps seed end
-IsTold p setup steps seed (Err fault) = fault ≢ Memory → IsSetupFault p setup fault
+-- what was told of a seed, with or without drawn numbers, is its outcome, or a fault
+abbrev pub IsTold : LaidOut → Setup → (drawn : Bool) → (steps seed : ℕ) → Result (Option Break) SetupFault → Type 0
+IsTold p setup drawn steps seed (Ok end) = IsEndOfSeed p (setup_of_seed drawn p setup) steps seed end
+IsTold p setup drawn steps seed (Err fault) = fault ≢ Memory → IsSetupFault p setup fault
 
 -- it says that the seed's list is sound
 abbrev pub is_sound : Result (Option Break) SetupFault → Bool
@@ -68,7 +73,7 @@ answer_in seed (Ok (Some b)) = Ok (Some (record { seed = seed; broken = b }))
 answer_in seed (Err fault) = Err fault
 
 -- of the seeds from the first one to one past the last: the least one whose list breaks its run, if there is one
-abbrev pub IsLeastFrom : LaidOut → Setup → (steps first past : ℕ) → Option SeedBreak → Type 0
-IsLeastFrom p setup steps first past None = AreSoundFrom p setup steps first past
-IsLeastFrom p setup steps first past (Some b) =
-    (first ≤ b.seed) × (b.seed < past) × AreSoundFrom p setup steps first b.seed × IsEndOfSeed p setup steps b.seed (Some b.broken)
+abbrev pub IsLeastFrom : LaidOut → (begins : ℕ → Setup) → (steps first past : ℕ) → Option SeedBreak → Type 0
+IsLeastFrom p begins steps first past None = AreSoundFrom p begins steps first past
+IsLeastFrom p begins steps first past (Some b) =
+    (first ≤ b.seed) × (b.seed < past) × AreSoundFrom p begins steps first b.seed × IsBreakOfSeed p begins steps b.seed b.broken

@@ -2,9 +2,11 @@ ghost use Rattle.std.specs.Prelude.{◌≡◌, ◌≢◌, ◌≤◌, List, not, 
 ghost use Rattle.certs.specs.declared.section.Section.{Section};
 ghost use Rattle.program_runner.specs.Setups.{IsSetupOf, IsSetupFault, HasNoFault, IsCertifiedSetup};
 ghost use Rattle.program_runner.specs.declared.setup_fault.SetupFault.TheVariants as fault;
+ghost use Rattle.replay.specs.DrawnValues.{setup_of_seed};
 ghost use Rattle.replay.specs.Soaks.{IsSoakOutcome, IsSoundSoak, IsEndOfSeed, IsTold, IsLeastFrom, is_sound, answer_in};
 
 use crate::drawing::actor_drawn;
+use crate::drawn_values::{draws_values, setup_drawn};
 use crate::outcome::{Break, SeedBreak, SoakOutcome};
 use crate::seeds::{draw, seeded};
 use crate::watch::Watch;
@@ -24,6 +26,8 @@ pub struct Schedules {
     pub first: u32,
     pub past: u32,
     pub steps: u32,
+    /// Whether each seed also draws the numbers that threads get from outside after those of the setup. Only the wide forms have such numbers.
+    pub drawn_values: bool,
 }
 
 /// The outcome of one seed: where its schedule first breaks its run, if it does.
@@ -59,7 +63,7 @@ pub fn soak(
 ) -> Result<SoakOutcome, SetupFault>
     requires setup { IsSetupOf program.now setup.now }
     requires range { schedules.first ≤ schedules.past }
-    ensures outcome { IfOk result (IsSoakOutcome program.now setup.now schedules.first schedules.past schedules.steps) }
+    ensures outcome { IfOk result (IsSoakOutcome program.now (setup_of_seed schedules.drawn_values program.now setup.now) schedules.first schedules.past schedules.steps) }
     ensures no_fault { IfOk result (λ _. HasNoFault program.now setup.now) }
     ensures fault { IfErr result (λ e. e ≢ fault.Memory → IsSetupFault program.now setup.now e) }
     // Where the program is certified, and the threads begin with what its certificates promise, no schedule breaks its run.
@@ -67,14 +71,14 @@ pub fn soak(
 {
     setup_law();
     may_begin(alloc, program, setup)?;
-    let Schedules { first, past, steps } = schedules;
+    let Schedules { first, past, .. } = schedules;
     let mut next = first;
     while next < past {
         let end = next + CHUNK.min(past - next);
         let chunk = Schedules {
             first: next,
             past: end,
-            steps,
+            ..schedules
         };
         if let Some(broken) = least_broken(rt, alloc, program, setup, chunk)? {
             return Ok(SoakOutcome::Broken(broken));
@@ -104,21 +108,26 @@ fn least_broken(
 ) -> Result<Option<SeedBreak>, SetupFault>
     requires setup { IsSetupOf program.now setup.now }
     requires range { schedules.first ≤ schedules.past }
-    ensures least { IfOk result (IsLeastFrom program.now setup.now schedules.steps schedules.first schedules.past) }
+    ensures least { IfOk result (IsLeastFrom program.now (setup_of_seed schedules.drawn_values program.now setup.now) schedules.steps schedules.first schedules.past) }
     ensures fault { IfErr result (λ e. e ≢ fault.Memory → IsSetupFault program.now setup.now e) }
 {
-    let Schedules { first, past, steps } = schedules;
+    let Schedules {
+        first,
+        past,
+        steps,
+        drawn_values,
+    } = schedules;
     let found = (first..past)
         .into_par_iter()
         .with_min_len(1)
         .map(
             |seed: u32| -> SeedEnd
                 requires { IsSetupOf program.now setup.now }
-                ensures { (result.seed ≡ seed) × IsTold program.entry.now setup.entry.now steps seed result.told }
+                ensures { (result.seed ≡ seed) × IsTold program.entry.now setup.entry.now drawn_values steps seed result.told }
             {
                 SeedEnd {
                     seed,
-                    told: end_of_seed(alloc, program, setup, seed, steps),
+                    told: end_of_seed(alloc, program, setup, seed, steps, drawn_values),
                 }
             },
         )
@@ -134,8 +143,30 @@ fn least_broken(
     }
 }
 
-/// Makes the steps that a seed draws, one by one: where they first break the run, if they do.
+/// Where the steps that a seed draws first break its run, if they do: from the setup, or from the one with the numbers that it draws too.
 fn end_of_seed(
+    alloc: Global,
+    program: &Program,
+    setup: &Setup,
+    seed: u32,
+    steps: u32,
+    drawn_values: bool,
+) -> Result<Option<Break>, SetupFault>
+    requires { IsSetupOf program.now setup.now }
+    ensures end { IfOk result (IsEndOfSeed program.now (setup_of_seed drawn_values program.now setup.now) steps seed) }
+    ensures fault { IfErr result (λ e. e ≢ fault.Memory → IsSetupFault program.now setup.now e) }
+{
+    if !draws_values(program, drawn_values) {
+        return end_from(alloc, program, setup, seed, steps);
+    }
+    let drawn = setup_drawn(alloc, program, setup, seed)?;
+    let end = end_from(alloc, program, &drawn, seed, steps);
+    drop(drawn);
+    end
+}
+
+/// Makes the steps that a seed draws from a setup, one by one: where they first break the run, if they do.
+fn end_from(
     alloc: Global,
     program: &Program,
     setup: &Setup,
@@ -143,7 +174,7 @@ fn end_of_seed(
     steps: u32,
 ) -> Result<Option<Break>, SetupFault>
     requires { IsSetupOf program.now setup.now }
-    ensures end { IfOk result (IsEndOfSeed program.now setup.now steps seed) }
+    ensures end { IfOk result (IsEndOfSeed program.now (λ _. setup.now) steps seed) }
     ensures fault { IfErr result (λ e. e ≢ fault.Memory → IsSetupFault program.now setup.now e) }
 {
     let threads = setup.starts.len() as u32;

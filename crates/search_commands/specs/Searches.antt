@@ -13,10 +13,12 @@ use Rattle.command_line.specs.declared.options.Search.{Search}
 use Rattle.command_line.specs.declared.options.Shrink.TheVariants.{AsDrawn, WithTries}
 use Rattle.command_line.specs.declared.options.SoakOptions.{SoakOptions}
 use Rattle.trace_text.specs.Print.{trace_shown}
+use Rattle.trace_text.specs.declared.trace.Setup.{Setup}
 use Rattle.trace_text.specs.declared.trace.Trace.{Trace}
 use Rattle.program_runner.specs.Setups.{HasNoFault, IsSetupFault}
 use Rattle.program_runner.specs.declared.setup_fault.SetupFault.{SetupFault}
 use Rattle.program_runner.specs.declared.setup_fault.SetupFault.TheVariants as setup
+use Rattle.replay.specs.DrawnValues.{setup_of_seed}
 use Rattle.replay.specs.Soaks.{IsLeastBreak}
 use Rattle.replay.specs.declared.outcome.Break.{Break}
 use Rattle.replay.specs.declared.outcome.SeedBreak.{SeedBreak}
@@ -43,25 +45,29 @@ pub record IsShorter (p : LaidOut) (wanted : Bool) (b : Break) (before after : L
   pub breaking : IsBreaking p trace b
   pub added : IsAdded wanted (trace_shown p trace) before after
 
--- so it is of a trace that begins as this one
-pub record IsDrawn (p : LaidOut) (t : Trace) (wanted : Bool) (b : Break) (before after : List ℕ) : Type 0 where
+-- so it is of a trace that begins with this setup
+pub record IsDrawn (p : LaidOut) (setup : Setup) (wanted : Bool) (b : Break) (before after : List ℕ) : Type 0 where
   pub trace : Trace
-  pub begins : trace.setup ≡ t.setup
+  pub begins : trace.setup ≡ setup
   pub breaking : IsBreaking p trace b
   pub added : IsAdded wanted (trace_shown p trace) before after
 
 -- the same where that is wanted; otherwise nothing is saved
-abbrev pub IsDrawnIf : (wanted : Bool) → LaidOut → Trace → Break → (before after : List ℕ) → Type 0
-IsDrawnIf true p t b before after = IsDrawn p t true b before after
-IsDrawnIf false p t b before after = after ≡ before
+abbrev pub IsDrawnIf : (wanted : Bool) → LaidOut → Setup → Break → (before after : List ℕ) → Type 0
+IsDrawnIf true p setup b before after = IsDrawn p setup true b before after
+IsDrawnIf false p setup b before after = after ≡ before
 
 -- ---- soak
+
+-- from what the run of a seed of a search begins: as the trace, or with the numbers that the seed draws too
+abbrev pub begins_by : Search → LaidOut → Trace → (seed : ℕ) → Setup
+begins_by search p t = setup_of_seed search.drawn_values p t.setup
 
 -- the seeds of a search from the start of this trace have this break: by uniform draws it is that of the least one whose schedule breaks its
 -- run, with few switches of one whose steps were replayed
 abbrev pub IsBrokenBy : Draws → Search → LaidOut → Trace → SeedBreak → Type 0
-IsBrokenBy Uniform search p t at = IsLeastBreak p t.setup search.first (past_seed search) search.steps at
-IsBrokenBy Biased search p t at = (trace : Trace) × IsFound search.first (past_seed search) p t at trace
+IsBrokenBy Uniform search p t at = IsLeastBreak p (begins_by search p t) search.first (past_seed search) search.steps at
+IsBrokenBy Biased search p t at = (trace : Trace) × IsFound search.first (past_seed search) p (begins_by search p t) at trace
 
 -- so it is by the draws of the search
 abbrev pub IsBroken : Search → LaidOut → Trace → SeedBreak → Type 0
@@ -107,9 +113,9 @@ of_too_long at = OnBoth (of_seed Uniform at) (codes "error P3" ++ 10 ∷ [])
 
 -- what `soak` says of the seeds of a search. Before and after it these bytes are saved
 pub data OfSeeds (options : SoakOptions) (wanted : Bool) (p : LaidOut) (t : Trace) (before after : List ℕ) : Said → Type 0 where
-  sound : (past : ℕ) → HasNoFault p t.setup → AreTried options.search past → AreSoundBy options.search.draws (record { program = p; trace = t }) options.search.steps options.search.first past → after ≡ before
+  sound : (past : ℕ) → HasNoFault p t.setup → AreTried options.search past → AreSoundBy options.search.draws p (begins_by options.search p t) options.search.steps options.search.first past → after ≡ before
       → OfSeeds options wanted p t before after (OnOutput (of_sound options.search.draws (past - options.search.first)))
-  broken : (at : SeedBreak) → options.shrink ≡ AsDrawn → HasNoFault p t.setup → IsBroken options.search p t at → IsDrawnIf wanted p t at.broken before after
+  broken : (at : SeedBreak) → options.shrink ≡ AsDrawn → HasNoFault p t.setup → IsBroken options.search p t at → IsDrawnIf wanted p (begins_by options.search p t at.seed) at.broken before after
       → OfSeeds options wanted p t before after (OnOutput (of_seed options.search.draws at))
   shortened : (at : SeedBreak) (b : Break) (limit tries : ℕ) → options.shrink ≡ WithTries limit → tries ≤ limit → HasNoFault p t.setup → IsBroken options.search p t at
       → kind_of b.cause ≡ kind_of at.broken.cause → IsShorter p wanted b before after → OfSeeds options wanted p t before after (OnOutput (of_shorter options.search.draws at b tries))
@@ -121,7 +127,7 @@ pub data OfSeeds (options : SoakOptions) (wanted : Bool) (p : LaidOut) (t : Trac
 
 -- the schedules that a hunt draws
 abbrev pub search_of_hunt : HuntOptions → Search
-search_of_hunt options = record { first = options.first; seeds = options.seeds; steps = options.steps; draws = Biased; seconds = options.seconds }
+search_of_hunt options = record { first = options.first; seeds = options.seeds; steps = options.steps; draws = Biased; drawn_values = false; seconds = options.seconds }
 
 -- how many starts the seeds from the first one to below the last have: each 64 seeds, counted from 0, have one
 abbrev pub starts_of : (first past : ℕ) → ℕ

@@ -62,6 +62,7 @@ fn counts_of(alloc: Global, program: &Program, start: &Trace, search: Search) ->
         first,
         past: past_seed(search).min(first.saturating_add(SEEDS)),
         steps: search.steps,
+        drawn_values: search.drawn_values,
     };
     let sample = Sample {
         schedules,

@@ -1,6 +1,7 @@
 //! What `soak` prints and saves of a broken seed whose steps are at hand.
 ghost use Rattle.std.specs.Prelude.{◌≡◌, false, IfOk, OnOk};
 ghost use Rattle.std.specs.Io.KnownBytes.{Appends};
+ghost use Rattle.replay.specs.DrawnValues.{setup_of_seed};
 ghost use Rattle.hunting.specs.Shorter.{IsBreaking};
 ghost use Rattle.program_runner.specs.Setups.{HasNoFault};
 ghost use Rattle.trace_text.specs.declared.trace.Trace.{Trace as AnyTrace};
@@ -89,7 +90,7 @@ fn tell_as_drawn(
 ) -> io::Result<u8>
     requires breaking { IsBreaking program.now broken.found.trace broken.found.broken }
     requires as_drawn { soak.options.shrink ≡ shrink.AsDrawn }
-    ensures said { (t : AnyTrace) → HasNoFault program.now t.setup → broken.found.trace.setup ≡ t.setup → IsBroken soak.options.search program.now t (seed_break broken)
+    ensures said { (t : AnyTrace) → HasNoFault program.now t.setup → broken.found.trace.setup ≡ setup_of_seed soak.options.search.drawn_values program.now t.setup broken.seed → IsBroken soak.options.search program.now t (seed_break broken)
         → IfOk result (Saves (OfSeeds soak.options soak.saves program.now t) results.old results.new) }
     ensures kept { soak.saves ≡ false → results.new.saved.items ≡ results.old.saved.items }
 {
@@ -118,8 +119,8 @@ pub(crate) fn tell_found(
     onlooker: &mut impl Onlooker,
 ) -> io::Result<u8>
     requires { IsBreaking program.now broken.found.trace broken.found.broken }
-    // The seed is of the search for breaks from the start of this trace.
-    ensures said { (t : AnyTrace) → HasNoFault program.now t.setup → broken.found.trace.setup ≡ t.setup → IsBroken soak.options.search program.now t (seed_break broken)
+    // The seed is of the search for breaks from the start of this trace, with the numbers that the seed draws where that is wanted.
+    ensures said { (t : AnyTrace) → HasNoFault program.now t.setup → broken.found.trace.setup ≡ setup_of_seed soak.options.search.drawn_values program.now t.setup broken.seed → IsBroken soak.options.search program.now t (seed_break broken)
         → IfOk result (Saves (OfSeeds soak.options soak.saves program.now t) results.old results.new) }
     ensures kept { soak.saves ≡ false → results.new.saved.items ≡ results.old.saved.items }
 {

@@ -134,6 +134,7 @@ fn hunt_program(
         seeds,
         steps,
         draws: Draws::Biased,
+        drawn_values: false,
         seconds,
     };
     let searched = search_for(rt, alloc, Source::Hunt(of), search, onlooker);

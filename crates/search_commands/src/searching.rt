@@ -46,12 +46,18 @@ pub(crate) fn search_for<P: Onlooker>(
     ensures may_begin { IfOk result (λ _. MayBegin source.entry) }
     ensures fault { IfErr result (λ e. e ≢ fault.Memory → IsFaultOf source.entry e) }
 {
-    let Search { first, steps, .. } = search;
+    let Search {
+        first,
+        steps,
+        drawn_values,
+        ..
+    } = search;
     let past = past_seed(search);
     let none = Schedules {
         first,
         past: first,
         steps,
+        drawn_values,
     };
     drop(try_seeds(rt, alloc, source, none)?);
     let mut pace = Pace::start(rt, first_size(source));
@@ -65,6 +71,7 @@ pub(crate) fn search_for<P: Onlooker>(
             first: next,
             past: end,
             steps,
+            drawn_values,
         };
         if let Some(searched) = try_seeds(rt, alloc, source, some)? {
             return Ok(searched);

@@ -1,32 +1,35 @@
 //! The command `soak`.
-ghost use Rattle.std.specs.Prelude.{◌≡◌, true, false, IfOk};
+ghost use Rattle.std.specs.Prelude.{◌≡◌, ◌≤◌, true, false, IfOk};
 ghost use Rattle.command_line.specs.declared.options.Draws.TheVariants as draws;
 ghost use Rattle.command_line.specs.declared.options.Shrink.TheVariants as shrink;
 ghost use Rattle.trace_text.specs.Traces.{IsTraceOf};
 ghost use Rattle.program_runner.specs.Setups.{HasNoFault};
+ghost use Rattle.replay.specs.DrawnValues.{setup_of_seed};
 ghost use Rattle.replay.specs.Soaks.{IsLeastBreak};
+ghost use Rattle.hunting.specs.Shorter.{IsBreaking};
 ghost use Rattle.reports.specs.Report.{IsTold};
 ghost use Rattle.reports.specs.Said.{Saves, Tells};
 ghost use Rattle.reports.specs.TraceRuns.{OfRun};
 ghost use Rattle.search_commands.specs.Searches.{OfSeeds, of_sound, of_too_long, seeds_word};
-ghost use Rattle.search_commands.specs.Sources.{IsSoaked, past_seed};
+ghost use Rattle.search_commands.specs.Sources.{IsSoaked, past_seed, seed_break};
 
 use crate::found_seeds::{Soak, broken_seed, tell_found};
 use crate::onlooker::Onlooker;
 use crate::searching::search_for;
 use crate::sources::{Searched, Source};
-use command_line::{Draws, Shrink, SoakOptions};
+use command_line::{Draws, Search, Shrink, SoakOptions};
 use hunting::{BrokenSeed, BrokenTrace, broken_trace};
-use replay::SeedBreak;
+use layout::Program;
+use replay::{SeedBreak, start_of_seed};
 use reports::{
     Files, Outputs, Results, STATUS_YES, Traced, memory, no_threads, read_traced, unread,
 };
-use std::alloc::Global;
+use std::alloc::{AllocError, Global};
 use std::io;
 use std::io::Write;
 use std::thread::Threads;
 use std::time::Clock;
-use trace_text::STEP_LIMIT;
+use trace_text::{STEP_LIMIT, Trace};
 
 /// How seeds are called.
 fn seeds_word(draws: Draws) -> &'static str
@@ -67,6 +70,28 @@ fn wants_line_alone(soak: Soak) -> bool
     }
 }
 
+/// The steps of a seed that is broken by uniform draws, up to its break, from the start of the seed.
+fn found_again(
+    alloc: Global,
+    program: &Program,
+    trace: Trace,
+    at: SeedBreak,
+    search: Search,
+) -> Result<BrokenSeed, AllocError>
+    requires is_trace { IsTraceOf program.now trace }
+    requires few { at.broken.step ≤ 10000000 }
+    requires least { IsLeastBreak program.now (setup_of_seed search.drawn_values program.now trace.setup) search.first (past_seed search) search.steps at }
+    ensures breaking { IfOk result (λ broken. IsBreaking program.now broken.found.trace broken.found.broken) }
+    ensures setup { IfOk result (λ broken. broken.found.trace.setup ≡ setup_of_seed search.drawn_values program.now trace.setup broken.seed) }
+    ensures seed { IfOk result (λ broken. seed_break broken ≡ at) }
+{
+    let SeedBreak { seed, broken } = at;
+    let start = start_of_seed(alloc, program, trace, seed, search.drawn_values)?;
+    let trace = broken_trace(alloc, start, at)?;
+    let found = BrokenTrace { trace, broken };
+    Ok(BrokenSeed { seed, found })
+}
+
 /// Says which seed is broken by uniform draws. Where they are wanted, its steps are drawn once more.
 fn tell_drawn(
     alloc: Global,
@@ -79,7 +104,7 @@ fn tell_drawn(
     requires uniform { soak.options.search.draws ≡ draws.Uniform }
     requires is_trace { IsTraceOf traced.program traced.trace }
     requires no_fault { HasNoFault traced.program traced.trace.setup }
-    requires least { IsLeastBreak traced.program traced.trace.setup soak.options.search.first (past_seed soak.options.search) soak.options.search.steps at }
+    requires least { IsLeastBreak traced.program (setup_of_seed soak.options.search.drawn_values traced.program traced.trace.setup) soak.options.search.first (past_seed soak.options.search) soak.options.search.steps at }
     ensures said { IfOk result (Saves (OfSeeds soak.options soak.saves traced.program traced.trace) results.old results.new) }
     ensures kept { soak.saves ≡ false → results.new.saved.items ≡ results.old.saved.items }
 {
@@ -94,11 +119,8 @@ fn tell_drawn(
         drop(trace);
         return too_long(&mut results.outputs, at);
     }
-    match broken_trace(alloc, trace, at) {
-        Ok(trace) => {
-            let SeedBreak { seed, broken } = at;
-            let found = BrokenTrace { trace, broken };
-            let broken = BrokenSeed { seed, found };
+    match found_again(alloc, &program, trace, at, soak.options.search) {
+        Ok(broken) => {
             let status = tell_found(alloc, &program, broken, soak, results, onlooker);
             drop(program);
             status

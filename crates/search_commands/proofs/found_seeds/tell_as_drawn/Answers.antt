@@ -13,7 +13,7 @@ pub returns-in-Ok-clause-said : goal.returns-in-Ok-clause-said
 returns-in-Ok-clause-said c t no_fault begins is_broken =
     let b = c.args.broken in
     let draws = c.args.soak.options.search.draws in
-    let drawn = drawn_if c.args.soak.saves c.args.program.now t b.found.trace b.found.broken _ _ begins c.requires.breaking c.in-Ok.ensures.added in
+    let drawn = drawn_if c.args.soak.saves c.args.program.now _ b.found.trace b.found.broken _ _ begins c.requires.breaking c.in-Ok.ensures.added in
     IfOk-weaker c.broken_seed.result _ _
     (λ status told. (
       OnOutput _,

@@ -5,7 +5,7 @@ use Rattle.search_commands.proofs.searching.search_for.Given as goal
 
 abbrev pub invariant-loop-next : goal.invariant-loop-next
 invariant-loop-next g l = record {
-  sound : AreSound l.source l.search.steps l.search.first l.next;
+  sound : AreSound l.source l.search.drawn_values l.search.steps l.search.first l.next;
   low : l.search.first ≤ l.next;
   within : l.next ≤ l.past;
   least : 0 < l.pace.least;

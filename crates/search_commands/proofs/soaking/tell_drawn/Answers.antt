@@ -2,18 +2,15 @@ use Rattle.std.proofs.Common.{Some, refl, subst, sym}
 use Rattle.std.proofs.lemmas.Result.{IfOk-weaker}
 use Rattle.command_line.specs.declared.options.Draws.{Draws}
 use Rattle.program_runner.specs.declared.setup_fault.SetupFault.TheVariants.{Memory}
+use Rattle.replay.specs.declared.outcome.SeedBreak.{SeedBreak}
 use Rattle.reports.specs.Report.{IsTold}
 use Rattle.reports.specs.Said.{OnOutput, OnError}
-use Rattle.search_commands.specs.Searches.{IsBrokenBy, broken, too_long, not_started, of_seed, of_too_long}
+use Rattle.search_commands.specs.Searches.{IsBroken, IsBrokenBy, broken, too_long, not_started, of_seed, of_too_long}
 use Rattle.search_commands.proofs.Searched.{not_drawn}
 use Rattle.search_commands.proofs.soaking.tell_drawn.Goals as goal
 
 pub tell_found-status-requires : goal.tell_found-status-requires
-tell_found-status-requires g c = record {
-  is_trace = c.in-Ok.ensures.is_trace c.args.traced.program c.requires.is_trace;
-  breaks = c.in-Ok.ensures.breaks c.args.traced.program c.args.soak.options.search.steps c.requires.least.breaks;
-  ends = c.in-Ok.ensures.ends;
-}
+tell_found-status-requires g c = c.in-Ok.ensures.breaking
 
 pub returns-then-wants_line_alone-clause-said : goal.returns-then-wants_line_alone-clause-said
 returns-then-wants_line_alone-clause-said g c =
@@ -44,7 +41,8 @@ returns-in-Ok-clause-said g c =
     let search = c.args.soak.options.search in
     let traced = c.args.traced in
     let is_broken = subst (λ (draws : Draws). IsBrokenBy draws search traced.program traced.trace c.args.at) (sym c.requires.uniform) c.requires.least in
-    c.tell_found-status.ensures.said traced.trace c.requires.no_fault c.in-Ok.ensures.setup is_broken
+    c.tell_found-status.ensures.said traced.trace c.requires.no_fault c.in-Ok.ensures.setup
+    (subst (λ (at : SeedBreak). IsBroken search traced.program traced.trace at) (sym c.in-Ok.ensures.seed) is_broken)
 
 pub returns-in-Err-clause-said : goal.returns-in-Err-clause-said
 returns-in-Err-clause-said g c =

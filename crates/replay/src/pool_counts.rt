@@ -8,11 +8,7 @@ use pools::LayoutId;
 use std::alloc::{AllocError, Global};
 
 /// How many cells there are of each layout.
-pub(crate) fn counts_in(
-    alloc: Global,
-    pools: &Pools,
-    layouts: u32,
-) -> Result<Items<u32>, AllocError>
+pub fn counts_in(alloc: Global, pools: &Pools, layouts: u32) -> Result<Items<u32>, AllocError>
     requires { layouts ≡ length pools.now }
     ensures { IfOk result (λ counts. counts ≡ pools.now) }
 {
