@@ -3,6 +3,7 @@
 #![tactic(auto)]
 
 mod frame_notes;
+mod from_outside;
 mod log;
 mod recording;
 mod stretch;

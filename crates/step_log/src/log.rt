@@ -11,6 +11,8 @@ pub struct LogStep {
     pub place: Option<FramePlace>,
     /// What the step does. None where the actor has no next step.
     pub happening: Option<Happening>,
+    /// The number that the thread takes from outside of the module by the step, if it takes one.
+    pub from_outside: Option<u64>,
     /// How many notes of frames come before the step. If it changes the root slots, the next note is about that.
     pub notes: usize,
 }

@@ -10,6 +10,7 @@ ghost use Rattle.step_log.specs.Steps.{happening_of};
 ghost use Rattle.step_log.specs.Upcoming.{actors_in};
 
 use crate::frame_notes::FrameNotes;
+use crate::from_outside::FromOutside;
 use crate::log::LogStep;
 use crate::upcoming::Upcoming;
 use items::Items;
@@ -31,6 +32,7 @@ pub struct Recorder<'a> {
     pub before: usize,
     pub steps: Items<LogStep>,
     pub notes: FrameNotes,
+    numbers: FromOutside<'a>,
 }
 
 /// Where an actor stands, if it is a thread under way.
@@ -87,6 +89,7 @@ impl<'a> Recorder<'a> {
         ensures before { IfOk result (λ recorder. recorder.before ≡ 0) }
         ensures fault { IfErr result (λ e. e ≢ fault.Memory → IsSetupFault program.now setup.now e) }
     {
+        let numbers = FromOutside::new(alloc, program, setup)?;
         let world = World::new(alloc, program, setup)?;
         match first_notes(alloc, &world, setup.starts.len() as u32) {
             Ok(notes) => {
@@ -97,6 +100,7 @@ impl<'a> Recorder<'a> {
                     before: 0,
                     steps,
                     notes,
+                    numbers,
                 })
             }
             Err(refused) => {
@@ -115,12 +119,15 @@ impl<'a> Recorder<'a> {
         ensures before { self.new.before ≡ self.old.before }
     {
         let place = place_of(&self.world, actor);
+        let asked = self.numbers.asked(&self.world, actor);
         let notes = self.notes.len();
         let made = self.world.step(actor)?;
+        let from_outside = self.numbers.take(asked, &made);
         self.steps.push(LogStep {
             actor,
             place,
             happening: happening_of(&made),
+            from_outside,
             notes,
         })?;
         let steps = self.before.saturating_add(self.steps.len());

@@ -7,6 +7,8 @@ pub enum Event {
     Nothing,
     /// A local step.
     Local,
+    /// A local step that takes this number from outside of the module.
+    FromOutside(u64),
     /// The instruction has no meaning here.
     Wrong,
     Read {
@@ -113,6 +115,7 @@ impl Event {
         match self {
             Event::Nothing => "nothing",
             Event::Local => "local",
+            Event::FromOutside(_) => "from_outside",
             Event::Wrong => "wrong",
             Event::Read { .. } => "read",
             Event::ReadOld { .. } => "read_old",
@@ -180,10 +183,11 @@ impl Event {
         }
     }
 
-    /// What was read or stored.
+    /// What was read, stored, or taken from outside.
     pub fn value(&self) -> Option<u64> {
         match self {
-            Event::Read { value, .. }
+            Event::FromOutside(value)
+            | Event::Read { value, .. }
             | Event::ReadOld { value, .. }
             | Event::Store { value, .. }
             | Event::StoreLast { value, .. }

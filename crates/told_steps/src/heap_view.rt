@@ -74,6 +74,14 @@ fn globals_at_start(alloc: Global, program: &Program) -> Result<Items<u64>, Allo
     Ok(Items::from_vec(values))
 }
 
+/// A local step, which may take a number from outside.
+fn worked(from_outside: Option<u64>) -> Event {
+    match from_outside {
+        Some(value) => Event::FromOutside(value),
+        None => Event::Local,
+    }
+}
+
 impl<'a> HeapView<'a> {
     /// The heap before the first step.
     pub fn new(alloc: Global, program: &'a Program, setup: &'a Setup) -> Result<Self, AllocError> {
@@ -192,6 +200,7 @@ impl<'a> HeapView<'a> {
     pub fn step(&mut self, step: &LogStep) -> Event {
         match &step.happening {
             None => Event::Nothing,
+            Some(Happening::Thread(_, Move::Works)) => worked(step.from_outside),
             Some(Happening::Thread(number, made)) => self.moved(*number, made),
             Some(Happening::Collector(turn)) => self.turned(turn),
         }
@@ -225,7 +234,6 @@ impl<'a> HeapView<'a> {
 
     fn moved(&mut self, number: u32, made: &Move) -> Event {
         match made {
-            Move::Works => Event::Local,
             Move::GoesWrong => Event::Wrong,
             Move::ReadsWord { base, word, value } => Event::Read {
                 cell: base.cell,

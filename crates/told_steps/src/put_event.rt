@@ -139,6 +139,10 @@ fn put_handshake(names: &Names, out: &mut Message, event: &Event) {
     match *event {
         Event::Nothing => out.put("has no step left"),
         Event::Local => out.put("local"),
+        Event::FromOutside(value) => {
+            names.put_number(out, "takes ", value);
+            out.put(" from outside")
+        }
         Event::Wrong => out.put("goes wrong: the instruction has no meaning here"),
         Event::Poll => out.put("safepoint: nothing is asked"),
         Event::SeePosted(stage) => {
