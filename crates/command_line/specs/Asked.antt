@@ -1,5 +1,7 @@
 -- What a command line asks for, and what becomes of an error of `clap`.
-use Rattle.std.specs.Prelude.{◌≤◌, Bool, true, false, Option, option_map, if◌then◌else◌}
+use Rattle.std.specs.Prelude.{◌≤◌, ◌+◌, ℕ, Bool, true, false, Option, Some, None, codes, nat_lt, option_map, if◌then◌else◌}
+use Rattle.std.specs.Option.{option_map_or}
+use Rattle.std.specs.Str.{bytes_eq}
 use Rattle.clap.specs.Words.{Text, kind_of}
 use Rattle.clap.specs.declared.error.Error.{Error}
 use Rattle.clap.specs.declared.error.kind.ErrorKind.{ErrorKind}
@@ -34,6 +36,7 @@ pub record PathTexts : Type 0 where
   pub trace : Option Text
   pub edits : Option Text
   pub of_record : Option Text
+  pub list : Option Text
   pub saved : Option Text
 
 -- these paths
@@ -45,8 +48,38 @@ texts_of paths = record {
   trace = option_map (λ path. path.now) paths.trace;
   edits = option_map (λ path. path.now) paths.edits;
   of_record = option_map (λ path. path.now) paths.of_record;
+  list = option_map (λ path. path.now) paths.list;
   saved = option_map (λ path. path.now) paths.saved;
 }
+
+-- the paths of a pair: a module and its certificate
+abbrev pub pair_texts : (of_module certificate : Text) → PathTexts
+pair_texts of_module certificate = record {
+  of_module = Some of_module;
+  certificate = Some certificate;
+  shapes = None;
+  trace = None;
+  edits = None;
+  of_record = None;
+  list = None;
+  saved = None;
+}
+
+-- whether a path is `-`, which names the standard input
+abbrev pub is_input : Text → Bool
+is_input path = bytes_eq path (codes "-")
+
+-- how many of a file are the standard input: one, or none
+abbrev pub input : Option Text → ℕ
+input path = if option_map_or is_input path false then 1 else 0
+
+-- how many of the files that are read are the standard input
+abbrev pub input_count : PathTexts → ℕ
+input_count paths = input paths.of_module + input paths.certificate + input paths.shapes + input paths.trace + input paths.edits + input paths.of_record + input paths.list
+
+-- at most one of them is
+abbrev pub is_read_once : PathTexts → Bool
+is_read_once paths = nat_lt (input_count paths) 2
 
 -- a check has from 1 to 64 workers
 abbrev pub HasWorkers : What → Type 0
@@ -67,6 +100,15 @@ is_wide _ = false
 abbrev pub when_on_terminal : Explained → Explained
 when_on_terminal when.OnTerminal = when.Always
 when_on_terminal explained = explained
+
+-- the same where this is the default
+abbrev pub when_by_default : (usual explained : Explained) → Explained
+when_by_default usual when.ByDefault = usual
+when_by_default usual explained = explained
+
+-- a command where this is the default
+abbrev pub by_default : (usual : Explained) → Command → Command
+by_default usual command = record command { explained = when_by_default usual command.explained }
 
 -- a command where the standard error is a terminal
 abbrev pub on_terminal : Command → Command

@@ -6,10 +6,10 @@ use Rattle.std.specs.Str.Parse.{digits_value, without_leading_plus}
 use Rattle.clap.specs.Words.{App, IsAmong, Row, Rule, Text, fault_of, first_of, kind_of, new_app, new_rule, one_of, subcommand_of, with_subcommand}
 use Rattle.clap.specs.declared.builder.action.ArgAction.TheVariants.{SetTrue}
 use Rattle.clap.specs.declared.builder.value_parser.ValueParser.TheVariants.{Signed}
-use Rattle.command_line.specs.Asked.{PathTexts, texts_of}
+use Rattle.command_line.specs.Asked.{PathTexts, is_read_once, texts_of}
 use Rattle.command_line.specs.declared.command.Command.{Command}
 use Rattle.command_line.specs.declared.command.Explained.{Explained}
-use Rattle.command_line.specs.declared.command.Explained.TheVariants.{Always, OnTerminal, Never}
+use Rattle.command_line.specs.declared.command.Explained.TheVariants.{Always, OnTerminal, Never, ByDefault}
 use Rattle.command_line.specs.declared.command.Forms.{Forms}
 use Rattle.command_line.specs.declared.command.Forms.TheVariants.{Core, Wide}
 use Rattle.command_line.specs.declared.fault.LineFault.{LineFault}
@@ -70,7 +70,7 @@ workers_rule = record (valued_rule (codes "workers")) {
 
 -- an option whose value says when a refusal is explained, and which may be left out
 abbrev pub explain_rule : Rule
-explain_rule = record (valued_rule (codes "explain")) { defaults = codes "auto" ∷ [] }
+explain_rule = valued_rule (codes "explain")
 
 -- an option whose value says which forms a module may have, and which may be left out
 abbrev pub forms_rule : Rule
@@ -110,6 +110,9 @@ command_apps =
     -- check MODULE CERT [--workers N] [--explain WHEN] [--all] [--limit N] [--forms FORMS]
     command_app (codes "check") (file_rule (codes "MODULE") ∷ file_rule (codes "CERT") ∷ workers_rule ∷ explain_rule ∷ flag_rule (codes "all") ∷ optional_rule (codes "limit") ∷ forms_rule ∷ [])
     ∷
+    -- check-list LIST [--workers N] [--explain WHEN] [--forms FORMS]
+    command_app (codes "check-list") (file_rule (codes "LIST") ∷ workers_rule ∷ explain_rule ∷ forms_rule ∷ [])
+    ∷
     -- make MODULE [--shapes FILE] [--why] [--explain WHEN] [--forms FORMS]
     command_app (codes "make") (file_rule (codes "MODULE") ∷ valued_rule (codes "shapes") ∷ flag_rule (codes "why") ∷ explain_rule ∷ forms_rule ∷ [])
     ∷
@@ -121,10 +124,10 @@ command_apps =
     (file_rule (codes "MODULE") ∷ file_rule (codes "TRACE") ∷ valued_rule (codes "shapes") ∷ flag_rule (codes "steps")
     ∷ optional_rule (codes "from") ∷ optional_rule (codes "to") ∷ valued_rule (codes "json") ∷ valued_rule (codes "record") ∷ explain_rule ∷ forms_rule ∷ [])
     ∷
-    -- soak MODULE TRACE [--shapes FILE] --seeds N --steps S [--first F] [--save FILE] [--bias] [--seconds N] [--shrink] [--tries N] [--explain WHEN] [--forms FORMS]
+    -- soak MODULE TRACE [--shapes FILE] --seeds N --steps S [--first F] [--save FILE] [--bias] [--drawn-values] [--seconds N] [--shrink] [--tries N] [--explain WHEN] [--forms FORMS]
     command_app (codes "soak")
     (file_rule (codes "MODULE") ∷ file_rule (codes "TRACE") ∷ valued_rule (codes "shapes") ∷ number_rule (codes "seeds") ∷ number_rule (codes "steps") ∷ default_rule (codes "first") (codes "0")
-    ∷ valued_rule (codes "save") ∷ flag_rule (codes "bias") ∷ optional_rule (codes "seconds") ∷ flag_rule (codes "shrink") ∷ optional_rule (codes "tries") ∷ explain_rule ∷ forms_rule ∷ [])
+    ∷ valued_rule (codes "save") ∷ flag_rule (codes "bias") ∷ flag_rule (codes "drawn-values") ∷ optional_rule (codes "seconds") ∷ flag_rule (codes "shrink") ∷ optional_rule (codes "tries") ∷ explain_rule ∷ forms_rule ∷ [])
     ∷
     -- hunt MODULE [--shapes FILE] [--cert FILE] [--seeds N] [--steps S] [--first F] [--tries N] [--seconds N] [--save FILE] [--forms FORMS]
     command_app (codes "hunt")
@@ -233,6 +236,10 @@ abbrev pub check_of : List Row → Option Asked
 check_of given =
     option_and_then (λ workers. option_map (λ refusals. check (record { workers = workers; refusals = refusals })) (refusals_of given)) (workers_of given)
 
+-- the options of `check-list`, if they are a number of workers: of each pair the first refusal is told
+abbrev pub check_list_of : List Row → Option Asked
+check_list_of given = option_map (λ workers. check (record { workers = workers; refusals = First })) (workers_of given)
+
 -- whether to say what is refused, by the option `why`
 abbrev pub why_of : List Row → Why
 why_of given = if flag_of (codes "why") given then Wanted else NotWanted
@@ -278,11 +285,32 @@ replay_of given = option_and_then (λ recorded. option_map (λ steps. replay (re
 abbrev pub draws_of : List Row → Draws
 draws_of given = if flag_of (codes "bias") given then Biased else Uniform
 
--- the first seed, how many, how many steps each draws and how, and after how many seconds the search ends
+-- which forms a module may have, by their word
+abbrev pub forms_by : Text → Option Forms
+forms_by word =
+    if bytes_eq word (codes "core") then Some Core
+    else if bytes_eq word (codes "wide") then Some Wide
+    else None
+
+-- which forms a module may have, by the option `forms`: those of core for a command that has no such option
+abbrev pub forms_of : List Row → Option Forms
+forms_of given = option_map_or forms_by (first_of (codes "forms") given) (Some Core)
+
+-- numbers from outside are drawn with the wide forms alone
+abbrev pub drawn_with : Option Forms → Option Bool
+drawn_with (Some Wide) = Some true
+drawn_with forms = None
+
+-- whether each seed draws numbers from outside, by the option `drawn-values`
+abbrev pub drawn_values_of : List Row → Option Bool
+drawn_values_of given = if flag_of (codes "drawn-values") given then drawn_with (forms_of given) else Some false
+
+-- the first seed, how many, how many steps each draws, how, and whether it draws numbers from outside, and after how many seconds the search ends
 abbrev pub search_of : List Row → Option Search
 search_of given =
-    option_and_then (λ seeds. option_and_then (λ steps. option_map (λ first. record { first = first; seeds = seeds; steps = steps; draws = draws_of given; seconds = number_of (codes "seconds") given })
-    (number_of (codes "first") given)) (number_of (codes "steps") given)) (number_of (codes "seeds") given)
+    option_and_then (λ seeds. option_and_then (λ steps. option_and_then (λ first. option_map
+    (λ drawn. record { first = first; seeds = seeds; steps = steps; draws = draws_of given; drawn_values = drawn; seconds = number_of (codes "seconds") given })
+    (drawn_values_of given)) (number_of (codes "first") given)) (number_of (codes "steps") given)) (number_of (codes "seeds") given)
 
 -- how many traces are replayed at most for a shorter one where no limit is given
 abbrev pub TRIES : ℕ
@@ -323,6 +351,7 @@ lower_of given = lower (record { recorded = flag_of (codes "record") given })
 abbrev pub asked_of : (name : Text) → List Row → Option Asked
 asked_of name given =
     if bytes_eq name (codes "check") then check_of given
+    else if bytes_eq name (codes "check-list") then check_list_of given
     else if bytes_eq name (codes "make") then Some (make_of given)
     else if bytes_eq name (codes "recheck") then Some recheck
     else if bytes_eq name (codes "replay") then replay_of given
@@ -357,8 +386,13 @@ paths_of name given =
       trace = first_of (codes "TRACE") given;
       edits = first_of (codes "EDITS") given;
       of_record = first_of (codes "RECORD") given;
+      list = first_of (codes "LIST") given;
       saved = saved_of name given;
     }
+
+-- the same paths, if at most one of the files that are read is the standard input
+abbrev pub read_once : PathTexts → Option PathTexts
+read_once paths = if is_read_once paths then Some paths else None
 
 -- when a refusal is explained, by its word
 abbrev pub explained_by : Text → Option Explained
@@ -368,20 +402,9 @@ explained_by word =
     else if bytes_eq word (codes "never") then Some Never
     else None
 
--- when a refusal is explained, by the option `explain`: never by a command that has no such option
+-- when a refusal is explained, by the option `explain`: by the caller's default where it is not given
 abbrev pub explained_of : List Row → Option Explained
-explained_of given = option_map_or explained_by (first_of (codes "explain") given) (Some Never)
-
--- which forms a module may have, by their word
-abbrev pub forms_by : Text → Option Forms
-forms_by word =
-    if bytes_eq word (codes "core") then Some Core
-    else if bytes_eq word (codes "wide") then Some Wide
-    else None
-
--- which forms a module may have, by the option `forms`: those of core for a command that has no such option
-abbrev pub forms_of : List Row → Option Forms
-forms_of given = option_map_or forms_by (first_of (codes "forms") given) (Some Core)
+explained_of given = option_map_or explained_by (first_of (codes "explain") given) (Some ByDefault)
 
 -- what a line asks for
 pub record AskedLine : Type 0 where
@@ -397,8 +420,8 @@ line_by command = record { paths = texts_of command.paths; explained = command.e
 -- what the command of this name asks for, by what was given to it
 abbrev pub line_of : (name : Text) → List Row → Option AskedLine
 line_of name given =
-    option_and_then (λ explained. option_and_then (λ forms. option_map (λ asked. record { paths = paths_of name given; explained = explained; forms = forms; asked = asked })
-    (asked_of name given)) (forms_of given)) (explained_of given)
+    option_and_then (λ explained. option_and_then (λ forms. option_and_then (λ asked. option_map (λ paths. record { paths = paths; explained = explained; forms = forms; asked = asked })
+    (read_once (paths_of name given))) (asked_of name given)) (forms_of given)) (explained_of given)
 
 -- what a command's name with what was given to it asks for
 abbrev pub line_found : Option (Text × List Row) → Option AskedLine

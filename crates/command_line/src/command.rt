@@ -1,6 +1,6 @@
 //! What a command line asks for.
-ghost use Rattle.std.specs.Prelude.{◌≡◌};
-ghost use Rattle.command_line.specs.Asked.{is_wanted, is_wide, on_terminal, when_on_terminal};
+ghost use Rattle.std.specs.Prelude.{◌≡◌, ◌≤◌, option_map};
+ghost use Rattle.command_line.specs.Asked.{by_default, input, input_count, is_read_once, is_wanted, is_wide, on_terminal, pair_texts, texts_of, when_by_default, when_on_terminal};
 
 use crate::options::What;
 
@@ -14,6 +14,8 @@ pub struct Paths<'a> {
     pub trace: Option<&'a str>,
     pub edits: Option<&'a str>,
     pub of_record: Option<&'a str>,
+    /// A list of pairs, each of a module and a certificate. The command is done on each pair.
+    pub list: Option<&'a str>,
     /// The file that the command writes: a trace, steps as JSON, or a record.
     pub saved: Option<&'a str>,
 }
@@ -25,6 +27,8 @@ pub enum Explained {
     /// Where the standard error is a terminal.
     OnTerminal,
     Never,
+    /// As the caller has it where the line does not say.
+    ByDefault,
 }
 
 /// Which forms the text of a module may have.
@@ -55,6 +59,16 @@ impl Explained {
         }
     }
 
+    /// The same where this is the default.
+    fn by_default(self, usual: Explained) -> Explained
+        ensures { result ≡ when_by_default usual self }
+    {
+        match self {
+            Explained::ByDefault => usual,
+            when => when,
+        }
+    }
+
     /// Whether a refusal is explained where nothing is known of the standard error.
     pub fn is_wanted(self) -> bool
         ensures { result ≡ is_wanted self }
@@ -81,8 +95,45 @@ impl Paths<'_> {
         trace: None,
         edits: None,
         of_record: None,
+        list: None,
         saved: None,
     };
+}
+
+/// The path that names the standard input.
+pub const INPUT: &str = "-";
+
+/// How many of this file are the standard input: one, or none.
+fn input_of(path: Option<&str>) -> u32
+    ensures count { result ≡ input (option_map (λ path. path.now) path.entry) }
+    ensures few { result ≤ 1 }
+{
+    match path {
+        Some(INPUT) => 1,
+        _ => 0,
+    }
+}
+
+impl Paths<'_> {
+    /// How many of the files that are read are the standard input.
+    fn input_count(&self) -> u32
+        ensures { result ≡ input_count (texts_of self.now) }
+    {
+        input_of(self.of_module)
+            + input_of(self.certificate)
+            + input_of(self.shapes)
+            + input_of(self.trace)
+            + input_of(self.edits)
+            + input_of(self.of_record)
+            + input_of(self.list)
+    }
+
+    /// Whether one of the files that are read at most is the standard input.
+    pub fn is_read_once(&self) -> bool
+        ensures { result ≡ is_read_once (texts_of self.now) }
+    {
+        self.input_count() <= 1
+    }
 }
 
 impl<'a> Command<'a> {
@@ -92,6 +143,31 @@ impl<'a> Command<'a> {
     {
         Command {
             explained: self.explained.on_terminal(),
+            ..self
+        }
+    }
+
+    /// The command where this is the default of `--explain`.
+    pub fn by_default(self, usual: Explained) -> Command<'a>
+        ensures { result ≡ by_default usual self.entry }
+    {
+        Command {
+            explained: self.explained.by_default(usual),
+            ..self
+        }
+    }
+
+    /// The command on a pair of its list.
+    pub fn of_pair(self, of_module: &'a str, certificate: &'a str) -> Command<'a>
+        ensures paths { texts_of result.paths ≡ pair_texts of_module.entry.now certificate.entry.now }
+        ensures rest { result ≡ record self.entry { paths = result.paths } }
+    {
+        Command {
+            paths: Paths {
+                of_module: Some(of_module),
+                certificate: Some(certificate),
+                ..Paths::NONE
+            },
             ..self
         }
     }

@@ -81,7 +81,7 @@ fn explain_when<'a>(alloc: Global, help: &'a str) -> Arg<'a>
     ensures rule { rule_of result ≡ explain_rule }
     ensures own { result.global ≡ false }
 {
-    valued(alloc, "explain", "WHEN", help).default_value("auto")
+    valued(alloc, "explain", "WHEN", help)
 }
 
 /// Which forms the text of the module may have, which may be given.
@@ -144,13 +144,13 @@ fn command_of<'a>(alloc: Global, row: &CommandRow) -> Result<Command<'a>, AllocE
     Ok(command)
 }
 
-/// The program's own line, without its commands.
+/// The program's own line, without its commands. A build without proofs writes another second line of the version.
 fn bare_command<'a>(alloc: Global) -> Command<'a>
     ensures app { app_of result ≡ bare_app }
     ensures own { (out-Command result).has_globals ≡ false }
 {
     told_command(alloc, "dgc", ABOUT, STATUSES)
-        .version("0.1.0")
+        .version("0.1.0\nproved in the logic dac8208d650f15bf")
         .subcommand_required(true)
 }
 

@@ -9,10 +9,10 @@ mod options;
 mod reader;
 mod table;
 
-pub use command::{Command, Explained, Forms, Paths};
+pub use command::{Command, Explained, Forms, INPUT, Paths};
 pub use fault::LineFault;
 pub use options::{
     CheckOptions, Draws, ExplainOptions, HuntOptions, LowerOptions, MakeOptions, Refusals,
     ReplayOptions, RunOptions, Search, Shrink, SoakOptions, StepsTold, What, Why,
 };
-pub use reader::read_command;
+pub use reader::{explained_by, read_command};

@@ -2,9 +2,10 @@
 ghost use Rattle.std.specs.Prelude.{◌≡◌, ◌≤◌, IfSome, option_map};
 ghost use Rattle.clap.specs.Words.{found_of, rows_of};
 ghost use Rattle.command_line.specs.Asked.{are_told, HasWorkers};
-ghost use Rattle.command_line.specs.Grammar.{asked_by, asked_of, check_of, draws_of, explain_of, hunt_of, lower_of, make_of, recorded_by, recorded_of, refusals_of, replay_of, run_of, search_of, shrink_of, soak_of, steps_between, steps_of, why_of, workers_of, written_between};
+ghost use Rattle.command_line.specs.Grammar.{asked_by, asked_of, check_of, check_list_of, draws_of, explain_of, hunt_of, lower_of, make_of, recorded_by, recorded_of, refusals_of, replay_of, run_of, search_of, shrink_of, soak_of, steps_between, steps_of, why_of, workers_of, written_between, drawn_values_of, drawn_with};
 
-use crate::given::{flag_given, number_given, text_given};
+use crate::command::Forms;
+use crate::given::{flag_given, forms_given, number_given, text_given};
 use clap::ArgMatches;
 
 /// How many refusals are told.
@@ -83,6 +84,8 @@ pub struct Search {
     /// How many steps each draws.
     pub steps: u32,
     pub draws: Draws,
+    /// Whether each seed also draws the numbers that threads get from outside after those of the trace.
+    pub drawn_values: bool,
     /// After how many seconds no further seeds are tried.
     pub seconds: Option<u32>,
 }
@@ -217,6 +220,18 @@ fn check_given<'a>(given: &ArgMatches<'a>) -> Option<What<'a>>
     Some(What::Check(CheckOptions { workers, refusals }))
 }
 
+/// The options of `check-list`: of each pair the first refusal is told.
+fn check_list_given<'a>(given: &ArgMatches<'a>) -> Option<What<'a>>
+    ensures asked { option_map asked_by result ≡ check_list_of (rows_of (found_of given.now)) }
+    ensures workers { IfSome result HasWorkers }
+{
+    let workers = workers_given(given)?;
+    Some(What::Check(CheckOptions {
+        workers,
+        refusals: Refusals::First,
+    }))
+}
+
 /// Whether to say what is refused, by the option `why`.
 fn why_given(given: &ArgMatches<'_>) -> Why
     ensures { result ≡ why_of (rows_of (found_of given.now)) }
@@ -317,6 +332,27 @@ fn draws_given(given: &ArgMatches<'_>) -> Draws
     }
 }
 
+/// Whether numbers from outside may be drawn by these forms.
+fn drawn_with(forms: Option<Forms>) -> Option<bool>
+    ensures { result ≡ drawn_with forms }
+{
+    match forms {
+        Some(Forms::Wide) => Some(true),
+        _ => None,
+    }
+}
+
+/// Whether each seed draws numbers from outside, by the option `drawn-values`.
+fn drawn_values_given(given: &ArgMatches<'_>) -> Option<bool>
+    ensures { result ≡ drawn_values_of (rows_of (found_of given.now)) }
+{
+    if flag_given(given, "drawn-values") {
+        drawn_with(forms_given(given))
+    } else {
+        Some(false)
+    }
+}
+
 /// Which schedules are drawn.
 fn search_given(given: &ArgMatches<'_>) -> Option<Search>
     ensures { result ≡ search_of (rows_of (found_of given.now)) }
@@ -326,11 +362,13 @@ fn search_given(given: &ArgMatches<'_>) -> Option<Search>
     let seeds = number_given(given, "seeds")?;
     let steps = number_given(given, "steps")?;
     let first = number_given(given, "first")?;
+    let drawn_values = drawn_values_given(given)?;
     Some(Search {
         first,
         seeds,
         steps,
         draws,
+        drawn_values,
         seconds,
     })
 }
@@ -415,6 +453,7 @@ pub(crate) fn what_given<'a>(name: &str, given: &ArgMatches<'a>) -> Option<What<
 {
     match name {
         "check" => check_given(given),
+        "check-list" => check_list_given(given),
         "make" => Some(make_given(given)),
         "recheck" => Some(What::Recheck),
         "replay" => replay_given(given),
@@ -447,12 +486,21 @@ fn lack_of_replay(given: &ArgMatches<'_>) -> &'static str {
     }
 }
 
+/// What is asked of a `soak` that asks for nothing.
+fn lack_of_soak(given: &ArgMatches<'_>) -> &'static str {
+    if drawn_values_given(given).is_none() {
+        "--drawn-values needs --forms wide"
+    } else {
+        "--tries needs --shrink"
+    }
+}
+
 /// What the options of a command lack that asks for nothing though `clap` takes its words, if that is known.
 pub(crate) fn lack_of(name: &str, given: &ArgMatches<'_>) -> Option<&'static str> {
     match name {
         "check" => lack_of_check(given),
         "replay" => Some(lack_of_replay(given)),
-        "soak" => Some("--tries needs --shrink"),
+        "soak" => Some(lack_of_soak(given)),
         _ => None,
     }
 }

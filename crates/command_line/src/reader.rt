@@ -2,11 +2,11 @@
 ghost use Rattle.std.specs.Prelude.{◌≡◌, IfOk, IfErr, IfSome, IsOk, [], map, option_map};
 ghost use Rattle.clap.specs.Words.{fault_of, found_of, rows_of, subcommand_rows_of};
 ghost use Rattle.command_line.specs.Asked.{HasWorkers, texts_of};
-ghost use Rattle.command_line.specs.Grammar.{dgc_app, explained_by, explained_of, forms_by, forms_of, IsRefusalOf, line_by, line_found, line_in, line_of, paths_of, saved_of, shapes_beside};
+ghost use Rattle.command_line.specs.Grammar.{dgc_app, explained_by, explained_of, forms_of, IsRefusalOf, line_by, line_found, line_in, line_of, paths_of, read_once, saved_of, shapes_beside};
 
-use crate::command::{Command, Explained, Forms, Paths};
+use crate::command::{Command, Explained, Paths};
 use crate::fault::LineFault;
-use crate::given::{either_given, text_given};
+use crate::given::{either_given, forms_given, text_given};
 use crate::grammar::dgc_command;
 use crate::options::{lack_of, what_given};
 use clap::ArgMatches;
@@ -44,12 +44,24 @@ fn paths_given<'a>(name: &str, given: &ArgMatches<'a>) -> Paths<'a>
         trace: text_given(given, "TRACE"),
         edits: text_given(given, "EDITS"),
         of_record: text_given(given, "RECORD"),
+        list: text_given(given, "LIST"),
         saved: saved_given(name, given),
     }
 }
 
-/// When a refusal is explained, by its word.
-fn explained_by(word: &str) -> Option<Explained>
+/// The same paths, if at most one of the files that are read is the standard input.
+fn read_once(paths: Paths<'_>) -> Option<Paths<'_>>
+    ensures { option_map texts_of result ≡ read_once (texts_of paths.entry) }
+{
+    if paths.is_read_once() {
+        Some(paths)
+    } else {
+        None
+    }
+}
+
+/// When a refusal is explained, by its word: that of the option, or of a variable of the environment.
+pub fn explained_by(word: &str) -> Option<Explained>
     ensures { result ≡ explained_by word.now }
 {
     match word {
@@ -60,34 +72,13 @@ fn explained_by(word: &str) -> Option<Explained>
     }
 }
 
-/// When a refusal is explained, by the option `explain`: never by a command that has no such option.
+/// When a refusal is explained, by the option `explain`: by the caller's default where it is not given.
 fn explained_given(given: &ArgMatches<'_>) -> Option<Explained>
     ensures { result ≡ explained_of (rows_of (found_of given.now)) }
 {
     match text_given(given, "explain") {
         Some(word) => explained_by(word),
-        None => Some(Explained::Never),
-    }
-}
-
-/// Which forms a module may have, by their word.
-fn forms_by(word: &str) -> Option<Forms>
-    ensures { result ≡ forms_by word.now }
-{
-    match word {
-        "core" => Some(Forms::Core),
-        "wide" => Some(Forms::Wide),
-        _ => None,
-    }
-}
-
-/// Which forms a module may have, by the option `forms`: those of `Core` for a command that has no such option.
-fn forms_given(given: &ArgMatches<'_>) -> Option<Forms>
-    ensures { result ≡ forms_of (rows_of (found_of given.now)) }
-{
-    match text_given(given, "forms") {
-        Some(word) => forms_by(word),
-        None => Some(Forms::Core),
+        None => Some(Explained::ByDefault),
     }
 }
 
@@ -99,8 +90,9 @@ fn command_given<'a>(name: &str, given: &ArgMatches<'a>) -> Option<Command<'a>>
     let explained = explained_given(given)?;
     let forms = forms_given(given)?;
     let what = what_given(name, given)?;
+    let paths = read_once(paths_given(name, given))?;
     Some(Command {
-        paths: paths_given(name, given),
+        paths,
         explained,
         forms,
         what,
@@ -111,6 +103,9 @@ fn command_given<'a>(name: &str, given: &ArgMatches<'a>) -> Option<Command<'a>>
 fn hint_of(name: &str, given: &ArgMatches<'_>) -> &'static str {
     if forms_given(given).is_none() {
         return "--forms takes core or wide";
+    }
+    if !paths_given(name, given).is_read_once() {
+        return "only one file may be -, the standard input";
     }
     lack_of(name, given).unwrap_or("--explain takes always, auto or never")
 }

@@ -13,7 +13,7 @@ pub(crate) enum Argument {
     Number(&'static str, &'static str, &'static str),
     /// A number of workers, which may be given; otherwise it is 1.
     Workers(&'static str),
-    /// When a refusal is explained, which may be given; otherwise it is `auto`.
+    /// When a refusal is explained, which may be given.
     ExplainWhen(&'static str),
     /// Which forms the text of the module may have, which may be given; otherwise they are those of `core`.
     WhichForms(&'static str),
@@ -54,7 +54,7 @@ const SHAPES: Argument = Argument::Path(
 );
 
 const EXPLAIN: Argument = Argument::ExplainWhen(
-    "Explain a refusal on standard error: always, never, or auto, where that is a terminal",
+    "Explain a refusal on standard error: always, never, or auto, where that is a terminal [default: DGC_EXPLAIN, or auto]",
 );
 
 const FORMS: Argument = Argument::WhichForms(
@@ -76,6 +76,9 @@ Also runs that code beside the collector, one atomic step at a time or on real t
 
 /// The exit statuses of the program.
 pub(crate) const STATUSES: &str = "\
+In the place of one file of a command `-` stands for the standard input. The last line of a
+text that comes there has to be `; end`.
+
 Exit status:
   0  yes or sound, a certificate was made, the threads were run, a record conforms, a code
      was explained, a text was migrated or lowered, or help or the version was asked for
@@ -116,6 +119,37 @@ Exit status:
   2  a text is not read, or the module has no layouts
   3  memory was refused
   4  the command line is refused, a file cannot be read, or a write failed",
+};
+
+const CHECK_LIST: CommandRow = CommandRow {
+    name: "check-list",
+    about: "Checks each module of a list against its certificate",
+    arguments: &[
+        Argument::File(
+            "LIST",
+            "A list: on each line the path of a module and that of its certificate",
+        ),
+        Argument::Workers(
+            "How many pairs are checked at a time, from 1 to 64; the answer is the same",
+        ),
+        EXPLAIN,
+        FORMS,
+    ],
+    after: "\
+A tab stands between the two paths, or, on a line without a tab, one space. Empty lines and
+lines that begin with `;` say nothing. Prints a line for each pair, in the order of the list:
+the path of its module, a tab, and what `dgc check` prints of the pair, as `yes 3`, `no @f %b
+2 K6` or `error L4 23:13`. What `dgc check` prints in two lines stands in one here, with a
+space between. As many pairs as there are workers are checked at a time, and answered before
+the next ones are read. Of a line that is no pair `error list 3` goes to standard error, with
+its number, and nothing is checked.
+
+Exit status: the greatest of those that `dgc check` has of the pairs
+  0  yes
+  1  no
+  2  a text is not read, or the module has no layouts
+  3  memory was refused
+  4  the command line or a line of the list is refused, a file cannot be read, or a write failed",
 };
 
 const MAKE: CommandRow = CommandRow {
@@ -259,6 +293,10 @@ const SOAK: CommandRow = CommandRow {
             "bias",
             "Draw schedules with few switches between threads and the collector",
         ),
+        Argument::Flag(
+            "drawn-values",
+            "With --forms wide: draw numbers from outside for each thread too",
+        ),
         SECONDS,
         Argument::Flag(
             "shrink",
@@ -282,6 +320,9 @@ broken seed are written to FILE, and `dgc replay` of that trace breaks at the sa
 With --bias the schedules have few switches between actors, and the lines say so: `sound N
 biased seeds`, or `broken biased seed 12 80 c reach-blue 2`. With --seconds no further seeds
 are tried once that time is over, and the line says how many were.
+
+With --drawn-values each seed also draws 16 numbers of 64 bits for each thread, which the
+thread gets from outside after those of its line `values`. --save writes them in such lines.
 
 With --shrink threads, cells, steps and switches are left out as long as the run breaks by
 the same kind of cause. Then `shorter 60 c reach-blue 2` follows, with the last step of the
@@ -506,11 +547,12 @@ Exit status:
 };
 
 /// All commands, in the order of the help.
-pub(crate) fn commands() -> [&'static CommandRow; 11]
+pub(crate) fn commands() -> [&'static CommandRow; 12]
     ensures { map (λ row. app_of_row row.now) result ≡ command_apps }
 {
     [
         &CHECK,
+        &CHECK_LIST,
         &MAKE,
         &RECHECK,
         &REPLAY,
