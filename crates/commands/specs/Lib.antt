@@ -1,3 +1,5 @@
 pub mod Commands
 pub mod Conforming
+pub mod Inputs
+pub mod Listing
 pub mod Replaying

@@ -52,7 +52,7 @@ fn answer(
 }
 
 /// What is explained while a command is done, if its line asks for explanations.
-fn topic_of(command: &Command<'_>) -> Topic {
+pub(crate) fn topic_of(command: &Command<'_>) -> Topic {
     match (command.explained.is_wanted(), command.what) {
         (true, What::Check(_)) => Topic::Check,
         (true, What::Make(_)) => Topic::Make,
@@ -118,7 +118,7 @@ fn explain_seen(
 }
 
 /// Explains what a command answered with this status, if its line asks for that.
-fn explain_answer(
+pub(crate) fn explain_answer(
     seen: Explainer<'_>,
     command: &Command<'_>,
     files: &Files<'_>,

@@ -1,4 +1,5 @@
 //! The files of a command, as they were read.
+use crate::no_file::NoFile;
 use command_line::Command;
 use reports::{File, Files, ModuleFile};
 
@@ -11,6 +12,10 @@ pub struct Contents {
     pub trace: Option<Vec<u8>>,
     pub edits: Option<Vec<u8>>,
     pub of_record: Option<Vec<u8>>,
+    /// A list of pairs.
+    pub list: Option<Vec<u8>>,
+    /// Why the first one that cannot be read is not, if that is known.
+    pub why: Option<NoFile>,
 }
 
 /// A file that is given, with what was read of it.
@@ -33,7 +38,28 @@ fn module_file_of<'a>(
     Some(ModuleFile { file, wide })
 }
 
+/// The path of a file that is given and was not read.
+fn unread_path<'a>(path: Option<&'a str>, bytes: &Option<Vec<u8>>) -> Option<&'a str> {
+    if bytes.is_some() { None } else { path }
+}
+
 impl Contents {
+    /// The path of the first file of a command that was not read, in the order in which commands read them.
+    pub fn first_unread<'a>(&self, command: &Command<'a>) -> Option<&'a str> {
+        let paths = command.paths;
+        [
+            unread_path(paths.of_module, &self.of_module),
+            unread_path(paths.certificate, &self.certificate),
+            unread_path(paths.shapes, &self.shapes),
+            unread_path(paths.trace, &self.trace),
+            unread_path(paths.edits, &self.edits),
+            unread_path(paths.of_record, &self.of_record),
+        ]
+        .into_iter()
+        .flatten()
+        .next()
+    }
+
     /// The files of a command with these contents.
     pub fn of_command<'a>(&'a self, command: &Command<'a>) -> Files<'a> {
         let paths = command.paths;

@@ -5,7 +5,7 @@ use crate::failure::Failure;
 use crate::files::save;
 use crate::progress::Watcher;
 use command_line::Command;
-use commands::{Files, Look, Results, STATUS_NO, STATUS_YES, work};
+use commands::{Contents, Look, Pen, Results, STATUS_NO, STATUS_YES, explain_no_file, work};
 use std::io::Write;
 use std::rt::Runtime;
 use std::thread::Threads;
@@ -40,12 +40,16 @@ pub fn answer_of(
     rt: &(impl Runtime + AllocGlobal + Threads + Sync),
     look: Look,
     command: &Command<'_>,
-    files: &Files<'_>,
+    contents: &Contents,
     watcher: &mut Watcher,
 ) -> Result<Answer, Failure>
     requires { HasWorkers command.now.what }
 {
-    let mut results = Results::new(rt.alloc());
-    let status = work(rt, look, command, files, &mut results, watcher)?;
+    let alloc = rt.alloc();
+    let mut results = Results::new(alloc);
+    let files = contents.of_command(command);
+    let status = work(rt, look, command, &files, &mut results, watcher)?;
+    let pen = Pen { alloc, look };
+    explain_no_file(pen, command, contents, status, &mut results.outputs.err)?;
     Ok(Answer { status, results })
 }

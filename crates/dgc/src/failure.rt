@@ -10,6 +10,10 @@ pub enum Failure {
     Words,
     /// A write failed.
     Output,
+    /// The variable DGC_EXPLAIN says nothing that it may.
+    Setting,
+    /// The file that the command writes is one of those that it reads.
+    Overwritten,
 }
 
 impl From<io::Error> for Failure {

@@ -4,18 +4,20 @@
 mod answering;
 mod failure;
 mod files;
+mod listing;
 mod progress;
 mod terminal;
 mod ticking;
 
-ghost use Rattle.std.specs.Prelude.{◌≡◌};
+ghost use Rattle.std.specs.Prelude.{◌≡◌, IfOk};
 ghost use Rattle.command_line.specs.Asked.{HasWorkers};
 
 use answering::{Answer, answer_of};
-use command_line::{Command, LineFault, read_command};
-use commands::{Files, Look, STATUS_USAGE, STATUS_YES, memory, status_of};
+use command_line::{Command, Explained, LineFault, explained_by, read_command};
+use commands::{Contents, Look, STATUS_USAGE, STATUS_YES, memory, status_of};
 use failure::Failure;
-use files::read_files;
+use files::{is_overwritten, read_files};
+use listing::answer_list;
 use progress::Watcher;
 use std::env::VarError;
 use std::io::{IsTerminal, Stderr, Write};
@@ -38,13 +40,13 @@ fn answer_on(
     rt: &(impl Runtime + AllocGlobal + Threads + Wait + Sync),
     errors: Errors,
     command: &Command<'_>,
-    files: &Files<'_>,
+    contents: &Contents,
 ) -> Result<Answer, Failure>
     requires { HasWorkers command.now.what }
 {
     match errors {
-        Errors::Elsewhere => answer_of(rt, Look::Plain, command, files, &mut Watcher::Nobody),
-        Errors::Terminal(terminal) => answer_on_terminal(rt, terminal, command, files),
+        Errors::Elsewhere => answer_of(rt, Look::Plain, command, contents, &mut Watcher::Nobody),
+        Errors::Terminal(terminal) => answer_on_terminal(rt, terminal, command, contents),
     }
 }
 
@@ -58,8 +60,16 @@ fn answer<O: Write, E: Write>(
 ) -> Result<u8, Failure>
     requires { HasWorkers command.now.what }
 {
+    if is_overwritten(rt, command.paths) {
+        return Err(Failure::Overwritten);
+    }
     let contents = read_files(rt, command.paths)?;
-    let answer = answer_on(rt, errors, command, &contents.of_command(command));
+    if command.paths.list.is_some() {
+        let status = answer_list(rt, look_of(errors), command, &contents, out, err);
+        drop(contents);
+        return status;
+    }
+    let answer = answer_on(rt, errors, command, &contents);
     drop(contents);
     answer?.write(rt, command, out, err)
 }
@@ -75,6 +85,30 @@ fn words_given(rt: &(impl Runtime + AllocGlobal)) -> Result<Vec<String>, Failure
             Failure::Memory => Err(Failure::Memory),
             _ => Err(Failure::Words),
         },
+    }
+}
+
+/// When a refusal is explained where the line does not say: by the variable DGC_EXPLAIN, if it is set and not empty.
+fn explained_by_default(rt: &(impl Runtime + AllocGlobal)) -> Result<Explained, Failure> {
+    match env::var(rt, "DGC_EXPLAIN") {
+        Err(VarError::NotPresent) => Ok(Explained::OnTerminal),
+        Ok(value) if value.is_empty() => Ok(Explained::OnTerminal),
+        Ok(value) => explained_by(value.as_str()).ok_or(Failure::Setting),
+        Err(VarError::OutOfMemory) => Err(Failure::Memory),
+        Err(_) => Err(Failure::Setting),
+    }
+}
+
+/// The command with that default. The variable is not read where the line says when a refusal is explained.
+fn with_default<'a>(
+    rt: &(impl Runtime + AllocGlobal),
+    command: Command<'a>,
+) -> Result<Command<'a>, Failure>
+    ensures { IfOk result (λ done. done.what ≡ command.entry.what) }
+{
+    match command.explained {
+        Explained::ByDefault => Ok(command.by_default(explained_by_default(rt)?)),
+        _ => Ok(command),
     }
 }
 
@@ -99,7 +133,10 @@ fn run<O: Write, E: Write>(
     let owned = words_given(rt)?;
     let words: Vec<&str> = owned.iter().map(|word| word.as_str()).collect(alloc)?;
     match read_command(alloc, words.as_slice()) {
-        Ok(command) => answer(rt, errors, &command_on(command, errors), out, err),
+        Ok(command) => {
+            let command = command_on(with_default(rt, command)?, errors);
+            answer(rt, errors, &command, out, err)
+        }
         Err(LineFault::Words(error)) => {
             error.print(rt)?;
             Ok(if error.use_stderr() {
@@ -122,6 +159,9 @@ fn report<E: Write>(err: &mut E, failure: Failure) -> io::Result<u8> {
         Failure::Memory => return memory(err),
         Failure::Words => "error: the command line is not UTF-8",
         Failure::Output => "error output",
+        Failure::Setting => "error: DGC_EXPLAIN takes always, auto or never",
+        Failure::Overwritten =>
+            "error: the file that is to be written is one of those that are read",
     };
     writeln!(err, "{text}")?;
     Ok(STATUS_USAGE)
@@ -146,6 +186,14 @@ fn look_on_terminal(rt: &(impl Runtime + AllocGlobal)) -> Look {
         Err(VarError::NotPresent) => Look::Coloured,
         Ok(value) if value.is_empty() => Look::Coloured,
         _ => Look::Plain,
+    }
+}
+
+/// How text looks where the standard error goes.
+fn look_of(errors: Errors) -> Look {
+    match errors {
+        Errors::Elsewhere => Look::Plain,
+        Errors::Terminal(terminal) => terminal.look,
     }
 }
 

@@ -6,7 +6,7 @@ use crate::failure::Failure;
 use crate::progress::{Progress, Watcher};
 use crate::ticking::shown_while;
 use command_line::Command;
-use commands::{Files, Look};
+use commands::{Contents, Look};
 use std::io::Stderr;
 use std::rt::Runtime;
 use std::sync::Wait;
@@ -24,14 +24,14 @@ pub fn answer_on_terminal(
     rt: &(impl Runtime + AllocGlobal + Threads + Wait + Sync),
     terminal: Terminal,
     command: &Command<'_>,
-    files: &Files<'_>,
+    contents: &Contents,
 ) -> Result<Answer, Failure>
     requires { HasWorkers command.now.what }
 {
     let Terminal { stream, look } = terminal;
     let Some(name) = command.what.timed_name() else {
         let mut watcher = Watcher::Terminal(Progress::on(stream));
-        return answer_of(rt, look, command, files, &mut watcher);
+        return answer_of(rt, look, command, contents, &mut watcher);
     };
     shown_while(
         rt,
@@ -39,6 +39,6 @@ pub fn answer_on_terminal(
         name,
         || -> Result<Answer, Failure>
             requires { HasWorkers command.now.what }
-        { answer_of(rt, look, command, files, &mut Watcher::Nobody) },
+        { answer_of(rt, look, command, contents, &mut Watcher::Nobody) },
     )
 }
