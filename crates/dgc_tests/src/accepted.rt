@@ -65,6 +65,8 @@ pub fn checked_texts(of_module: Option<Vec<u8>>, certificate: Option<Vec<u8>>) -
         trace: None,
         edits: None,
         of_record: None,
+        list: None,
+        why: None,
     }
 }
 
@@ -171,6 +173,8 @@ fn made(
         trace: None,
         edits: None,
         of_record: None,
+        list: None,
+        why: None,
     };
     let printed = printed_of(rt, &command, &contents);
     drop(contents);

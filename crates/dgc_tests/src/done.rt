@@ -1,13 +1,38 @@
 //! Commands on the files of a folder.
 ghost use Rattle.command_line.specs.Asked.{HasWorkers};
 
-use crate::printed::{Printed, bytes_of};
+use crate::contents::contents_of;
+use crate::listing::listed;
+use crate::printed::Printed;
 use crate::row_failure::RowFailure;
-use command_line::{Command, LineFault, Paths, read_command};
-use commands::{Contents, Look, Nobody, Results, STATUS_USAGE, STATUS_YES, status_of, work};
+use command_line::{Command, LineFault, read_command};
+use commands::{
+    Contents, Look, Nobody, Pen, Results, STATUS_USAGE, STATUS_YES, explain_no_file, status_of,
+    work,
+};
 use std::alloc::{AllocError, Global};
+use std::io;
 use std::rt::Runtime;
 use std::thread::Threads;
+
+/// The same, or why a write failed.
+fn status_or_failure(
+    rt: &(impl Runtime + AllocGlobal + Threads + Sync),
+    command: &Command<'_>,
+    contents: &Contents,
+    results: &mut Results,
+) -> io::Result<u8>
+    requires { HasWorkers command.now.what }
+{
+    let files = contents.of_command(command);
+    let status = work(rt, Look::Plain, command, &files, results, &mut Nobody)?;
+    let pen = Pen {
+        alloc: rt.alloc(),
+        look: Look::Plain,
+    };
+    explain_no_file(pen, command, contents, status, &mut results.outputs.err)?;
+    Ok(status)
+}
 
 /// The status of a command on files with these contents, and what it results in.
 pub fn status_with(
@@ -18,8 +43,7 @@ pub fn status_with(
 ) -> u8
     requires { HasWorkers command.now.what }
 {
-    let files = contents.of_command(command);
-    status_of(work(rt, Look::Plain, command, &files, results, &mut Nobody))
+    status_of(status_or_failure(rt, command, contents, results))
 }
 
 /// What a command prints of files with these contents.
@@ -35,34 +59,6 @@ pub fn printed_of(
     Printed::of_results(status, results)
 }
 
-/// What can be read of the file of this path in a folder, if it is given.
-fn bytes_if(
-    rt: &(impl Runtime + AllocGlobal),
-    folder: &str,
-    path: Option<&str>,
-) -> Result<Option<Vec<u8>>, RowFailure> {
-    match path {
-        Some(path) => bytes_of(rt, folder, path),
-        None => Ok(None),
-    }
-}
-
-/// What can be read of the files of these paths in a folder.
-fn contents_of(
-    rt: &(impl Runtime + AllocGlobal),
-    folder: &str,
-    paths: Paths<'_>,
-) -> Result<Contents, RowFailure> {
-    Ok(Contents {
-        of_module: bytes_if(rt, folder, paths.of_module)?,
-        certificate: bytes_if(rt, folder, paths.certificate)?,
-        shapes: bytes_if(rt, folder, paths.shapes)?,
-        trace: bytes_if(rt, folder, paths.trace)?,
-        edits: bytes_if(rt, folder, paths.edits)?,
-        of_record: bytes_if(rt, folder, paths.of_record)?,
-    })
-}
-
 /// What a command prints of the files of a folder.
 pub fn done(
     rt: &(impl Runtime + AllocGlobal + Threads + Sync),
@@ -72,7 +68,11 @@ pub fn done(
     requires { HasWorkers command.now.what }
 {
     let contents = contents_of(rt, folder, command.paths)?;
-    let printed = printed_of(rt, command, &contents);
+    let printed = if command.paths.list.is_some() {
+        listed(rt, folder, command, &contents)
+    } else {
+        printed_of(rt, command, &contents)
+    };
     drop(contents);
     Ok(printed)
 }

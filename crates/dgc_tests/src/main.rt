@@ -11,6 +11,7 @@
 //!   more may follow them.
 //! - `saved`: the wanted bytes of the file that the command writes. Without it they do not matter.
 //! - `migrated`: a folder with such files for the check of the opaque text, where they are other ones.
+//! - `stdin`: the bytes of the standard input, where `args` has a `-`. Without it there are none.
 //! - The files that `args` names. A file that is not there cannot be read by the command either.
 //!
 //! Before the rows it writes the lines of the cases, each with its name and what comes of it. The file `stdout` has what must be
@@ -20,7 +21,9 @@
 mod accepted;
 mod cases;
 mod command_cases;
+mod contents;
 mod done;
+mod listing;
 mod meeting;
 mod meetings;
 mod output;

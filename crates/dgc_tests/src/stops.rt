@@ -105,6 +105,8 @@ fn is_sound(
         trace: Some(trace),
         edits: None,
         of_record: None,
+        list: None,
+        why: None,
     };
     let is_sound = is_replayed(rt, &contents);
     drop(contents);

@@ -1,0 +1,6 @@
+%Node = type { i64, %Node* }
+@top = global %Node* null
+define void @idle() {
+entry:
+  ret void
+}

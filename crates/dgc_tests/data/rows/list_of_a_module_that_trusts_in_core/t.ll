@@ -1,0 +1,5 @@
+declare void @tick()
+define void @f() {
+entry:
+  ret void
+}
