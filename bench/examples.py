@@ -289,7 +289,7 @@ def story_places(rows, page):
             places.append(Place(where, any(prints(row, text) for row in rows), "no row prints this"))
         elif kind == "block" and text.startswith("cert ") and swap_file(named or "") is None:
             places.append(Place(where, is_file(rows, text), "no row has this certificate"))
-        elif kind == "block" and not text.startswith(("cd ", "rt ", "error ")):
+        elif kind == "block" and not text.startswith(("cd ", "python3 ", "rt ", "error ")):
             held = swap_file(named or "")
             places.append(Place(where, held is not None and is_part(text, held), f"{named} of {SWAP} has no such lines"))
         if kind == "heading":

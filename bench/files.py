@@ -4,7 +4,8 @@
     files.py DGC [--only WORD ..] [--large]
 
 Each case has a line: what was given, and `as wanted` or what is not. A file that cannot be read has to end each command with
-`error file PATH` and status 4, at each place of its line; an output that takes nothing, with `error output` and status 4. No run may
+`error file PATH` and status 4, at each place of its line; an output that takes nothing, with `error output` and status 4. A text on the
+standard input has to be answered as from a file where it ends in the line `; end`, and to be `error file -` otherwise. No run may
 end by a signal or take longer than a few seconds. With --large also files of 1 GiB and of one byte more, which take about 2 GB
 of memory. A file without permission is opened by another user, so that case is left out where this one is not root. Ends with status 1
 where a case is not as wanted. For use by hand.
@@ -37,6 +38,7 @@ COMMANDS = {
     "run": "run barrier.ll swap.cert two.trace --steps 5 --turns 5",
     "migrate": "migrate barrier.ll",
     "migrate, certificate": "migrate barrier.ll swap.cert",
+    "lower, certificate": "lower barrier.ll swap.cert",
 }
 # commands that write a file, whose name is the last word
 SAVES = {
@@ -65,7 +67,7 @@ class Ended:
     def __init__(self, words, **streams):
         start = time.monotonic()
         with tempfile.TemporaryFile() as out, tempfile.TemporaryFile() as err:
-            child = subprocess.Popen(words, stdin=subprocess.DEVNULL, **{"stdout": out, "stderr": err, **streams})
+            child = subprocess.Popen(words, **{"stdin": subprocess.DEVNULL, "stdout": out, "stderr": err, **streams})
             try:
                 self.status = child.wait(timeout=MOST_SECONDS)
             except subprocess.TimeoutExpired:
@@ -98,6 +100,13 @@ class Cases:
         alike = alike and all(text is None or text == said for text, said in zip(texts, (ended.stdout, ended.stderr)))
         self.wrong += not alike
         print(f"{told}: {'as wanted' if alike else ended}", flush=True)
+
+    def tell(self, told, alike, ended):
+        """Counts a case that was looked at."""
+        if any(word in told for word in self.only):
+            self.made += 1
+            self.wrong += not alike
+            print(f"{told}: {'as wanted' if alike else ended}", flush=True)
 
     def at_each_place(self, told, path, before=(), **streams):
         """Puts this path in the place of each file of each command; it cannot be read."""
@@ -155,6 +164,49 @@ def unread_files(cases):
                        env={**os.environ, "LD_PRELOAD": library, "SHORTEN": "shrinks"})
 
 
+def piped(cases, told, words, text, wanted, **streams):
+    """Runs DGC with a pipe as its standard input, to which this text is written."""
+    writer = subprocess.Popen([sys.executable, "-c", "import os, sys; os.write(1, sys.stdin.buffer.read())"], stdin=subprocess.PIPE, stdout=subprocess.PIPE)
+    writer.stdin.write(text)
+    writer.stdin.close()
+    cases.look(told, words, wanted, stdin=writer.stdout, **streams)
+    writer.stdout.close()
+    writer.wait()
+
+
+def inputs(cases):
+    """Texts on the standard input, whole ones and ones that were cut off."""
+    for command, line in COMMANDS.items():
+        wanted = Ended([cases.dgc, *line.split()])
+        for place in file_places(line):
+            with open(line.split()[place], "rb") as file:
+                text = file.read()
+            words = with_file(line, place, "-")
+            answer = (wanted.status, None if line.startswith(("soak", "run")) else wanted.stdout, wanted.stderr)
+            piped(cases, f"the standard input: {command}, word {place}", words, text + b"; end\n", answer)
+            for told, cut in {"no last line": text, "half a last line": text + b"; en", "nothing": b"", "more": text + b"; end\n\n"}.items():
+                piped(cases, f"the standard input, {told}: {command}, word {place}", words, cut, (4, b"", b"error file -\n"))
+    piped(cases, "a list on the standard input", ["check-list", "-"], b"barrier.ll swap.cert\n; end\n", (0, b"barrier.ll\tyes 1\n", b""))
+    piped(cases, "a list that is cut off", ["check-list", "-"], b"barrier.ll swap.cert\n", (4, b"", b"error file -\n"))
+    for words, path in ((["check", "fifo", "swap.cert"], b"fifo"), (["check", "missing", "swap.cert"], b"missing"), (["check", "folder", "swap.cert"], b"folder")):
+        begins = b"error file " + path + b"\n" + path + b": "
+        ended = Ended([cases.dgc, *words, "--explain", "always"])
+        cases.tell(f"explained: {path.decode()}", ended.status == 4 and ended.stderr.startswith(begins) and b"mend:" in ended.stderr, ended)
+
+
+def settings(cases):
+    """The variable DGC_EXPLAIN."""
+    words = ["check", "plain.ll", "swap.cert"]
+    plain = Ended([cases.dgc, *words])
+    told = Ended([cases.dgc, *words, "--explain", "always"])
+    wrong = b"error: DGC_EXPLAIN takes always, auto or never\n"
+    for value, wanted in {"": plain, "auto": plain, "never": plain, "always": told}.items():
+        cases.look(f"DGC_EXPLAIN is {value!r}", words, (1, wanted.stdout, wanted.stderr), env={**os.environ, "DGC_EXPLAIN": value})
+    cases.look("DGC_EXPLAIN is another word", words, (4, b"", wrong), env={**os.environ, "DGC_EXPLAIN": "yes"})
+    cases.look("DGC_EXPLAIN is no UTF-8", words, (4, b"", wrong), env={**os.environb, b"DGC_EXPLAIN": b"\xff"})
+    cases.look("the line goes before DGC_EXPLAIN", [*words, "--explain", "never"], (1, plain.stdout, plain.stderr), env={**os.environ, "DGC_EXPLAIN": "yes"})
+
+
 def words_that_are_no_text(cases):
     """Words of the command line that are not UTF-8."""
     refused = b"error: the command line is not UTF-8\n"
@@ -204,6 +256,7 @@ def outputs(cases):
         os.close(writer)
     errors(cases)
     saves(cases)
+    overwritten(cases)
 
 
 def saves(cases):
@@ -215,6 +268,27 @@ def saves(cases):
             cases.look(f"a file to write, {told}: {command}", [*line.split()[:-1], path], broken)
         if os.getuid() == 0:
             cases.look(f"a file to write, no permission: {command}", [*line.split()[:-1], "closed.ll"], broken, user=NOBODY)
+
+
+def overwritten(cases):
+    """Files to write that are also read, under the same name and under others. They stay as they are."""
+    refused = (4, b"", b"error: the file that is to be written is one of those that are read\n")
+    for command, line in SAVES.items():
+        for place in file_places(line):
+            path = line.split()[place]
+            os.symlink(path, "link")
+            os.link(path, "twin")
+            with open(path, "rb") as file:
+                text = file.read()
+            for told, saved in {"its name": path, "a longer name": f"./{path}", "a link": "link", "a hard link": "twin"}.items():
+                cases.look(f"a file to write that is read, by {told}: {command}, word {place}", [*line.split()[:-1], saved], refused)
+            with open(path, "rb") as file:
+                words = [*with_file(line, place, "-")[:-1], path]
+                cases.look(f"a file to write that is the standard input: {command}, word {place}", words, refused, stdin=file)
+            with open(path, "rb") as file:
+                cases.tell(f"kept: {command}, word {place}", file.read() == text, "it was changed")
+            os.unlink("link")
+            os.unlink("twin")
 
 
 def errors(cases):
@@ -248,6 +322,8 @@ def main():
         cases = Cases(shutil.copy(dgc, folder), folder, options.only)
         write_files(folder)
         unread_files(cases)
+        inputs(cases)
+        settings(cases)
         words_that_are_no_text(cases)
         limits(cases, options.large)
         outputs(cases)

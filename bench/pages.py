@@ -13,11 +13,13 @@ docs/ARCHITECTURE.md, docs/GLOSSARY.md, docs/ASSURANCE.md and the others say of 
     links       each link of a document leads to a file, and each heading of it that is named is there
     glossary    each file to which a name of two things leads has the name
     counts      the numbers of crates, edits and rows
-    version     the version, and the number of the library's interface, are the same wherever they stand
+    version     the version, the logic and the number of the library's interface are the same wherever they stand, and the logic is that
+                of the kit, where there is one
 
 It prints what is not as it should be, and ends with 1 where there is something. --only runs those checks alone.
 """
 import argparse
+import contextlib
 import glob
 import os
 import re
@@ -25,6 +27,9 @@ import subprocess
 import sys
 
 from crates import TOP, listed
+
+sys.path.append(os.path.join(TOP, "program"))
+import translation
 
 HERE = os.path.dirname(os.path.abspath(__file__))
 TEXT_LAYERS = ["text", "program data", "check", "thread"]
@@ -217,9 +222,14 @@ def check_counts():
 def check_version():
     places = {
         "version": {
-            "crates/command_line/src/grammar.rt": r'\.version\("([^"]+)"\)',
+            "crates/command_line/src/grammar.rt": r'\.version\("([0-9.]+)',
             "crates/dgc_c/src/version.rt": r'"dgc ([^,]+), proved"',
             "CHANGES.md": r"\n## (\S+)",
+        },
+        "logic": {
+            "crates/command_line/src/grammar.rt": r'proved in the logic ([0-9a-f]+)"',
+            "README.md": r"with the logic `([0-9a-f]+)`",
+            "docs/ASSURANCE.md": r"logic ([0-9a-f]+)`",
         },
         "interface": {
             "crates/dgc_c/src/version.rt": r"INTERFACE: u32 = (\d+)",
@@ -229,6 +239,9 @@ def check_version():
     }
     for thing, files in places.items():
         said = {path: re.search(pattern, read(path))[1] for path, pattern in files.items()}
+        if thing == "logic":
+            with contextlib.suppress(translation.NoKit):
+                said["the kit"] = translation.logic(translation.find_kit())
         if len(set(said.values())) > 1:
             yield f"{thing}: {said}"
 

@@ -18,24 +18,21 @@ TOP = os.path.dirname(HERE)
 BUILT = f"{TOP}/crates/dgc_c/out/libdgc_c.a"
 
 
-def kit():
-    """The folder of the kit that `rt` is of."""
-    given = os.environ.get("RATTLE_KIT") or os.path.dirname(os.path.dirname(os.path.realpath(shutil.which("rt") or "/opt/rattle/bin/rt")))
-    if not os.path.isfile(f"{given}/c/liblibc_c.a"):
-        sys.exit("install.py: no kit is found. RATTLE_KIT names its folder")
-    return given
-
-
 def archive(out):
     """Makes libdgc.a of what the prover left."""
-    sys.path.insert(0, HERE)
+    sys.path[:0] = [HERE, f"{TOP}/program"]
     import archive as made
+    import translation
 
     if not os.path.isfile(BUILT):
         sys.exit(f"install.py: no {BUILT}. `rt lib` in crates/dgc_c leaves it")
+    try:
+        kit = translation.find_kit()
+    except translation.NoKit as why:
+        sys.exit(f"install.py: {why}")
     with tempfile.TemporaryDirectory() as room:
-        subprocess.run([f"{kit()}/toolchain/bin/llvm-ar", "x", BUILT], cwd=room, check=True)
-        return made.write(kit(), sorted(f"{room}/{name}" for name in os.listdir(room)), out)
+        subprocess.run([f"{kit}/toolchain/bin/llvm-ar", "x", BUILT], cwd=room, check=True)
+        return made.write(kit, sorted(f"{room}/{name}" for name in os.listdir(room)), out)
 
 
 def version():
