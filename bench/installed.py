@@ -103,9 +103,9 @@ def check_offers(said, offer):
                     yield f"dgc {command} {option}: offered is {' '.join(offered)}"
             elif value and value != "FILE" and offer([command, option], ""):
                 yield f"dgc {command} {option}: something is offered in place of a number"
-    for words, at in ((["check"], "--exp"), (["ch"], "ch")):
-        offered = offer(words if at != "ch" else [], at)
-        if offered != [{"--exp": "--explain", "ch": "check"}[at]]:
+    for words, at in ((["check"], "--exp"), (["mi"], "mi")):
+        offered = offer(words if at != "mi" else [], at)
+        if offered != [{"--exp": "--explain", "mi": "migrate"}[at]]:
             yield f"dgc {' '.join(words)} {at}: offered is {' '.join(offered)}"
 
 
@@ -165,7 +165,7 @@ def check_man(said, prefix):
             yield line
     shown = ran(["mandoc", "-T", "ascii", page]).stdout
     shown = re.sub(r".\x08", "", shown)
-    parts = dict(re.findall(r"^   dgc (\w+)\n(.*?)(?=^   \w|^\w|\Z)", shown, re.M | re.S))
+    parts = dict(re.findall(r"^   dgc ([\w-]+)\n(.*?)(?=^   \w|^\w|\Z)", shown, re.M | re.S))
     yield from missing(parts, said.commands, "the page")
     for command, options in said.options.items():
         text = parts.get(command, "") if command else shown.split("\nCOMMANDS\n")[0]
@@ -186,9 +186,9 @@ def check_values(said, prefix):
     for option, words in (("--explain", VALUES["WHEN"]), ("--forms", VALUES["FORMS"])):
         for word in words:
             answer = ran([said.program, "make", "no such file", option, word])
-            if answer.stderr != "error file no such file\n":
+            if answer.stderr.split("\n")[0] != "error file no such file":
                 yield f"dgc make {option} {word}: {answer.stderr}"
-        if ran([said.program, "make", "no such file", option, "other"]).stderr == "error file no such file\n":
+        if ran([said.program, "make", "no such file", option, "other"]).stderr.startswith("error file no such file\n"):
             yield f"dgc make {option} other: it is taken"
 
 

@@ -10,7 +10,7 @@ Told = collections.namedtuple("Told", "version top helps codes")
 
 # How a row of each list begins. A line that begins otherwise goes on with the row above it.
 ROWS = {
-    "Commands:": r"  (\w+)  +(.*)",
+    "Commands:": r"  ([\w-]+)  +(.*)",
     "Arguments:": r"  [<\[](\w+)[>\]]  +(.*)",
     "Options:": r"  (?:(-\w), |    )(--[\w-]+)(?: <(\w+)>)?  +(.*)",
     "Exit status:": r"  (\d)  (.*)",
