@@ -48,10 +48,10 @@ COUNTED = re.compile(rb"(?:" + REFUSED + rb")?refusals \d+\n")
 FAULT = rb"error (?:[LCP]\d+ \d+:\d+(?: (?s:.*?))?|C[56] (?s:.*?)|Y\d(?: (?s:.*?))?|K(?:13|20) t \d+)\n"
 # what a run may print on the standard output, by its status; after it come the steps that --steps asks for
 PRINTED = {
-    "check": {0: rb"yes \d+\n", 1: REFUSED},
+    "check": {0: rb"yes \d+\n(?:trusts @(?s:.*)\n)?", 1: REFUSED},
     "make": {0: rb"cert [12]\n(?s:.*)", 1: rb"no answer\n"},
     "migrate": {0: rb"(?s:.*)"},
-    "recheck": {0: rb"(?:(?s:.*)\n)?(?:\d+ rechecked \d+ )?yes \d+\n(?:\d+ refused [LC]\d+\n)*",
+    "recheck": {0: rb"(?:(?s:.*)\n)?(?:\d+ rechecked \d+ )?yes \d+(?: trusts \d+)?\n(?:\d+ refused [LC]\d+\n)*",
                 1: rb"(?:(?s:.*)\n)?(?:\d+ rechecked \d+ )?no @(?s:.*) K\d+(?s:.*)\n"},
     "replay": {0: rb"sound \d+\n(?:" + THREAD + rb")*claims \d+ frees \d+ posted \d+\n", 1: rb"broken \d+ " + CAUSE},
     "soak": {0: rb"sound \d+ (?:biased )?seeds\n",
@@ -123,12 +123,20 @@ def is_told(words, ended):
 
 
 def shapes_in(certificate):
-    """A text of the shapes of a certificate: what stands between its first line and its first section, if it is of opaque text."""
+    """A text of the shapes of a certificate: its lines between the first one and the first section, but for those of functions outside, if it is of opaque text."""
     lines = [line for line in re.split(rb"\r?\n", certificate) if line.split(b";")[0].strip()]
     if not lines or lines[0].split(b";")[0].split() != [b"cert", b"2"]:
         return b""
     sections = [number for number, line in enumerate(lines) if line.split()[0] == b"function"]
-    return b"\n".join([b"shapes 1", *lines[1:sections[0] if sections else None], b""])
+    shapes = [line for line in lines[1:sections[0] if sections else None] if line.split()[0] != b"foreign"]
+    return b"\n".join([b"shapes 1", *shapes, b""])
+
+
+def to_soak(case):
+    """The module of a check, its shapes, and the words that say its forms."""
+    words, texts = case.words, case.texts
+    forms = words[words.index("--forms"):][:2] if "--forms" in words else []
+    return texts[words[1]], shapes_in(texts[words[2]]), forms
 
 
 def trace_of(module, times):
@@ -150,15 +158,15 @@ class Soaks:
         self.runner, self.known, self.made, self.begun, self.unread, self.seconds = runner, set(), 0, 0, 0, 0.0
 
     def faults(self, accepted):
-        """Which of these modules with these shapes are not as they may be, each with why. A module that was looked at is left out."""
+        """Which of these modules with their shapes and forms are not as they may be, each with why. A module that was looked at is left out."""
         cases, soaked = [], []
-        for number, (module, shapes) in enumerate(accepted):
-            key = hashlib.sha256(module + b"\0" + shapes).digest()
+        for number, (module, shapes, forms) in enumerate(accepted):
+            key = hashlib.sha256(module + b"\0" + shapes + " ".join(forms).encode()).digest()
             if key in self.known:
                 continue
             self.known.add(key)
             given = ["--shapes", "shapes"] if shapes else []
-            words = ["soak", "module.ll", "trace", *given, "--seeds", str(SEEDS), "--steps", str(STEPS)]
+            words = ["soak", "module.ll", "trace", *given, "--seeds", str(SEEDS), "--steps", str(STEPS), *forms]
             traces = [trace for trace in (trace_of(module, times) for times in (1, 2)) if trace]
             cases += [Case(words, {"module.ll": module, "trace": trace, "shapes": shapes}) for trace in traces]
             soaked += [number] * len(traces)
@@ -218,8 +226,7 @@ class Search:
                 accepted.append((one, ended))
         self.accepted += len(accepted)
         cases = [one.case for one, _ in accepted]
-        modules = [(case.texts[case.words[1]], shapes_in(case.texts[case.words[2]])) for case in cases]
-        for number, fault in self.soaks.faults(modules).items():
+        for number, fault in self.soaks.faults([to_soak(case) for case in cases]).items():
             self.note(accepted[number][0], fault, accepted[number][1])
 
     def note(self, one, fault, ended):
@@ -239,7 +246,7 @@ class Search:
         cases = [Case(row.words, row.texts) for row in self.rows.get("check", []) if len(row.texts) > 1]
         refused = [case for case, ended in zip(cases, self.runner.run_all(cases)) if ended.status == 1]
         soaks = Soaks(self.runner)
-        broken = soaks.faults([(case.texts[case.words[1]], shapes_in(case.texts[case.words[2]])) for case in refused])
+        broken = soaks.faults([to_soak(case) for case in refused])
         print(f"of {len(soaks.known)} modules that rows refuse {soaks.begun} have a function that can begin, and {len(broken)} break in a soak",
               flush=True)
 
