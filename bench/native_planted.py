@@ -84,7 +84,7 @@ def said_of(words, folder, base):
         subprocess.run([os.path.join(folder, "program"), base + ".trace", base + ".record"], env=environment, timeout=words.seconds, capture_output=True)
     except subprocess.TimeoutExpired:
         pass
-    said = subprocess.run([words.dgc, "conform", base + ".ll", base + ".trace", base + ".record", "--shapes", base + ".shapes"], stdout=subprocess.PIPE, stderr=subprocess.STDOUT, text=True)
+    said = subprocess.run([words.dgc, "conform", base + ".ll", base + ".trace", base + ".record", *natively.shapes_of(base)], stdout=subprocess.PIPE, stderr=subprocess.STDOUT, text=True)
     return said.stdout.strip().split("\n")[0] or f"status {said.returncode}"
 
 

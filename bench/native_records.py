@@ -76,7 +76,7 @@ def is_same(entry, step):
 
 def compare(words, base, module, ended):
     """The first difference between a record and the replay of its trace, or None."""
-    command = [words.dgc, "replay", module, base + ".steps", "--shapes", module[:-3] + ".shapes", "--json", base + ".json", "--from", "1"]
+    command = [words.dgc, "replay", module, base + ".steps", *natively.shapes_of(module[:-3]), "--json", base + ".json", "--from", "1"]
     ran = subprocess.run(command, capture_output=True, text=True)
     if not ran.stdout.startswith("sound"):
         return f"the replay says {ran.stdout[:200]}{ran.stderr[:200]}"
@@ -98,7 +98,7 @@ def one(words, folder, programs, draw, is_same_order):
         out.write(drawn.trace)
     command = [os.path.join(folder, drawn.name + (".same" if is_same_order else ".own")), base + ".trace", base + ".record"] + ([base + ".steps"] if is_same_order else [])
     ran = subprocess.run(command, capture_output=True, text=True, env=drawn.environment)
-    said = subprocess.run([words.dgc, "conform", module, base + ".trace", base + ".record", "--shapes", module[:-3] + ".shapes"], capture_output=True, text=True)
+    said = subprocess.run([words.dgc, "conform", module, base + ".trace", base + ".record", *natively.shapes_of(module[:-3])], capture_output=True, text=True)
     fault = None if said.stdout.startswith("conforms") else f"dgc conform says {said.stdout}{said.stderr}"
     if ran.returncode:
         fault = f"status {ran.returncode}: {ran.stderr[-300:]}"

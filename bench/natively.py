@@ -4,6 +4,7 @@ A module is lowered by `dgc lower` (docs/LOWERING.md), optimised and compiled by
 program takes a trace, as `dgc run` does (docs/NATIVE.md).
 """
 import os
+import re
 import shutil
 import subprocess
 import sys
@@ -43,15 +44,26 @@ def lowered(dgc, module, base, records=False, sanitizer=None):
 
 def compiled(source, base, version, level="2", sanitizer=None):
     """The object file of a lowered text. Roots are lowered before anything is optimised: from version 20 on by `opt`, and else by `llc` alone."""
+    if sanitizer:
+        return sanitized(source, base, version, sanitizer)
     opaque = ["-opaque-pointers"] if version == "14" else []
-    if int(version) >= 20 and level != "0" and not sanitizer:
+    if int(version) >= 20 and level != "0":
         done([f"opt-{version}", f"-passes=shadow-stack-gc-lowering,default<O{level}>", "-o", base + ".bc", source])
         source = base + ".bc"
-    if sanitizer:
+    done([f"llc-{version}", *opaque, f"-O{level}", "-relocation-model=pic", "-filetype=obj", "-o", base + ".o", source])
+    return base + ".o"
+
+
+def sanitized(source, base, version, sanitizer):
+    """The same, with a sanitizer. Before version 20 the code generator lowers the roots, after the sanitizer's pass: so nothing is optimised,
+    and the sanitizer leaves the slots where they are."""
+    how = ["-O1"]
+    if int(version) >= 20:
         done([f"opt-{version}", "-passes=shadow-stack-gc-lowering", "-o", base + ".bc", source])
-        done([f"clang-{version}", "-O1", "-g", "-Wno-override-module", f"-fsanitize={sanitizer}", "-c", "-o", base + ".o", base + ".bc"])
+        source = base + ".bc"
     else:
-        done([f"llc-{version}", *opaque, f"-O{level}", "-relocation-model=pic", "-filetype=obj", "-o", base + ".o", source])
+        how = ["-O0", *(["-mllvm", "-asan-stack=0"] if sanitizer == "address" else []), *(["-mllvm", "-opaque-pointers"] if version == "14" else [])]
+    done([f"clang-{version}", *how, "-g", "-Wno-override-module", f"-fsanitize={sanitizer}", "-c", "-o", base + ".o", source])
     return base + ".o"
 
 
@@ -62,21 +74,30 @@ def linked(objects, out, version, flags=(), sanitizer=None, runtime=RUNTIME):
     return out
 
 
-def program(dgc, module, base, version, sanitizer=None):
+def program(dgc, module, base, version, sanitizer=None, runtime=RUNTIME):
     """A native program of a module, which is given as in `lowered`."""
     made = compiled(lowered(dgc, module, base, sanitizer=sanitizer), base, version, sanitizer=sanitizer)
-    return linked([made], base, version, sanitizer=sanitizer)
+    return linked([made], base, version, sanitizer=sanitizer, runtime=runtime)
+
+
+def shapes_of(base):
+    """The words that name the shapes of a module, base.ll. A module with typed pointers has none."""
+    return ["--shapes", base + ".shapes"] if os.path.exists(base + ".shapes") else []
 
 
 def module_of_c(dgc, path, base, version):
-    """A module of a C program by the steps of examples/pipeline, its certificate and its shapes: base.ll, .cert, .shapes. Gives the first two paths."""
+    """A module of a C program by the steps of examples/pipeline, its certificate, and its shapes where its pointers are opaque: base.ll, .cert,
+    .shapes. Gives the first two paths."""
     done([f"clang-{version}", "-O1", "-Xclang", "-disable-llvm-passes", "-fno-discard-value-names", "-emit-llvm", "-S", "-o", base + ".1.ll", path])
     done([f"opt-{version}", "-S", "-passes=mem2reg,jump-threading,instnamer", "-o", base + ".2.ll", base + ".1.ll"])
-    for script, source, out in (("gcroot.py", base + ".2.ll", base + ".ll"), ("shapes.py", base + ".ll", base + ".shapes")):
-        with open(out, "w") as file:
-            file.write(done([sys.executable, os.path.join(PIPELINE, script), source]))
+    text = done([sys.executable, os.path.join(PIPELINE, "gcroot.py"), base + ".2.ll"])
+    with open(base + ".ll", "w") as file:
+        file.write(text)
+    if re.search(r"\bptr\b", text):
+        with open(base + ".shapes", "w") as file:
+            file.write(done([sys.executable, os.path.join(PIPELINE, "shapes.py"), base + ".ll"]))
     with open(base + ".cert", "w") as file:
-        file.write(done([dgc, "make", base + ".ll", "--shapes", base + ".shapes", "--why"]))
+        file.write(done([dgc, "make", base + ".ll", *shapes_of(base), "--why"]))
     done([dgc, "check", base + ".ll", base + ".cert"])
     return [base + ".ll", base + ".cert"]
 
