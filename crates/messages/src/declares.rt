@@ -1,10 +1,13 @@
 //! How the functions of the runtime and LLVM's functions of numbers are declared.
 use crate::message::Message;
+use crate::parts::{Change, ChangedFile};
 use crate::pointers::Pointers;
 use ir_ast::{
     Declare, FloatFunction, FloatsTaken, IntegerFunction, IntegersTaken, Module, Runtime,
     floats_taken, floats_word, integers_taken, integers_word,
 };
+use ir_tokens::{Kind, Token};
+use std::alloc::{AllocError, Global};
 
 /// The line that declares one of LLVM's functions of integers.
 fn put_integers_declare(out: &mut Message, function: IntegerFunction, bits: u64) {
@@ -105,6 +108,34 @@ pub fn put_declare_of(out: &mut Message, runtime: &Runtime, pointers: Pointers) 
     }
 }
 
+/// How many bytes come before the first function of a text.
+fn before_functions(tokens: &[Token]) -> usize {
+    for token in tokens {
+        if matches!(token.kind, Kind::Define) {
+            return token.start as usize;
+        }
+    }
+    0
+}
+
+/// The line that declares such a function, in front of the functions of a module's text with these tokens.
+pub fn declare_change(
+    alloc: Global,
+    tokens: &[Token],
+    runtime: &Runtime,
+    pointers: Pointers,
+) -> Result<Change, AllocError> {
+    let mut line = Message::new(alloc);
+    put_declare_of(&mut line, runtime, pointers);
+    line.put("\n\n");
+    Ok(Change {
+        file: ChangedFile::Module,
+        start: before_functions(tokens),
+        length: 0,
+        new: line.finish()?,
+    })
+}
+
 /// Whether a declared function is this one of the runtime.
 fn is_of(declared: &Declare, runtime: &Runtime) -> bool {
     matches!(
@@ -117,7 +148,8 @@ fn is_of(declared: &Declare, runtime: &Runtime) -> bool {
     )
 }
 
-fn is_declared(of_module: &Module, runtime: &Runtime) -> bool {
+/// Whether a module declares a function of the runtime.
+pub fn is_declared(of_module: &Module, runtime: &Runtime) -> bool {
     of_module
         .declares
         .as_slice()

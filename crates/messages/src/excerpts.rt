@@ -3,6 +3,7 @@
 use crate::lines::{line_at, line_numbered};
 use crate::look::{Ink, Pen};
 use crate::message::Message;
+use crate::parts::{Marked, Part};
 use ir_tokens::{Position, Token};
 use std::str;
 use unicode_width::UnicodeWidthChar;
@@ -15,7 +16,7 @@ const BEFORE: usize = 50;
 
 /// A part of a line.
 #[derive(Clone, Copy)]
-struct Part {
+struct Span {
     start: usize,
     length: usize,
 }
@@ -45,7 +46,7 @@ fn at_character(line: &[u8], place: usize) -> usize {
     place
 }
 
-fn window_of(line: &[u8], part: Part) -> Window {
+fn window_of(line: &[u8], part: Span) -> Window {
     if line.len() <= SHOWN {
         return Window {
             start: 0,
@@ -161,7 +162,7 @@ fn put_line(out: &mut Message, line: &[u8], window: Window) {
 }
 
 /// The caret under a part of a line that is shown. The line goes on.
-fn put_under(out: &mut Message, pen: Pen, ink: Ink, line: &[u8], window: Window, part: Part) {
+fn put_under(out: &mut Message, pen: Pen, ink: Ink, line: &[u8], window: Window, part: Span) {
     out.put_inked(pen.look, Ink::Gutter, "      | ");
     out.put(if window.start > 0 { "   " } else { "" });
     put_blanks_under(out, between(line, window.start, part.start));
@@ -179,19 +180,32 @@ fn without_return(line: &[u8]) -> &[u8] {
     }
 }
 
-fn put_part(out: &mut Message, pen: Pen, ink: Ink, number: usize, line: &[u8], part: Part) {
+fn put_part(out: &mut Message, pen: Pen, ink: Ink, number: usize, line: &[u8], part: Span) {
     let line = without_return(line);
     let window = window_of(line, part);
+    out.begin_part(Part::Excerpt(marked_of(number, line, part)));
     put_gutter(out, pen, number);
     put_line(out, line, window);
-    put_under(out, pen, ink, line, window, part)
+    put_under(out, pen, ink, line, window, part);
+    out.begin_part(Part::Label)
+}
+
+/// A part of the line with this number, by its position.
+fn marked_of(number: usize, line: &[u8], part: Span) -> Marked {
+    Marked {
+        position: Position {
+            line: number,
+            column: part.start.saturating_add(1),
+        },
+        length: part.length.min(line.len().saturating_sub(part.start)),
+    }
 }
 
 /// The line of a token, and a caret under it. What is said of it may follow, and then the line's end.
 pub fn put_token_line(out: &mut Message, pen: Pen, ink: Ink, text: &[u8], token: Token) {
     let place = (token.start as usize).min(text.len());
     let line = line_at(text, place);
-    let part = Part {
+    let part = Span {
         start: place.saturating_sub(line.start),
         length: token.length as usize,
     };
@@ -219,7 +233,7 @@ fn word_length(line: &[u8], start: usize) -> usize {
 pub fn put_position_line(out: &mut Message, pen: Pen, ink: Ink, text: &[u8], position: Position) {
     let line = line_numbered(text, position.line.saturating_sub(1));
     let start = position.column.saturating_sub(1);
-    let part = Part {
+    let part = Span {
         start,
         length: word_length(line, start),
     };

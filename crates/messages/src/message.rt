@@ -1,5 +1,6 @@
 //! A text that is being written.
 use crate::look::{Ink, Look, colour_of};
+use crate::parts::{Fix, Kept, Part, Parts};
 use ir_ast::{Module, Names, SymbolId, ValueId};
 use name_text::Blank;
 use pools::LayoutId;
@@ -10,6 +11,8 @@ use std::alloc::{AllocError, Global};
 pub struct Message {
     alloc: Global,
     bytes: Vec<u8>,
+    /// Of a message in parts, where they begin, and the changes that it offers.
+    kept: Option<Kept>,
     written: Result<(), AllocError>,
 }
 
@@ -24,7 +27,45 @@ impl Message {
         Message {
             alloc,
             bytes,
+            kept: None,
             written: Ok(()),
+        }
+    }
+
+    /// Nothing is written yet. Of what will be, the parts are kept.
+    pub fn in_parts(alloc: Global) -> Message {
+        Message {
+            alloc,
+            bytes: Vec::new(alloc),
+            kept: Some(Kept::new(alloc)),
+            written: Ok(()),
+        }
+    }
+
+    /// What is written from here on is this part.
+    pub fn begin_part(&mut self, part: Part) {
+        let start = self.bytes.len();
+        if let (Some(kept), Ok(())) = (&mut self.kept, &self.written) {
+            self.written = kept.begin(part, start);
+        }
+    }
+
+    /// Whether changes are kept that mend what is refused.
+    pub fn keeps_fixes(&self) -> bool {
+        self.kept.is_some()
+    }
+
+    /// Changes that mend what is refused. A message that is not in parts does not keep them.
+    pub fn add_fix(&mut self, fix: Fix) {
+        match &mut self.kept {
+            Some(kept) => {
+                if self.written.is_ok() {
+                    self.written = kept.add(fix);
+                } else {
+                    drop(fix)
+                }
+            }
+            None => drop(fix),
         }
     }
 
@@ -116,6 +157,9 @@ impl Message {
     /// Begins anew. Where memory was refused, nothing is written from then on.
     pub fn clear(&mut self) {
         self.bytes.clear();
+        if let Some(kept) = &mut self.kept {
+            kept.clear();
+        }
     }
 
     /// Memory was refused for what would come next.
@@ -125,11 +169,39 @@ impl Message {
 
     /// The whole text, if memory was not refused.
     pub fn finish(self) -> Result<Vec<u8>, AllocError> {
-        let Message { bytes, written, .. } = self;
+        let Message {
+            bytes,
+            kept,
+            written,
+            ..
+        } = self;
+        drop(kept);
         match written {
             Ok(()) => Ok(bytes),
             Err(refused) => {
                 drop(bytes);
+                Err(refused)
+            }
+        }
+    }
+
+    /// The whole text in its parts, if memory was not refused. Of a message that is not in parts there are none.
+    pub fn finish_parts(self) -> Result<Parts, AllocError> {
+        let Message {
+            alloc,
+            bytes,
+            kept,
+            written,
+        } = self;
+        let kept = match kept {
+            Some(kept) => kept,
+            None => Kept::new(alloc),
+        };
+        let parts = kept.of_text(bytes);
+        match written {
+            Ok(()) => Ok(parts),
+            Err(refused) => {
+                drop(parts);
                 Err(refused)
             }
         }

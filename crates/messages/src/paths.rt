@@ -1,5 +1,6 @@
 //! Files, and positions in them.
 use crate::message::Message;
+use crate::parts::Part;
 use ir_tokens::Position;
 use std::alloc::Global;
 
@@ -19,7 +20,9 @@ pub fn put_position(out: &mut Message, position: Position) {
 
 /// A path and a position in its file: `plain.ll:23:7`.
 pub fn put_path_at(out: &mut Message, path: &str, position: Position) {
+    out.begin_part(Part::Place(Some(position)));
     out.put(path);
+    out.begin_part(Part::Between);
     out.put(":");
     put_position(out, position)
 }
