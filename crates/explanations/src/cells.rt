@@ -4,7 +4,7 @@ use crate::nulls::{is_made_here, is_value};
 use crate::told::{Told, call_of, op_of, put_text, value_in};
 use facts::Known;
 use ir_ast::{Argument, Constant, Element, IrType, Op, Operand, Runtime, TypeId, ValueId};
-use messages::{Ink, Message};
+use messages::{Message, Part, put_mark};
 use name_text::Blank;
 use pools::{LayoutId, WordKind};
 use scenes::{
@@ -162,7 +162,7 @@ fn put_kind(out: &mut Message, scene: &Scene, kind: WordKind) {
 
 /// The words of a layout: `layout Node: 0 i64, 1 ref Node`.
 pub fn put_words(out: &mut Message, scene: &Scene, layout: LayoutId) {
-    out.put_inked(scene.pen.look, Ink::Note, "  words: ");
+    put_mark(out, scene.pen.look, Part::Words);
     out.put("of ");
     out.put_layout(scene.context.module(), layout, Blank::Kept);
     let words = scene.context.program.layouts().words(layout);

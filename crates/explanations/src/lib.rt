@@ -11,6 +11,7 @@ mod missing_blocks;
 mod notes;
 mod null_tests;
 mod nulls;
+mod offers;
 mod outside;
 mod phis;
 mod promised;
@@ -23,5 +24,5 @@ mod unknown;
 mod unrooted;
 mod write_barrier;
 
-pub use refusals::{Texts, put_refusal};
+pub use refusals::{Texts, name_of, put_refusal, store_changes};
 pub use scenes::Source;

@@ -2,10 +2,11 @@
 use crate::edges::learned;
 use crate::notes::{MARGIN, put_mend_word};
 use crate::null_tests::shows_nonnull;
+use crate::offers::{add_claim, offer_lines};
 use certs::{Age, Fact};
 use facts::{Class, Facts, Known};
 use ir_ast::{BlockId, Function, ValueId};
-use messages::Message;
+use messages::{Change, Message};
 use scenes::{
     Definition, Scene, Spot, block_id, blocks_between, is_missing, leads_to, put_block, put_claim,
 };
@@ -398,6 +399,31 @@ fn put_groups(out: &mut Message, scene: &Scene, value: ValueId, fact: &Fact, eac
     }
 }
 
+/// The line of each block, as a change of the certificate.
+fn claims_added(
+    scene: &Scene,
+    value: ValueId,
+    fact: &Fact,
+    each: &[Unlisted],
+) -> Result<Vec<Change>, AllocError> {
+    let mut changes = Vec::new(scene.pen.alloc);
+    for unlisted in each {
+        let group = Group {
+            nonnull: unlisted.nonnull,
+            fresh: unlisted.fresh,
+        };
+        let fact = fact_in(&group, fact);
+        add_claim(scene, &mut changes, unlisted.block, value, fact)?;
+    }
+    Ok(changes)
+}
+
+fn offer_claims(out: &mut Message, scene: &Scene, value: ValueId, fact: &Fact, each: &[Unlisted]) {
+    if out.keeps_fixes() {
+        offer_lines(out, claims_added(scene, value, fact, each))
+    }
+}
+
 /// The lines to add, and the blocks to which they are to be added.
 pub fn put_missing(
     out: &mut Message,
@@ -409,6 +435,7 @@ pub fn put_missing(
     match unlisted_blocks(scene, definition, value, fact) {
         Ok(each) => {
             put_groups(out, scene, value, fact, each.as_slice());
+            offer_claims(out, scene, value, fact, each.as_slice());
             drop(each)
         }
         Err(_) => out.refuse(),

@@ -2,7 +2,7 @@
 use crate::told::{Told, put_text};
 use ir_ast::Operand;
 use ir_tokens::{Position, Token};
-use messages::{Ink, Message, put_path_at, put_position_line, put_token_line};
+use messages::{Ink, Message, Part, put_mark, put_path_at, put_position_line, put_token_line};
 use scenes::{Scene, Sought, Spot, cert_position, put_spot, token_within};
 
 /// The line of a token of the module's text, a caret under it, and words after that.
@@ -40,6 +40,7 @@ fn put_said(out: &mut Message, told: &Told, text: &str) {
     let look = told.scene.pen.look;
     out.end_ink(look);
     out.put_inked(look, Ink::Note, ": note: ");
+    out.begin_part(Part::Note);
     put_text(out, told, text);
     out.put("\n")
 }
@@ -85,7 +86,7 @@ pub fn put_cert_note(out: &mut Message, told: &Told, line: &Sought, text: &str) 
 
 /// What stands before the first way that mends it.
 pub fn put_mend_word(out: &mut Message, scene: &Scene) {
-    out.put_inked(scene.pen.look, Ink::Mend, "  mend:  ")
+    put_mark(out, scene.pen.look, Part::Mend)
 }
 
 /// What stands before a further way.

@@ -4,6 +4,7 @@ use crate::edges::{learned, put_edge};
 use crate::mismatches::{mismatch_of, put_mismatch};
 use crate::notes::{MARGIN, put_cert_note, put_line, put_mend, put_mend_word, put_or};
 use crate::nulls::{UNCOMPARED, put_base_note, put_place_line, put_shown};
+use crate::offers::barrier_changes;
 use crate::outside::{handed_outside, page_of_outside, put_handed};
 use crate::phis::Entries;
 use crate::promised::{
@@ -23,7 +24,7 @@ use diagnosis::facts_before;
 use facts::Facts;
 use ir_ast::{Function, Operand, Runtime};
 use layout::Program;
-use messages::{Ink, Message, NamedText, Pen, Pointers, put_declare_of};
+use messages::{Change, Ink, Message, NamedText, Part, Pen, Pointers, put_declare_of};
 use scenes::{
     Scene, Sought, Source, arguments_of, is_runtime_call, operands_of, place_of, put_known,
     put_spot, subject_of,
@@ -31,6 +32,7 @@ use scenes::{
 use shadow_stack::slots_of;
 use std::alloc::AllocError;
 
+/// The code of a rule.
 pub fn name_of(rule: Rule) -> &'static str {
     match rule {
         Rule::K1 => "K1",
@@ -63,9 +65,12 @@ fn put_head(out: &mut Message, scene: &Scene) {
     put_spot(out, scene, &spot);
     out.end_ink(scene.pen.look);
     out.put(": ");
+    out.begin_part(Part::Code);
     let name = name_of(scene.refusal.rule);
     out.put_inked(scene.pen.look, Ink::Fault, name);
-    out.put(": ")
+    out.begin_part(Part::Between);
+    out.put(": ");
+    out.begin_part(Part::Sentence)
 }
 
 /// The place of the refused instruction: of a load or a store, or the last argument of a barrier.
@@ -411,4 +416,11 @@ pub fn put_refusal(
         Err(_) => out.refuse(),
     }
     drop(slots)
+}
+
+/// What mends a store that K6 refuses, as changes of the module: the declaration of llvm.gcwrite, where there is none, and a call of it in
+/// place of the store. None where the store is not found in the text.
+pub fn store_changes(scene: &Scene) -> Result<Vec<Change>, AllocError> {
+    let operands = operands_of(scene.pen.alloc, scene.there())?;
+    barrier_changes(&told_of(scene, operands.as_slice()))
 }

@@ -1,7 +1,8 @@
 //! K6 and K7: the write barrier, and the object that it names.
 use crate::barrier_lines::{put_barrier_lines, put_object_lines};
 use crate::notes::put_mend;
-use crate::told::{Told, value_in};
+use crate::offers::offer_barrier;
+use crate::told::{Told, put_text, value_in};
 use certs::is_opaque_text;
 use facts::Known;
 use ir_ast::{Operand, Runtime, ValueId};
@@ -27,6 +28,18 @@ pub fn label_of(told: &Told) -> &'static str {
     }
 }
 
+/// The call with a barrier, in a text that writes `ptr`.
+const OPAQUE_CALL: &str = "call void @llvm.gcwrite(ptr {it}, ptr {object}, ptr {place})";
+
+/// The lines in place of the store, and nothing else.
+pub fn put_barrier_alone(out: &mut Message, told: &Told) {
+    if is_opaque_text(told.scene.context.module()) {
+        put_text(out, told, OPAQUE_CALL);
+        return out.put("\n");
+    }
+    put_barrier_lines(out, told)
+}
+
 /// The call in place of the store.
 fn put_call(out: &mut Message, told: &Told) {
     let scene = told.scene;
@@ -44,6 +57,7 @@ fn put_call(out: &mut Message, told: &Told) {
 /// K6: the call in place of the store, and its declaration where there is none.
 pub fn put_barrier(out: &mut Message, told: &Told) {
     put_call(out, told);
+    offer_barrier(out, told);
     put_wanted_declare(out, told.scene.context.module(), &Runtime::GcWrite)
 }
 

@@ -2,6 +2,7 @@
 use crate::forms::{cert_form_of, form_before, lexed_of};
 use crate::left_out::advice_on;
 use crate::near::{near, put_like};
+use crate::offers::{offer_block, offer_declare};
 use crate::structs::struct_position;
 use crate::unrooted::put_unrooted;
 use certificate::CertFault;
@@ -11,8 +12,8 @@ use ir_text::ReadFault;
 use ir_tokens::Position;
 use layout::LayoutFault;
 use messages::{
-    Ink, Message, NamedText, Pen, Pointers, line_numbered, put_declare_of, put_path_at,
-    put_position_line,
+    Ink, Message, NamedText, Part, Pen, Pointers, line_numbered, put_declare_of, put_mark,
+    put_path_at, put_position_line,
 };
 use name_text::{Blank, past_blanks, past_word, word};
 use pools::LayoutId;
@@ -40,9 +41,13 @@ fn put_joined(out: &mut Message, lines: &str) {
 
 /// The code and what it says in one sentence.
 fn put_rule(out: &mut Message, pen: Pen, code: Code) {
+    out.begin_part(Part::Between);
     out.put(": ");
+    out.begin_part(Part::Code);
     out.put_inked(pen.look, Ink::Fault, code.name());
+    out.begin_part(Part::Between);
     out.put(": ");
+    out.begin_part(Part::Sentence);
     put_joined(out, rule_on(code.text()));
     out.put("\n")
 }
@@ -63,12 +68,12 @@ pub(crate) fn put_fault_at(
     out.put("\n")
 }
 
-/// A line of words with a mark before it, where there are words.
-pub(crate) fn put_told(out: &mut Message, pen: Pen, ink: Ink, mark: &str, text: &str) {
+/// A part of one line, where there are words.
+pub(crate) fn put_told(out: &mut Message, pen: Pen, part: Part, text: &str) {
     if text.is_empty() {
         return;
     }
-    out.put_inked(pen.look, ink, mark);
+    put_mark(out, pen.look, part);
     out.put(text);
     out.put("\n")
 }
@@ -120,11 +125,11 @@ fn put_left_out(
     word: &[u8],
 ) {
     put_fault_at(pen, out, named, position, Code::L7);
-    out.put_inked(pen.look, Ink::Note, "  here:  ");
+    put_mark(out, pen.look, Part::Here);
     out.put("`");
     out.put_bytes(word);
     out.put("` begins a form that is not read; docs/TEXT.md lists these\n");
-    put_told(out, pen, Ink::Mend, "  mend:  ", advice_on(word, wide))
+    put_told(out, pen, Part::Mend, advice_on(word, wide))
 }
 
 /// The place of a fault of a module's text, with its code.
@@ -167,7 +172,7 @@ fn put_question(pen: Pen, out: &mut Message, name: &[u8], meant: Option<&[u8]>) 
     let Some(meant) = meant else {
         return false;
     };
-    out.put_inked(pen.look, Ink::Mend, "  mend:  ");
+    put_mark(out, pen.look, Part::Mend);
     out.put("is ");
     put_like(out, name, meant);
     out.put(" meant?\n");
@@ -194,7 +199,7 @@ pub(crate) fn put_near(
 fn put_meant(pen: Pen, out: &mut Message, module: NamedText, name: &[u8], otherwise: &str) {
     match put_near(pen, out, module, name) {
         Ok(true) => {}
-        Ok(false) => put_told(out, pen, Ink::Mend, "  mend:  ", otherwise),
+        Ok(false) => put_told(out, pen, Part::Mend, otherwise),
         Err(_) => out.refuse(),
     }
 }
@@ -236,10 +241,11 @@ fn put_undeclared(pen: Pen, out: &mut Message, named: NamedText, runtime: &Runti
     let Ok(pointers) = pointers_of(pen.alloc, named) else {
         return out.refuse();
     };
-    out.put_inked(pen.look, Ink::Mend, "  mend:  ");
+    put_mark(out, pen.look, Part::Mend);
     out.put("add this line outside the functions: ");
     put_declare_of(out, runtime, pointers);
-    out.put("\n")
+    out.put("\n");
+    offer_declare(pen, out, named, runtime, pointers)
 }
 
 /// How to go on where a name is not defined.
@@ -261,21 +267,21 @@ fn put_expected(
 ) {
     match code {
         Code::L1 | Code::L3 if !other_text(named.text).is_empty() => {
-            put_told(out, pen, Ink::Mend, "  mend:  ", other_text(named.text))
+            put_told(out, pen, Part::Mend, other_text(named.text))
         }
         Code::L1 => {
             let advice = advice_on_byte(named.text, offset_of(named.text, position));
-            put_told(out, pen, Ink::Mend, "  mend:  ", advice)
+            put_told(out, pen, Part::Mend, advice)
         }
         Code::L3 => {
             let Ok(form) = form_before(pen.alloc, named, wide, offset_of(named.text, position))
             else {
                 return out.refuse();
             };
-            put_told(out, pen, Ink::Mend, "  form:  ", form)
+            put_told(out, pen, Part::Form, form)
         }
         Code::L5 => put_not_defined(pen, out, named, name_at(named.text, position)),
-        code => put_told(out, pen, Ink::Mend, "  mend:  ", advice_of(code, wide)),
+        code => put_told(out, pen, Part::Mend, advice_of(code, wide)),
     }
 }
 
@@ -301,6 +307,7 @@ pub fn put_read_fault(
 
 /// A fault of a file as a whole: its path, and the rule.
 pub fn put_whole_fault(out: &mut Message, pen: Pen, path: &str, code: Code) {
+    out.begin_part(Part::Place(None));
     out.put_inked(pen.look, Ink::Place, path);
     put_rule(out, pen, code)
 }
@@ -308,7 +315,7 @@ pub fn put_whole_fault(out: &mut Message, pen: Pen, path: &str, code: Code) {
 /// A fault of a text as a whole, and how to go on.
 pub fn put_fault_of(pen: Pen, out: &mut Message, path: &str, code: Code, mend: &str) {
     put_whole_fault(out, pen, path, code);
-    put_told(out, pen, Ink::Mend, "  mend:  ", mend)
+    put_told(out, pen, Part::Mend, mend)
 }
 
 /// What is told of a text that is no text of edits.
@@ -319,8 +326,7 @@ pub fn put_edits_fault(pen: Pen, out: &mut Message, named: NamedText, fault: &Ce
             put_told(
                 out,
                 pen,
-                Ink::Mend,
-                "  form:  ",
+                Part::Form,
                 "an edit begins with `edit code @f`, `edit cert @f` or `edit both @f`; each of its texts ends with a line `.`",
             )
         }
@@ -337,12 +343,11 @@ fn put_cert_form(pen: Pen, out: &mut Message, named: NamedText, position: Positi
         return put_told(
             out,
             pen,
-            Ink::Mend,
-            "  form:  ",
+            Part::Form,
             "a certificate begins with `cert 2` (or `cert 1` without `ptr`), and then has its shapes and a section for each function, which ends with `end`",
         );
     }
-    put_told(out, pen, Ink::Mend, "  form:  ", form)
+    put_told(out, pen, Part::Form, form)
 }
 
 /// The second word of a line.
@@ -401,13 +406,7 @@ fn put_cert_fault_at(
     put_fault_at(pen, out, named, position, code);
     match code {
         Code::C3 => put_unknown_name(pen, out, texts, of_module, position),
-        Code::C4 => put_told(
-            out,
-            pen,
-            Ink::Mend,
-            "  mend:  ",
-            "take one of the two lines out",
-        ),
+        Code::C4 => put_told(out, pen, Part::Mend, "take one of the two lines out"),
         _ => put_cert_form(pen, out, named, position),
     }
 }
@@ -432,7 +431,7 @@ fn put_section(
     let Some(function) = of_module.functions.get(function) else {
         return;
     };
-    out.put_inked(pen.look, Ink::Mend, "  mend:  ");
+    put_mark(out, pen.look, Part::Mend);
     match block {
         Some(block) => put_block_line(out, function, block),
         None => out.put(
@@ -492,7 +491,7 @@ fn put_shapeless(pen: Pen, out: &mut Message, of_module: &Module, fault: CertFau
 
 /// The shape to add.
 fn put_shape(pen: Pen, out: &mut Message, of_module: &Module, fault: CertFault) {
-    out.put_inked(pen.look, Ink::Mend, "  mend:  ");
+    put_mark(out, pen.look, Part::Mend);
     out.put("add `");
     put_shapeless(pen, out, of_module, fault);
     out.put(" ref L` in front of the sections, where L is the layout to which it refers\n")
@@ -510,7 +509,14 @@ fn cert_place_of(fault: CertFault) -> Option<(Position, Code)> {
 }
 
 /// What is told of what a certificate lacks.
-fn put_lacking(pen: Pen, out: &mut Message, path: &str, of_module: &Module, fault: CertFault) {
+fn put_lacking(
+    pen: Pen,
+    out: &mut Message,
+    named: NamedText,
+    of_module: &Module,
+    fault: CertFault,
+) {
+    let path = named.path;
     match fault {
         CertFault::Missing(function) => {
             put_whole_fault(out, pen, path, Code::C5);
@@ -518,7 +524,8 @@ fn put_lacking(pen: Pen, out: &mut Message, path: &str, of_module: &Module, faul
         }
         CertFault::MissingBlock(function, block) => {
             put_whole_fault(out, pen, path, Code::C5);
-            put_section(pen, out, of_module, function, Some(block))
+            put_section(pen, out, of_module, function, Some(block));
+            offer_block(pen, out, named, of_module, function, block)
         }
         CertFault::MissingWord(..) | CertFault::MissingGlobal(_) | CertFault::MissingRoot(..) => {
             put_whole_fault(out, pen, path, Code::C6);
@@ -539,7 +546,7 @@ pub fn put_cert_fault(
 ) {
     match cert_place_of(fault) {
         Some((position, code)) => { put_cert_fault_at(pen, out, texts, of_module, position, code) }
-        None => put_lacking(pen, out, texts.of_certs.path, of_module, fault),
+        None => put_lacking(pen, out, texts.of_certs, of_module, fault),
     }
 }
 
@@ -591,7 +598,7 @@ fn put_struct_fault(pen: Pen, out: &mut Message, named: NamedText, fault: &Struc
         Ok(None) => put_whole_fault(out, pen, named.path, fault.code),
         Err(_) => out.refuse(),
     }
-    put_told(out, pen, Ink::Mend, "  mend:  ", fault.mend)
+    put_told(out, pen, Part::Mend, fault.mend)
 }
 
 /// What is told of a module that has no layouts.

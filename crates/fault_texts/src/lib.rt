@@ -6,6 +6,7 @@ mod faults;
 mod forms;
 mod left_out;
 mod near;
+mod offers;
 mod structs;
 mod traces;
 mod unrooted;

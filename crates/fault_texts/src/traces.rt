@@ -3,7 +3,7 @@ use crate::faults::{put_fault_at, put_near, put_told, put_whole_fault};
 use crate::forms::trace_form_of;
 use explain::Code;
 use ir_tokens::Position;
-use messages::{Ink, Message, NamedText, Pen, line_numbered};
+use messages::{Message, NamedText, Part, Pen, line_numbered};
 use name_text::{past_blanks, word};
 use trace_text::TraceFault;
 
@@ -37,7 +37,7 @@ fn word_at(text: &[u8], position: Position) -> &[u8] {
 /// The form of the line at which a trace has a fault.
 fn put_trace_form(pen: Pen, out: &mut Message, text: &[u8], position: Position) {
     let form = trace_form_of(word(past_blanks(line_of(text, position))));
-    put_told(out, pen, Ink::Mend, "  form:  ", form)
+    put_told(out, pen, Part::Form, form)
 }
 
 /// A word with which no form goes on: perhaps a name of the module was meant.
@@ -65,8 +65,7 @@ pub fn put_trace_fault(pen: Pen, out: &mut Message, texts: TracedTexts, fault: &
             put_told(
                 out,
                 pen,
-                Ink::Mend,
-                "  mend:  ",
+                Part::Mend,
                 "each line `start` and each line `late` is a thread; the first one has the number 0",
             )
         }
@@ -75,8 +74,7 @@ pub fn put_trace_fault(pen: Pen, out: &mut Message, texts: TracedTexts, fault: &
             put_told(
                 out,
                 pen,
-                Ink::Mend,
-                "  mend:  ",
+                Part::Mend,
                 "write a smaller count; all lines together make at most 10000000 steps",
             )
         }

@@ -3,7 +3,7 @@ use crate::faults::{put_told, word_after};
 use ir_ast::{Function, LocalSort, Module, Runtime, SymbolSort, ValueId};
 use ir_tokens::Position;
 use messages::{
-    Ink, Message, NamedText, Pen, Slot, line_numbered, put_root_lines, put_wanted_declare,
+    Message, NamedText, Part, Pen, Slot, line_numbered, put_root_lines, put_wanted_declare,
 };
 use name_text::{Sigil, name_in, past_blanks, word};
 use std::alloc::{AllocError, Global};
@@ -104,8 +104,7 @@ fn put_rooted<'a>(
     put_told(
         out,
         pen,
-        Ink::Mend,
-        "  mend:  ",
+        Part::Mend,
         "write after the alloca of this slot, so that it is a root:",
     );
     let slot = Slot {

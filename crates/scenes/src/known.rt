@@ -6,7 +6,7 @@ use certs::{Certs, Claim, Fact};
 use diagnosis::{claim_of, claims_as_certs};
 use ir_ast::{BlockId, Operand, ValueId};
 use items::Items;
-use messages::{Ink, Message};
+use messages::{Message, Part, put_mark};
 use std::alloc::{AllocError, Global};
 
 fn is_of(claim: &Claim, value: ValueId) -> bool {
@@ -86,7 +86,7 @@ fn put_margin(out: &mut Message, scene: &Scene, place: usize) {
     if place > 0 {
         return out.put("         ");
     }
-    out.put_inked(scene.pen.look, Ink::Note, "  known: ")
+    put_mark(out, scene.pen.look, Part::Known)
 }
 
 fn put_lines(out: &mut Message, scene: &Scene, certs: &Certs, count: usize) {

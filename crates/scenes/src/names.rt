@@ -3,7 +3,7 @@ use crate::scene::{Scene, Spot};
 use ir_ast::{BlockId, Constant, Operand, SymbolId, ValueId};
 use ir_print::put_bits;
 use ir_tokens::Position;
-use messages::{Message, put_path_at};
+use messages::{Message, Part, put_path_at};
 use name_text::Blank;
 
 /// The name of a value, a slot or a block.
@@ -64,6 +64,7 @@ pub fn put_spot(out: &mut Message, scene: &Scene, spot: &Spot) {
             put_path_at(out, source.path, position)
         }
         Ok(None) => {
+            out.begin_part(Part::Between);
             put_block(out, scene, spot.block);
             out.put(" ");
             out.put_number(spot.place as u64)
