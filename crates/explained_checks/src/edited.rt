@@ -9,10 +9,10 @@ use recheck::{Edit, EditFault, Session};
 use std::alloc::{AllocError, Global};
 
 /// How a module is named that stands in no file.
-const EDITED_MODULE: &str = "edited module";
+pub(crate) const EDITED_MODULE: &str = "edited module";
 
 /// How certificates are named that stand in no file.
-const EDITED_CERTS: &str = "edited certificate";
+pub(crate) const EDITED_CERTS: &str = "edited certificate";
 
 const NO_SUCH_FUNCTION: &str = "the edit names a function that the module does not define";
 

@@ -3,7 +3,7 @@ use block_rules::Refusal;
 use certs::Certs;
 use explanations::{Source, Texts, put_refusal};
 use fault_texts::{CheckedTexts, put_cert_fault, put_read_fault};
-use ir_tokens::{TEXT_LIMIT, read_tokens};
+use ir_tokens::{TEXT_LIMIT, Token, read_tokens};
 use layout::Program;
 use messages::{Message, NamedText, Pen};
 use reports::{File, Unread, bytes_of, path_of};
@@ -35,6 +35,15 @@ fn put_refusals(
     }
 }
 
+/// The texts of a module, with its tokens, and of its certificate.
+pub(crate) fn texts_of_each<'a>(texts: CheckedTexts<'a>, tokens: &'a [Token]) -> Texts<'a> {
+    let NamedText { path, text } = texts.of_module;
+    Texts {
+        source: Source { path, text, tokens },
+        certificate: texts.of_certs,
+    }
+}
+
 /// Explains each of some refusals in a program, by the tokens of its text.
 pub(crate) fn put_each(
     pen: Pen,
@@ -44,21 +53,14 @@ pub(crate) fn put_each(
     certs: &Certs,
     refusals: &[Refusal],
 ) {
-    let NamedText { path, text } = texts.of_module;
+    let NamedText { text, .. } = texts.of_module;
     if text.len() > TEXT_LIMIT {
         return;
     }
     let Ok(lexed) = read_tokens(pen.alloc, text) else {
         return out.refuse();
     };
-    let texts = Texts {
-        source: Source {
-            path,
-            text,
-            tokens: lexed.tokens.as_slice(),
-        },
-        certificate: texts.of_certs,
-    };
+    let texts = texts_of_each(texts, lexed.tokens.as_slice());
     put_refusals(pen, out, texts, program, certs, refusals);
     drop(lexed);
 }

@@ -2,14 +2,18 @@
 //! first refusal, or that of each block. For a caller that let none see it, files are read and checked again.
 #![tactic(auto)]
 
+mod answering;
 mod checked;
+mod collector;
 mod edited;
 mod explained;
 mod explainer;
 mod explaining;
 mod made;
+mod refusals;
 mod traced;
 
+pub use answering::{AnswerForm, Ended, answer_text};
 pub use explainer::{Explainer, Topic};
 pub use explaining::{Question, explain};
 pub use messages::Look;

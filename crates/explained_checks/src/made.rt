@@ -8,7 +8,7 @@ use layout::Program;
 use messages::{Message, NamedText, Pen};
 
 /// How the certificate is named that stands in no file.
-const TRIED: &str = "certificate";
+pub(crate) const TRIED: &str = "certificate";
 
 /// Explains refusals of a program with certificates, whose text is made for that. It has the shapes of the module.
 pub(crate) fn put_tried(
