@@ -10,7 +10,7 @@ use module_check::{Accepted, UnderCheck};
 use parallel_check::{check_all, check_seen};
 use reports::{
     Certified, Files, Findings, Outputs, not_laid_out, read_certified, report_accepted,
-    report_verdict, show_layouts, unread,
+    report_verdict, show_accepted, show_layouts, unread,
 };
 use std::alloc::Global;
 use std::io;
@@ -48,7 +48,10 @@ fn check_first(
 {
     let Certified { of_module, certs } = certified;
     match check_seen(rt, alloc, workers, of_module, certs, seen) {
-        Ok(accepted) => print_accepted(alloc, accepted, outputs),
+        Ok(accepted) => {
+            show_accepted(seen, &accepted);
+            print_accepted(alloc, accepted, outputs)
+        }
         Err(answer) => {
             show_layouts(seen, answer.verdict);
             let status = report_verdict(alloc, &answer, outputs);
@@ -81,7 +84,10 @@ fn check_blocks(
         }
     };
     match check_all(rt, alloc, blocks.workers, under) {
-        Ok(accepted) => print_accepted(alloc, accepted, outputs),
+        Ok(accepted) => {
+            show_accepted(seen, &accepted);
+            print_accepted(alloc, accepted, outputs)
+        }
         Err(rejected) => print_rejected(alloc, rejected, blocks.limit, outputs, seen),
     }
 }
@@ -110,7 +116,8 @@ fn check_certified(
 }
 
 /// Checks the module and the certificate, by so many workers as the options say. The first fault counts: of each of the two files, its
-/// path and then its text, then of the layouts, then of the check. It is seen, and so is each refusal that is told.
+/// path and then its text, then of the layouts, then of the check. It is seen, and so is each refusal that is told, and a module
+/// that is accepted.
 pub fn check_files(
     rt: &(impl Threads + Sync),
     alloc: Global,

@@ -19,7 +19,7 @@ use ir_ast::Module;
 use module_check::Accepted;
 use reports::{
     Files, Findings, Outputs, STATUS_NO, STATUS_YES, line_of_refusal, memory, no_layouts, refused,
-    shaped_in, unread,
+    shaped_in, show_accepted, unread,
 };
 use std::alloc::Global;
 use std::io;
@@ -140,6 +140,7 @@ fn make_of(
 {
     match make_seen(alloc, of_module, seen) {
         Ok(accepted) => {
+            show_accepted(seen, &accepted);
             let status = print_made(alloc, &accepted, why, outputs);
             drop(accepted);
             status

@@ -58,7 +58,7 @@ fn write_refused<W: Write>(number: usize, fault: &EditFault, lines: &mut W) -> i
     }
 }
 
-/// Applies an edit and writes its line. It is seen where it is refused.
+/// Applies an edit and writes its line. It is seen.
 fn write_edit<W: Write>(
     alloc: Global,
     number: usize,
@@ -70,7 +70,10 @@ fn write_edit<W: Write>(
     ensures { OnOk result ((line : List ℕ) × OfEdit number session.old edit.now session.new line × Appends (W.contents lines.old) (W.contents lines.new) line) }
 {
     match session.apply(alloc, edit) {
-        Ok(()) => write_accepted(alloc, number, session, lines),
+        Ok(()) => {
+            seen.edit_made(session, number);
+            write_accepted(alloc, number, session, lines)
+        }
         Err(fault) => {
             seen.edit_refused(session, number, edit, &fault);
             let written = write_refused(number, &fault, lines);
@@ -80,7 +83,7 @@ fn write_edit<W: Write>(
     }
 }
 
-/// Applies edits and writes the line of each, numbered from 1. Each that is refused is seen.
+/// Applies edits and writes the line of each, numbered from 1. Each is seen.
 pub fn write_edits<W: Write>(
     alloc: Global,
     session: &mut Session,
@@ -195,7 +198,7 @@ fn recheck_edits(
 }
 
 /// Checks the module against the certificate, and again after each of the edits. The first fault counts: of each of the three files, its
-/// path and then its text, of the edits their frame; then of the layouts. It is seen, and so are the verdicts and each refused edit.
+/// path and then its text, of the edits their frame; then of the layouts. It is seen, and so are the verdicts and each edit.
 pub fn recheck_files(
     alloc: Global,
     files: &Files<'_>,

@@ -38,6 +38,7 @@ pub record PathTexts : Type 0 where
   pub of_record : Option Text
   pub list : Option Text
   pub saved : Option Text
+  pub saved_cert : Option Text
 
 -- these paths
 abbrev pub texts_of : Paths → PathTexts
@@ -50,6 +51,7 @@ texts_of paths = record {
   of_record = option_map (λ path. path.now) paths.of_record;
   list = option_map (λ path. path.now) paths.list;
   saved = option_map (λ path. path.now) paths.saved;
+  saved_cert = option_map (λ path. path.now) paths.saved_cert;
 }
 
 -- the paths of a pair: a module and its certificate
@@ -63,6 +65,7 @@ pair_texts of_module certificate = record {
   of_record = None;
   list = None;
   saved = None;
+  saved_cert = None;
 }
 
 -- whether a path is `-`, which names the standard input

@@ -12,6 +12,8 @@ use Rattle.command_line.specs.declared.command.Explained.{Explained}
 use Rattle.command_line.specs.declared.command.Explained.TheVariants.{Always, OnTerminal, Never, ByDefault}
 use Rattle.command_line.specs.declared.command.Forms.{Forms}
 use Rattle.command_line.specs.declared.command.Forms.TheVariants.{Core, Wide}
+use Rattle.command_line.specs.declared.command.Written.{Written}
+use Rattle.command_line.specs.declared.command.Written.TheVariants.{NotAtAll, AsJson, AsSarif}
 use Rattle.command_line.specs.declared.fault.LineFault.{LineFault}
 use Rattle.command_line.specs.declared.fault.LineFault.TheVariants.{Memory, NoCommand, Words}
 use Rattle.command_line.specs.declared.options.CheckOptions.{CheckOptions}
@@ -107,17 +109,23 @@ app_of_row row = command_app row.name.now (map rule_of_argument row.arguments.no
 -- all commands, each with its files and options
 abbrev pub command_apps : List App
 command_apps =
-    -- check MODULE CERT [--workers N] [--explain WHEN] [--all] [--limit N] [--forms FORMS]
-    command_app (codes "check") (file_rule (codes "MODULE") ∷ file_rule (codes "CERT") ∷ workers_rule ∷ explain_rule ∷ flag_rule (codes "all") ∷ optional_rule (codes "limit") ∷ forms_rule ∷ [])
+    -- check MODULE CERT [--workers N] [--explain WHEN] [--all] [--limit N] [--json FILE] [--sarif FILE] [--forms FORMS]
+    command_app (codes "check") (file_rule (codes "MODULE") ∷ file_rule (codes "CERT") ∷ workers_rule ∷ explain_rule ∷ flag_rule (codes "all") ∷ optional_rule (codes "limit")
+    ∷ valued_rule (codes "json") ∷ valued_rule (codes "sarif") ∷ forms_rule ∷ [])
     ∷
     -- check-list LIST [--workers N] [--explain WHEN] [--forms FORMS]
     command_app (codes "check-list") (file_rule (codes "LIST") ∷ workers_rule ∷ explain_rule ∷ forms_rule ∷ [])
     ∷
-    -- make MODULE [--shapes FILE] [--why] [--explain WHEN] [--forms FORMS]
-    command_app (codes "make") (file_rule (codes "MODULE") ∷ valued_rule (codes "shapes") ∷ flag_rule (codes "why") ∷ explain_rule ∷ forms_rule ∷ [])
+    -- make MODULE [--shapes FILE] [--why] [--explain WHEN] [--json FILE] [--sarif FILE] [--forms FORMS]
+    command_app (codes "make") (file_rule (codes "MODULE") ∷ valued_rule (codes "shapes") ∷ flag_rule (codes "why") ∷ explain_rule
+    ∷ valued_rule (codes "json") ∷ valued_rule (codes "sarif") ∷ forms_rule ∷ [])
     ∷
-    -- recheck MODULE CERT EDITS [--explain WHEN] [--forms FORMS]
-    command_app (codes "recheck") (file_rule (codes "MODULE") ∷ file_rule (codes "CERT") ∷ file_rule (codes "EDITS") ∷ explain_rule ∷ forms_rule ∷ [])
+    -- fix MODULE CERT --module FILE --cert FILE [--explain WHEN] [--forms FORMS]
+    command_app (codes "fix") (file_rule (codes "MODULE") ∷ file_rule (codes "CERT") ∷ valued_rule (codes "module") ∷ valued_rule (codes "cert") ∷ explain_rule ∷ forms_rule ∷ [])
+    ∷
+    -- recheck MODULE CERT EDITS [--explain WHEN] [--json FILE] [--sarif FILE] [--forms FORMS]
+    command_app (codes "recheck") (file_rule (codes "MODULE") ∷ file_rule (codes "CERT") ∷ file_rule (codes "EDITS") ∷ explain_rule
+    ∷ valued_rule (codes "json") ∷ valued_rule (codes "sarif") ∷ forms_rule ∷ [])
     ∷
     -- replay MODULE TRACE [--shapes FILE] [--steps] [--from N] [--to M] [--json FILE] [--record FILE] [--explain WHEN] [--forms FORMS]
     command_app (codes "replay")
@@ -137,6 +145,11 @@ command_apps =
     -- run MODULE CERT TRACE [--turns N] [--steps S] [--explain WHEN] [--forms FORMS]
     command_app (codes "run")
     (file_rule (codes "MODULE") ∷ file_rule (codes "CERT") ∷ file_rule (codes "TRACE")
+    ∷ default_rule (codes "turns") (codes "1000000") ∷ default_rule (codes "steps") (codes "1000000") ∷ explain_rule ∷ forms_rule ∷ [])
+    ∷
+    -- watch MODULE TRACE [--shapes FILE] [--turns N] [--steps S] [--explain WHEN] [--forms FORMS]
+    command_app (codes "watch")
+    (file_rule (codes "MODULE") ∷ file_rule (codes "TRACE") ∷ valued_rule (codes "shapes")
     ∷ default_rule (codes "turns") (codes "1000000") ∷ default_rule (codes "steps") (codes "1000000") ∷ explain_rule ∷ forms_rule ∷ [])
     ∷
     -- conform MODULE TRACE RECORD [--shapes FILE] [--explain WHEN] [--forms FORMS]
@@ -191,11 +204,13 @@ either_of first second given = option_or (first_of first given) (first_of second
 pub data Asked : Type 0 where
   check : CheckOptions → Asked
   make : MakeOptions → Asked
+  fix : Asked
   recheck : Asked
   replay : ReplayOptions → Asked
   soak : SoakOptions → Asked
   hunt : HuntOptions → Asked
   run : RunOptions → Asked
+  watch : RunOptions → Asked
   conform : Asked
   explain : (code : Option Text) → Asked
   migrate : Asked
@@ -205,11 +220,13 @@ pub data Asked : Type 0 where
 abbrev pub asked_by : What → Asked
 asked_by (what.Check options) = check options
 asked_by (what.Make options) = make options
+asked_by what.Fix = fix
 asked_by what.Recheck = recheck
 asked_by (what.Replay options) = replay options
 asked_by (what.Soak options) = soak options
 asked_by (what.Hunt options) = hunt options
 asked_by (what.Run options) = run options
+asked_by (what.Watch options) = watch options
 asked_by what.Conform = conform
 asked_by (what.Explain options) = explain (option_map (λ code. code.now) options.code)
 asked_by what.Migrate = migrate
@@ -247,6 +264,10 @@ why_of given = if flag_of (codes "why") given then Wanted else NotWanted
 -- the options of `make`
 abbrev pub make_of : List Row → Asked
 make_of given = make (record { why = why_of given })
+
+-- what `fix` is to do, if both files are given that it writes
+abbrev pub fix_of : List Row → Option Asked
+fix_of given = if is_some (first_of (codes "module") given) && is_some (first_of (codes "cert") given) then Some fix else None
 
 -- the steps between these numbers, if one of them is given; otherwise the last ones
 abbrev pub steps_between : (first last : Option ℕ) → StepsTold
@@ -334,10 +355,17 @@ hunt_of given =
     option_and_then (λ seeds. option_and_then (λ steps. option_and_then (λ first. option_map (λ tries. hunt (record { first = first; seeds = seeds; steps = steps; tries = tries; seconds = number_of (codes "seconds") given }))
     (number_of (codes "tries") given)) (number_of (codes "first") given)) (number_of (codes "steps") given)) (number_of (codes "seeds") given)
 
--- the options of `run`, if they are both limits
+-- how far threads and collector go, if both limits are numbers
+abbrev pub limits_of : List Row → Option RunOptions
+limits_of given = option_and_then (λ turns. option_map (λ steps. record { turns = turns; steps = steps }) (number_of (codes "steps") given)) (number_of (codes "turns") given)
+
+-- the options of `run`
 abbrev pub run_of : List Row → Option Asked
-run_of given =
-    option_and_then (λ turns. option_map (λ steps. run (record { turns = turns; steps = steps })) (number_of (codes "steps") given)) (number_of (codes "turns") given)
+run_of given = option_map run (limits_of given)
+
+-- the options of `watch`
+abbrev pub watch_of : List Row → Option Asked
+watch_of given = option_map watch (limits_of given)
 
 -- the options of `explain`: a code, or nothing
 abbrev pub explain_of : List Row → Asked
@@ -353,11 +381,13 @@ asked_of name given =
     if bytes_eq name (codes "check") then check_of given
     else if bytes_eq name (codes "check-list") then check_list_of given
     else if bytes_eq name (codes "make") then Some (make_of given)
+    else if bytes_eq name (codes "fix") then fix_of given
     else if bytes_eq name (codes "recheck") then Some recheck
     else if bytes_eq name (codes "replay") then replay_of given
     else if bytes_eq name (codes "soak") then soak_of given
     else if bytes_eq name (codes "hunt") then hunt_of given
     else if bytes_eq name (codes "run") then run_of given
+    else if bytes_eq name (codes "watch") then watch_of given
     else if bytes_eq name (codes "conform") then Some conform
     else if bytes_eq name (codes "explain") then Some (explain_of given)
     else if bytes_eq name (codes "migrate") then Some migrate
@@ -373,7 +403,26 @@ shapes_beside (Some path) given = None
 
 -- the path of the file that the command of this name writes, if it was given
 abbrev pub saved_of : (name : Text) → List Row → Option Text
-saved_of name given = if bytes_eq name (codes "replay") then either_of (codes "json") (codes "record") given else first_of (codes "save") given
+saved_of name given =
+    if bytes_eq name (codes "replay") then either_of (codes "json") (codes "record") given
+    else if bytes_eq name (codes "fix") then first_of (codes "module") given
+    else if bytes_eq name (codes "soak") || bytes_eq name (codes "hunt") then first_of (codes "save") given
+    else either_of (codes "json") (codes "sarif") given
+
+-- the path of the certificate that it writes, if it was given
+abbrev pub saved_cert_of : (name : Text) → List Row → Option Text
+saved_cert_of name given = if bytes_eq name (codes "fix") then first_of (codes "cert") given else None
+
+-- how the answer is written, if not both of these files are given
+abbrev pub written_by : (json_path sarif_path : Option Text) → Option Written
+written_by None None = Some NotAtAll
+written_by (Some json_path) None = Some AsJson
+written_by None (Some sarif_path) = Some AsSarif
+written_by (Some json_path) (Some sarif_path) = None
+
+-- how it is, by the options `json` and `sarif`
+abbrev pub written_of : List Row → Option Written
+written_of given = written_by (first_of (codes "json") given) (first_of (codes "sarif") given)
 
 -- the paths of the files that were given to the command of this name
 abbrev pub paths_of : (name : Text) → List Row → PathTexts
@@ -388,6 +437,7 @@ paths_of name given =
       of_record = first_of (codes "RECORD") given;
       list = first_of (codes "LIST") given;
       saved = saved_of name given;
+      saved_cert = saved_cert_of name given;
     }
 
 -- the same paths, if at most one of the files that are read is the standard input
@@ -411,17 +461,19 @@ pub record AskedLine : Type 0 where
   pub paths : PathTexts
   pub explained : Explained
   pub forms : Forms
+  pub written : Written
   pub asked : Asked
 
 -- what this command asks for
 abbrev pub line_by : Command → AskedLine
-line_by command = record { paths = texts_of command.paths; explained = command.explained; forms = command.forms; asked = asked_by command.what }
+line_by command = record { paths = texts_of command.paths; explained = command.explained; forms = command.forms; written = command.written; asked = asked_by command.what }
 
 -- what the command of this name asks for, by what was given to it
 abbrev pub line_of : (name : Text) → List Row → Option AskedLine
 line_of name given =
-    option_and_then (λ explained. option_and_then (λ forms. option_and_then (λ asked. option_map (λ paths. record { paths = paths; explained = explained; forms = forms; asked = asked })
-    (read_once (paths_of name given))) (asked_of name given)) (forms_of given)) (explained_of given)
+    option_and_then (λ explained. option_and_then (λ forms. option_and_then (λ written. option_and_then (λ asked. option_map
+    (λ paths. record { paths = paths; explained = explained; forms = forms; written = written; asked = asked })
+    (read_once (paths_of name given))) (asked_of name given)) (written_of given)) (forms_of given)) (explained_of given)
 
 -- what a command's name with what was given to it asks for
 abbrev pub line_found : Option (Text × List Row) → Option AskedLine

@@ -16,8 +16,10 @@ pub struct Paths<'a> {
     pub of_record: Option<&'a str>,
     /// A list of pairs, each of a module and a certificate. The command is done on each pair.
     pub list: Option<&'a str>,
-    /// The file that the command writes: a trace, steps as JSON, or a record.
+    /// The file that the command writes: a trace, steps as JSON, a record, a module, or its answer.
     pub saved: Option<&'a str>,
+    /// The file of the certificate that it writes beside a module.
+    pub saved_cert: Option<&'a str>,
 }
 
 /// Whether a refusal is explained.
@@ -39,12 +41,25 @@ pub enum Forms {
     Wide,
 }
 
+/// How the answer of a command is written to the file of its line.
+#[derive(Clone, Copy)]
+pub enum Written {
+    /// It is not.
+    NotAtAll,
+    /// As objects of JSON.
+    AsJson,
+    /// As a log of SARIF.
+    AsSarif,
+}
+
 /// A command, the paths of its files, and what all commands have.
 #[derive(Clone, Copy)]
 pub struct Command<'a> {
     pub paths: Paths<'a>,
     pub explained: Explained,
     pub forms: Forms,
+    /// Of a replay, which writes no answer, whether the steps of its run are written as JSON.
+    pub written: Written,
     pub what: What<'a>,
 }
 
@@ -97,6 +112,7 @@ impl Paths<'_> {
         of_record: None,
         list: None,
         saved: None,
+        saved_cert: None,
     };
 }
 

@@ -9,7 +9,7 @@ mod options;
 mod reader;
 mod table;
 
-pub use command::{Command, Explained, Forms, INPUT, Paths};
+pub use command::{Command, Explained, Forms, INPUT, Paths, Written};
 pub use fault::LineFault;
 pub use options::{
     CheckOptions, Draws, ExplainOptions, HuntOptions, LowerOptions, MakeOptions, Refusals,

@@ -2,7 +2,7 @@
 ghost use Rattle.std.specs.Prelude.{◌≡◌, ◌≤◌, IfSome, option_map};
 ghost use Rattle.clap.specs.Words.{found_of, rows_of};
 ghost use Rattle.command_line.specs.Asked.{are_told, HasWorkers};
-ghost use Rattle.command_line.specs.Grammar.{asked_by, asked_of, check_of, check_list_of, draws_of, explain_of, hunt_of, lower_of, make_of, recorded_by, recorded_of, refusals_of, replay_of, run_of, search_of, shrink_of, soak_of, steps_between, steps_of, why_of, workers_of, written_between, drawn_values_of, drawn_with};
+ghost use Rattle.command_line.specs.Grammar.{asked_by, asked_of, check_of, check_list_of, draws_of, explain_of, fix_of, hunt_of, lower_of, make_of, recorded_by, recorded_of, refusals_of, replay_of, run_of, search_of, shrink_of, soak_of, steps_between, steps_of, why_of, workers_of, written_between, drawn_values_of, drawn_with, limits_of, watch_of};
 
 use crate::command::Forms;
 use crate::given::{flag_given, forms_given, number_given, text_given};
@@ -110,8 +110,7 @@ pub struct HuntOptions {
     pub seconds: Option<u32>,
 }
 
-/// Run the threads of a trace of an accepted module on real threads for at most `steps` steps each, beside at most `turns` steps of the
-/// collector.
+/// Run the threads of a trace on real threads for at most `steps` steps each, beside at most `turns` steps of the collector.
 #[derive(Clone, Copy)]
 pub struct RunOptions {
     pub turns: u32,
@@ -135,12 +134,16 @@ pub struct LowerOptions {
 pub enum What<'a> {
     Check(CheckOptions),
     Make(MakeOptions),
+    /// Make the safe fixes of a module and its certificate, and check what comes of it.
+    Fix,
     /// Check a module against a certificate, and again after each of some edits.
     Recheck,
     Replay(ReplayOptions),
     Soak(SoakOptions),
     Hunt(HuntOptions),
     Run(RunOptions),
+    /// Run the threads of a module that need not be checked, and say which one breaks the discipline.
+    Watch(RunOptions),
     /// Say whether a recorded run is one of the collector's profile.
     Conform,
     Explain(ExplainOptions<'a>),
@@ -159,10 +162,12 @@ impl StepsTold {
 }
 
 impl What<'_> {
-    /// Whether the file of the command is written where it is empty too: a run without steps on the heap has a record of no bytes.
+    /// Whether the file of the command is written where it is empty too: a run without steps on the heap has a record of no bytes, and a
+    /// module without a line is one.
     pub fn writes_empty(&self) -> bool {
         match self {
             What::Replay(options) => options.recorded,
+            What::Fix => true,
             _ => false,
         }
     }
@@ -172,9 +177,11 @@ impl What<'_> {
         match self {
             What::Check(_) => Some("check"),
             What::Make(_) => Some("make"),
+            What::Fix => Some("fix"),
             What::Recheck => Some("recheck"),
             What::Replay(_) => Some("replay"),
             What::Run(_) => Some("run"),
+            What::Watch(_) => Some("watch"),
             What::Conform => Some("conform"),
             What::Migrate => Some("migrate"),
             What::Lower(_) => Some("lower"),
@@ -251,6 +258,18 @@ fn make_given<'a>(given: &ArgMatches<'a>) -> What<'a>
     What::Make(MakeOptions {
         why: why_given(given),
     })
+}
+
+/// What `fix` is to do, if both files are given that it writes.
+fn fix_given<'a>(given: &ArgMatches<'a>) -> Option<What<'a>>
+    ensures asked { option_map asked_by result ≡ fix_of (rows_of (found_of given.now)) }
+    ensures workers { IfSome result HasWorkers }
+{
+    if text_given(given, "module").is_some() && text_given(given, "cert").is_some() {
+        Some(What::Fix)
+    } else {
+        None
+    }
 }
 
 /// The steps between these numbers, if one of them is given; otherwise the last ones.
@@ -416,14 +435,31 @@ fn hunt_given<'a>(given: &ArgMatches<'a>) -> Option<What<'a>>
     }))
 }
 
+/// How far threads and collector go.
+fn limits_given(given: &ArgMatches<'_>) -> Option<RunOptions>
+    ensures { result ≡ limits_of (rows_of (found_of given.now)) }
+{
+    let turns = number_given(given, "turns")?;
+    let steps = number_given(given, "steps")?;
+    Some(RunOptions { turns, steps })
+}
+
 /// The options of `run`.
 fn run_given<'a>(given: &ArgMatches<'a>) -> Option<What<'a>>
     ensures asked { option_map asked_by result ≡ run_of (rows_of (found_of given.now)) }
     ensures workers { IfSome result HasWorkers }
 {
-    let turns = number_given(given, "turns")?;
-    let steps = number_given(given, "steps")?;
-    Some(What::Run(RunOptions { turns, steps }))
+    let limits = limits_given(given)?;
+    Some(What::Run(limits))
+}
+
+/// The options of `watch`.
+fn watch_given<'a>(given: &ArgMatches<'a>) -> Option<What<'a>>
+    ensures asked { option_map asked_by result ≡ watch_of (rows_of (found_of given.now)) }
+    ensures workers { IfSome result HasWorkers }
+{
+    let limits = limits_given(given)?;
+    Some(What::Watch(limits))
 }
 
 /// The options of `explain`.
@@ -455,11 +491,13 @@ pub(crate) fn what_given<'a>(name: &str, given: &ArgMatches<'a>) -> Option<What<
         "check" => check_given(given),
         "check-list" => check_list_given(given),
         "make" => Some(make_given(given)),
+        "fix" => fix_given(given),
         "recheck" => Some(What::Recheck),
         "replay" => replay_given(given),
         "soak" => soak_given(given),
         "hunt" => hunt_given(given),
         "run" => run_given(given),
+        "watch" => watch_given(given),
         "conform" => Some(What::Conform),
         "explain" => Some(explain_given(given)),
         "migrate" => Some(What::Migrate),
@@ -499,6 +537,7 @@ fn lack_of_soak(given: &ArgMatches<'_>) -> &'static str {
 pub(crate) fn lack_of(name: &str, given: &ArgMatches<'_>) -> Option<&'static str> {
     match name {
         "check" => lack_of_check(given),
+        "fix" => Some("fix needs --module and --cert, the files that it writes"),
         "replay" => Some(lack_of_replay(given)),
         "soak" => Some(lack_of_soak(given)),
         _ => None,

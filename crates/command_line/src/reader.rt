@@ -2,9 +2,9 @@
 ghost use Rattle.std.specs.Prelude.{◌≡◌, IfOk, IfErr, IfSome, IsOk, [], map, option_map};
 ghost use Rattle.clap.specs.Words.{fault_of, found_of, rows_of, subcommand_rows_of};
 ghost use Rattle.command_line.specs.Asked.{HasWorkers, texts_of};
-ghost use Rattle.command_line.specs.Grammar.{dgc_app, explained_by, explained_of, forms_of, IsRefusalOf, line_by, line_found, line_in, line_of, paths_of, read_once, saved_of, shapes_beside};
+ghost use Rattle.command_line.specs.Grammar.{dgc_app, explained_by, explained_of, forms_of, IsRefusalOf, line_by, line_found, line_in, line_of, paths_of, read_once, saved_cert_of, saved_of, shapes_beside, written_by, written_of};
 
-use crate::command::{Command, Explained, Paths};
+use crate::command::{Command, Explained, Paths, Written};
 use crate::fault::LineFault;
 use crate::given::{either_given, forms_given, text_given};
 use crate::grammar::dgc_command;
@@ -28,7 +28,19 @@ fn saved_given<'a>(name: &str, given: &ArgMatches<'a>) -> Option<&'a str>
 {
     match name {
         "replay" => either_given(given, "json", "record"),
-        _ => text_given(given, "save"),
+        "fix" => text_given(given, "module"),
+        "soak" | "hunt" => text_given(given, "save"),
+        _ => either_given(given, "json", "sarif"),
+    }
+}
+
+/// The path of the certificate that the command of this name writes, if it was given.
+fn saved_cert_given<'a>(name: &str, given: &ArgMatches<'a>) -> Option<&'a str>
+    ensures { option_map (λ path. path.now) result ≡ saved_cert_of name.now (rows_of (found_of given.now)) }
+{
+    match name {
+        "fix" => text_given(given, "cert"),
+        _ => None,
     }
 }
 
@@ -46,6 +58,7 @@ fn paths_given<'a>(name: &str, given: &ArgMatches<'a>) -> Paths<'a>
         of_record: text_given(given, "RECORD"),
         list: text_given(given, "LIST"),
         saved: saved_given(name, given),
+        saved_cert: saved_cert_given(name, given),
     }
 }
 
@@ -82,6 +95,25 @@ fn explained_given(given: &ArgMatches<'_>) -> Option<Explained>
     }
 }
 
+/// How the answer is written, if not both of these files are given.
+fn written_by(json_path: Option<&str>, sarif_path: Option<&str>) -> Option<Written>
+    ensures { result ≡ written_by (option_map (λ path. path.now) json_path.entry) (option_map (λ path. path.now) sarif_path.entry) }
+{
+    match (json_path, sarif_path) {
+        (None, None) => Some(Written::NotAtAll),
+        (Some(_), None) => Some(Written::AsJson),
+        (None, Some(_)) => Some(Written::AsSarif),
+        (Some(_), Some(_)) => None,
+    }
+}
+
+/// How the answer is written, by the options `json` and `sarif`, of which one may be given.
+fn written_given(given: &ArgMatches<'_>) -> Option<Written>
+    ensures { result ≡ written_of (rows_of (found_of given.now)) }
+{
+    written_by(text_given(given, "json"), text_given(given, "sarif"))
+}
+
 /// The command of this name, from what was given to it.
 fn command_given<'a>(name: &str, given: &ArgMatches<'a>) -> Option<Command<'a>>
     ensures asked { option_map line_by result ≡ line_of name.now (rows_of (found_of given.now)) }
@@ -89,12 +121,14 @@ fn command_given<'a>(name: &str, given: &ArgMatches<'a>) -> Option<Command<'a>>
 {
     let explained = explained_given(given)?;
     let forms = forms_given(given)?;
+    let written = written_given(given)?;
     let what = what_given(name, given)?;
     let paths = read_once(paths_given(name, given))?;
     Some(Command {
         paths,
         explained,
         forms,
+        written,
         what,
     })
 }
@@ -103,6 +137,9 @@ fn command_given<'a>(name: &str, given: &ArgMatches<'a>) -> Option<Command<'a>>
 fn hint_of(name: &str, given: &ArgMatches<'_>) -> &'static str {
     if forms_given(given).is_none() {
         return "--forms takes core or wide";
+    }
+    if written_given(given).is_none() {
+        return "--sarif may not stand beside --json";
     }
     if !paths_given(name, given).is_read_once() {
         return "only one file may be -, the standard input";

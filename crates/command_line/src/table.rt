@@ -61,6 +61,16 @@ const FORMS: Argument = Argument::WhichForms(
     "Which forms the module may have: core, or wide, with shifts, division and more (docs/TEXT.md)",
 );
 
+const JSON: Argument = Argument::Path(
+    "json",
+    "The file to which the answer is written as JSON, with what is refused and why (docs/JSON.md)",
+);
+
+const SARIF: Argument = Argument::Path(
+    "sarif",
+    "The file to which the answer is written as SARIF 2.1.0 (docs/JSON.md)",
+);
+
 const SECONDS: Argument = Argument::Optional(
     "seconds",
     "N",
@@ -101,6 +111,8 @@ const CHECK: CommandRow = CommandRow {
             "N",
             "With --all: how many refusals are printed at most [default: 20]",
         ),
+        JSON,
+        SARIF,
         FORMS,
     ],
     after: "\
@@ -140,9 +152,9 @@ A tab stands between the two paths, or, on a line without a tab, one space. Empt
 lines that begin with `;` say nothing. Prints a line for each pair, in the order of the list:
 the path of its module, a tab, and what `dgc check` prints of the pair, as `yes 3`, `no @f %b
 2 K6` or `error L4 23:13`. What `dgc check` prints in two lines stands in one here, with a
-space between. As many pairs as there are workers are checked at a time, and answered before
-the next ones are read. Of a line that is no pair `error list 3` goes to standard error, with
-its number, and nothing is checked.
+space between. As many pairs as there are workers are checked at a time. Sixteen for each
+worker are read, and answered before the next ones are. Of a line that is no pair `error list
+3` goes to standard error, with its number, and nothing is checked.
 
 Exit status: the greatest of those that `dgc check` has of the pairs
   0  yes
@@ -163,6 +175,8 @@ const MAKE: CommandRow = CommandRow {
             "Where there is no answer, also prints what is refused",
         ),
         EXPLAIN,
+        JSON,
+        SARIF,
         FORMS,
     ],
     after: "\
@@ -182,6 +196,41 @@ Exit status:
   4  the command line is refused, a file cannot be read, or a write failed",
 };
 
+const FIX: CommandRow = CommandRow {
+    name: "fix",
+    about: "Makes the safe fixes of a module and its certificate, and checks what comes of it",
+    arguments: &[
+        MODULE,
+        CERT,
+        Argument::Path(
+            "module",
+            "The file to which the module is written with its fixes; it has to be given",
+        ),
+        Argument::Path(
+            "cert",
+            "The file to which the certificate is written with its fixes; it has to be given",
+        ),
+        EXPLAIN,
+        FORMS,
+    ],
+    after: "\
+Safe fixes (docs/FIXES.md) are lines of the certificate as `dgc make` writes them,
+llvm.gcwrite in place of a plain store, and a missing declare. One is kept if the check comes
+further with it. Prints a line for each, as `fixed module 23:3 llvm.gcwrite in place of the
+store`, and then what `dgc check` prints of the two texts that are written.
+
+Where that is yes or no, both files are written whole, also where nothing was fixed. Neither
+may be one of the files that are read. Of a text that is not read, one line goes to standard
+error, as `error L4 23:13` (a line and a column) or `error C5 @f`.
+
+Exit status: that of `dgc check` of the two texts
+  0  yes
+  1  no
+  2  a text is not read, or the module has no layouts
+  3  memory was refused
+  4  the command line is refused, a file cannot be read, or a write failed",
+};
+
 const RECHECK: CommandRow = CommandRow {
     name: "recheck",
     about: "Checks a module against a certificate, and again after each of some edits",
@@ -193,6 +242,8 @@ const RECHECK: CommandRow = CommandRow {
             "Edits: functions and sections in the place of others (docs/EDITS.md)",
         ),
         EXPLAIN,
+        JSON,
+        SARIF,
         FORMS,
     ],
     after: "\
@@ -434,6 +485,50 @@ Exit status:
   4  the command line is refused, a file cannot be read, or a write failed",
 };
 
+const WATCH: CommandRow = CommandRow {
+    name: "watch",
+    about: "Runs a module on real threads, and says which one breaks the discipline",
+    arguments: &[
+        MODULE,
+        Argument::File(
+            "TRACE",
+            "A trace: how the run begins; its steps are ignored (docs/TRACES.md)",
+        ),
+        SHAPES,
+        Argument::NumberOr(
+            "turns",
+            "1000000",
+            "N",
+            "How many steps the collector makes at most",
+        ),
+        Argument::NumberOr(
+            "steps",
+            "1000000",
+            "S",
+            "After how many of its steps a thread is stopped",
+        ),
+        EXPLAIN,
+        FORMS,
+    ],
+    after: "\
+Runs the threads of the trace as `dgc run` does, and needs no certificate: what a thread asks
+of the heap is tested first, and done only if that keeps the discipline. Prints what `dgc run`
+prints. Or prints the first thread that breaks the discipline, the function, the block, the
+place of the instruction in its block (from 0), and why, as `broken t 1 @f %b 3 H10`
+(docs/WATCHING.md). N and S are decimal numbers from 0 to 4294967295.
+
+Of a text that is not read, one line goes to standard error, as `error L4 23:13` (a line
+and a column) or `error C6 @g`. A module that writes `ptr` needs its shapes: without --shapes
+that line is `error Y5`.
+
+Exit status:
+  0  the threads were run, and none broke the discipline
+  1  broken
+  2  a text is not read, the module has no layouts, or a thread may not begin
+  3  memory was refused
+  4  the command line is refused, a file cannot be read, or a write failed",
+};
+
 const CONFORM: CommandRow = CommandRow {
     name: "conform",
     about: "Says which step of a recorded run is none of the collector's profile",
@@ -547,18 +642,20 @@ Exit status:
 };
 
 /// All commands, in the order of the help.
-pub(crate) fn commands() -> [&'static CommandRow; 12]
+pub(crate) fn commands() -> [&'static CommandRow; 14]
     ensures { map (λ row. app_of_row row.now) result ≡ command_apps }
 {
     [
         &CHECK,
         &CHECK_LIST,
         &MAKE,
+        &FIX,
         &RECHECK,
         &REPLAY,
         &SOAK,
         &HUNT,
         &RUN,
+        &WATCH,
         &CONFORM,
         &EXPLAIN_CODE,
         &MIGRATE,

@@ -168,10 +168,13 @@ abbrev pub detail_text : Module → (func : ℕ) → (line : List ℕ) → Optio
 detail_text m func line None = []
 detail_text m func line (Some detail) = codes " %" ++ found_key (name_of_block m func detail.target) ++ 32 ∷ line
 
+-- a function and a block of it
+abbrev pub block_text : Module → (func block : ℕ) → List ℕ
+block_text m func block = codes "@" ++ found_name (name_of_function m func) ++ codes " %" ++ found_key (name_of_block m func block)
+
 -- where a refused instruction is: its function, its block and its place there
 abbrev pub place_text : Module → Refusal → List ℕ
-place_text m refusal =
-    codes "@" ++ found_name (name_of_function m refusal.func) ++ codes " %" ++ found_key (name_of_block m refusal.func refusal.block) ++ 32 ∷ decimal refusal.instr
+place_text m refusal = block_text m refusal.func refusal.block ++ 32 ∷ decimal refusal.instr
 
 -- an instruction is refused: where it is and the rule that it breaks
 abbrev pub no : Module → (line : List ℕ) → Refusal → Answer

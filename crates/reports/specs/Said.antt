@@ -39,6 +39,15 @@ Says Meant old new status = (said : Said) × Meant said × Tells old new status 
 abbrev pub Saves : ((before after : List ℕ) → Said → Type 0) → (old new : Results) → (status : ℕ) → Type 0
 Saves Meant old new status = Says (Meant old.saved.items new.saved.items) old.outputs new.outputs status
 
+-- the bytes of the files that a command writes: of the first one, and of a certificate beside it
+pub record Saved : Type 0 where
+  pub file : List ℕ
+  pub cert : List ℕ
+
+-- those of these results
+abbrev pub saved_in : Results → Saved
+saved_in results = record { file = results.saved.items; cert = results.saved_cert.items }
+
 -- some text follows, which may be empty
 abbrev pub GivesText : (old new : List ℕ) → Type 0
 GivesText old new = (text : List ℕ) × (new ≡ old ++ text)

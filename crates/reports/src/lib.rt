@@ -20,7 +20,7 @@ pub use files::{
     Certified, File, Files, ModuleFile, Traced, Unread, bytes_of, edits_in, file_of, is_wide,
     module_in, path_of, program_in, read_certified, read_traced, shaped_in, trace_in,
 };
-pub use findings::{Findings, show_layouts};
+pub use findings::{Findings, show_accepted, show_layouts};
 pub use outcomes::{no_threads, replayed, write_break};
 pub use outputs::{Outputs, Results};
 pub use run_report::ran;
@@ -29,4 +29,4 @@ pub use status::{
 };
 pub use trusts::{accepted_again, report_accepted};
 pub use unreadable::unread;
-pub use verdicts::{line_of_refusal, not_laid_out, refused, report_verdict};
+pub use verdicts::{line_of_refusal, not_laid_out, refused, report_verdict, write_block};

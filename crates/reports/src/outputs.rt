@@ -13,11 +13,15 @@ pub struct Outputs {
     pub err: Vec<u8>,
 }
 
-/// What a command prints, and the bytes of the file that it writes.
+/// What a command prints, and the bytes of the files that it writes.
 #[derive(Drop)]
 pub struct Results {
     pub outputs: Outputs,
     pub saved: Vec<u8>,
+    /// The answer as it is written to a file, if it is to be.
+    pub answer: Vec<u8>,
+    /// Of a certificate that is written beside a module.
+    pub saved_cert: Vec<u8>,
 }
 
 impl Outputs {
@@ -48,10 +52,13 @@ impl Results {
         ensures out { result.outputs.out.items ≡ [] }
         ensures err { result.outputs.err.items ≡ [] }
         ensures saved { result.saved.items ≡ [] }
+        ensures saved_cert { result.saved_cert.items ≡ [] }
     {
         Results {
             outputs: Outputs::new(alloc),
             saved: Vec::new(alloc),
+            answer: Vec::new(alloc),
+            saved_cert: Vec::new(alloc),
         }
     }
 }

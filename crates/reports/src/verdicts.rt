@@ -8,7 +8,9 @@ ghost use Rattle.reports.specs.Said.{OfVerdict, Says};
 ghost use Rattle.module_check.specs.Accepted.{IsFirstRefusal, IsVerdictOf, shaped};
 
 use crate::faults::{memory, no_layouts};
-use crate::found::{name_of_block, name_of_function, write_found_local, write_found_name};
+use crate::found::{
+    name_of_block, name_of_block_at, name_of_function, write_found_local, write_found_name,
+};
 use crate::outputs::Outputs;
 use crate::status::STATUS_NO;
 use block_rules::{Detail, Refusal, Rule};
@@ -57,17 +59,27 @@ pub fn line_of_refusal(
     }
 }
 
+/// Writes a function and a block of it, by their places: `@f %b`.
+pub fn write_block<W: Write>(
+    out: &mut W,
+    of_module: &Module,
+    func: usize,
+    block: usize,
+) -> io::Result<()>
+    ensures { OnOk result (Appends (W.contents out.old) (W.contents out.new) (spec.block_text of_module.now func block)) }
+{
+    write!(out, "@")?;
+    write_found_name(out, name_of_function(of_module, func))?;
+    write!(out, " %")?;
+    write_found_local(out, name_of_block_at(of_module, func, block))
+}
+
 /// Writes where an instruction is: `@f %b 3`.
 fn write_place<W: Write>(out: &mut W, of_module: &Module, refusal: &Refusal) -> io::Result<()>
     ensures { OnOk result (Appends (W.contents out.old) (W.contents out.new) (spec.place_text of_module.now refusal.now)) }
 {
-    write!(out, "@")?;
-    write_found_name(
-        out,
-        name_of_function(of_module, refusal.func.number() as usize),
-    )?;
-    write!(out, " %")?;
-    write_found_local(out, name_of_block(of_module, refusal.func, refusal.block))?;
+    let func = refusal.func.number() as usize;
+    write_block(out, of_module, func, refusal.block.number() as usize)?;
     write!(out, " {}", refusal.instr)
 }
 

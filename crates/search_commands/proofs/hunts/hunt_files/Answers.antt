@@ -21,7 +21,7 @@ pub returns-in-Err-clause-said : goal.returns-in-Err-clause-said
 returns-in-Err-clause-said g c =
     let files = c.args.files.now in
     let before = c.args.results.now in
-    let after : Results = record { outputs = record { out = before.outputs.out; err = c.unread.new.err }; saved = before.saved } in
+    let after : Results = record { outputs = record { out = before.outputs.out; err = c.unread.new.err }; saved = before.saved; answer = before.answer; saved_cert = before.saved_cert } in
     let says = λ (file : Option File). IfOk c.unread.result (Saves (λ old new. OfCertified (λ m certs. OfHuntCerts c.args.options files.saves m certs old new) files.of_module file) before after) in
     rw c.in-Some.is
     (subst says c.in-Some.is
