@@ -275,7 +275,7 @@ Accepted, with the same module and trace: `dgc conform` prints `conforms 2`.
     2 t 0 reads word 1 of cell 1: 0
 
 See also: docs/COLLECTOR.md (\"What a thread holds, and what its caller keeps
-to\")
+to\"), docs/WATCHING.md (\"What is printed\")
 ";
 
 pub(crate) const H8: &str = "\
@@ -344,7 +344,7 @@ Accepted, with the same module and trace: `dgc conform` prints `conforms 3`.
     2 t 0 claims cell 2: won
     3 t 0 stores 2 in word 1 of cell 1, plainly
 
-See also: H7 (what is held)
+See also: H7 (what is held), docs/WATCHING.md (\"What is printed\")
 ";
 
 pub(crate) const H10: &str = "\
@@ -381,5 +381,5 @@ Accepted, with the same module and trace: `dgc conform` prints `conforms 3`.
     2 t 0 reads the old value in word 0 of cell 0: 0
     3 t 0 stores 1 in word 0 of cell 0, after the barrier
 
-See also: H4 (the barrier)
+See also: H4 (the barrier), docs/WATCHING.md (\"What is printed\")
 ";

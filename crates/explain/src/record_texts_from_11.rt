@@ -33,7 +33,7 @@ Accepted, with the same module and trace: `dgc conform` prints `conforms 4`.
     3 t 0 reads the posted stage: 1 (Sync1 of cycle 1)
     4 t 0 stores its stage 1 (Sync1 of cycle 1) with the roots 1
 
-See also: H7 (what is held)
+See also: H7 (what is held), docs/WATCHING.md (\"What is printed\")
 ";
 
 pub(crate) const H12: &str = "\
