@@ -3,3 +3,4 @@ pub mod Conforming
 pub mod Inputs
 pub mod Listing
 pub mod Replaying
+pub mod Watching

@@ -1,4 +1,4 @@
-//! The commands, from a command and its files to the printed lines and the status: `replay`, `run` and `conform`, and those of the crates below.
+//! The commands, from a command and its files to the printed lines and the status: `replay`, `run`, `watch` and `conform`, and those of the crates below.
 #![tactic(auto)]
 
 mod command;
@@ -13,6 +13,8 @@ mod replaying;
 mod running;
 mod saving;
 mod steps_told;
+mod watching;
+mod written;
 
 pub use command::work;
 pub use explained_checks::Look;

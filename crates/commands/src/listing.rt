@@ -18,8 +18,11 @@ use reports::{Files, Outputs, STATUS_USAGE, STATUS_YES, Unread, file_of, memory,
 use std::alloc::{AllocError, Global};
 use std::io;
 use std::io::Write;
-use std::thread::{Threads, map_indices};
+use std::thread::{Threads, map_chunks};
 use std::time::Clock;
+
+/// How many pairs each worker answers before the next ones are read. To start a thread takes longer than to check a small pair.
+const SHARE: usize = 16;
 
 /// What is told of a pair of a list.
 #[derive(Drop)]
@@ -128,8 +131,8 @@ fn answer_pair(
     Ok(listed)
 }
 
-/// Checks some pairs at the same time, each by so many workers as the options say.
-fn answer_jobs(
+/// Checks the pairs of one worker, one after another.
+fn answer_share(
     rt: &(impl AllocGlobal + Threads + Clock + Sync),
     look: Look,
     command: &Command<'_>,
@@ -138,21 +141,38 @@ fn answer_jobs(
 ) -> io::Result<Vec<io::Result<Listed>>>
     requires { HasWorkers (ACheck options) }
 {
-    let answers = map_indices(
+    let mut answers = Vec::new(rt.alloc());
+    for job in jobs {
+        let Pair {
+            of_module,
+            certificate,
+        } = job.pair;
+        let command = command.of_pair(of_module, certificate);
+        answers.push(answer_pair(rt, look, &command, options, &job.contents))?;
+    }
+    Ok(answers)
+}
+
+/// Checks some pairs: at the same time as many of them as these shares, each by so many workers as the options say.
+fn answer_jobs(
+    rt: &(impl AllocGlobal + Threads + Clock + Sync),
+    look: Look,
+    command: &Command<'_>,
+    options: CheckOptions,
+    share: usize,
+    jobs: &[Job<'_>],
+) -> io::Result<Vec<io::Result<Vec<io::Result<Listed>>>>>
+    requires workers { HasWorkers (ACheck options) }
+    requires some { 1 ≤ share }
+{
+    let answers = map_chunks(
         rt,
         rt.alloc(),
-        jobs.len(),
-        &|place: usize| -> io::Result<Listed>
-            requires { (place < length jobs.now) × HasWorkers (ACheck options) }
-        {
-            let job = &jobs[place];
-            let Pair {
-                of_module,
-                certificate,
-            } = job.pair;
-            let command = command.of_pair(of_module, certificate);
-            answer_pair(rt, look, &command, options, &job.contents)
-        },
+        jobs,
+        share,
+        &|_start: usize, of_worker: &[Job<'_>]| -> io::Result<Vec<io::Result<Listed>>>
+            requires { HasWorkers (ACheck options) }
+        { answer_share(rt, look, command, options, of_worker) },
     )?;
     Ok(answers)
 }
@@ -188,8 +208,8 @@ fn jobs_of<'a>(
     Ok(jobs)
 }
 
-/// Writes some answers. Returns the greatest of this status and theirs.
-fn write_answers(
+/// Writes the answers of one worker's pairs. Returns the greatest of this status and theirs.
+fn write_share(
     answers: Vec<io::Result<Listed>>,
     status: u8,
     outside: &mut impl Outside,
@@ -200,6 +220,19 @@ fn write_answers(
         outside.answered(&listed)?;
         worst = worst.max(listed.status);
         drop(listed);
+    }
+    Ok(worst)
+}
+
+/// Writes some answers. Returns the greatest of this status and theirs.
+fn write_answers(
+    shares: Vec<io::Result<Vec<io::Result<Listed>>>>,
+    status: u8,
+    outside: &mut impl Outside,
+) -> io::Result<u8> {
+    let mut worst = status;
+    for share in shares {
+        worst = write_share(share?, worst, outside)?;
     }
     Ok(worst)
 }
@@ -215,14 +248,16 @@ fn check_pairs(
 ) -> io::Result<u8>
     requires { HasWorkers (ACheck options) }
 {
+    let workers = options.workers as usize;
     let mut worst = STATUS_YES;
-    for some in pairs.chunks(options.workers as usize) {
+    for some in pairs.chunks(workers * SHARE) {
         let jobs = jobs_of(rt.alloc(), some, outside)?;
         let of_each = CheckOptions {
             workers: workers_of_each(options.workers, some.len()),
             ..options
         };
-        let answers = answer_jobs(rt, look, command, of_each, jobs.as_slice());
+        let share = some.len().div_ceil(workers).max(1);
+        let answers = answer_jobs(rt, look, command, of_each, share, jobs.as_slice());
         drop(jobs);
         worst = write_answers(answers?, worst, outside)?;
     }
@@ -257,7 +292,7 @@ fn no_pair(pen: Pen, command: &Command<'_>, line: usize, err: &mut Vec<u8>) -> i
 /// status of the pairs.
 ///
 /// No clause says the following. Each pair is answered as `list_pair` promises, in the order of the list; so many of them are checked at a
-/// time as there are workers, and answered before the next ones are read.
+/// time as there are workers. Sixteen for each worker are read, checked and answered before the next ones.
 pub fn check_list(
     rt: &(impl AllocGlobal + Threads + Clock + Sync),
     look: Look,

@@ -8,6 +8,9 @@ returns-in-Check-clause-said g c = rw c.in-Check.is (IfOk-weaker c.check_files.r
 pub returns-in-Make-clause-said : goal.returns-in-Make-clause-said
 returns-in-Make-clause-said g c = rw c.in-Make.is (IfOk-weaker c.make_file.result _ _ (λ status says. (_, says, refl, refl)) c.make_file.ensures)
 
+pub returns-in-Fix-clause-said : goal.returns-in-Fix-clause-said
+returns-in-Fix-clause-said g c = rw c.in-Fix.is (IfOk-weaker c.fix_files.result _ _ (λ status says. (_, says, refl, refl)) c.fix_files.ensures.said)
+
 pub returns-in-Recheck-clause-said : goal.returns-in-Recheck-clause-said
 returns-in-Recheck-clause-said g c = rw c.in-Recheck.is (IfOk-weaker c.recheck_files.result _ _ (λ status says. (_, says, refl, refl)) c.recheck_files.ensures)
 
@@ -19,6 +22,9 @@ returns-in-Hunt-clause-said g c = rw c.in-Hunt.is (IfOk-weaker c.hunt_files.resu
 
 pub returns-in-Run-clause-said : goal.returns-in-Run-clause-said
 returns-in-Run-clause-said g c = rw c.in-Run.is (IfOk-weaker c.run_files.result _ _ (λ status says. (_, says, refl, refl)) c.run_files.ensures)
+
+pub returns-in-Watch-clause-said : goal.returns-in-Watch-clause-said
+returns-in-Watch-clause-said g c = rw c.in-Watch.is (IfOk-weaker c.watch_files.result _ _ (λ status says. (_, says, refl, refl)) c.watch_files.ensures)
 
 pub returns-in-Explain-clause-said : goal.returns-in-Explain-clause-said
 returns-in-Explain-clause-said g c = rw c.in-Explain.is (IfOk-weaker c.explain_code.result _ _ (λ status says. (_, says, refl, refl)) c.explain_code.ensures)

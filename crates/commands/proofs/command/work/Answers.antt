@@ -7,4 +7,4 @@ use Rattle.commands.proofs.command.work.Goals as goal
 pub returns-clause-said : goal.returns-clause-said
 returns-clause-said g c =
     let said = c.in_ok-status.ensures.said in
-    (said.0, said.1, said.2, subst (λ items. GivesTextIf (is_wanted c.args.command.now.explained) items c.explain_answer.new.err.items) said.3 c.in_ok-explain_answer.ensures)
+    (said.0, said.1, said.2, subst (λ items. GivesTextIf (is_wanted c.args.command.now.explained) items c.explain_done.new.err.items) said.3 c.in_ok-explain_done.ensures)
