@@ -2,7 +2,7 @@
 ghost use Rattle.command_line.specs.Asked.{HasWorkers};
 
 use crate::failure::Failure;
-use crate::files::save;
+use crate::files::{save, save_answer};
 use crate::progress::Watcher;
 use command_line::Command;
 use commands::{Contents, Look, Pen, Results, STATUS_NO, STATUS_YES, explain_no_file, work};
@@ -18,8 +18,8 @@ pub struct Answer {
 }
 
 impl Answer {
-    /// Writes the answer, and then the file that the command writes, if the answer is yes or no. Returns the status with which the program
-    /// ends.
+    /// Writes the answer, and then the files that the command writes, if the answer is yes or no, or if a file has the object of the answer.
+    /// Returns the status with which the program ends.
     pub fn write<O: Write, E: Write>(
         &self,
         rt: &(impl Runtime + AllocGlobal),
@@ -29,8 +29,9 @@ impl Answer {
     ) -> Result<u8, Failure> {
         self.results.outputs.write(out, err)?;
         if self.status == STATUS_YES || self.status == STATUS_NO {
-            save(rt, command, self.results.saved.as_slice())?;
+            save(rt, command, &self.results)?;
         }
+        save_answer(rt, command, self.results.answer.as_slice())?;
         Ok(self.status)
     }
 }

@@ -12,8 +12,10 @@ pub enum Failure {
     Output,
     /// The variable DGC_EXPLAIN says nothing that it may.
     Setting,
-    /// The file that the command writes is one of those that it reads.
+    /// A file that the command writes is one of those that it reads.
     Overwritten,
+    /// Both files that the command writes are one.
+    WrittenTwice,
 }
 
 impl From<io::Error> for Failure {

@@ -1,7 +1,7 @@
-//! The files of a command. Each is read up to its limit. One may be written.
+//! The files of a command. Each is read up to its limit. One may be written, or a module and its certificate.
 use crate::failure::Failure;
 use command_line::{Command, INPUT, Paths};
-use commands::{Contents, NoFile, is_ended};
+use commands::{Contents, NoFile, Results, is_ended};
 use ir_tokens::TEXT_LIMIT;
 use std::fs::OpenFile;
 use std::io::Read;
@@ -238,9 +238,9 @@ fn leads_to(rt: &(impl Runtime + AllocGlobal), path: Option<&str>, file: (u64, u
     }
 }
 
-/// Whether the file that a command writes is one of those that it reads.
-pub fn is_overwritten(rt: &(impl Runtime + AllocGlobal), paths: Paths<'_>) -> bool {
-    let Some(path) = paths.saved else {
+/// Whether the file of this path, if it is given, is one of those that a command reads.
+fn is_read(rt: &(impl Runtime + AllocGlobal), paths: Paths<'_>, path: Option<&str>) -> bool {
+    let Some(path) = path else {
         return false;
     };
     let Some(file) = identity_of(rt, path) else {
@@ -254,17 +254,57 @@ pub fn is_overwritten(rt: &(impl Runtime + AllocGlobal), paths: Paths<'_>) -> bo
         || leads_to(rt, paths.of_record, file)
 }
 
-/// Writes what a command saves to its file, if there is anything, or if it may be empty.
-pub fn save(
+/// Writes the object of an answer to the file of its command, if there is one.
+pub fn save_answer(
     rt: &(impl Runtime + AllocGlobal),
     command: &Command<'_>,
-    saved: &[u8],
+    answer: &[u8],
 ) -> Result<(), Failure> {
-    if saved.is_empty() && !command.what.writes_empty() {
+    if answer.is_empty() {
         return Ok(());
     }
     if let Some(path) = command.paths.saved {
-        fs::write(rt, path, saved)?;
+        fs::write(rt, path, answer)?;
+    }
+    Ok(())
+}
+
+/// Whether both files that a command writes are one, by their paths or as files that are there.
+pub fn is_written_twice(rt: &(impl Runtime + AllocGlobal), paths: Paths<'_>) -> bool {
+    let (Some(path), Some(other)) = (paths.saved, paths.saved_cert) else {
+        return false;
+    };
+    if path == other {
+        return true;
+    }
+    match identity_of(rt, path) {
+        Some(file) => leads_to(rt, Some(other), file),
+        None => false,
+    }
+}
+
+/// Whether a file that a command writes is one of those that it reads.
+pub fn is_overwritten(rt: &(impl Runtime + AllocGlobal), paths: Paths<'_>) -> bool {
+    is_read(rt, paths, paths.saved) || is_read(rt, paths, paths.saved_cert)
+}
+
+/// Writes what a command saves to its files, if there is anything, or if it may be empty.
+pub fn save(
+    rt: &(impl Runtime + AllocGlobal),
+    command: &Command<'_>,
+    results: &Results,
+) -> Result<(), Failure> {
+    if results.saved.is_empty() && !command.what.writes_empty() {
+        return Ok(());
+    }
+    if let Some(path) = command.paths.saved {
+        fs::write(rt, path, results.saved.as_slice())?;
+    }
+    if is_written_twice(rt, command.paths) {
+        return Err(Failure::WrittenTwice);
+    }
+    if let Some(path) = command.paths.saved_cert {
+        fs::write(rt, path, results.saved_cert.as_slice())?;
     }
     Ok(())
 }

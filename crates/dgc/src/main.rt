@@ -16,7 +16,7 @@ use answering::{Answer, answer_of};
 use command_line::{Command, Explained, LineFault, explained_by, read_command};
 use commands::{Contents, Look, STATUS_USAGE, STATUS_YES, memory, status_of};
 use failure::Failure;
-use files::{is_overwritten, read_files};
+use files::{is_overwritten, is_written_twice, read_files};
 use listing::answer_list;
 use progress::Watcher;
 use std::env::VarError;
@@ -62,6 +62,9 @@ fn answer<O: Write, E: Write>(
 {
     if is_overwritten(rt, command.paths) {
         return Err(Failure::Overwritten);
+    }
+    if is_written_twice(rt, command.paths) {
+        return Err(Failure::WrittenTwice);
     }
     let contents = read_files(rt, command.paths)?;
     if command.paths.list.is_some() {
@@ -162,6 +165,7 @@ fn report<E: Write>(err: &mut E, failure: Failure) -> io::Result<u8> {
         Failure::Setting => "error: DGC_EXPLAIN takes always, auto or never",
         Failure::Overwritten =>
             "error: the file that is to be written is one of those that are read",
+        Failure::WrittenTwice => "error: the two files that are to be written are one",
     };
     writeln!(err, "{text}")?;
     Ok(STATUS_USAGE)
