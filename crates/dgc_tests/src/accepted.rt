@@ -5,7 +5,7 @@ use crate::done::{done, printed_of};
 use crate::printed::{Printed, bytes_of};
 use crate::row_failure::RowFailure;
 use command_line::{
-    CheckOptions, Command, Explained, Forms, MakeOptions, Paths, Refusals, What, Why,
+    CheckOptions, Command, Explained, Forms, MakeOptions, Paths, Refusals, What, Why, Written,
 };
 use commands::{Contents, STATUS_YES};
 use ir_print::print;
@@ -23,6 +23,7 @@ pub const CHECK: Command<'static> = Command {
     },
     explained: Explained::Never,
     forms: Forms::Core,
+    written: Written::NotAtAll,
     what: What::Check(CheckOptions {
         workers: 1,
         refusals: Refusals::First,
@@ -79,6 +80,7 @@ pub fn checked_by_three(
         paths: row.paths(),
         explained: Explained::Never,
         forms: row.forms,
+        written: Written::NotAtAll,
         what: What::Check(CheckOptions {
             workers: 3,
             refusals: Refusals::First,
@@ -153,6 +155,7 @@ fn making<'a>(row: Certified<'a>, shapes: &Option<Vec<u8>>) -> Command<'a>
         },
         explained: Explained::Never,
         forms: row.forms,
+        written: Written::NotAtAll,
         what: What::Make(MakeOptions {
             why: Why::NotWanted,
         }),
@@ -223,6 +226,7 @@ fn migrated(
         paths,
         explained: Explained::Never,
         forms: row.forms,
+        written: Written::NotAtAll,
         what: What::Migrate,
     };
     done(rt, row.folder, &command)

@@ -10,6 +10,7 @@
 //! - `status`, `stdout`, `stderr`: the wanted exit status and the wanted bytes of both outputs. Where wanted bytes end within a line,
 //!   more may follow them.
 //! - `saved`: the wanted bytes of the file that the command writes. Without it they do not matter.
+//! - `saved_cert`: so of the certificate that it writes beside a module.
 //! - `migrated`: a folder with such files for the check of the opaque text, where they are other ones.
 //! - `stdin`: the bytes of the standard input, where `args` has a `-`. Without it there are none.
 //! - The files that `args` names. A file that is not there cannot be read by the command either.

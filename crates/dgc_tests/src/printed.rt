@@ -17,6 +17,8 @@ pub struct Printed {
     pub err: Vec<u8>,
     /// None of what is wanted where it does not matter.
     pub saved: Option<Vec<u8>>,
+    /// Of the certificate that it writes beside a module.
+    pub saved_cert: Option<Vec<u8>>,
 }
 
 /// Reads an exit status.
@@ -100,30 +102,70 @@ fn write_difference(lines: &mut Vec<u8>, name: &str, wanted: &[u8], text: &[u8])
     writeln!(lines, "'")
 }
 
+/// What a command writes to its file: what it saves, or the object of its answer.
+fn written_of(saved: Vec<u8>, answer: Vec<u8>) -> Vec<u8> {
+    if answer.is_empty() {
+        drop(answer);
+        saved
+    } else {
+        drop(saved);
+        answer
+    }
+}
+
+/// What was written to a file, if anything.
+fn written(saved: &Option<Vec<u8>>) -> &[u8] {
+    match saved {
+        Some(saved) => saved.as_slice(),
+        None => &[],
+    }
+}
+
+/// Writes what differs in a file, if what is wanted of it matters.
+fn compare_file(
+    wanted: &Option<Vec<u8>>,
+    saved: &Option<Vec<u8>>,
+    name: &str,
+    lines: &mut Vec<u8>,
+) -> io::Result<()> {
+    match wanted {
+        Some(wanted) => write_difference(lines, name, wanted.as_slice(), written(saved)),
+        None => Ok(()),
+    }
+}
+
 impl Printed {
-    /// Reads the files `status`, `stdout`, `stderr` and `saved` of a folder. The last one need not be there.
+    /// Reads the files `status`, `stdout`, `stderr`, `saved` and `saved_cert` of a folder. The last two need not be there.
     pub fn read(rt: &(impl Runtime + AllocGlobal), folder: &str) -> Result<Printed, RowFailure> {
         let status = status_at(rt, folder)?;
         let out = needed(rt, folder, "stdout")?;
         let err = needed(rt, folder, "stderr")?;
         let saved = bytes_of(rt, folder, "saved")?;
+        let saved_cert = bytes_of(rt, folder, "saved_cert")?;
         Ok(Printed {
             status,
             out,
             err,
             saved,
+            saved_cert,
         })
     }
 
     /// The status and the results of a command.
     pub fn of_results(status: u8, results: Results) -> Printed {
-        let Results { outputs, saved } = results;
+        let Results {
+            outputs,
+            saved,
+            answer,
+            saved_cert,
+        } = results;
         let Outputs { out, err } = outputs;
         Printed {
             status,
             out,
             err,
-            saved: Some(saved),
+            saved: Some(written_of(saved, answer)),
+            saved_cert: Some(saved_cert),
         }
     }
 
@@ -134,6 +176,7 @@ impl Printed {
             out: Vec::new(alloc),
             err,
             saved: None,
+            saved_cert: None,
         }
     }
 
@@ -144,6 +187,7 @@ impl Printed {
             out,
             err: Vec::new(alloc),
             saved: None,
+            saved_cert: None,
         }
     }
 
@@ -154,14 +198,6 @@ impl Printed {
         write!(lines, "' '")?;
         add_front(lines, self.err.as_slice())?;
         writeln!(lines, "'")
-    }
-
-    /// What was written to a file, if anything.
-    fn saved(&self) -> &[u8] {
-        match &self.saved {
-            Some(saved) => saved.as_slice(),
-            None => &[],
-        }
     }
 
     /// Writes what differs from what is wanted in the row of this name.
@@ -175,9 +211,7 @@ impl Printed {
         }
         write_difference(lines, name, wanted.out.as_slice(), self.out.as_slice())?;
         write_difference(lines, name, wanted.err.as_slice(), self.err.as_slice())?;
-        match &wanted.saved {
-            Some(saved) => write_difference(lines, name, saved.as_slice(), self.saved()),
-            None => Ok(()),
-        }
+        compare_file(&wanted.saved, &self.saved, name, lines)?;
+        compare_file(&wanted.saved_cert, &self.saved_cert, name, lines)
     }
 }

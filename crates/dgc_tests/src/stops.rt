@@ -1,7 +1,7 @@
 //! Replays of traces in which an actor stops for good.
 use crate::done::printed_of;
 use crate::texts::{CLAIMER, FOUR, PUBLISHER_AND_CLEARER, module_of};
-use command_line::{Command, Explained, Forms, Paths, ReplayOptions, StepsTold, What};
+use command_line::{Command, Explained, Forms, Paths, ReplayOptions, StepsTold, What, Written};
 use commands::{Contents, STATUS_YES};
 use std::alloc::{AllocError, Global};
 use std::io;
@@ -17,6 +17,7 @@ const REPLAY: Command<'static> = Command {
     },
     explained: Explained::Never,
     forms: Forms::Core,
+    written: Written::NotAtAll,
     what: What::Replay(ReplayOptions {
         steps: StepsTold::NotTold,
         recorded: false,

@@ -1,0 +1,18 @@
+%Node = type { i64, %Node* }
+@g = global %Node* null
+declare i8* @dg_alloc(i32)
+declare void @dg_safepoint()
+declare void @llvm.gcroot(i8**, i8*)
+declare i8* @llvm.gcread(i8*, i8**)
+declare void @llvm.gcwrite(i8*, i8*, i8**)
+define void @keeper() gc "shadow-stack" {
+entry:
+  %a = call i8* @dg_alloc(i32 0)
+  %x = bitcast i8* %a to %Node*
+  %p = getelementptr %Node, %Node* %x, i32 0, i32 0
+  br label %loop
+loop:
+  call void @dg_safepoint()
+  %v = load i64, i64* %p
+  br label %loop
+}
