@@ -36,6 +36,8 @@ COMMANDS = {
     "hunt": "hunt barrier.ll --seeds 2 --steps 20",
     "hunt, certificate": "hunt barrier.ll --cert swap.cert --seeds 2 --steps 20",
     "run": "run barrier.ll swap.cert two.trace --steps 5 --turns 5",
+    "watch": "watch barrier.ll two.trace --steps 5 --turns 0",
+    "watch, shapes": "watch opaque.ll two.trace --shapes swap.shapes --steps 5 --turns 0",
     "migrate": "migrate barrier.ll",
     "migrate, certificate": "migrate barrier.ll swap.cert",
     "lower, certificate": "lower barrier.ll swap.cert",

@@ -10,9 +10,9 @@ seed draws the same cases. A run is wrong that
 
     ends by a signal, or with a status that is none of 0 to 4, or takes more than 2 s of a processor or more than 1 GB;
     prints what its command does not print with that status, or no explanation where one was asked for;
-    says yes of a module whose threads break in a soak of 20 seeds.
+    says yes of a module whose threads break in a soak of 20 seeds, or of which `dgc watch` names one.
 
-First it makes such soaks of the modules that rows refuse, and prints how many break: so much a soak finds. Many cases are run in one
+First it makes such runs of the modules that rows refuse, and prints how many break: so much they find. Many cases are run in one
 process (cases.c). A case that ends it is run once more in a process of its own. Each wrong case is kept in FOLDER (by default
 out/hostile) with its command. Prints how many cases ended with which status, the longest and the largest, and how many cases were
 run a second. Ends with status 1 where a case is wrong. For use by hand.
@@ -36,7 +36,7 @@ ROWS = os.path.join(TOP, "crates", "dgc_tests", "data", "rows")
 SECONDS, KILOBYTES = 2.0, 1 << 20
 # after this time a run is ended by a signal; other programs may have the processor meanwhile
 MOST_SECONDS = 60.0
-SEEDS, STEPS = 20, 400
+SEEDS, STEPS, TURNS = 20, 400, 2000
 NAME = rb'(?:[-a-zA-Z$._0-9]+|"[^"]*")'
 # how many cases are drawn before they are run
 BATCH = 200
@@ -57,14 +57,19 @@ PRINTED = {
     "soak": {0: rb"sound \d+ (?:biased )?seeds\n",
              1: rb"broken (?:biased )?seed \d+ \d+ " + CAUSE + rb"(?:shorter \d+ " + CAUSE + rb"tries \d+\n)?"},
     "run": {0: rb"(?:" + THREAD + rb")*collector turns \d+ cycles \d+\n", 1: REFUSED},
+    "watch": {0: rb"(?:" + THREAD + rb")*collector turns \d+ cycles \d+\n", 1: rb"broken t \d+ @(?s:.*) %(?s:.*) \d+ (?:H7|H9|H10|H11|wrong)\n"},
     "conform": {0: rb"conforms \d+\n", 1: rb"no \d+ (?:t \d+|c) H\d+\n"},
+    "lower": {0: rb"(?s:.*)", 1: REFUSED},
+    "check-list": {status: rb"(?:[^\t\n]+\t(?:yes|no|error) [^\n]*\n)*" for status in range(5)},
 }
+# what may stand on the standard error beside such an answer
+BESIDE = {"lower": b"nothing was checked\n"}
 # what it may print on the standard error where there is no answer; an explanation may come after it
 FAULTS = {2: FAULT, 3: rb"error memory\n", 4: rb"(?s:error.*)\n"}
 PRINTED = {command: {status: re.compile(text) for status, text in by_status.items()} for command, by_status in PRINTED.items()}
 FAULTS = {status: re.compile(text) for status, text in FAULTS.items()}
 # of how many cases in a hundred this is the command
-SHARES = {"check": 40, "recheck": 13, "replay": 13, "make": 9, "run": 8, "conform": 6, "soak": 6, "migrate": 5}
+SHARES = {"check": 32, "recheck": 12, "replay": 12, "make": 9, "run": 7, "watch": 8, "conform": 5, "soak": 5, "migrate": 4, "lower": 4, "check-list": 2}
 # options that a case may have beside those of its row
 OPTIONS = {
     "check": [["--explain", "always"], ["--explain", "always"], ["--workers", "4"], ["--all"]],
@@ -73,7 +78,10 @@ OPTIONS = {
     "replay": [["--explain", "always"], ["--steps"], ["--json", "steps.json"]],
     "soak": [["--save", "saved.trace"], ["--bias"], ["--shrink", "--tries", "20"]],
     "run": [["--explain", "always"]],
+    "watch": [["--explain", "always"]],
     "conform": [["--explain", "always"]],
+    "check-list": [["--explain", "always"], ["--workers", "4"]],
+    "lower": [["--record"]],
 }
 
 
@@ -88,6 +96,16 @@ def is_form(text, form, may_go_on):
     return bool(form.match(text) if may_go_on else form.fullmatch(text))
 
 
+def is_answer(words, ended):
+    """Whether a command may print this on both outputs with this status."""
+    is_explained, command = "always" in words, words[0]
+    if ended.status > 1 and not (command == "check-list" and ended.stdout):
+        return is_form(ended.stderr, FAULTS[ended.status], is_explained) and not ended.stdout
+    form = COUNTED if "--all" in words and ended.status == 1 else PRINTED[command].get(ended.status)
+    may_say_more = is_explained or command == "make" and ended.status == 1 or BESIDE.get(command) == ended.stderr
+    return form and is_form(ended.stdout, form, command == "replay" and "--steps" in words) and (may_say_more or not ended.stderr)
+
+
 def fault_of(words, ended):
     """Why a run of a command may not end so, or nothing."""
     if ended.signal:
@@ -98,16 +116,9 @@ def fault_of(words, ended):
         return f"{ended.kilobytes // 1024} MB"
     if ended.status not in range(5):
         return f"status {ended.status}"
-    is_explained, command = "always" in words, words[0]
-    if ended.status > 1:
-        is_wanted = is_form(ended.stderr, FAULTS[ended.status], is_explained) and not ended.stdout
-    else:
-        form = COUNTED if "--all" in words and ended.status == 1 else PRINTED[command].get(ended.status)
-        may_say_more = is_explained or command == "make" and ended.status == 1
-        is_wanted = form and is_form(ended.stdout, form, "--steps" in words) and (may_say_more or not ended.stderr)
-    if is_wanted and is_explained and not is_told(words, ended):
-        return "no explanation"
-    return "" if is_wanted else "another text"
+    if not is_answer(words, ended):
+        return "another text"
+    return "no explanation" if "always" in words and not is_told(words, ended) else ""
 
 
 def prints_none(words):
@@ -116,9 +127,9 @@ def prints_none(words):
 
 
 def is_told(words, ended):
-    """Whether an explanation came with an answer that wants one. A thread that may not begin is not explained, and a soak says nothing more."""
+    """Whether an explanation came with an answer that wants one. A thread that may not begin is not explained, and what breaks a run is not."""
     if ended.status == 1:
-        return words[0] in ("replay", "soak") or prints_none(words) or bool(ended.stderr)
+        return words[0] in ("replay", "soak", "watch") or prints_none(words) or bool(ended.stderr)
     return ended.status != 2 or ended.stderr.startswith(b"error K") or ended.stderr.count(b"\n") > 1
 
 
@@ -152,10 +163,11 @@ def trace_of(module, times):
 
 
 class Soaks:
-    """Soaks of modules that are accepted: each starts every function that integers can start, once and twice."""
+    """Soaks and watched runs of modules that are accepted: each starts every function that integers can start, once and twice."""
 
     def __init__(self, runner):
         self.runner, self.known, self.made, self.begun, self.unread, self.seconds = runner, set(), 0, 0, 0, 0.0
+        self.broken = collections.Counter()
 
     def faults(self, accepted):
         """Which of these modules with their shapes and forms are not as they may be, each with why. A module that was looked at is left out."""
@@ -166,20 +178,24 @@ class Soaks:
                 continue
             self.known.add(key)
             given = ["--shapes", "shapes"] if shapes else []
-            words = ["soak", "module.ll", "trace", *given, "--seeds", str(SEEDS), "--steps", str(STEPS), *forms]
+            both = ["module.ll", "trace", *given, "--steps", str(STEPS), *forms]
+            lines = [["soak", *both, "--seeds", str(SEEDS)], ["watch", *both, "--turns", str(TURNS)]]
             traces = [trace for trace in (trace_of(module, times) for times in (1, 2)) if trace]
-            cases += [Case(words, {"module.ll": module, "trace": trace, "shapes": shapes}) for trace in traces]
-            soaked += [number] * len(traces)
+            cases += [Case(words, {"module.ll": module, "trace": trace, "shapes": shapes}) for trace in traces for words in lines]
+            soaked += [number] * len(traces) * len(lines)
             self.begun += bool(traces)
         self.made += len(cases)
-        found = {}
-        for number, ended in zip(soaked, self.runner.run_all(cases)):
+        found, broken = {}, set()
+        for number, case, ended in zip(soaked, cases, self.runner.run_all(cases)):
+            command = case.words[0]
             self.unread += ended.status not in (0, 1)
             self.seconds += ended.seconds
             if ended.status == 1:
+                broken.add((command, number))
                 found.setdefault(number, "yes, and " + ended.stdout.decode(errors="replace").strip())
             if ended.signal or ended.status > 4:
-                found.setdefault(number, f"soak: signal {ended.signal} status {ended.status}")
+                found.setdefault(number, f"{command}: signal {ended.signal} status {ended.status}")
+        self.broken += collections.Counter(command for command, _ in broken)
         return found
 
 
@@ -242,13 +258,13 @@ class Search:
             out.write(f"{one.told}\n{fault}\ndgc {' '.join(one.case.words)}\n{ended}\n")
 
     def soak_refused(self):
-        """Prints of how many modules that rows refuse a soak breaks."""
+        """Prints of how many modules that rows refuse a soak breaks, and in how many a watched run names a thread."""
         cases = [Case(row.words, row.texts) for row in self.rows.get("check", []) if len(row.texts) > 1]
         refused = [case for case, ended in zip(cases, self.runner.run_all(cases)) if ended.status == 1]
         soaks = Soaks(self.runner)
-        broken = soaks.faults([to_soak(case) for case in refused])
-        print(f"of {len(soaks.known)} modules that rows refuse {soaks.begun} have a function that can begin, and {len(broken)} break in a soak",
-              flush=True)
+        soaks.faults([to_soak(case) for case in refused])
+        print(f"of {len(soaks.known)} modules that rows refuse {soaks.begun} have a function that can begin, {soaks.broken['soak']} break in a soak, "
+              f"and {soaks.broken['watch']} in a watched run", flush=True)
 
     def run(self):
         """Runs the cases, until there are enough or the time is over."""

@@ -4,7 +4,7 @@ import os
 import re
 from dataclasses import dataclass
 
-COMMANDS = ("check", "make", "recheck", "replay", "soak", "run", "conform", "migrate")
+COMMANDS = ("check", "check-list", "make", "recheck", "replay", "soak", "run", "watch", "conform", "migrate", "lower")
 TOKEN = re.compile(rb'"[^"\n]*"|[%@!#]?[-a-zA-Z$._0-9]+|\s+|.', re.S)
 NUMBER, NAME = re.compile(rb"(?<![-a-zA-Z$._0-9])-?\d+"), re.compile(rb"[%@][-a-zA-Z$._0-9]+")
 WORD = re.compile(rb"(?<![-%@!#$._0-9a-zA-Z])[a-z][a-z0-9]*\*{0,2}")
@@ -14,6 +14,8 @@ NUMBERS = [b"0", b"1", b"2", b"63", b"64", b"65", b"255", b"65535", b"65536", b"
 # how many bytes an entry of a record has
 ENTRY = 16
 MOST = {"--seeds": 5, "--steps": 1000, "--turns": 1000}
+# limits that a command gets where its words have none, since a changed module may run on to its own
+GIVEN = {"watch": ("--steps", "--turns")}
 BYTES = [0, 9, 10, 13, 32, 34, 37, 40, 41, 44, 58, 59, 64, 91, 92, 93, 123, 125, 127, 128, 255]
 
 
@@ -33,7 +35,7 @@ def read_rows(folder):
             words = args.read().split("\n")
         words = words[:-1] if words and not words[-1] else words
         texts = {}
-        for word in words[1:]:
+        for word in [*words[1:], *listed_in(os.path.join(folder, name), words)]:
             path = os.path.join(folder, name, word)
             if word and os.path.isfile(path):
                 with open(path, "rb") as text:
@@ -43,9 +45,21 @@ def read_rows(folder):
     return rows
 
 
+def listed_in(folder, words):
+    """The files that the list of a row of `check-list` names."""
+    path = os.path.join(folder, words[1]) if words[:1] == ["check-list"] and len(words) > 1 else ""
+    if not os.path.isfile(path):
+        return []
+    with open(path, encoding="utf-8", errors="replace") as text:
+        return [word for line in text for word in re.split("\t" if "\t" in line else " ", line.strip())]
+
+
 def within(words):
     """The words, with few seeds and steps, so that the command alone makes no run long."""
     words = list(words)
+    for option in GIVEN.get(words[0], ()):
+        if option not in words:
+            words += [option, str(MOST[option])]
     for option, most in MOST.items():
         if option in words[:-1] and words[words.index(option) + 1].isdigit():
             at = words.index(option) + 1

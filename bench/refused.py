@@ -5,8 +5,8 @@
 
 Each command is run once for each request for memory that it makes: that one is refused (refuse.c). Then it is done again, and that
 request and all after it are refused. Each run has to end with `error memory` and status 3, or with what it prints where memory is
-ample. Of `run` the turns and cycles of the collector may differ, and a thread may end for want of memory. An explanation may be
-`no memory to explain it`. A file that `--json` or `--save` names has to be as it is where memory is ample, or not there.
+ample. Of `run` and `watch` the turns and cycles of the collector may differ, and a thread may end for want of memory. An explanation may be
+`no memory to explain it`. Of a list a pair may have `error memory`, and the pairs after one may be left out. A file that `--json` or `--save` names has to be as it is where memory is ample, or not there.
 
 The commands are those of the walkthrough, and each one on five modules of rows, with 1 worker and 4, with explanations and without,
 and a session of ten edits. With --short it is the five modules and the session alone, and only every 7th request is refused.
@@ -37,12 +37,15 @@ COMMANDS = {
     "check": f"check {SWAP}/barrier.ll {SWAP}/swap.cert",
     "check, refused": f"check {SWAP}/plain.ll {SWAP}/swap.cert",
     "check, two workers": f"check {SWAP}/barrier.ll {SWAP}/swap.cert --workers 2",
+    "check, JSON": f"check {SWAP}/plain.ll {SWAP}/swap.cert --json saved",
+    "check, SARIF": f"check {SWAP}/plain.ll {SWAP}/swap.cert --sarif saved",
     "make": f"make {SWAP}/barrier.ll",
     "make, no answer": f"make --why {ROWS}/front_end_sum_refused/module.ll",
     "recheck": "recheck " + " ".join(f"{ROWS}/edits_of_sections/module.{end}" for end in ("ll", "cert", "edits")),
     "recheck, code": "recheck " + " ".join(f"{ROWS}/edits_of_a_signature/module.{end}" for end in ("ll", "cert", "edits")),
     "recheck, new type": "recheck " + " ".join(f"{ROWS}/edit_mentions_a_new_type/module.{end}" for end in ("ll", "cert", "edits")),
     "recheck, a line": "recheck " + " ".join(f"{ROWS}/edits_name_a_line/module.{end}" for end in ("ll", "cert", "edits")),
+    "recheck, JSON": "recheck " + " ".join(f"{ROWS}/explained_edits_refused/module.{end}" for end in ("ll", "cert", "edits")) + " --json saved",
     "replay": f"replay {SAFE}",
     "replay, broken": f"replay {RACE}",
     "replay, its steps": f"replay {RACE} --steps",
@@ -54,6 +57,9 @@ COMMANDS = {
     "hunt, broken": f"hunt --tries 9 {ROWS}/hunted_stores_without_the_barrier/module.ll",
     "soak, saved": f"soak {KEPT}/module.ll {KEPT}/module.trace --seeds 60 --steps 45 --save saved",
     "run": f"run {SWAP}/barrier.ll {SWAP}/swap.cert {SWAP}/two.trace --steps 50 --turns 1000",
+    "watch": f"watch {SAFE} --steps 50 --turns 1000",
+    "watch, broken": f"watch {SWAP}/plain.ll {SWAP}/two.trace",
+    "watch, a late thread": "watch " + " ".join(f"{ROWS}/watch_names_a_late_thread/module.{end}" for end in ("ll", "trace")),
     "conform": "conform " + " ".join(f"{ROWS}/record_of_a_cycle/{name}" for name in RECORDED),
     "conform, no": "conform " + " ".join(f"{ROWS}/record_explained_of_a_look/{name}" for name in RECORDED),
     "conform, explained": "conform " + " ".join(f"{ROWS}/record_explained_of_a_look/{name}" for name in RECORDED) + " --explain always",
@@ -108,6 +114,7 @@ def on_module(folder, name, row):
         "make": f"make {base}.ll{shaped}", "recheck": f"recheck {both} {edits}",
         "replay": f"replay {played}", "replay, its steps": f"replay {played} --steps", "replay, JSON": f"replay {played} --json saved",
         "soak": f"soak {played} --seeds 3 --steps 30", "run": f"run {both} {trace} --steps 50 --turns 500",
+        "watch": f"watch {played} --steps 50 --turns 500", "lower": f"lower {both}", "lower, unchecked": f"lower {base}.ll{shaped}",
         "migrate": f"migrate {base}.ll", "migrate, certificate": f"migrate {both}",
     }
     explained = {f"{command}, explained": f"{commands[command]} {EXPLAINED}" for command in ("check", "make", "recheck", "replay", "run")}
@@ -135,6 +142,9 @@ def on_each_module(folder):
     for name, row in ACCEPTED.items():
         commands |= on_module(folder, name, row)
     commands |= on_refused(folder)
+    pairs = "".join(f"{ROWS}/{row}/module.ll\t{ROWS}/{row}/module.cert\n" for row in [*ACCEPTED.values(), REFUSED])
+    listed = f"check-list {written(folder, 'pairs', pairs.encode())}"
+    commands |= {"check-list": listed, "check-list, 4 workers": f"{listed} --workers 4"}
     session = written(folder, "session.edits", b"".join(bytes_of(f"{ROWS}/{row}/module.edits") for row in EDITS))
     words = f"recheck {ROWS}/edit_of_code/module.ll {ROWS}/edit_of_code/module.cert {session}"
     return {**commands, "recheck, ten edits": words, "recheck, ten edits, explained": f"{words} {EXPLAINED}"}
@@ -159,6 +169,14 @@ class Answer:
             line == other or re.fullmatch(rb"t \d+ memory", line) and line.split()[:2] == other.split()[:2] for line, other in zip(lines, wanted))
         is_told = err == ample_err or err.endswith(NO_EXPLANATION) and ample_err.startswith(err.removesuffix(NO_EXPLANATION))
         return status == ample_status and is_alike and is_told and saved == ample_saved
+
+    def is_list(self, answer):
+        """Whether the list of a run was answered so: a pair may have found no memory, and where the run found none the other pairs may be left out."""
+        (status, out, err, _), lines, wanted = answer, answer[1].splitlines(), self.ample[1].splitlines()
+        are_short = [line == other.split(b"\t")[0] + b"\terror memory" for line, other in zip(lines, wanted)]
+        is_front = len(lines) <= len(wanted) and all(short or line == other for short, line, other in zip(are_short, lines, wanted))
+        is_ended = err.endswith(b"error memory\n") or len(lines) == len(wanted) and any(are_short)
+        return status == 3 and is_front and is_ended
 
 
 class Refuser:
@@ -187,9 +205,10 @@ class Refuser:
         for are_all_refused in ways:
             for number, ended in self.ends(words, are_all_refused, every):
                 found, most = Answer.of(ended), max(most, number)
+                is_right = answer.is_ample(found) or words.startswith("check-list") and answer.is_list(found)
                 refused += found == answer.without
-                same += found != answer.without and answer.is_ample(found)
-                if found != answer.without and not answer.is_ample(found):
+                same += found != answer.without and is_right
+                if found != answer.without and not is_right:
                     wrong += 1
                     if wrong <= MOST_TOLD:
                         print(f"{name}, request {number}{' and all after it' if are_all_refused else ''}: {found}")
