@@ -1,22 +1,20 @@
-//! What is told of faults of texts and layouts: the file, the line with a caret, what stands there, what was expected, and how to go on.
-use crate::forms::{cert_form_of, form_before, lexed_of};
+//! What is told of faults of a module's text: the file, what is found there, the line with a caret, what was expected, and how to go on.
+use crate::ends::{lacks_an_end, put_ended, put_no_end};
+use crate::forms::{form_before, lexed_of};
 use crate::left_out::advice_on;
-use crate::near::{near, put_like};
-use crate::offers::{offer_block, offer_declare};
-use crate::structs::struct_position;
-use crate::unrooted::put_unrooted;
-use certificate::CertFault;
+use crate::near::{near, near_word, put_like};
+use crate::offers::offer_declare;
+use crate::sentences::{MARK, put_at_token, put_bad_byte, put_limit, put_unfinished};
+use crate::site::{Site, put_quoted};
 use explain::Code;
-use ir_ast::{Function, Module, Runtime, SymbolId, ValueId};
+use ir_ast::Runtime;
 use ir_text::ReadFault;
-use ir_tokens::Position;
-use layout::LayoutFault;
+use ir_tokens::{Kind, Position, Token};
 use messages::{
     Ink, Message, NamedText, Part, Pen, Pointers, line_numbered, put_declare_of, put_mark,
     put_path_at, put_position_line,
 };
-use name_text::{Blank, past_blanks, past_word, word};
-use pools::LayoutId;
+use name_text::{past_blanks, word};
 use std::alloc::{AllocError, Global};
 
 /// The rule on a page: its first lines, without the code and the blanks after it.
@@ -39,31 +37,47 @@ fn put_joined(out: &mut Message, lines: &str) {
     }
 }
 
-/// The code and what it says in one sentence.
-fn put_rule(out: &mut Message, pen: Pen, code: Code) {
+/// A code between its place and the sentence, which is to come.
+fn put_code(out: &mut Message, pen: Pen, code: Code) {
     out.begin_part(Part::Between);
     out.put(": ");
     out.begin_part(Part::Code);
     out.put_inked(pen.look, Ink::Fault, code.name());
     out.begin_part(Part::Between);
     out.put(": ");
-    out.begin_part(Part::Sentence);
+    out.begin_part(Part::Sentence)
+}
+
+/// What a code says in one sentence, and the end of the line.
+fn put_rule(out: &mut Message, code: Code) {
     put_joined(out, rule_on(code.text()));
     out.put("\n")
 }
 
-/// A fault at a place of a text: the place, the rule, and the line.
-pub(crate) fn put_fault_at(
+/// The place of a fault and its code. What is found there is to come.
+pub(crate) fn begin_fault_at(
     pen: Pen,
     out: &mut Message,
-    named: NamedText,
+    path: &str,
     position: Position,
     code: Code,
 ) {
     out.begin_ink(pen.look, Ink::Place);
-    put_path_at(out, named.path, position);
+    put_path_at(out, path, position);
     out.end_ink(pen.look);
-    put_rule(out, pen, code);
+    put_code(out, pen, code)
+}
+
+/// The path of a file at fault as a whole, and the code. What is found there is to come.
+pub(crate) fn begin_whole_fault(pen: Pen, out: &mut Message, path: &str, code: Code) {
+    out.begin_part(Part::Place(None));
+    out.put_inked(pen.look, Ink::Place, path);
+    put_code(out, pen, code)
+}
+
+/// The end of what is found, and the line of the place.
+pub(crate) fn end_fault_at(pen: Pen, out: &mut Message, named: NamedText, position: Position) {
+    out.put("\n");
     put_position_line(out, pen, Ink::Fault, named.text, position);
     out.put("\n")
 }
@@ -94,11 +108,21 @@ fn offset_of(text: &[u8], position: Position) -> usize {
 
 /// What a byte stands for that begins no token.
 fn advice_on_byte(text: &[u8], place: usize) -> &'static str {
-    match text.get(place) {
-        Some(b'#') => "a comment begins with `;`",
-        Some(b'"') => "a text in quotes ends on its line, with another quote",
-        Some(b'/') => "a comment begins with `;`",
+    match text.get(place..) {
+        Some([b'#' | b'/', ..]) => "a comment begins with `;`",
+        Some([b'"', ..] | [b'@' | b'%', b'"', ..]) => {
+            "a text in quotes ends on its line, with another quote"
+        }
         _ => "",
+    }
+}
+
+/// How a text is saved that begins with a byte order mark; nothing for another one.
+pub(crate) fn advice_on_mark(text: &[u8]) -> &'static str {
+    if text.starts_with(MARK) {
+        "the text begins with a byte order mark: save it without one"
+    } else {
+        ""
     }
 }
 
@@ -108,7 +132,7 @@ fn other_text(text: &[u8]) -> &'static str {
         b"cert" => "this file is a certificate: the module comes before it on the command line",
         b"shapes" => "this file has shapes: the module comes first on the command line",
         b"trace" => "this file is a trace: the module comes first on the command line",
-        [0xef, 0xbb, 0xbf, ..] => "the text begins with a byte order mark: save it without one",
+        [0xef, 0xbb, 0xbf, ..] => advice_on_mark(text),
         [0xff, 0xfe, ..] | [0xfe, 0xff, ..] => "the text is UTF-16: save it as UTF-8",
         [b'B', b'C', 0xc0, 0xde, ..] => "this is bitcode: llvm-dis writes its text",
         _ => "",
@@ -124,11 +148,13 @@ fn put_left_out(
     position: Position,
     word: &[u8],
 ) {
-    put_fault_at(pen, out, named, position, Code::L7);
+    begin_fault_at(pen, out, named.path, position, Code::L7);
+    put_rule(out, Code::L7);
+    put_position_line(out, pen, Ink::Fault, named.text, position);
+    out.put("\n");
     put_mark(out, pen.look, Part::Here);
-    out.put("`");
-    out.put_bytes(word);
-    out.put("` begins a form that is not read; docs/TEXT.md lists these\n");
+    put_quoted(out, word);
+    out.put(" begins a form that is not read; docs/TEXT.md lists these\n");
     put_told(out, pen, Part::Mend, advice_on(word, wide))
 }
 
@@ -179,6 +205,16 @@ fn put_question(pen: Pen, out: &mut Message, name: &[u8], meant: Option<&[u8]>) 
     true
 }
 
+/// The one of these words of a form that was perhaps meant by another word, if there is one.
+pub(crate) fn put_near_word(pen: Pen, out: &mut Message, words: &[&'static str], written: &[u8]) {
+    if let Some(meant) = near_word(words, written) {
+        put_mark(out, pen.look, Part::Mend);
+        out.put("is `");
+        out.put(meant);
+        out.put("` meant?\n");
+    }
+}
+
 /// The name of the module that was perhaps meant by this one. Returns whether there is one.
 pub(crate) fn put_near(
     pen: Pen,
@@ -196,7 +232,13 @@ pub(crate) fn put_near(
 }
 
 /// The name of the module that was perhaps meant by one that is not defined; if there is none, how to go on.
-fn put_meant(pen: Pen, out: &mut Message, module: NamedText, name: &[u8], otherwise: &str) {
+pub(crate) fn put_meant(
+    pen: Pen,
+    out: &mut Message,
+    module: NamedText,
+    name: &[u8],
+    otherwise: &str,
+) {
     match put_near(pen, out, module, name) {
         Ok(true) => {}
         Ok(false) => put_told(out, pen, Part::Mend, otherwise),
@@ -213,19 +255,11 @@ fn ends_name(byte: u8) -> bool {
 }
 
 /// The name at a position of a text.
-fn name_at(text: &[u8], position: Position) -> &[u8] {
+pub(crate) fn name_at(text: &[u8], position: Position) -> &[u8] {
     let line = line_numbered(text, position.line.saturating_sub(1));
     let rest = line.get(position.column.saturating_sub(1)..).unwrap_or(&[]);
     let length = rest.iter().take_while(|byte| !ends_name(**byte)).count();
     rest.get(..length).unwrap_or(rest)
-}
-
-/// The kind of pointers of a text.
-fn pointers_of(alloc: Global, named: NamedText) -> Result<Pointers, AllocError> {
-    match lexed_of(alloc, named)? {
-        Some(lexed) => Ok(Pointers::of_tokens(lexed.tokens.as_slice())),
-        None => Ok(Pointers::Opaque),
-    }
 }
 
 /// The function of the runtime that has a name with its sign.
@@ -236,11 +270,24 @@ fn runtime_named(name: &[u8]) -> Option<Runtime> {
     }
 }
 
+/// A fault of a module's text, in which the wide forms may stand or not.
+#[derive(Clone, Copy)]
+struct TextFault<'a> {
+    named: NamedText<'a>,
+    wide: bool,
+    position: Position,
+    code: Code,
+}
+
 /// The line that declares a function of the runtime.
-fn put_undeclared(pen: Pen, out: &mut Message, named: NamedText, runtime: &Runtime) {
-    let Ok(pointers) = pointers_of(pen.alloc, named) else {
-        return out.refuse();
-    };
+fn put_undeclared(
+    pen: Pen,
+    out: &mut Message,
+    named: NamedText,
+    tokens: &[Token],
+    runtime: &Runtime,
+) {
+    let pointers = Pointers::of_tokens(tokens);
     put_mark(out, pen.look, Part::Mend);
     out.put("add this line outside the functions: ");
     put_declare_of(out, runtime, pointers);
@@ -249,39 +296,179 @@ fn put_undeclared(pen: Pen, out: &mut Message, named: NamedText, runtime: &Runti
 }
 
 /// How to go on where a name is not defined.
-fn put_not_defined(pen: Pen, out: &mut Message, named: NamedText, name: &[u8]) {
+fn put_not_defined(pen: Pen, out: &mut Message, named: NamedText, tokens: &[Token], name: &[u8]) {
     match runtime_named(name) {
-        Some(runtime) => put_undeclared(pen, out, named, &runtime),
-        None => put_meant(pen, out, named, name, ""),
+        Some(runtime) => put_undeclared(pen, out, named, tokens, &runtime),
+        None => {
+            put_question(pen, out, name, near(named.text, tokens, name));
+        }
     }
 }
 
-/// What was expected, or how to go on, in a text in which the wide forms may stand or not.
+/// Words with which items and instructions begin.
+const WORDS: [&'static str; 31] = [
+    "define",
+    "declare",
+    "type",
+    "global",
+    "constant",
+    "label",
+    "alloca",
+    "load",
+    "store",
+    "getelementptr",
+    "bitcast",
+    "add",
+    "sub",
+    "mul",
+    "and",
+    "or",
+    "xor",
+    "zext",
+    "sext",
+    "trunc",
+    "icmp",
+    "select",
+    "phi",
+    "call",
+    "br",
+    "switch",
+    "ret",
+    "unreachable",
+    "null",
+    "void",
+    "ptr",
+];
+
+/// The form that the line begins, and the word of one that was perhaps meant.
+fn put_form(pen: Pen, out: &mut Message, fault: TextFault, place: usize, site: Option<Site>) {
+    let Ok(form) = form_before(pen.alloc, fault.named, fault.wide, place) else {
+        return out.refuse();
+    };
+    put_told(out, pen, Part::Form, form);
+    if let Some(site) = site {
+        if matches!(site.kind(), Kind::LowercaseWord | Kind::Word) {
+            put_near_word(pen, out, WORDS.as_slice(), site.spelled())
+        }
+    }
+}
+
+/// How to go on at a number or a name that is given twice, or at another fault.
+fn advice_at(fault: TextFault, site: Option<Site>) -> &'static str {
+    match (fault.code, site) {
+        (Code::L4, Some(site)) if !is_named(site.kind()) => "take one of the two cases out",
+        (Code::L6, Some(site)) if matches!(site.kind(), Kind::IntegerType) => "",
+        (code, _) => advice_of(code, fault.wide),
+    }
+}
+
+/// Whether a token of this kind is a name.
+fn is_named(kind: Kind) -> bool {
+    matches!(
+        kind,
+        Kind::LocalName | Kind::LocalNumber | Kind::GlobalName | Kind::LabelName | Kind::LabelNumber
+    )
+}
+
+/// What was expected, or how to go on.
 fn put_expected(
     pen: Pen,
     out: &mut Message,
-    named: NamedText,
-    wide: bool,
-    position: Position,
-    code: Code,
+    fault: TextFault,
+    tokens: &[Token],
+    place: usize,
+    site: Option<Site>,
 ) {
-    match code {
+    let named = fault.named;
+    match fault.code {
         Code::L1 | Code::L3 if !other_text(named.text).is_empty() => {
             put_told(out, pen, Part::Mend, other_text(named.text))
         }
-        Code::L1 => {
-            let advice = advice_on_byte(named.text, offset_of(named.text, position));
-            put_told(out, pen, Part::Mend, advice)
+        Code::L1 => put_told(out, pen, Part::Mend, advice_on_byte(named.text, place)),
+        Code::L3 => put_form(pen, out, fault, place, site),
+        Code::L5 => put_not_defined(pen, out, named, tokens, name_at(named.text, fault.position)),
+        _ => put_told(out, pen, Part::Mend, advice_at(fault, site)),
+    }
+}
+
+/// What is found at the place of a fault.
+fn put_found(
+    out: &mut Message,
+    fault: TextFault,
+    tokens: &[Token],
+    place: usize,
+    site: Option<Site>,
+) {
+    let text = fault.named.text;
+    match (fault.code, site) {
+        (Code::L1, _) => put_bad_byte(out, text, place),
+        (Code::L2, _) => put_unfinished(
+            out,
+            Site {
+                text,
+                tokens,
+                at: tokens.len(),
+            },
+        ),
+        (Code::L8, site) => put_limit(out, text, site),
+        (code, Some(site)) => put_at_token(out, site, code),
+        (code, None) => put_joined(out, rule_on(code.text())),
+    }
+}
+
+/// A fault among these tokens.
+fn put_among(pen: Pen, out: &mut Message, fault: TextFault, tokens: &[Token]) {
+    let place = offset_of(fault.named.text, fault.position);
+    let site = Site::of(fault.named.text, tokens, place);
+    put_found(out, fault, tokens, place, site);
+    end_fault_at(pen, out, fault.named, fault.position);
+    put_expected(pen, out, fault, tokens, place, site)
+}
+
+/// The token of a fault by which a block goes on past its last instruction, if it is one.
+fn unended<'a>(
+    alloc: Global,
+    fault: TextFault<'a>,
+    tokens: &'a [Token],
+) -> Result<Option<Site<'a>>, AllocError> {
+    let text = fault.named.text;
+    if !matches!(fault.code, Code::L3) {
+        return Ok(None);
+    }
+    let Some(site) = Site::of(text, tokens, offset_of(text, fault.position)) else {
+        return Ok(None);
+    };
+    if lacks_an_end(alloc, site, fault.wide)? {
+        Ok(Some(site))
+    } else {
+        Ok(None)
+    }
+}
+
+/// A fault in a text of these tokens.
+fn put_text_fault(pen: Pen, out: &mut Message, fault: TextFault, tokens: &[Token]) {
+    match unended(pen.alloc, fault, tokens) {
+        Ok(Some(site)) => {
+            put_no_end(out, site);
+            end_fault_at(pen, out, fault.named, fault.position);
+            put_ended(pen, out, site)
         }
-        Code::L3 => {
-            let Ok(form) = form_before(pen.alloc, named, wide, offset_of(named.text, position))
-            else {
-                return out.refuse();
-            };
-            put_told(out, pen, Part::Form, form)
+        Ok(None) => put_among(pen, out, fault, tokens),
+        Err(_) => out.refuse(),
+    }
+}
+
+/// What is told of a fault at a place of a module's text.
+fn put_placed(pen: Pen, out: &mut Message, fault: TextFault) {
+    let named = fault.named;
+    begin_fault_at(pen, out, named.path, fault.position, fault.code);
+    match lexed_of(pen.alloc, named) {
+        Ok(Some(lexed)) => {
+            put_text_fault(pen, out, fault, lexed.tokens.as_slice());
+            drop(lexed)
         }
-        Code::L5 => put_not_defined(pen, out, named, name_at(named.text, position)),
-        code => put_told(out, pen, Part::Mend, advice_of(code, wide)),
+        Ok(None) => put_among(pen, out, fault, &[]),
+        Err(_) => out.refuse(),
     }
 }
 
@@ -297,325 +484,30 @@ pub fn put_read_fault(
         return put_left_out(pen, out, named, wide, *place, word.as_slice());
     }
     match place_of(fault) {
-        Some((position, code)) => {
-            put_fault_at(pen, out, named, position, code);
-            put_expected(pen, out, named, wide, position, code)
-        }
+        Some((position, code)) => put_placed(
+            pen,
+            out,
+            TextFault {
+                named,
+                wide,
+                position,
+                code,
+            },
+        ),
         None => out.refuse(),
     }
 }
 
 /// A fault of a file as a whole: its path, and the rule.
 pub fn put_whole_fault(out: &mut Message, pen: Pen, path: &str, code: Code) {
-    out.begin_part(Part::Place(None));
-    out.put_inked(pen.look, Ink::Place, path);
-    put_rule(out, pen, code)
+    begin_whole_fault(pen, out, path, code);
+    put_rule(out, code)
 }
 
-/// A fault of a text as a whole, and how to go on.
-pub fn put_fault_of(pen: Pen, out: &mut Message, path: &str, code: Code, mend: &str) {
-    put_whole_fault(out, pen, path, code);
+/// A fault of a text as a whole: what is found, and how to go on, if something is said of that.
+pub fn put_fault_of(pen: Pen, out: &mut Message, path: &str, code: Code, found: &str, mend: &str) {
+    begin_whole_fault(pen, out, path, code);
+    out.put(found);
+    out.put("\n");
     put_told(out, pen, Part::Mend, mend)
-}
-
-/// What is told of a text that is no text of edits.
-pub fn put_edits_fault(pen: Pen, out: &mut Message, named: NamedText, fault: &CertFault) {
-    match fault {
-        CertFault::Syntax(position) => {
-            put_fault_at(pen, out, named, *position, Code::C1);
-            put_told(
-                out,
-                pen,
-                Part::Form,
-                "an edit begins with `edit code @f`, `edit cert @f` or `edit both @f`; each of its texts ends with a line `.`",
-            )
-        }
-        CertFault::Memory => out.refuse(),
-        _ => {}
-    }
-}
-
-/// The form of the line at which a certificate has a fault.
-fn put_cert_form(pen: Pen, out: &mut Message, named: NamedText, position: Position) {
-    let line = line_numbered(named.text, position.line.saturating_sub(1));
-    let form = cert_form_of(word(past_blanks(line)));
-    if form.is_empty() {
-        return put_told(
-            out,
-            pen,
-            Part::Form,
-            "a certificate begins with `cert 2` (or `cert 1` without `ptr`), and then has its shapes and a section for each function, which ends with `end`",
-        );
-    }
-    put_told(out, pen, Part::Form, form)
-}
-
-/// The second word of a line.
-pub(crate) fn word_after(line: &[u8]) -> &[u8] {
-    word(past_blanks(past_word(past_blanks(line))))
-}
-
-/// What is said of a name on a line of slots that is none of a slot, and on one of functions outside.
-fn advice_on_line(text: &[u8], position: Position) -> &'static str {
-    let line = line_numbered(text, position.line.saturating_sub(1));
-    match word(past_blanks(line)) {
-        b"root" | b"slot" => "a root slot is an alloca of the function that llvm.gcroot names",
-        b"foreign" =>
-            "a function outside is one that the module only declares, none of the runtime and no intrinsic",
-        _ => "",
-    }
-}
-
-/// The files of a check.
-#[derive(Clone, Copy)]
-pub struct CheckedTexts<'a> {
-    pub of_module: NamedText<'a>,
-    pub of_certs: NamedText<'a>,
-}
-
-/// How to go on where a certificate names what is not there.
-fn put_unknown_name(
-    pen: Pen,
-    out: &mut Message,
-    texts: CheckedTexts,
-    of_module: &Module,
-    position: Position,
-) {
-    let named = texts.of_certs;
-    let name = name_at(named.text, position);
-    match put_unrooted(pen, out, of_module, named, position, name) {
-        Ok(true) => {}
-        Ok(false) => {
-            let advice = advice_on_line(named.text, position);
-            put_meant(pen, out, texts.of_module, name, advice)
-        }
-        Err(_) => out.refuse(),
-    }
-}
-
-/// A fault at a place of a certificate.
-fn put_cert_fault_at(
-    pen: Pen,
-    out: &mut Message,
-    texts: CheckedTexts,
-    of_module: &Module,
-    position: Position,
-    code: Code,
-) {
-    let named = texts.of_certs;
-    put_fault_at(pen, out, named, position, code);
-    match code {
-        Code::C3 => put_unknown_name(pen, out, texts, of_module, position),
-        Code::C4 => put_told(out, pen, Part::Mend, "take one of the two lines out"),
-        _ => put_cert_form(pen, out, named, position),
-    }
-}
-
-/// The line to add for a block without a section.
-fn put_block_line(out: &mut Message, function: &Function, block: usize) {
-    out.put("add `block ");
-    if let Some(block) = function.blocks.get(block) {
-        out.put_local(&function.locals, block.label, Blank::Kept);
-    }
-    out.put("` to the section of ")
-}
-
-/// The line to add for a function or a block without a section.
-fn put_section(
-    pen: Pen,
-    out: &mut Message,
-    of_module: &Module,
-    function: usize,
-    block: Option<usize>,
-) {
-    let Some(function) = of_module.functions.get(function) else {
-        return;
-    };
-    put_mark(out, pen.look, Part::Mend);
-    match block {
-        Some(block) => put_block_line(out, function, block),
-        None => out.put(
-            "add a section, from `function NAME none` or `function NAME may` to `end`; NAME is ",
-        ),
-    }
-    out.put_global(of_module, function.symbol, Blank::Kept);
-    out.put("\n")
-}
-
-/// The name of a word without a shape: `layout Node 1`.
-fn put_word_name(pen: Pen, out: &mut Message, of_module: &Module, layout: usize, place: usize) {
-    out.put("layout ");
-    if let Ok(layout) = u32::try_from(layout) {
-        out.put_layout(of_module, LayoutId::new(layout), Blank::Kept);
-    }
-    out.put(" ");
-    out.put_number(place as u64)
-}
-
-/// The name of a root slot without a shape: `root @f %s`.
-fn put_root_name(out: &mut Message, of_module: &Module, function: usize, local: usize) {
-    let Some(function) = of_module.functions.get(function) else {
-        return;
-    };
-    out.put("root ");
-    out.put_global(of_module, function.symbol, Blank::Kept);
-    out.put(" ");
-    match u32::try_from(local) {
-        Ok(local) => out.put_local(&function.locals, ValueId::new(local), Blank::Kept),
-        Err(_) => {}
-    }
-}
-
-/// The name of a global without a shape: `global @g`.
-fn put_global_name(out: &mut Message, of_module: &Module, symbol: usize) {
-    out.put("global ");
-    match u32::try_from(symbol) {
-        Ok(symbol) => out.put_global(of_module, SymbolId::new(symbol), Blank::Kept),
-        Err(_) => {}
-    }
-}
-
-/// What has no shape.
-fn put_shapeless(pen: Pen, out: &mut Message, of_module: &Module, fault: CertFault) {
-    match fault {
-        CertFault::MissingWord(layout, place) => {
-            put_word_name(pen, out, of_module, layout, place)
-        }
-        CertFault::MissingRoot(function, local) => {
-            put_root_name(out, of_module, function, local)
-        }
-        CertFault::MissingGlobal(symbol) => put_global_name(out, of_module, symbol),
-        _ => {}
-    }
-}
-
-/// The shape to add.
-fn put_shape(pen: Pen, out: &mut Message, of_module: &Module, fault: CertFault) {
-    put_mark(out, pen.look, Part::Mend);
-    out.put("add `");
-    put_shapeless(pen, out, of_module, fault);
-    out.put(" ref L` in front of the sections, where L is the layout to which it refers\n")
-}
-
-/// The place of a fault of a certificate, with its code.
-fn cert_place_of(fault: CertFault) -> Option<(Position, Code)> {
-    match fault {
-        CertFault::Syntax(position) => Some((position, Code::C1)),
-        CertFault::Version(position) => Some((position, Code::C2)),
-        CertFault::UnknownName(position) => Some((position, Code::C3)),
-        CertFault::ListedTwice(position) => Some((position, Code::C4)),
-        _ => None,
-    }
-}
-
-/// What is told of what a certificate lacks.
-fn put_lacking(
-    pen: Pen,
-    out: &mut Message,
-    named: NamedText,
-    of_module: &Module,
-    fault: CertFault,
-) {
-    let path = named.path;
-    match fault {
-        CertFault::Missing(function) => {
-            put_whole_fault(out, pen, path, Code::C5);
-            put_section(pen, out, of_module, function, None)
-        }
-        CertFault::MissingBlock(function, block) => {
-            put_whole_fault(out, pen, path, Code::C5);
-            put_section(pen, out, of_module, function, Some(block));
-            offer_block(pen, out, named, of_module, function, block)
-        }
-        CertFault::MissingWord(..) | CertFault::MissingGlobal(_) | CertFault::MissingRoot(..) => {
-            put_whole_fault(out, pen, path, Code::C6);
-            put_shape(pen, out, of_module, fault)
-        }
-        CertFault::Memory => out.refuse(),
-        _ => {}
-    }
-}
-
-/// What is told of a text that is no certificate of its module.
-pub fn put_cert_fault(
-    pen: Pen,
-    out: &mut Message,
-    texts: CheckedTexts,
-    of_module: &Module,
-    fault: CertFault,
-) {
-    match cert_place_of(fault) {
-        Some((position, code)) => { put_cert_fault_at(pen, out, texts, of_module, position, code) }
-        None => put_lacking(pen, out, texts.of_certs, of_module, fault),
-    }
-}
-
-/// A struct at fault, with the code and what mends it.
-#[derive(Clone, Copy)]
-struct StructFault {
-    number: usize,
-    code: Code,
-    mend: &'static str,
-}
-
-fn struct_fault_of(fault: LayoutFault) -> Option<StructFault> {
-    match fault {
-        LayoutFault::HoldsItself(number) => Some(StructFault {
-            number,
-            code: Code::Y1,
-            mend: "let a field point to the struct in place of holding it",
-        }),
-        LayoutFault::TooManyWords(number) => Some(StructFault {
-            number,
-            code: Code::Y2,
-            mend: "put some of its fields into a further struct, and let a field point to that",
-        }),
-        LayoutFault::NoSuchLayout(number) => Some(StructFault {
-            number,
-            code: Code::Y3,
-            mend: "let each pointer among its fields point to a named struct",
-        }),
-        _ => None,
-    }
-}
-
-/// Where a struct is defined in the text.
-fn position_of_struct(
-    alloc: Global,
-    named: NamedText,
-    number: usize,
-) -> Result<Option<Position>, AllocError> {
-    match lexed_of(alloc, named)? {
-        Some(lexed) => Ok(struct_position(named.text, lexed.tokens.as_slice(), number)),
-        None => Ok(None),
-    }
-}
-
-/// What is told of a struct that is at fault.
-fn put_struct_fault(pen: Pen, out: &mut Message, named: NamedText, fault: &StructFault) {
-    match position_of_struct(pen.alloc, named, fault.number) {
-        Ok(Some(position)) => put_fault_at(pen, out, named, position, fault.code),
-        Ok(None) => put_whole_fault(out, pen, named.path, fault.code),
-        Err(_) => out.refuse(),
-    }
-    put_told(out, pen, Part::Mend, fault.mend)
-}
-
-/// What is told of a module that has no layouts.
-pub fn put_layout_fault(pen: Pen, out: &mut Message, named: NamedText, fault: LayoutFault) {
-    let of_struct = struct_fault_of(fault);
-    if let Some(of_struct) = &of_struct {
-        return put_struct_fault(pen, out, named, of_struct);
-    }
-    match fault {
-        LayoutFault::ShapesWanted => put_fault_of(
-            pen,
-            out,
-            named.path,
-            Code::Y5,
-            "--shapes FILE gives them: a text that begins with `shapes 1` (docs/CERTIFICATES.md)",
-        ),
-        LayoutFault::Memory => out.refuse(),
-        _ => {}
-    }
 }

@@ -24,11 +24,24 @@ fn likeness(one: &[u8], other: &[u8]) -> usize {
     front.saturating_add(same_at_back(one, other).min(most))
 }
 
-/// Whether a name may have been meant by another: at most two bytes differ, and more than half are the same.
+/// Whether two names differ by two neighbours alone that have changed places.
+fn is_swapped(one: &[u8], other: &[u8]) -> bool {
+    let at = same_at_front(one, other);
+    match (one.get(at..), other.get(at..)) {
+        (Some([first, second, rest @ ..]), Some([third, fourth, others @ ..])) => {
+            *first == *fourth && *second == *third && rest == others
+        }
+        _ => false,
+    }
+}
+
+/// Whether a name may have been meant by another: two neighbours have changed places, or at most two bytes differ, and more than half are
+/// the same.
 fn is_near(one: &[u8], other: &[u8]) -> bool {
     let longer = one.len().max(other.len());
     let alike = likeness(one, other);
-    one != other && alike.saturating_add(2) >= longer && alike > longer / 2
+    (longer > 2 && is_swapped(one, other))
+        || (one != other && alike.saturating_add(2) >= longer && alike > longer / 2)
 }
 
 /// The bytes of a token.
@@ -68,6 +81,20 @@ pub fn near<'a>(text: &'a [u8], tokens: &[Token], name: &[u8]) -> Option<&'a [u8
         let alike = likeness(bare(name), other);
         if is_of_sort(token, name) && is_near(bare(name), other) && alike > most {
             best = Some(other);
+            most = alike;
+        }
+    }
+    best
+}
+
+/// The one of some words that was perhaps meant.
+pub fn near_word(words: &[&'static str], written: &[u8]) -> Option<&'static str> {
+    let mut best: Option<&'static str> = None;
+    let mut most: usize = 0;
+    for word in words {
+        let alike = likeness(written, word.as_bytes());
+        if is_near(written, word.as_bytes()) && alike > most {
+            best = Some(*word);
             most = alike;
         }
     }
