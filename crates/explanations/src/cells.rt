@@ -1,7 +1,9 @@
 //! K2 and K5: the words of a layout, the elements of an array, and which operand is no value.
+use crate::mistyped::{put_rooted, put_slot_type, special_in};
 use crate::notes::{MARGIN, put_line, put_mend, put_mend_word, put_or};
 use crate::nulls::{is_made_here, is_value};
 use crate::told::{Told, call_of, op_of, put_text, value_in};
+use crate::write_barrier::put_object;
 use facts::Known;
 use ir_ast::{Argument, Constant, Element, IrType, Op, Operand, Runtime, TypeId, ValueId};
 use messages::{Message, Part, put_mark};
@@ -226,6 +228,89 @@ fn bound_listed(scene: &Scene, index: ValueId) -> &'static str {
     }
 }
 
+/// Below which number an index is known to be.
+fn known_below(scene: &Scene, index: Option<Operand>) -> Option<u64> {
+    match scene.facts.known(value_in(index)?) {
+        Known::Number { below, .. } => below,
+        _ => None,
+    }
+}
+
+/// Why an index leads outside that is known to be below the length of its array.
+#[derive(Clone, Copy)]
+enum Beyond {
+    /// As a number with a sign it may be negative.
+    Signed,
+    /// Some elements of the array are outside the words of the cell.
+    Words,
+}
+
+/// How an index leads outside that is known to be below this number, if its array has elements of that number.
+fn beyond_of(below: u64, bits: u32, length: u64) -> Option<Beyond> {
+    let mut half: u64 = 1;
+    for _bit in 1..bits {
+        half = half.saturating_mul(2);
+    }
+    if below > length {
+        None
+    } else if below > half {
+        Some(Beyond::Signed)
+    } else {
+        Some(Beyond::Words)
+    }
+}
+
+/// What is said of such an index.
+fn beyond_text(beyond: Beyond) -> &'static str {
+    match beyond {
+        Beyond::Signed => "{it} may be negative: an index is a number with a sign\n",
+        Beyond::Words =>
+            "{it} is small enough, and some of these elements are outside the words of {base}\n",
+    }
+}
+
+/// What mends it.
+fn put_beyond_mend(out: &mut Message, told: &Told, beyond: Beyond) {
+    match beyond {
+        Beyond::Signed => put_mend(
+            out,
+            told,
+            "write it with more bits, which are zero: zext {type} {it} to i64, and lead by that",
+        ),
+        Beyond::Words => put_mend(
+            out,
+            told,
+            "write the struct type of {base}, or compare {it} with a smaller number and branch before",
+        ),
+    }
+}
+
+/// K5: an index that is below the length of its array, and leads outside. The base is that of the getelementptr.
+fn put_beyond(out: &mut Message, told: &Told, operands: &[Operand], beyond: Beyond) {
+    put_text(out, told, beyond_text(beyond));
+    put_line(
+        out,
+        told,
+        told.it,
+        "an index into an array of {number} elements",
+    );
+    put_known(out, told.scene, operands);
+    put_words_of(out, told.scene, told.base);
+    put_beyond_mend(out, told, beyond)
+}
+
+/// K5: an index that is no constant. The base is that of the getelementptr.
+fn put_index(out: &mut Message, told: &Told, operands: &[Operand], bits: u32) {
+    let found = match known_below(told.scene, told.it) {
+        Some(below) => beyond_of(below, bits, told.number),
+        None => None,
+    };
+    match found {
+        Some(found) => put_beyond(out, told, operands, found),
+        None => put_loose(out, told, operands, bits),
+    }
+}
+
 /// K5: an index that is not known to be small enough. The base is that of the getelementptr.
 fn put_loose(out: &mut Message, told: &Told, operands: &[Operand], bits: u32) {
     put_text(out, told, "{it} is not known to be below {number}\n");
@@ -268,7 +353,7 @@ fn put_fixed(out: &mut Message, told: &Told, operands: &[Operand]) {
 /// K5, by the base of the getelementptr.
 pub fn put_outside(out: &mut Message, told: &Told, operands: &[Operand]) {
     match loose_index(told.scene) {
-        Some(loose) => put_loose(
+        Some(loose) => put_index(
             out,
             &Told {
                 it: Some(loose.index),
@@ -325,6 +410,16 @@ pub enum Mistyped {
     Only(Operand),
     /// The only argument of a call.
     Argument(Operand),
+    /// A slot, under a written type that is not its own.
+    SlotType(Operand),
+    /// A slot that llvm.gcroot does not get as `i8**`.
+    Rooted(Operand),
+    /// The object of llvm.gcwrite, which is no reference.
+    Object(Operand),
+    /// An address that comes in for a phi.
+    Entry(Operand),
+    /// A reference that is compared by another condition than eq and ne.
+    Ordered(Operand),
     Other,
 }
 
@@ -388,6 +483,9 @@ pub fn mistyped_in(scene: &Scene, operands: &[Operand], place: Option<Operand>) 
     if let Some(number) = number_of_layout(scene) {
         return Mistyped::Layout(number);
     }
+    if let Some(found) = special_in(scene) {
+        return found;
+    }
     if let Some(slot) = slot_used(scene, operands, &place) {
         return Mistyped::Slot(slot);
     }
@@ -409,6 +507,11 @@ pub fn operand_of(mistyped: &Mistyped) -> Option<Operand> {
         | Mistyped::Slot(operand)
         | Mistyped::Stored(operand)
         | Mistyped::Argument(operand)
+        | Mistyped::SlotType(operand)
+        | Mistyped::Rooted(operand)
+        | Mistyped::Object(operand)
+        | Mistyped::Entry(operand)
+        | Mistyped::Ordered(operand)
         | Mistyped::Only(operand) => Some(*operand),
         Mistyped::Other => None,
     }
@@ -425,6 +528,12 @@ pub fn sentence_of(mistyped: &Mistyped) -> &'static str {
         Mistyped::Stored(_) => "{it} does not have the type of the word at {place}",
         Mistyped::Argument(_) => "{it} does not have the type of the parameter of {callee}",
         Mistyped::Only(_) => "{it} does not have the type that is written",
+        Mistyped::SlotType(_) => "{it} is a slot, and is written under a type that is not its own",
+        Mistyped::Rooted(_) => "{it} is a slot, and @llvm.gcroot gets it as `i8**`",
+        Mistyped::Object(_) => "{it} is no reference to a cell, and is named as the object",
+        Mistyped::Entry(_) => "{it} is an address, and no address comes in for a phi",
+        Mistyped::Ordered(_) =>
+            "{it} is a reference, and references are compared by eq and ne alone",
         Mistyped::Other => "an operand does not have the type that is written",
     }
 }
@@ -451,6 +560,10 @@ fn mend_of(mistyped: &Mistyped) -> &'static str {
     match mistyped {
         Mistyped::Address(_) | Mistyped::Slot(_) => "load from {it} first, and use what is loaded",
         Mistyped::Argument(_) => "give a value of the type that the parameter has",
+        Mistyped::Entry(_) => {
+            "let the reference come in, and write the getelementptr after the phi"
+        }
+        Mistyped::Ordered(_) => "compare by eq or ne: where a cell is says nothing of it",
         _ => "write the type that the value has",
     }
 }
@@ -471,6 +584,9 @@ pub fn put_types(out: &mut Message, told: &Told, mistyped: &Mistyped) {
             told.place,
             "store a reference to the layout of that word, which the certificate or the type of {place} says",
         ),
+        Mistyped::SlotType(operand) => put_slot_type(out, told, *operand),
+        Mistyped::Rooted(operand) => put_rooted(out, told, *operand),
+        Mistyped::Object(_) => put_object(out, told),
         mistyped => put_mend(out, told, mend_of(mistyped)),
     }
 }

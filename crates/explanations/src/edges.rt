@@ -1,13 +1,16 @@
 //! K15: an edge, the claim that it does not imply, which word of that is missing and why.
 use crate::cells::put_numbers;
+use crate::holders::holder_of;
 use crate::missing::{
-    Missing, mend_of, missing_of, missing_of_slot, other_of, sentence_of, word_of,
+    Missing, definer_of, holder_in, mend_of, missing_of, missing_of_slot, other_of, sentence_of,
+    word_of,
 };
 use crate::notes::{put_cert_note, put_line, put_mend, put_note, put_or};
 use crate::nulls::UNCOMPARED;
+use crate::one_way::put_one_way_on;
 use crate::stale::put_lost;
 use crate::told::{Told, put_text, value_in};
-use crate::unknown::{DEFINED, is_stale_cause, put_cause, put_definition};
+use crate::unknown::{DEFINED, missing_by_cause, put_cause, put_definition};
 use block_rules::Detail;
 use certificate::print_line;
 use certs::{Claim, Fact};
@@ -26,7 +29,7 @@ fn same_block(function: &Function, label: ValueId, block: BlockId) -> bool {
 }
 
 /// What comes in from a block.
-fn operand_from(function: &Function, incoming: &[Incoming], from: BlockId) -> Option<Operand> {
+pub fn operand_from(function: &Function, incoming: &[Incoming], from: BlockId) -> Option<Operand> {
     for entry in incoming {
         if same_block(function, entry.from, from) {
             return Some(entry.operand);
@@ -45,7 +48,8 @@ fn phi_place(phis: &[Phi], value: ValueId) -> Option<usize> {
     None
 }
 
-fn block_at(function: &Function, block: BlockId) -> Option<&Block> {
+/// A block of a function.
+pub fn block_at(function: &Function, block: BlockId) -> Option<&Block> {
     function.blocks.get(block.number() as usize)
 }
 
@@ -56,7 +60,7 @@ fn phi_of(function: &Function, block: BlockId, value: ValueId) -> Option<Spot> {
 }
 
 /// What is claimed of, as it is named before the edge: of a phi what comes in.
-fn before_edge(scene: &Scene, target: BlockId, value: ValueId) -> Option<Operand> {
+pub fn before_edge(scene: &Scene, target: BlockId, value: ValueId) -> Option<Operand> {
     let function = scene.context.function;
     let block = block_at(function, target)?;
     let phi = block.phis.get(phi_place(block.phis.as_slice(), value)?)?;
@@ -175,10 +179,18 @@ fn unshown_of(scene: &Scene, target: BlockId, claim: &Claim) -> Unshown {
     }
 }
 
-/// What is told to be missing. A value of which nothing is known since it would be stale is told as stale.
-fn missing_told(scene: &Scene, unshown: &Unshown) -> Result<Missing, AllocError> {
+/// What is told to be missing of a claim. A value of which nothing is known since it would be stale is told as stale.
+fn missing_told(
+    scene: &Scene,
+    target: BlockId,
+    claim: &Claim,
+    unshown: &Unshown,
+) -> Result<Missing, AllocError> {
     match (unshown.missing, local(unshown.operand)) {
-        (Missing::All, Some(value)) if is_stale_cause(scene, value)? => Ok(Missing::Stale),
+        (Missing::All, Some(value)) => missing_by_cause(scene, value),
+        (Missing::Other, Some(value)) => {
+            Ok(holder_of(scene, target, claim, value).unwrap_or(Missing::Other))
+        }
         (missing, _) => Ok(missing),
     }
 }
@@ -208,7 +220,7 @@ fn put_claimed(out: &mut Message, scene: &Scene, detail: &Detail) {
 }
 
 /// What is said of a phi.
-fn phi_text(missing: Missing) -> &'static str {
+fn phi_text(missing: &Missing) -> &'static str {
     match missing {
         Missing::Entry => "{it} is defined here",
         _ => "{it} comes in here from {here}",
@@ -216,7 +228,13 @@ fn phi_text(missing: Missing) -> &'static str {
 }
 
 /// Where what comes in for a phi is written.
-fn put_phi_note(out: &mut Message, told: &Told, target: BlockId, value: ValueId, missing: Missing) {
+fn put_phi_note(
+    out: &mut Message,
+    told: &Told,
+    target: BlockId,
+    value: ValueId,
+    missing: &Missing,
+) {
     let scene = told.scene;
     if let Some(spot) = phi_of(scene.context.function, target, value) {
         put_note(out, told, &spot, told.it, phi_text(missing));
@@ -227,7 +245,7 @@ fn put_phi_note(out: &mut Message, told: &Told, target: BlockId, value: ValueId,
 fn put_all(out: &mut Message, told: &Told) {
     match value_in(told.it) {
         Some(value) => put_cause(out, told, value),
-        None => put_mend(out, told, mend_of(Missing::Other)),
+        None => put_mend(out, told, mend_of(&Missing::Other)),
     }
 }
 
@@ -244,24 +262,24 @@ fn put_stale(out: &mut Message, told: &Told, operand: Operand) {
 /// Another layout comes in than the one that is claimed.
 fn put_layout(out: &mut Message, told: &Told, operand: Operand) {
     put_definition(out, told, DEFINED);
-    put_word(out, told, operand, Missing::Layout);
+    put_word(out, told, operand, &Missing::Layout);
     put_numbers(out, told.scene)
 }
 
 /// What comes in may be null.
 fn put_nullable(out: &mut Message, told: &Told, operand: Operand) {
     put_definition(out, told, UNCOMPARED);
-    put_word(out, told, operand, Missing::Nonnull)
+    put_word(out, told, operand, &Missing::Nonnull)
 }
 
 /// A word of the claim is not shown.
-fn put_word(out: &mut Message, told: &Told, operand: Operand, missing: Missing) {
+fn put_word(out: &mut Message, told: &Told, operand: Operand, missing: &Missing) {
     put_known(out, told.scene, &[operand]);
     put_mend(out, told, mend_of(missing));
     put_or(out, told, other_of(missing))
 }
 
-fn put_why(out: &mut Message, told: &Told, operand: Operand, missing: Missing) {
+fn put_why(out: &mut Message, told: &Told, operand: Operand, missing: &Missing) {
     match missing {
         Missing::All => put_all(out, told),
         Missing::Stale => put_stale(out, told, operand),
@@ -271,13 +289,31 @@ fn put_why(out: &mut Message, told: &Told, operand: Operand, missing: Missing) {
     }
 }
 
+/// Why a claim is not shown, and what mends it.
+fn put_reason(
+    out: &mut Message,
+    told: &Told,
+    detail: &Detail,
+    unshown: &Unshown,
+    missing: &Missing,
+) {
+    match missing {
+        Missing::OneWay(_) => put_one_way_on(out, told, detail.target),
+        Missing::InSlot(_) | Missing::Twin(_) => {
+            let value = Some(Operand::Local(unshown.value));
+            put_why(out, &told.with_it(value), unshown.operand, missing)
+        }
+        missing => put_why(out, told, unshown.operand, missing),
+    }
+}
+
 /// What is told of a claim that is not shown.
 fn put_unshown(
     out: &mut Message,
     told: &Told,
     detail: &Detail,
     unshown: &Unshown,
-    missing: Missing,
+    missing: &Missing,
 ) {
     put_text(out, told, sentence_of(missing));
     put_claimed(out, told.scene, detail);
@@ -285,7 +321,7 @@ fn put_unshown(
     put_phi_note(out, told, detail.target, unshown.value, missing);
     let line = Sought::Claim(detail.target, detail.claim);
     put_cert_note(out, told, &line, word_of(missing));
-    put_why(out, told, unshown.operand, missing)
+    put_reason(out, told, detail, unshown, missing)
 }
 
 /// The claim that an edge does not imply, why, and what mends it.
@@ -294,9 +330,12 @@ pub fn put_edge(out: &mut Message, scene: &Scene, detail: &Detail) {
         return;
     };
     let unshown = unshown_of(scene, detail.target, &claim);
-    let Ok(missing) = missing_told(scene, &unshown) else {
+    let Ok(missing) = missing_told(scene, detail.target, &claim, &unshown) else {
         return out.refuse();
     };
-    let told = Told::of(scene, Some(unshown.operand)).with_block(Some(detail.target));
-    put_unshown(out, &told, detail, &unshown, missing)
+    let told = Told::of(scene, Some(unshown.operand))
+        .with_block(Some(detail.target))
+        .with_definer(definer_of(&missing))
+        .with_holder(holder_in(&missing));
+    put_unshown(out, &told, detail, &unshown, &missing)
 }

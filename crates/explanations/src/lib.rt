@@ -3,15 +3,19 @@
 #![tactic(auto)]
 
 mod barrier_lines;
+mod callers;
 mod cells;
 mod edges;
+mod holders;
 mod mismatches;
 mod missing;
 mod missing_blocks;
+mod mistyped;
 mod notes;
 mod null_tests;
 mod nulls;
 mod offers;
+mod one_way;
 mod outside;
 mod phis;
 mod promised;

@@ -1,7 +1,7 @@
 //! Which word of a claim is missing before an edge.
 use certs::{Age, Fact};
 use facts::{Class, Facts, Known, SlotFact};
-use ir_ast::{Constant, Operand};
+use ir_ast::{BlockId, Constant, Operand, ValueId};
 use pools::LayoutId;
 
 /// What is missing of a claim.
@@ -9,6 +9,8 @@ use pools::LayoutId;
 pub enum Missing {
     /// Nothing is known of the value.
     All,
+    /// The same, since this block defines it, and the edge is reached without that.
+    OneWay(BlockId),
     /// The phi that gives the value has no entry for the block.
     Entry,
     Stale,
@@ -16,6 +18,12 @@ pub enum Missing {
     Null,
     Nonnull,
     Fresh,
+    /// It is fresh, and this slot holds it too, of which the block does not list that.
+    InSlot(ValueId),
+    /// It is fresh, and the block lists this value too, which is the same, without saying that.
+    Twin(ValueId),
+    /// It is fresh, and this phi of the block takes it in too.
+    InPhi(ValueId),
     Layout,
     Below,
     /// Of a slot, that what it holds is not null.
@@ -151,14 +159,26 @@ pub fn missing_of_slot(facts: &Facts, slot: SlotFact, nonnull: bool) -> Missing 
 }
 
 /// What is missing in one sentence, of which the claim is the end.
-pub fn sentence_of(missing: Missing) -> &'static str {
+pub fn sentence_of(missing: &Missing) -> &'static str {
     match missing {
         Missing::All => "{it} is not known at the end of {here}, and {to} claims ",
+        Missing::OneWay(_) => {
+            "{it} is not known at the end of {here}, to which a way leads that is not through {definer}, and {to} claims "
+        }
         Missing::Entry => "{it} has no entry for {here}, and {to} claims ",
         Missing::Stale => "{it} is stale on the edge from {here} to {to}, which claims ",
         Missing::Null => "null comes in on the edge from {here} to {to}, which claims ",
         Missing::Nonnull => "{it} may be null on the edge from {here} to {to}, which claims ",
         Missing::Fresh => "{it} is not fresh on the edge from {here} to {to}, which claims ",
+        Missing::InSlot(_) => {
+            "{it} is fresh, and {place} holds it too on the edge from {here} to {to}, which claims "
+        }
+        Missing::Twin(_) => {
+            "{it} is fresh, and {place} is the same on the edge from {here} to {to}, which claims "
+        }
+        Missing::InPhi(_) => {
+            "{it} is fresh, and the phi {place} takes it in on the edge from {here} to {to}, which claims "
+        }
         Missing::Layout => "{it} refers to another layout than {to} claims: ",
         Missing::Below =>
             "{it} is not known to be so small on the edge from {here} to {to}, which claims ",
@@ -171,12 +191,14 @@ pub fn sentence_of(missing: Missing) -> &'static str {
 }
 
 /// The word that is missing, as the claim has it.
-pub fn word_of(missing: Missing) -> &'static str {
+pub fn word_of(missing: &Missing) -> &'static str {
     match missing {
         Missing::Null | Missing::Nonnull | Missing::SlotNonnull => {
             "the claim, whose `nonnull` is not shown"
         }
-        Missing::Fresh => "the claim, whose `fresh` is not shown",
+        Missing::Fresh | Missing::InSlot(_) | Missing::Twin(_) | Missing::InPhi(_) => {
+            "the claim, whose `fresh` is not shown"
+        }
         Missing::Layout => "the claim, whose layout is another",
         Missing::Below => "the claim, whose `below` is not shown",
         Missing::Holds => "the claim, whose `holds` is not shown",
@@ -186,14 +208,20 @@ pub fn word_of(missing: Missing) -> &'static str {
 }
 
 /// What mends it, in the module.
-pub fn mend_of(missing: Missing) -> &'static str {
+pub fn mend_of(missing: &Missing) -> &'static str {
     match missing {
         Missing::Entry => "add an entry `[ VALUE, {here} ]` to the phi",
         Missing::Null =>
             "let a reference that is not null come in, or lead this edge to another block",
         Missing::Nonnull => "compare {it} with null and branch, before this edge",
-        Missing::Fresh =>
+        Missing::Fresh | Missing::InPhi(_) =>
             "take `fresh` out of the claim; a reference that is stored into its cell then needs llvm.gcwrite",
+        Missing::InSlot(_) => {
+            "add `slot {place} holds {it}` under `block {to}`: with `fresh` all that leads to the cell is claimed"
+        }
+        Missing::Twin(_) => {
+            "add `same {it}` to the claim of {place}: with `fresh` all that leads to the cell is claimed"
+        }
         Missing::Layout =>
             "claim the layout to which {it} refers, or make it one of the layout that is claimed",
         Missing::Below => "compare {it} by icmp ult and branch, before this edge",
@@ -204,12 +232,33 @@ pub fn mend_of(missing: Missing) -> &'static str {
 }
 
 /// What mends it, in the certificate.
-pub fn other_of(missing: Missing) -> &'static str {
+pub fn other_of(missing: &Missing) -> &'static str {
     match missing {
         Missing::Null | Missing::Nonnull | Missing::SlotNonnull =>
             "or take `nonnull` out of the claim, where nothing in {to} needs it",
+        Missing::InSlot(_) | Missing::Twin(_) => {
+            "or take `fresh` out of the claim; a reference that is stored into its cell then needs llvm.gcwrite"
+        }
         Missing::Below => "or take `below` out of the claim, where nothing in {to} needs it",
         Missing::Holds => "or take `holds` out of the claim, where nothing in {to} needs it",
         _ => "",
+    }
+}
+
+/// The block that defines the value, where a way leads to the edge without it.
+pub fn definer_of(missing: &Missing) -> Option<BlockId> {
+    match missing {
+        Missing::OneWay(block) => Some(*block),
+        _ => None,
+    }
+}
+
+/// What else leads to the cell.
+pub fn holder_in(missing: &Missing) -> Option<Operand> {
+    match missing {
+        Missing::InSlot(holder) | Missing::Twin(holder) | Missing::InPhi(holder) => {
+            Some(Operand::Local(*holder))
+        }
+        _ => None,
     }
 }

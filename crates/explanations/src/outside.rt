@@ -28,6 +28,14 @@ fn declare_of(module: &Module, symbol: SymbolId) -> Option<&Declare> {
     }
 }
 
+/// A function outside in a text in which the wide forms may not stand.
+const DECLARED: Page = Page {
+    sentence: "{callee} is only declared, and the module is the whole program",
+    label: "",
+    mend: "define {callee} in this module, as llvm-link does of two texts",
+    other: "or read it with `--forms wide`, where a certificate may trust functions outside (docs/CERTIFICATES.md)",
+};
+
 /// A function outside that the certificate does not trust.
 const UNTRUSTED: Page = Page {
     sentence: "{callee} is outside of the module, and the certificate does not trust it",
@@ -71,8 +79,11 @@ fn page_by(module: &Module, call: &Call, declared: &Declare) -> Page {
 
 /// What is told of a call of a function outside that is refused by K18.
 pub fn page_of_outside(scene: &Scene) -> Option<Page> {
-    let call = outside_call(scene)?;
     let module = scene.context.module();
+    if !module.wide && is_outside(module, call_of(scene)?.callee) {
+        return Some(DECLARED);
+    }
+    let call = outside_call(scene)?;
     let declared = declare_of(module, call.callee)?;
     Some(page_by(module, call, declared))
 }

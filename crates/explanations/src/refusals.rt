@@ -96,6 +96,7 @@ fn told_of<'a>(scene: &'a Scene<'a>, operands: &[Operand]) -> Told<'a> {
         place,
         base,
         other: None,
+        by: None,
         number: 0,
     }
 }

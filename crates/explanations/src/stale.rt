@@ -20,7 +20,7 @@ pub fn class_of(facts: &Facts, value: ValueId) -> Option<ClassId> {
 }
 
 /// The slot that an instruction makes, if it holds what is of this class.
-fn slot_with(scene: &Scene, facts: &Facts, instr: &Instr, class: ClassId) -> Option<ValueId> {
+pub fn slot_with(scene: &Scene, facts: &Facts, instr: &Instr, class: ClassId) -> Option<ValueId> {
     if !matches!(instr.op, Op::Memory(MemoryOp::Alloca(_))) {
         return None;
     }

@@ -23,6 +23,8 @@ pub struct Told<'a> {
     pub base: Option<Operand>,
     /// Another block.
     pub other: Option<BlockId>,
+    /// The block that defines what the text speaks of, where that is said.
+    pub by: Option<BlockId>,
     pub number: u64,
 }
 
@@ -35,6 +37,7 @@ impl<'a> Told<'a> {
             place: None,
             base: None,
             other: None,
+            by: None,
             number: 0,
         }
     }
@@ -50,6 +53,16 @@ impl<'a> Told<'a> {
             place: Some(place),
             ..*self
         }
+    }
+
+    /// The same with a block that defines it.
+    pub fn with_definer(&self, by: Option<BlockId>) -> Told<'a> {
+        Told { by, ..*self }
+    }
+
+    /// The same with what else leads to its cell, if anything does.
+    pub fn with_holder(&self, place: Option<Operand>) -> Told<'a> {
+        Told { place, ..*self }
     }
 
     /// The same with another block.
@@ -89,8 +102,8 @@ fn put_callee(out: &mut Message, scene: &Scene) {
     }
 }
 
-fn put_other(out: &mut Message, told: &Told) {
-    match told.other {
+fn put_block_or(out: &mut Message, told: &Told, block: Option<BlockId>) {
+    match block {
         Some(block) => put_block(out, told.scene, block),
         None => out.put("the block"),
     }
@@ -122,7 +135,8 @@ fn put_hole(out: &mut Message, told: &Told, hole: &str) {
         "base" => put_named(out, told.scene, told.base, "the object"),
         "object" => put_named(out, told.scene, told.base, "null"),
         "here" => put_block(out, told.scene, told.scene.refusal.block),
-        "to" => put_other(out, told),
+        "to" => put_block_or(out, told, told.other),
+        "definer" => put_block_or(out, told, told.by),
         "function" => put_function(out, told.scene),
         "callee" => put_callee(out, told.scene),
         "number" => out.put_number(told.number),

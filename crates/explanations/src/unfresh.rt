@@ -15,6 +15,9 @@ use std::alloc::AllocError;
 /// How many calls are gone back over at most.
 const CALLS: usize = 16;
 
+/// How many other names of a cell are asked at most.
+const NAMES: usize = 64;
+
 /// Where a reference lost `fresh` in the block of the refused instruction.
 fn unfresh_at(scene: &Scene, value: ValueId) -> Result<Option<Spot>, AllocError> {
     let refusal = scene.refusal;
@@ -59,16 +62,40 @@ fn unfresh_under(
     }
 }
 
+/// The value of a number, if it is one of the names of a cell.
+fn name_at(scene: &Scene, number: usize, class: &Option<ClassId>) -> Option<ValueId> {
+    let name = ValueId::new(u32::try_from(number).ok()?);
+    if is_of_class(scene.facts, name, class) {
+        Some(name)
+    } else {
+        None
+    }
+}
+
+/// Where a cell lost `fresh` in the block, under one of the first of its names.
+fn other_name(scene: &Scene, class: &Option<ClassId>) -> Result<Option<Unfresh>, AllocError> {
+    let mut left = NAMES;
+    for number in 0..scene.context.function.locals.count() {
+        if let Some(name) = name_at(scene, number, class) {
+            if left == 0 {
+                return Ok(None);
+            }
+            left -= 1;
+            if let Some(spot) = unfresh_at(scene, name)? {
+                return Ok(Some(Unfresh { name, spot }));
+            }
+        }
+    }
+    Ok(None)
+}
+
 /// Where the cell of a reference lost `fresh` in the block, under its own name or another one.
 fn unfresh_here(scene: &Scene, value: ValueId) -> Result<Option<Unfresh>, AllocError> {
     let class = class_of(scene.facts, value);
-    let mut found = unfresh_under(scene, value, &class)?;
-    for number in 0..scene.context.function.locals.count() {
-        if let (None, Ok(number)) = (found, u32::try_from(number)) {
-            found = unfresh_under(scene, ValueId::new(number), &class)?;
-        }
+    match unfresh_under(scene, value, &class)? {
+        Some(unfresh) => Ok(Some(unfresh)),
+        None => other_name(scene, &class),
     }
-    Ok(found)
 }
 
 /// Whether a slot holds a fresh cell.

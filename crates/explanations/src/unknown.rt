@@ -1,6 +1,9 @@
 //! K1: why nothing is known of a value, and what makes it known.
+use crate::callers::{put_stale_caller, put_stale_return};
+use crate::missing::Missing;
 use crate::missing_blocks::put_missing;
 use crate::notes::{put_cert_note, put_line, put_mend, put_note};
+use crate::one_way::put_one_way_here;
 use crate::stale::{lost_before, put_lost};
 use crate::told::{Told, put_text, value_in};
 use crate::write_barrier::spot_of;
@@ -104,8 +107,8 @@ fn cause_of(scene: &Scene, value: ValueId) -> Result<Cause, AllocError> {
     }
 }
 
-/// The block that defines the value, where another way does not lead through it.
-fn block_of(cause: &Cause) -> Option<BlockId> {
+/// The block that defines a value, where another way does not lead through it.
+fn definer_of(cause: &Cause) -> Option<BlockId> {
     match cause {
         Cause::OneWay(block) => Some(*block),
         _ => None,
@@ -123,7 +126,7 @@ fn sentence_of(cause: &Cause) -> &'static str {
         }
         Cause::NotYet => "{it} is not known here: it is not defined on the way to this instruction",
         Cause::OneWay(_) => {
-            "{it} is not known here: {to} defines it, and another way to {here} does not lead through {to}"
+            "{it} is not known here: {definer} defines it, and another way to {here} does not lead through {definer}"
         }
         Cause::FromNothing =>
             "{it} is not known here: it comes from a place that is not known, or from null",
@@ -145,7 +148,16 @@ pub fn put_definition(out: &mut Message, told: &Told, text: &str) {
     }
 }
 
-fn put_parameter(out: &mut Message, told: &Told) {
+/// A parameter of which the certificate does not say to what it refers, since a caller passes what is stale, or for another reason.
+fn put_parameter(out: &mut Message, told: &Told, value: ValueId) {
+    match put_stale_caller(out, told, value) {
+        Ok(true) => {}
+        Ok(false) => put_unpromised(out, told),
+        Err(_) => out.refuse(),
+    }
+}
+
+fn put_unpromised(out: &mut Message, told: &Told) {
     put_cert_note(
         out,
         told,
@@ -159,22 +171,21 @@ fn put_parameter(out: &mut Message, told: &Told) {
     )
 }
 
-fn put_result(out: &mut Message, told: &Told) {
+/// The result of a call of which the certificate does not say that, since what is returned is stale, or for another reason.
+fn put_result(out: &mut Message, told: &Told, value: ValueId) {
     put_definition(out, told, "{it} is the result of this call");
+    match put_stale_return(out, told, value) {
+        Ok(true) => {}
+        Ok(false) => put_unpromised_result(out, told),
+        Err(_) => out.refuse(),
+    }
+}
+
+fn put_unpromised_result(out: &mut Message, told: &Told) {
     put_mend(
         out,
         told,
         "add `result ref L` to the certificate of the callee, after its `param` lines, where L is the layout to which the result refers",
-    )
-}
-
-/// It is defined on one way to the instruction, and not on another.
-fn put_one_way(out: &mut Message, told: &Told) {
-    put_definition(out, told, "{it} is defined here, in {to}");
-    put_mend(
-        out,
-        told,
-        "where the ways meet, write a phi of {it} on the way through {to} and of another value on each other way; use that",
     )
 }
 
@@ -202,13 +213,13 @@ fn put_from_nothing(out: &mut Message, told: &Told) {
     )
 }
 
-/// Why nothing is known of it, and what mends it. The other block is the one that defines it.
+/// Why nothing is known of it, and what mends it.
 fn put_unknown(out: &mut Message, told: &Told, value: ValueId, cause: &Cause) {
     match cause {
-        Cause::Parameter => put_parameter(out, told),
-        Cause::Result => put_result(out, told),
+        Cause::Parameter => put_parameter(out, told, value),
+        Cause::Result => put_result(out, told, value),
         Cause::NotYet => put_mend(out, told, "define {it} on each way to this instruction"),
-        Cause::OneWay(_) => put_one_way(out, told),
+        Cause::OneWay(_) => put_one_way_here(out, told),
         Cause::FromNothing => put_from_nothing(out, told),
         Cause::Unlisted => put_unlisted(out, told, value),
         Cause::Stale => put_lost(out, told, &[]),
@@ -220,13 +231,16 @@ pub fn put_cause(out: &mut Message, told: &Told, value: ValueId) {
     let Ok(cause) = cause_of(told.scene, value) else {
         return out.refuse();
     };
-    put_unknown(out, &told.with_block(block_of(&cause)), value, &cause)
+    put_unknown(out, &told.with_definer(definer_of(&cause)), value, &cause)
 }
 
-/// Whether nothing is known of a value since it would be stale.
-pub fn is_stale_cause(scene: &Scene, value: ValueId) -> Result<bool, AllocError> {
-    let cause = cause_of(scene, value)?;
-    Ok(matches!(cause, Cause::Stale))
+/// What is missing of a value of which nothing is known.
+pub fn missing_by_cause(scene: &Scene, value: ValueId) -> Result<Missing, AllocError> {
+    Ok(match cause_of(scene, value)? {
+        Cause::Stale => Missing::Stale,
+        Cause::OneWay(block) => Missing::OneWay(block),
+        _ => Missing::All,
+    })
 }
 
 /// K1: the sentence, the line, the cause, and what mends it.
@@ -234,10 +248,10 @@ pub fn put_unavailable(out: &mut Message, told: &Told, value: ValueId) {
     let Ok(cause) = cause_of(told.scene, value) else {
         return out.refuse();
     };
-    put_sentence(out, &told.with_block(block_of(&cause)), value, &cause)
+    put_sentence(out, &told.with_definer(definer_of(&cause)), value, &cause)
 }
 
-/// The same by the cause. The other block is the one that defines the value.
+/// The same by the cause.
 fn put_sentence(out: &mut Message, told: &Told, value: ValueId, cause: &Cause) {
     put_text(out, told, sentence_of(cause));
     out.put("\n");

@@ -1,13 +1,14 @@
 //! K6 and K7: the write barrier, and the object that it names.
 use crate::barrier_lines::{put_barrier_lines, put_object_lines};
-use crate::notes::put_mend;
+use crate::notes::{put_mend, put_or};
 use crate::offers::offer_barrier;
+use crate::stale::class_of;
 use crate::told::{Told, put_text, value_in};
 use certs::is_opaque_text;
 use facts::Known;
 use ir_ast::{Operand, Runtime, ValueId};
 use messages::{Message, put_wanted_declare};
-use scenes::{Definition, Scene, Spot, definition_of};
+use scenes::{Definition, Scene, Spot, arguments_of, definition_of};
 
 /// The reference in whose cell an operand is a place.
 pub fn base_of(scene: &Scene, operand: &Option<Operand>) -> Option<Operand> {
@@ -61,9 +62,59 @@ pub fn put_barrier(out: &mut Message, told: &Told) {
     put_wanted_declare(out, told.scene.context.module(), &Runtime::GcWrite)
 }
 
+/// Whether two operands are the same reference.
+fn are_same(scene: &Scene, one: Option<Operand>, other: Option<Operand>) -> bool {
+    match (value_in(one), value_in(other)) {
+        (Some(one), Some(other)) => match (
+            class_of(scene.facts, one),
+            class_of(scene.facts, other),
+        ) {
+            (Some(one), Some(other)) => one.number() == other.number(),
+            _ => false,
+        },
+        _ => false,
+    }
+}
+
+/// The value that the refused llvm.gcwrite stores, if the place is in its own cell.
+fn stored_into_itself(told: &Told) -> Option<Operand> {
+    match arguments_of(told.scene) {
+        [value, _, _] if are_same(told.scene, Some(value.operand), told.base) => {
+            Some(value.operand)
+        }
+        _ => None,
+    }
+}
+
+/// K7 of a call whose value and object may be changed round: the place is in the cell of the value.
+fn put_changed_round(out: &mut Message, told: &Told, value: Operand) {
+    let scene = told.scene;
+    let swapped = Told {
+        base: Some(value),
+        ..*told
+    };
+    put_mend(
+        out,
+        &swapped,
+        if is_opaque_text(scene.context.module()) {
+            "the order is value, object, place; are value and object changed round? call void @llvm.gcwrite(ptr {it}, ptr {base}, ptr {place})"
+        } else {
+            "the order is value, object, place; are value and object changed round? call void @llvm.gcwrite(i8* {it}, i8* {base}, i8** {place})"
+        },
+    );
+    put_or(
+        out,
+        &swapped,
+        "or name {base} as the object, if it is to refer to itself",
+    )
+}
+
 /// K7: the object of the place.
 pub fn put_object(out: &mut Message, told: &Told) {
     let scene = told.scene;
+    if let Some(value) = stored_into_itself(told) {
+        return put_changed_round(out, told, value);
+    }
     match (told.base, is_opaque_text(scene.context.module())) {
         (None, true) => put_mend(out, told, "name null: the place is in no object"),
         (None, false) => put_mend(out, told, "name i8* null: the place is in no object"),
