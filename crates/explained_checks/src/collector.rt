@@ -211,7 +211,8 @@ impl<'a> Collector<'a> {
     pub(crate) fn no_layouts(&mut self, fault: LayoutFault) {
         let texts = self.texts();
         let mut message = Message::in_parts(self.alloc);
-        put_layout_fault(self.pen(), &mut message, texts.of_module, fault);
+        let wide = is_wide(self.files.of_module);
+        put_layout_fault(self.pen(), &mut message, texts.of_module, wide, fault);
         let fault = told_in(self.alloc, NO_FILE, message, self.changed());
         self.keep_fault(fault)
     }

@@ -57,7 +57,8 @@ fn put_kept_fault(pen: Pen, out: &mut Message, path: &str, fault: &CertFault) {
             out,
             path,
             code,
-            "the section that stands does not fit the new code: `edit both` gives a section with the code",
+            "the section that stands does not fit the new code",
+            "`edit both` gives a section with the code",
         ),
         None => out.refuse(),
     }
@@ -77,6 +78,7 @@ fn put_section_fault(
             out,
             texts.of_certs.path,
             Code::C5,
+            "the section does not list each block of the code",
             "list each block of the code but the entry one in the section, as `block %b`",
         ),
         fault => put_cert_fault(pen, out, texts, session.program().module(), *fault),
@@ -108,14 +110,15 @@ fn put_cert_fault_of(
     put_section_fault(pen, out, session, texts, fault)
 }
 
-/// The code of an edit that is refused as a whole, and what mends it.
-fn whole_fault_of(fault: &EditFault) -> Option<(Code, &'static str)> {
+/// The code of an edit that is refused as a whole, what is found, and what mends it.
+fn whole_fault_of(fault: &EditFault) -> Option<(Code, &'static str, &'static str)> {
     match fault {
-        EditFault::NoFunction => Some((Code::L5, NO_SUCH_FUNCTION)),
-        EditFault::NoSection => Some((Code::C3, NO_SUCH_FUNCTION)),
+        EditFault::NoFunction => Some((Code::L5, NO_SUCH_FUNCTION, "")),
+        EditFault::NoSection => Some((Code::C3, NO_SUCH_FUNCTION, "")),
         EditFault::ShapesWanted => Some((
             Code::C2,
-            "begin the certificate with `cert 2` and its shapes: this code writes `ptr`",
+            "this code writes `ptr`, and the certificate has no shapes",
+            "begin the certificate with `cert 2` and its shapes",
         )),
         _ => None,
     }
@@ -138,7 +141,7 @@ fn put_edit_fault(
         }
         EditFault::Cert(fault) => put_cert_fault_of(pen, out, session, path, edit, fault),
         fault => match whole_fault_of(fault) {
-            Some((code, mend)) => put_fault_of(pen, out, path, code, mend),
+            Some((code, found, mend)) => put_fault_of(pen, out, path, code, found, mend),
             None => out.refuse(),
         },
     }

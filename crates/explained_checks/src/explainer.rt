@@ -177,7 +177,13 @@ impl<'a> Findings for Explainer<'a> {
         let texts = texts_of(self.topic, self.files);
         match self.topic {
             Topic::Nothing => {}
-            _ => put_layout_fault(self.pen, &mut self.out, texts.of_module, fault),
+            _ => put_layout_fault(
+                self.pen,
+                &mut self.out,
+                texts.of_module,
+                is_wide(self.files.of_module),
+                fault,
+            ),
         }
     }
 

@@ -35,7 +35,9 @@ fn put_untraced(
 ) {
     match unread {
         Unread::NoTrace(fault) => put_trace_fault(pen, out, texts, fault),
-        Unread::NoLayouts(refused) => { put_layout_fault(pen, out, texts.of_module, refused.fault) }
+        Unread::NoLayouts(refused) => {
+            put_layout_fault(pen, out, texts.of_module, wide, refused.fault)
+        }
         unread => put_unread(pen, out, of_shapes, wide, unread),
     }
 }
