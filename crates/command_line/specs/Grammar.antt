@@ -116,8 +116,8 @@ command_apps =
     -- check-list LIST [--workers N] [--explain WHEN] [--forms FORMS]
     command_app (codes "check-list") (file_rule (codes "LIST") ∷ workers_rule ∷ explain_rule ∷ forms_rule ∷ [])
     ∷
-    -- make MODULE [--shapes FILE] [--why] [--explain WHEN] [--json FILE] [--sarif FILE] [--forms FORMS]
-    command_app (codes "make") (file_rule (codes "MODULE") ∷ valued_rule (codes "shapes") ∷ flag_rule (codes "why") ∷ explain_rule
+    -- make MODULE [--shapes FILE] [--cert FILE] [--why] [--explain WHEN] [--json FILE] [--sarif FILE] [--forms FORMS]
+    command_app (codes "make") (file_rule (codes "MODULE") ∷ valued_rule (codes "shapes") ∷ valued_rule (codes "cert") ∷ flag_rule (codes "why") ∷ explain_rule
     ∷ valued_rule (codes "json") ∷ valued_rule (codes "sarif") ∷ forms_rule ∷ [])
     ∷
     -- fix MODULE CERT --module FILE --cert FILE [--explain WHEN] [--forms FORMS]
@@ -127,34 +127,34 @@ command_apps =
     command_app (codes "recheck") (file_rule (codes "MODULE") ∷ file_rule (codes "CERT") ∷ file_rule (codes "EDITS") ∷ explain_rule
     ∷ valued_rule (codes "json") ∷ valued_rule (codes "sarif") ∷ forms_rule ∷ [])
     ∷
-    -- replay MODULE TRACE [--shapes FILE] [--steps] [--from N] [--to M] [--json FILE] [--record FILE] [--explain WHEN] [--forms FORMS]
+    -- replay MODULE TRACE [--shapes FILE] [--cert FILE] [--steps] [--from N] [--to M] [--json FILE] [--record FILE] [--explain WHEN] [--forms FORMS]
     command_app (codes "replay")
-    (file_rule (codes "MODULE") ∷ file_rule (codes "TRACE") ∷ valued_rule (codes "shapes") ∷ flag_rule (codes "steps")
+    (file_rule (codes "MODULE") ∷ file_rule (codes "TRACE") ∷ valued_rule (codes "shapes") ∷ valued_rule (codes "cert") ∷ flag_rule (codes "steps")
     ∷ optional_rule (codes "from") ∷ optional_rule (codes "to") ∷ valued_rule (codes "json") ∷ valued_rule (codes "record") ∷ explain_rule ∷ forms_rule ∷ [])
     ∷
-    -- soak MODULE TRACE [--shapes FILE] --seeds N --steps S [--first F] [--save FILE] [--bias] [--drawn-values] [--seconds N] [--shrink] [--tries N] [--explain WHEN] [--forms FORMS]
+    -- soak MODULE TRACE [--shapes FILE] [--cert FILE] --seeds N --steps S [--first F] [--save FILE] [--bias] [--drawn-values] [--seconds N] [--shrink] [--tries N] [--explain WHEN] [--forms FORMS]
     command_app (codes "soak")
-    (file_rule (codes "MODULE") ∷ file_rule (codes "TRACE") ∷ valued_rule (codes "shapes") ∷ number_rule (codes "seeds") ∷ number_rule (codes "steps") ∷ default_rule (codes "first") (codes "0")
+    (file_rule (codes "MODULE") ∷ file_rule (codes "TRACE") ∷ valued_rule (codes "shapes") ∷ valued_rule (codes "cert") ∷ number_rule (codes "seeds") ∷ number_rule (codes "steps") ∷ default_rule (codes "first") (codes "0")
     ∷ valued_rule (codes "save") ∷ flag_rule (codes "bias") ∷ flag_rule (codes "drawn-values") ∷ optional_rule (codes "seconds") ∷ flag_rule (codes "shrink") ∷ optional_rule (codes "tries") ∷ explain_rule ∷ forms_rule ∷ [])
     ∷
-    -- hunt MODULE [--shapes FILE] [--cert FILE] [--seeds N] [--steps S] [--first F] [--tries N] [--seconds N] [--save FILE] [--forms FORMS]
+    -- hunt MODULE [--shapes FILE] [--cert FILE] [--seeds N] [--steps S] [--first F] [--tries N] [--seconds N] [--save FILE] [--explain WHEN] [--forms FORMS]
     command_app (codes "hunt")
     (file_rule (codes "MODULE") ∷ valued_rule (codes "shapes") ∷ valued_rule (codes "cert") ∷ default_rule (codes "seeds") (codes "10000")
-    ∷ default_rule (codes "steps") (codes "1000") ∷ default_rule (codes "first") (codes "0") ∷ default_rule (codes "tries") (codes "10000") ∷ optional_rule (codes "seconds") ∷ valued_rule (codes "save") ∷ forms_rule ∷ [])
+    ∷ default_rule (codes "steps") (codes "1000") ∷ default_rule (codes "first") (codes "0") ∷ default_rule (codes "tries") (codes "10000") ∷ optional_rule (codes "seconds") ∷ valued_rule (codes "save") ∷ explain_rule ∷ forms_rule ∷ [])
     ∷
     -- run MODULE CERT TRACE [--turns N] [--steps S] [--explain WHEN] [--forms FORMS]
     command_app (codes "run")
     (file_rule (codes "MODULE") ∷ file_rule (codes "CERT") ∷ file_rule (codes "TRACE")
     ∷ default_rule (codes "turns") (codes "1000000") ∷ default_rule (codes "steps") (codes "1000000") ∷ explain_rule ∷ forms_rule ∷ [])
     ∷
-    -- watch MODULE TRACE [--shapes FILE] [--turns N] [--steps S] [--explain WHEN] [--forms FORMS]
+    -- watch MODULE TRACE [--shapes FILE] [--cert FILE] [--turns N] [--steps S] [--explain WHEN] [--forms FORMS]
     command_app (codes "watch")
-    (file_rule (codes "MODULE") ∷ file_rule (codes "TRACE") ∷ valued_rule (codes "shapes")
+    (file_rule (codes "MODULE") ∷ file_rule (codes "TRACE") ∷ valued_rule (codes "shapes") ∷ valued_rule (codes "cert")
     ∷ default_rule (codes "turns") (codes "1000000") ∷ default_rule (codes "steps") (codes "1000000") ∷ explain_rule ∷ forms_rule ∷ [])
     ∷
-    -- conform MODULE TRACE RECORD [--shapes FILE] [--explain WHEN] [--forms FORMS]
+    -- conform MODULE TRACE RECORD [--shapes FILE] [--cert FILE] [--explain WHEN] [--forms FORMS]
     command_app (codes "conform")
-    (file_rule (codes "MODULE") ∷ file_rule (codes "TRACE") ∷ file_rule (codes "RECORD") ∷ valued_rule (codes "shapes") ∷ explain_rule ∷ forms_rule ∷ [])
+    (file_rule (codes "MODULE") ∷ file_rule (codes "TRACE") ∷ file_rule (codes "RECORD") ∷ valued_rule (codes "shapes") ∷ valued_rule (codes "cert") ∷ explain_rule ∷ forms_rule ∷ [])
     ∷
     -- explain [CODE]
     command_app (codes "explain") (new_rule (codes "CODE") ∷ [])
@@ -401,6 +401,19 @@ abbrev pub shapes_beside : (certificate : Option Text) → List Row → Option T
 shapes_beside None given = first_of (codes "shapes") given
 shapes_beside (Some path) given = None
 
+-- whether the command of this name reads shapes, and takes them from a certificate too
+abbrev pub takes_shapes : (name : Text) → Bool
+takes_shapes name =
+    bytes_eq name (codes "make") || bytes_eq name (codes "replay") || bytes_eq name (codes "soak") || bytes_eq name (codes "watch") || bytes_eq name (codes "conform")
+
+-- the path of the certificate, if it was given to the command of this name, and not for its shapes alone
+abbrev pub certificate_of : (name : Text) → List Row → Option Text
+certificate_of name given = if takes_shapes name then None else either_of (codes "CERT") (codes "cert") given
+
+-- the path of the shapes, if it was given to the command of this name, and its certificate's was not
+abbrev pub shapes_of : (name : Text) → (certificate : Option Text) → List Row → Option Text
+shapes_of name certificate given = if takes_shapes name then either_of (codes "shapes") (codes "cert") given else shapes_beside certificate given
+
 -- the path of the file that the command of this name writes, if it was given
 abbrev pub saved_of : (name : Text) → List Row → Option Text
 saved_of name given =
@@ -427,11 +440,11 @@ written_of given = written_by (first_of (codes "json") given) (first_of (codes "
 -- the paths of the files that were given to the command of this name
 abbrev pub paths_of : (name : Text) → List Row → PathTexts
 paths_of name given =
-    let certificate = either_of (codes "CERT") (codes "cert") given in
+    let certificate = certificate_of name given in
     record {
       of_module = first_of (codes "MODULE") given;
       certificate = certificate;
-      shapes = shapes_beside certificate given;
+      shapes = shapes_of name certificate given;
       trace = first_of (codes "TRACE") given;
       edits = first_of (codes "EDITS") given;
       of_record = first_of (codes "RECORD") given;

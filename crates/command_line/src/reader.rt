@@ -2,7 +2,7 @@
 ghost use Rattle.std.specs.Prelude.{◌≡◌, IfOk, IfErr, IfSome, IsOk, [], map, option_map};
 ghost use Rattle.clap.specs.Words.{fault_of, found_of, rows_of, subcommand_rows_of};
 ghost use Rattle.command_line.specs.Asked.{HasWorkers, texts_of};
-ghost use Rattle.command_line.specs.Grammar.{dgc_app, explained_by, explained_of, forms_of, IsRefusalOf, line_by, line_found, line_in, line_of, paths_of, read_once, saved_cert_of, saved_of, shapes_beside, written_by, written_of};
+ghost use Rattle.command_line.specs.Grammar.{dgc_app, certificate_of, explained_by, explained_of, forms_of, IsRefusalOf, line_by, line_found, line_in, line_of, paths_of, read_once, saved_cert_of, saved_of, shapes_beside, shapes_of, takes_shapes, written_by, written_of};
 
 use crate::command::{Command, Explained, Paths, Written};
 use crate::fault::LineFault;
@@ -19,6 +19,39 @@ fn shapes_given<'a>(given: &ArgMatches<'a>, certificate: Option<&str>) -> Option
     match certificate {
         Some(_) => None,
         None => text_given(given, "shapes"),
+    }
+}
+
+/// Whether the command of this name reads shapes, and takes them from a certificate too.
+fn takes_shapes(name: &str) -> bool
+    ensures { result ≡ takes_shapes name.now }
+{
+    matches!(name, "make" | "replay" | "soak" | "watch" | "conform")
+}
+
+/// The path of the certificate, if it was given to the command of this name, and not for its shapes alone.
+fn certificate_given<'a>(name: &str, given: &ArgMatches<'a>) -> Option<&'a str>
+    ensures { option_map (λ path. path.now) result ≡ certificate_of name.now (rows_of (found_of given.now)) }
+{
+    if takes_shapes(name) {
+        None
+    } else {
+        either_given(given, "CERT", "cert")
+    }
+}
+
+/// The path of the shapes, if it was given to the command of this name, and its certificate's was not.
+fn shapes_of_command<'a>(
+    name: &str,
+    given: &ArgMatches<'a>,
+    certificate: Option<&str>,
+) -> Option<&'a str>
+    ensures { option_map (λ path. path.now) result ≡ shapes_of name.now (option_map (λ path. path.now) certificate.entry) (rows_of (found_of given.now)) }
+{
+    if takes_shapes(name) {
+        either_given(given, "shapes", "cert")
+    } else {
+        shapes_given(given, certificate)
     }
 }
 
@@ -48,11 +81,11 @@ fn saved_cert_given<'a>(name: &str, given: &ArgMatches<'a>) -> Option<&'a str>
 fn paths_given<'a>(name: &str, given: &ArgMatches<'a>) -> Paths<'a>
     ensures { texts_of result ≡ paths_of name.now (rows_of (found_of given.now)) }
 {
-    let certificate = either_given(given, "CERT", "cert");
+    let certificate = certificate_given(name, given);
     Paths {
         of_module: text_given(given, "MODULE"),
         certificate,
-        shapes: shapes_given(given, certificate),
+        shapes: shapes_of_command(name, given, certificate),
         trace: text_given(given, "TRACE"),
         edits: text_given(given, "EDITS"),
         of_record: text_given(given, "RECORD"),

@@ -53,6 +53,11 @@ const SHAPES: Argument = Argument::Path(
     "The shapes of a module that writes `ptr`: what its pointers refer to (docs/CERTIFICATES.md)",
 );
 
+const CERT_FOR_SHAPES: Argument = Argument::Path(
+    "cert",
+    "A certificate, whose shapes are taken where --shapes is not given",
+);
+
 const EXPLAIN: Argument = Argument::ExplainWhen(
     "Explain a refusal on standard error: always, never, or auto, where that is a terminal [default: DGC_EXPLAIN, or auto]",
 );
@@ -170,6 +175,7 @@ const MAKE: CommandRow = CommandRow {
     arguments: &[
         MODULE,
         SHAPES,
+        CERT_FOR_SHAPES,
         Argument::Flag(
             "why",
             "Where there is no answer, also prints what is refused",
@@ -275,6 +281,7 @@ const REPLAY: CommandRow = CommandRow {
             "A trace: how a run begins, and who makes its steps (docs/TRACES.md)",
         ),
         SHAPES,
+        CERT_FOR_SHAPES,
         Argument::Flag(
             "steps",
             "Also tell the steps: the last 40, and those that matter for the break (docs/STEPS.md)",
@@ -329,6 +336,7 @@ const SOAK: CommandRow = CommandRow {
             "A trace: how each run begins; its steps are ignored (docs/TRACES.md)",
         ),
         SHAPES,
+        CERT_FOR_SHAPES,
         Argument::Number(
             "seeds",
             "N",
@@ -417,6 +425,7 @@ const HUNT: CommandRow = CommandRow {
         ),
         SECONDS,
         Argument::Path("save", "The file to which a broken trace is written"),
+        EXPLAIN,
         FORMS,
     ],
     after: "\
@@ -429,6 +438,9 @@ last of these seeds is the broken one. `dgc replay` of what --save writes prints
 line. Or prints `sound 10000 seeds` and `starts 157`: none of these schedules breaks its run.
 No seed is above 4294967294, and with any --first a seed draws the same. With --seconds no
 further seeds are tried once that time is over, and the line says how many were.
+
+With --cert and --explain always a sound hunt also says, on standard error, by which rule
+`dgc check` refuses the module, and whether a schedule can show that.
 
 Of a text that is not read, one line goes to standard error, as `error L4 23:13` (a line
 and a column) or `error C6 @g`. A module that writes `ptr` needs its shapes: without --shapes
@@ -495,6 +507,7 @@ const WATCH: CommandRow = CommandRow {
             "A trace: how the run begins; its steps are ignored (docs/TRACES.md)",
         ),
         SHAPES,
+        CERT_FOR_SHAPES,
         Argument::NumberOr(
             "turns",
             "1000000",
@@ -543,6 +556,7 @@ const CONFORM: CommandRow = CommandRow {
             "A record: the steps that a runtime made, 16 bytes for each (docs/RECORDS.md)",
         ),
         SHAPES,
+        CERT_FOR_SHAPES,
         EXPLAIN,
         FORMS,
     ],

@@ -14,7 +14,7 @@ use check_commands::{
     check_files, explain_code, lower_files, make_file, migrate_files, recheck_files,
 };
 use command_line::{Command, What};
-use explained_checks::{Explainer, Look, Question, Topic, explain};
+use explained_checks::{Explainer, Look, Question, Topic, explain, explain_hunt};
 use fix_commands::fix_files;
 use messages::Pen;
 use reports::{
@@ -68,8 +68,13 @@ pub(crate) fn topic_of(command: &Command<'_>) -> Topic {
 }
 
 /// What is to be explained after a command that answered with this status, if something is.
-fn question_of(what: What<'_>, status: u8) -> Option<Question> {
+fn question_of(what: What<'_>, files: &Files<'_>, status: u8) -> Option<Question> {
     match (what, status) {
+        (What::Hunt(_), STATUS_UNREADABLE) => Some(if files.certificate.is_some() {
+            Question::Check
+        } else {
+            Question::Make
+        }),
         (What::Run(_), STATUS_NO | STATUS_UNREADABLE) => Some(Question::Run),
         (What::Replay(_) | What::Soak(_) | What::Watch(_) | What::Conform, STATUS_UNREADABLE) => {
             Some(Question::Trace)
@@ -78,7 +83,7 @@ fn question_of(what: What<'_>, status: u8) -> Option<Question> {
     }
 }
 
-/// Explains what was answered with this status, or says how much happens in the runs of sound seeds.
+/// Explains what was answered with this status, or says how much happens in the runs of sound seeds, or what a sound hunt does not show.
 fn explain_outcome(
     pen: Pen,
     what: What<'_>,
@@ -92,10 +97,13 @@ fn explain_outcome(
     if let (What::Soak(options), STATUS_YES) = (what, status) {
         return tell_happened(alloc, options.search, files, err);
     }
+    if let (What::Hunt(_), STATUS_YES) = (what, status) {
+        return explain_hunt(alloc, files, err);
+    }
     if let (What::Conform, STATUS_NO) = (what, status) {
         return explain_record(alloc, look, files, err);
     }
-    match question_of(what, status) {
+    match question_of(what, files, status) {
         Some(question) => explain(alloc, look, question, files, err),
         None => Ok(()),
     }

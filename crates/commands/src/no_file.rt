@@ -79,6 +79,16 @@ fn mend_of(why: NoFile) -> &'static str {
     }
 }
 
+/// The same of a file of this path, in which the mark of a list may stand that it is UTF-8.
+fn mend_of_path(path: &str, why: NoFile) -> &'static str {
+    match (path.as_bytes(), why) {
+        ([0xef, 0xbb, 0xbf, ..], NoFile::Missing) => {
+            "the path begins with a byte order mark: save the list without one"
+        }
+        (_, why) => mend_of(why),
+    }
+}
+
 /// Writes what is told of a file, or of a line of it.
 fn write_told(pen: Pen, out: Message, told: Told, err: &mut Vec<u8>) -> io::Result<()>
     ensures { OnOk result (GivesText err.old.items err.new.items) }
@@ -117,7 +127,7 @@ pub(crate) fn explain_file(pen: Pen, path: &str, why: NoFile, err: &mut Vec<u8>)
     out.put_inked(pen.look, Ink::Place, path);
     let told = Told {
         fault: fault_of(why),
-        mend: mend_of(why),
+        mend: mend_of_path(path, why),
     };
     write_told(pen, out, told, err)
 }

@@ -1,5 +1,6 @@
 -- The files of a line, and what is read from them.
-use Rattle.std.specs.Prelude.{◌≡◌, ◌≢◌, ◌⊎◌, ℕ, Bool, false, List, [], Option, None, Some, if◌then◌else◌}
+use Rattle.std.specs.Prelude.{◌≡◌, ◌≢◌, ◌⊎◌, ℕ, Bool, true, false, List, [], Option, None, Some, codes, if◌then◌else◌}
+use Rattle.std.specs.Str.{bytes_eq}
 use Rattle.std.specs.Option.{option_map}
 use Rattle.ir_ast.specs.declared.module.Module.{Module}
 use Rattle.ir_ast.specs.declared.shapes.Shapes.{Shapes}
@@ -11,7 +12,9 @@ use Rattle.layout.specs.declared.fault.LayoutFault.TheVariants as layout
 use Rattle.certs.specs.declared.certs.Certs.{Certs}
 use Rattle.certificate.specs.Text as certificate
 use Rattle.certificate.specs.ShapeText as shape_text
+use Rattle.certificate.specs.declared.fault.CertFault.{CertFault}
 use Rattle.certificate.specs.declared.fault.CertFault.TheVariants as cert
+use Rattle.name_text.specs.Words.{past_lines, word_at}
 use Rattle.recheck.specs.Text as edit_text
 use Rattle.recheck.specs.declared.edit.Edit.{Edit}
 use Rattle.trace_text.specs.Text as trace_text
@@ -63,13 +66,28 @@ HasCerts file m certs = (bytes : List ℕ) × (bytes_of file ≡ Some bytes) × 
 abbrev pub HasEdits : Option File → List Edit → Type 0
 HasEdits file edits = (bytes : List ℕ) × (bytes_of file ≡ Some bytes) × edit_text.IsEdits bytes edits
 
--- the module with shapes that were read for it: they count where it writes `ptr`
-abbrev pub with_read : Module → Shapes → Module
-with_read m shapes = if wants_shapes m then with_shapes m (Some shapes) else m
+-- the text begins as a certificate does, with the word `cert`
+abbrev pub is_certificate : List ℕ → Bool
+is_certificate bytes = bytes_eq (word_at (past_lines false bytes)) (codes "cert")
 
--- the file is a text of shapes of the first module, and the second one is the first with them
+-- these are the shapes in a text of shapes, or in a certificate: one of typed pointers has none
+abbrev pub AreShapesOf : List ℕ → Module → Option Shapes → Type 0
+AreShapesOf bytes m shapes =
+    ((is_certificate bytes ≡ true) × ((certs : Certs) × certificate.IsCert bytes m certs × (certs.shapes ≡ shapes)))
+    ⊎ ((is_certificate bytes ≡ false) × ((read : Shapes) × shape_text.AreShapes bytes m read × (Some read ≡ shapes)))
+
+-- the first fault of a text of shapes, or of a certificate
+abbrev pub IsShapesFaultOf : List ℕ → Module → CertFault → Type 0
+IsShapesFaultOf bytes m fault =
+    ((is_certificate bytes ≡ true) × certificate.IsFault bytes m fault) ⊎ ((is_certificate bytes ≡ false) × shape_text.IsShapesFault bytes m fault)
+
+-- the module with shapes that were read for it: they count where it writes `ptr`
+abbrev pub with_read : Module → Option Shapes → Module
+with_read m shapes = if wants_shapes m then with_shapes m shapes else m
+
+-- the file is a text of shapes of the first module, or a certificate of it, and the second module is the first with them
 abbrev pub IsRead : File → (of_module shaped : Module) → Type 0
-IsRead file of_module shaped = (bytes : List ℕ) × (shapes : Shapes) × (bytes_of (Some file) ≡ Some bytes) × shape_text.AreShapes bytes of_module shapes × (shaped ≡ with_read of_module shapes)
+IsRead file of_module shaped = (bytes : List ℕ) × (shapes : Option Shapes) × (bytes_of (Some file) ≡ Some bytes) × AreShapesOf bytes of_module shapes × (shaped ≡ with_read of_module shapes)
 
 -- the first file is a text of this module, with the shapes of the other file where it is given
 abbrev pub HasShaped : (first : Option ModuleFile) → (shapes : Option File) → Module → Type 0
@@ -104,7 +122,7 @@ IsNoCertificate file m _ = ⊥
 abbrev pub IsNoShapes : Option File → Module → Unread → Type 0
 IsNoShapes (Some file) m (unread.NoFile path) = IsNoFile path.now (Some file)
 IsNoShapes (Some file) m (unread.NoCertificate of_module fault) =
-    (of_module ≡ m) × ((bytes : List ℕ) × (bytes_of (Some file) ≡ Some bytes) × (fault ≢ cert.Memory → shape_text.IsShapesFault bytes m fault))
+    (of_module ≡ m) × ((bytes : List ℕ) × (bytes_of (Some file) ≡ Some bytes) × (fault ≢ cert.Memory → IsShapesFaultOf bytes m fault))
 IsNoShapes _ m _ = ⊥
 
 -- the first fault in the files of a module and its shapes

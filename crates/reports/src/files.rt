@@ -1,11 +1,12 @@
 //! The files of a command, and what is read from them: a module with its certificates, and edits of them; a module with its shapes; or
 //! a module with its layouts and a trace.
-ghost use Rattle.std.specs.Prelude.{◌≡◌, true, Some, IfOk, IfErr};
+ghost use Rattle.std.specs.Prelude.{◌≡◌, ◌≢◌, true, Some, IfOk, IfErr};
 ghost use Rattle.std.specs.Option.{option_copied};
 ghost use Rattle.certs.specs.Fits.{fits};
 ghost use Rattle.trace_text.specs.Traces.{IsTraceOf};
 ghost use Rattle.reports.specs.Files as spec;
-ghost use Rattle.reports.specs.Files.{file_of, is_wide, HasModule, HasCerts, HasEdits, HasProgram, HasShaped, HasTrace, IsNoModule, IsNoCertificate, IsNoEdits, IsNoProgram, IsNoShaped, IsNoShapes, IsNoTrace, IsRead, IsUncertified, IsUntraced, with_read};
+ghost use Rattle.certificate.specs.declared.fault.CertFault.TheVariants as cert;
+ghost use Rattle.reports.specs.Files.{AreShapesOf, IsShapesFaultOf, file_of, is_certificate, is_wide, HasModule, HasCerts, HasEdits, HasProgram, HasShaped, HasTrace, IsNoModule, IsNoCertificate, IsNoEdits, IsNoProgram, IsNoShaped, IsNoShapes, IsNoTrace, IsRead, IsUncertified, IsUntraced, with_read};
 
 use certificate::{CertFault, read_cert, read_shapes};
 use certs::Certs;
@@ -13,6 +14,7 @@ use ir_ast::{Module, Shapes};
 use ir_text::{ReadFault, read_in};
 use items::Items;
 use layout::{NotAProgram, Program, wants_shapes};
+use name_text::{past_lines, word};
 use recheck::{Edit, read_edits};
 use std::alloc::Global;
 use trace_text::{Trace, TraceFault, read_trace};
@@ -173,20 +175,62 @@ pub fn edits_in<'a>(alloc: Global, files: &Files<'a>) -> Result<Items<Edit>, Unr
     }
 }
 
+/// Whether a text begins as a certificate does.
+fn is_certificate(text: &[u8]) -> bool
+    ensures { result ≡ is_certificate text.now }
+{
+    word(past_lines(text)) == b"cert".as_slice()
+}
+
+/// The shapes that certificates have.
+fn shapes_of_certs(certs: Certs) -> Option<Shapes>
+    ensures { result ≡ certs.shapes }
+{
+    let Certs {
+        sections,
+        shapes,
+        foreign,
+    } = certs;
+    drop(sections);
+    drop(foreign);
+    shapes
+}
+
+/// The shapes in a text of shapes, or in a certificate. A certificate of typed pointers has none.
+fn shapes_in_text(
+    alloc: Global,
+    text: &[u8],
+    of_module: &Module,
+) -> Result<Option<Shapes>, CertFault>
+    ensures found { IfOk result (AreShapesOf text.now of_module.now) }
+    ensures fault { IfErr result (λ e. e ≢ cert.Memory → IsShapesFaultOf text.now of_module.now e) }
+{
+    if is_certificate(text) {
+        return match read_cert(alloc, text, of_module) {
+            Ok(certs) => Ok(shapes_of_certs(certs)),
+            Err(fault) => Err(fault),
+        };
+    }
+    match read_shapes(alloc, text, of_module) {
+        Ok(shapes) => Ok(Some(shapes)),
+        Err(fault) => Err(fault),
+    }
+}
+
 /// A module with shapes that were read for it. They count where it writes `ptr`, and are ignored otherwise.
-fn with_read(of_module: Module, shapes: Shapes) -> Module
+fn with_read(of_module: Module, shapes: Option<Shapes>) -> Module
     ensures { result ≡ with_read of_module shapes }
 {
     let mut of_module = of_module;
     if wants_shapes(&of_module) {
-        of_module.shapes = Some(shapes);
+        of_module.shapes = shapes;
     } else {
         drop(shapes);
     }
     of_module
 }
 
-/// A module with its shapes, those of this file.
+/// A module with its shapes, those of this file, which may be a certificate.
 fn with_shapes_in<'a>(
     alloc: Global,
     file: File<'a>,
@@ -199,7 +243,7 @@ fn with_shapes_in<'a>(
         drop(of_module);
         return Err(Unread::NoFile(file.path));
     };
-    match read_shapes(alloc, text, &of_module) {
+    match shapes_in_text(alloc, text, &of_module) {
         Ok(shapes) => Ok(with_read(of_module, shapes)),
         Err(fault) => Err(Unread::NoCertificate(of_module, fault)),
     }
