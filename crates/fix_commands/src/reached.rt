@@ -166,13 +166,22 @@ pub(crate) fn leaves(trial: &Trial, refusal: &Refusal) -> bool {
     }
 }
 
+/// Whether a refusal follows from a fix of another one: of a plain store a later one, of anything else what is not in front of it.
+fn comes_to(refusal: &Refusal, next: &Refusal) -> bool {
+    let (here, there) = (at_refusal(refusal), at_refusal(next));
+    match refusal.rule {
+        Rule::K6 => here.is_before(there),
+        _ => !there.is_before(here),
+    }
+}
+
 /// Whether a check comes from a refusal to a plain store of the same function, which a further fix may mend.
 pub(crate) fn leads_to_store(trial: &Trial, refusal: &Refusal) -> bool {
     match refusal_in(trial) {
         Some(next) => {
             matches!(next.rule, Rule::K6)
                 && next.func.number() == refusal.func.number()
-                && at_refusal(refusal).is_before(at_refusal(&next))
+                && comes_to(refusal, &next)
         }
         None => false,
     }
