@@ -80,7 +80,7 @@ module:20:3: K6: %new is stored into @top without llvm.gcwrite
   mend:  in place of the store: call void @llvm.gcwrite(ptr %new, ptr null, ptr @top)'
 unread="error L2 3:7
 code L2, line 3, column 7
-module:3:7: L2: A module's text ends after a whole item.
+module:3:7: L2: the text ends inside a function
     3 | define
       |       ^
   mend:  something is not closed: a function ends with \`}\`, a block with br, switch, ret or unreachable"

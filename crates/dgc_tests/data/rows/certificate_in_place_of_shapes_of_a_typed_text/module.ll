@@ -1,0 +1,5 @@
+%Node = type { i64, %Node* }
+define void @f() {
+entry:
+  ret void
+}

@@ -1,0 +1,6 @@
+define i64 @f() {
+entry:
+  br label %out
+out:
+  ret i64 %out
+}

@@ -1,0 +1,3 @@
+define void @f(i64 %n) {
+  %v = add i64 %n, 1
+}

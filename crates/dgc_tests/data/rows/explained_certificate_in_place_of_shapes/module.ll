@@ -1,0 +1,5 @@
+%Node = type { i64, ptr }
+define void @f() {
+entry:
+  ret void
+}

@@ -1,0 +1,4 @@
+define i65 @f() {
+entry:
+  ret i65 0
+}

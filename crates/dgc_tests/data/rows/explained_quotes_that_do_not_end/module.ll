@@ -1,0 +1,4 @@
+source_filename = "module
+define void @f() {
+  ret void
+}

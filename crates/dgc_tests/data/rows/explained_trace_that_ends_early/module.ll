@@ -1,0 +1,4 @@
+define void @idle() {
+entry:
+  ret void
+}

@@ -1,0 +1,5 @@
+%Node = type { i64, ptr }
+define void @idle() {
+entry:
+  ret void
+}

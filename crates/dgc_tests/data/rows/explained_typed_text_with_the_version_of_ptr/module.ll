@@ -1,0 +1,1 @@
+%Node = type { i64, %Node* }
