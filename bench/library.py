@@ -3,7 +3,7 @@
 
     library.py [--archive FILE] [--only WORD ..] [--every N] [--calls N]
 
-It installs the library from crates/dgc_c/out, where `rt lib` leaves it, into a folder of its own. --archive names another libdgc.a, as that of
+It installs the library from crates/dgc_c/out, where library/proved.py leaves it, into a folder of its own. --archive names another libdgc.a, as that of
 library/unproved.py. Then it builds the programs in C of `library`, and does each of these, or with --only those that are named:
 
     names     the archive defines the calls of dgc.h and no other name, and asks for the names of the C library that WANTED has
@@ -264,7 +264,7 @@ def build(options, folder):
 
 def main():
     parser = argparse.ArgumentParser(description=__doc__.split("\n")[0])
-    parser.add_argument("--archive", help="a libdgc.a, in place of that which `rt lib` leaves")
+    parser.add_argument("--archive", help="a libdgc.a, in place of that which library/proved.py leaves")
     parser.add_argument("--only", nargs="+", choices=PARTS, default=PARTS)
     parser.add_argument("--every", type=int, default=7, help="refuse every Nth request")
     parser.add_argument("--calls", type=int, default=2000, help="calls of a run that is timed")

@@ -1,9 +1,9 @@
 #!/usr/bin/env python3
 """install.py PREFIX [--archive FILE]: installs the library for C.
 
-It puts include/dgc.h, lib/libdgc.a, lib/pkgconfig/dgc.pc and lib/cmake/dgc/dgc-config.cmake into PREFIX. The archive is made of what `rt lib`
-in crates/dgc_c leaves, crates/dgc_c/out/libdgc_c.a, of the part of the kit that calls malloc, realloc and free, and of null.c beside this
-script. With --archive an archive that is made already is installed, as that of unproved.py.
+It puts include/dgc.h, lib/libdgc.a, lib/pkgconfig/dgc.pc and lib/cmake/dgc/dgc-config.cmake into PREFIX. The archive is made of what
+proved.py leaves, crates/dgc_c/out/libdgc_c.a, of the part of the kit that calls malloc, realloc and free, and of null.c beside this script.
+With --archive an archive that is made already is installed, as that of unproved.py.
 """
 import argparse
 import os
@@ -25,7 +25,7 @@ def archive(out):
     import translation
 
     if not os.path.isfile(BUILT):
-        sys.exit(f"install.py: no {BUILT}. `rt lib` in crates/dgc_c leaves it")
+        sys.exit(f"install.py: no {BUILT}. `python3 library/proved.py` leaves it")
     try:
         kit = translation.find_kit()
     except translation.NoKit as why:

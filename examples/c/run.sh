@@ -3,7 +3,7 @@
 #
 #     examples/c/run.sh
 #
-# The library is installed into a folder of its own from crates/dgc_c/out, where `rt lib` leaves it. ARCHIVE names another libdgc.a, as that of
+# The library is installed into a folder of its own from crates/dgc_c/out, where library/proved.py leaves it. ARCHIVE names another libdgc.a, as that of
 # library/unproved.py. PREFIX names a folder into which it is installed already. OUT names a folder to keep what is made. CC, CXX and RUSTC
 # are the compilers. Needed are a C and a C++ compiler, pkg-config and python3 (Debian: gcc g++ pkg-config python3). What CMake and rustc build
 # is left out, and said so, where they are missing (Debian: cmake rustc). Ends with 0 where each line says ok or that something is left out,
