@@ -67,9 +67,9 @@ def main():
     if missing:
         sys.exit(f"proved.py: no proved library of {', '.join(missing)}. `rt ci` leaves them")
     os.makedirs(f"{FOLDER}/out", exist_ok=True)
-    run = subprocess.run(words(kit, used, libraries), cwd=FOLDER, stdout=subprocess.PIPE, text=True, errors="replace")
+    run = subprocess.run(words(kit, used, libraries), cwd=FOLDER, stdout=subprocess.PIPE, stderr=subprocess.STDOUT, text=True, errors="replace")
     is_written = run.returncode == 0 and os.path.isfile(f"{FOLDER}/out/lib{CRATE}.a")
-    print(*(line for line in run.stdout.splitlines() if line.startswith("logic=") or (line.startswith("fn ") and ": proved" not in line)), sep="\n")
+    print(*(line for line in run.stdout.splitlines() if not is_written or line.startswith("logic=")), sep="\n")
     print(f"{FOLDER}/out/lib{CRATE}.a is {'written' if is_written else 'NOT written'}")
     sys.exit(0 if is_written else 1)
 
