@@ -8,7 +8,7 @@ use crate::structs::{struct_name, struct_position};
 use certificate::{CertFault, read_shapes};
 use explain::Code;
 use ir_ast::Module;
-use ir_text::read_in;
+use ir_text::{ReadFault, read_in};
 use ir_tokens::{Position, Token};
 use layout::LayoutFault;
 use messages::{
@@ -255,9 +255,13 @@ fn put_unshaped(pen: Pen, out: &mut Message, named: NamedText, wide: bool) {
     out.put(
         "--shapes FILE gives them: a text that begins with `shapes 1` (docs/CERTIFICATES.md)\n",
     );
-    if let Ok(of_module) = read_in(pen.alloc, named.text, wide) {
-        put_wanted_text(pen.alloc, out, &of_module);
-        drop(of_module)
+    match read_in(pen.alloc, named.text, wide) {
+        Ok(of_module) => {
+            put_wanted_text(pen.alloc, out, &of_module);
+            drop(of_module)
+        }
+        Err(ReadFault::Memory) => out.refuse(),
+        Err(_) => {}
     }
 }
 

@@ -3,7 +3,7 @@ use crate::cert_sentences::put_struct;
 use crate::cert_site::{CertSite, function_named, local_named};
 use crate::site::{put_quoted, put_word};
 use ir_ast::{Function, IrType, LocalSort, Module, Shapes, TypeId};
-use ir_text::read_in;
+use ir_text::{ReadFault, read_in};
 use items::Items;
 use layout::{LayoutFault, field_rows, layouts};
 use messages::{Message, put_type};
@@ -250,8 +250,10 @@ pub(crate) fn struct_fault_of(
     text: &[u8],
     wide: bool,
 ) -> Result<Option<LayoutFault>, AllocError> {
-    let Ok(mut of_module) = read_in(alloc, text, wide) else {
-        return Ok(None);
+    let mut of_module = match read_in(alloc, text, wide) {
+        Ok(of_module) => of_module,
+        Err(ReadFault::Memory) => return Err(AllocError),
+        Err(_) => return Ok(None),
     };
     of_module.shapes = Some(no_shapes(alloc));
     let laid_out = layouts(alloc, &of_module);
