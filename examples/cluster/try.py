@@ -74,6 +74,12 @@ class Cluster:
             time.sleep(0.5)
         sys.exit(f"the nodes are not idle: {self.told('sinfo')}")
 
+    def clear(self):
+        """Takes away what the case before left: tasks that wait, and nodes that a controller holds back which was begun again."""
+        self.told("scancel", "--partition=all")
+        self.told("scontrol", "update", "nodename=" + ",".join(f"n{number}" for number in range(1, NODES + 1)), "state=resume")
+        self.until_idle()
+
     def of_node(self, node):
         """The processes that this cluster runs on a node, and those that started them."""
         marks = {f"SLURMD_NODENAME={node}".encode(), f"SLURM_CONF={self.surroundings['SLURM_CONF']}".encode()}
@@ -260,6 +266,7 @@ EVENTS = {
 def compare(options, cluster, name, known):
     """Makes a case, prints its line, and returns whether all is as it should be."""
     kind, late, case = CASES[name]
+    cluster.clear()
     began = time.monotonic()
     words = {"soak": soak_of, "hunt": hunt_of}[kind](late) if kind != "check" else [options.list]
     saves = [os.path.join(options.folder, f"{name}.{by}") for by in ("one", "many")] if case[0] in ("shrink", "save") else []
